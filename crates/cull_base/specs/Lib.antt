@@ -1,0 +1,10 @@
+pub mod Screen
+pub mod Rectangle
+pub mod Bounds
+pub mod Piece
+pub mod Depth
+pub mod State
+pub mod Fold
+pub mod Tiles
+pub mod Guard
+pub mod Stream

@@ -1,0 +1,95 @@
+-- Pieces: triangles on the screen, which samples they cover or touch, and which pixels they reach.
+use Rattle.std.specs.Prelude.{ℕ, ℤ, pos, neg_ℤ, ◌≡◌, ◌+◌, ◌*◌, ◌/◌, ◌%◌, ◌^◌, ◌≤◌, ◌+ℤ◌, ◌-ℤ◌, ◌*ℤ◌, ◌<ℤ◌, List, [], ◌∷◌, map, length, Bool, int_lt, int_le, ◌&&◌, ◌||◌, slice_index, slice_index_or}
+use Rattle.std.specs.List.{range_with_len, All}
+use Rattle.std.specs.Int.{int_min, int_max, int_div_euclid}
+use Rattle.std.specs.Ordering.{int_eq}
+use Rattle.cull_base.specs.declared.rect.Rect.{Rect}
+use Rattle.cull_base.specs.declared.place.Sub.{Sub}
+
+-- in sixteenths of a pixel, y downwards
+pub record Point : Type 0 where
+  pub x : ℤ
+  pub y : ℤ
+
+-- the coordinates of three vertices, and their nearness
+pub record Piece : Type 0 where
+  pub xs : List ℤ
+  pub ys : List ℤ
+  pub qs : List ℕ
+
+abbrev pub vertex : Piece → ℕ → Point
+vertex t k = record { x = slice_index_or t.xs k (pos 0); y = slice_index_or t.ys k (pos 0) }
+
+abbrev pub nearness : Piece → ℕ → ℕ
+nearness t k = slice_index t.qs k
+
+-- the value at p of the edge from a to b
+abbrev pub edge_value : Point → Point → Point → ℤ
+edge_value a b p = ((b.x -ℤ a.x) *ℤ (p.y -ℤ a.y)) -ℤ ((b.y -ℤ a.y) *ℤ (p.x -ℤ a.x))
+
+abbrev pub doubled_area : Piece → ℤ
+doubled_area t = edge_value (vertex t 0) (vertex t 1) (vertex t 2)
+
+-- strictly between -2^29 and 2^29
+abbrev pub Within : ℤ → Type 0
+Within v = (neg_ℤ (pos (2 ^ 29)) <ℤ v) × (v <ℤ pos (2 ^ 29))
+
+pub record IsPiece (t : Piece) : Type 0 where
+  pub positive_area : pos 0 <ℤ doubled_area t
+  pub x_within : All Within t.xs
+  pub y_within : All Within t.ys
+  pub nearness_within : All (λ q. q ≤ 65535) t.qs
+  pub three_x : length t.xs ≡ 3
+  pub three_y : length t.ys ≡ 3
+  pub three_q : length t.qs ≡ 3
+
+-- the middle of a pixel
+abbrev pub middle : ℕ → ℕ → Point
+middle px py = record { x = pos (16 * px + 8); y = pos (16 * py + 8) }
+
+-- sample k of a subtile, of eight columns and four rows
+abbrev pub sample : Sub → ℕ → Point
+sample u k = middle (8 * u.column + k % 8) (4 * u.row + k / 8)
+
+abbrev pub is_top_or_left : Point → Point → Bool
+is_top_or_left a b = int_lt b.y a.y || (int_eq b.y a.y && int_lt a.x b.x)
+
+abbrev pub edge_covers : Point → Point → Point → Bool
+edge_covers a b p = int_lt (pos 0) (edge_value a b p) || (int_eq (edge_value a b p) (pos 0) && is_top_or_left a b)
+
+abbrev pub edge_touches : Point → Point → Point → Bool
+edge_touches a b p = int_le (pos 0) (edge_value a b p)
+
+unfoldable pub covers : Piece → Point → Bool
+covers t p = edge_covers (vertex t 0) (vertex t 1) p && (edge_covers (vertex t 1) (vertex t 2) p && edge_covers (vertex t 2) (vertex t 0) p)
+
+unfoldable pub touches : Piece → Point → Bool
+touches t p = edge_touches (vertex t 0) (vertex t 1) p && (edge_touches (vertex t 1) (vertex t 2) p && edge_touches (vertex t 2) (vertex t 0) p)
+
+-- f of each of the 32 samples of a subtile, in the order of their numbers
+unfoldable pub each_sample : {X : Type 0} → (ℕ → X) → List X
+each_sample f = map f (range_with_len 0 32)
+
+-- which samples of a subtile a piece covers, and which it touches
+unfoldable pub covered : Piece → Sub → List Bool
+covered t u = each_sample (λ k. covers t (sample u k))
+
+unfoldable pub touched : Piece → Sub → List Bool
+touched t u = each_sample (λ k. touches t (sample u k))
+
+abbrev pub least_of_three : List ℤ → ℤ
+least_of_three vs = int_min (slice_index_or vs 0 (pos 0)) (int_min (slice_index_or vs 1 (pos 0)) (slice_index_or vs 2 (pos 0)))
+
+abbrev pub greatest_of_three : List ℤ → ℤ
+greatest_of_three vs = int_max (slice_index_or vs 0 (pos 0)) (int_max (slice_index_or vs 1 (pos 0)) (slice_index_or vs 2 (pos 0)))
+
+-- the first pixel, and the one behind the last, of what lies between two coordinates
+abbrev pub first_pixel : ℤ → ℤ
+first_pixel v = int_div_euclid v (pos 16)
+
+abbrev pub pixel_behind : ℤ → ℤ
+pixel_behind v = int_div_euclid v (pos 16) +ℤ pos 1
+
+-- the box of a piece, not cut to the screen
+abbrev pub box_of : Piece → Rect
+box_of t = record { x0 = first_pixel (least_of_three t.xs); y0 = first_pixel (least_of_three t.ys); x1 = pixel_behind (greatest_of_three t.xs); y1 = pixel_behind (greatest_of_three t.ys) }

@@ -1,0 +1,71 @@
+//! The pieces of a frame.
+ghost use Rattle.std.specs.Prelude.{◌≡◌, ℕ, [], ◌∷◌, ◌++◌, length, ◌<◌, ◌≤◌, IfOk, slice_index_or};
+
+use crate::memory::Memory;
+use crate::screen_tri::ScreenTri;
+use crate::size::Size;
+use std::alloc::Global;
+use std::marker::Model;
+
+/// The pieces of a frame in submission order, with room for a number that was asked for.
+#[derive(Drop)]
+pub struct FrameList {
+    size: Size,
+    room: u32,
+    pieces: Vec<ScreenTri>,
+}
+
+impl Model for FrameList {
+    ghost use Rattle.std.specs.Prelude.{◌≤◌, length, vec_capacity};
+    ghost use Rattle.cull_base.specs.Tiles.{Listed};
+
+    ghost Value = { Listed };
+
+    ghost view = { λ f. record { size = f.size; room = f.room; members = f.pieces.items } };
+
+    ghost invariant = { λ f. (length f.pieces.items ≤ f.room) × (f.room ≤ vec_capacity f.pieces) × (f.room ≤ 131072) };
+}
+
+impl FrameList {
+    /// An empty list. Condition: room is at most 131,072. Memory is taken here and nowhere later.
+    pub fn with_room(alloc: Global, size: Size, room: u32) -> Result<FrameList, Memory>
+        requires { room ≤ 131072 }
+        ensures { IfOk result (λ f. f ≡ record { size = size; room = room; members = [] }) }
+    {
+        match Vec::with_capacity(alloc, room as usize) {
+            Ok(pieces) => Ok(FrameList { size, room, pieces }),
+            Err(_) => Err(Memory),
+        }
+    }
+
+    /// Appends. Condition: the length is below the room.
+    pub fn push(&mut self, tri: ScreenTri)
+        requires { length self.old.members < self.old.room }
+        ensures { self.new ≡ record self.old { members = self.old.members ++ tri ∷ [] } }
+    {
+        self.pieces.push_reserved(tri);
+    }
+
+    pub fn len(&self) -> u32
+        ensures value { result ≡ length self.now.members }
+        ensures within { result ≤ self.now.room }
+        ensures small { self.now.room ≤ 131072 }
+    {
+        self.pieces.len() as u32
+    }
+
+    /// The size of the screen that the pieces were made for.
+    pub fn size(&self) -> Size
+        ensures { result ≡ self.now.size }
+    {
+        self.size
+    }
+
+    /// Condition: i is below the length.
+    pub fn get(&self, i: u32) -> &ScreenTri
+        requires { i < length self.now.members }
+        ensures { result.now ≡ slice_index_or self.now.members i result.now }
+    {
+        &self.pieces[i as usize]
+    }
+}

@@ -1,0 +1,25 @@
+//! The ground of the culler: the screen and its tiles, pieces and frame lists, sources and sinks of bytes.
+//! The definitions that several crates cite stand in this crate's specs.
+#![tactic(auto)]
+
+mod clip;
+mod frame_list;
+mod memory;
+mod place;
+mod rect;
+mod scene_types;
+mod screen_tri;
+mod sink;
+mod size;
+mod source;
+
+pub use clip::{ClipVertex, Side, Winding};
+pub use frame_list::FrameList;
+pub use memory::{Failed, Memory, SinkError};
+pub use place::{Sample, Sub, Tile};
+pub use rect::Rect;
+pub use scene_types::{Object, Tri, Verdict};
+pub use screen_tri::ScreenTri;
+pub use sink::{BytesSink, Sink, SureSink, write_whole};
+pub use size::Size;
+pub use source::{BytesSource, Source, SureSource};

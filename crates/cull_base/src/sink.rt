@@ -1,0 +1,187 @@
+//! Where bytes go.
+ghost use Rattle.std.specs.Prelude.{◌≡◌, ℕ, List, [], ◌+◌, ◌++◌, ◌<◌, ◌≤◌, length, take, min, IfOk, OnOk, OnErr, IsOk, IfSome, Option, Some, IsErr, IsErrOf, ◌↔◌, ◌^◌};
+ghost use Rattle.std.specs.List.{Contains};
+ghost use Rattle.cull_base.specs.Stream.{Rose, Appends, AppendsProperPrefix, next_count, SinkBytes, SureBytes};
+
+use crate::memory::SinkError;
+use std::alloc::Global;
+use std::marker::Model;
+
+/// A sink of bytes.
+pub trait Sink {
+    /// The bytes that it holds, where they are told.
+    ghost holding: { Self → Option (List ℕ) };
+
+    /// How often it has failed.
+    ghost faults: { Self → ℕ };
+
+    /// How often it could not grow.
+    ghost refusals: { Self → ℕ };
+
+    /// Appends a front of the piece, which is at least one byte of a piece that isn't empty. Failed comes only where
+    /// the count of faults rose, Memory only where that of refused growths did; then nothing was appended.
+    fn write(&mut self, piece: &[u8]) -> Result<usize, SinkError>
+        ensures within { IfOk result (λ n. n ≤ length piece.now) }
+        ensures some { IfOk result (λ n. 0 < length piece.now → 0 < n) }
+        ensures appended { IfOk result (λ n. Appends (holding self.old) (holding self.new) (take n piece.now)) }
+        ensures kept { OnErr result (holding self.new ≡ holding self.old) }
+        ensures failed { IsErrOf result SinkError.Failed → Rose (faults self.old) (faults self.new) }
+        ensures memory { IsErrOf result SinkError.Memory → Rose (refusals self.old) (refusals self.new) }
+        ensures faults_stay { faults self.old ≤ faults self.new }
+        ensures refusals_stay { refusals self.old ≤ refusals self.new };
+}
+
+/// Appends the whole piece, offered again from its first byte not taken. After an error a front of it that isn't the
+/// whole was appended.
+pub fn write_whole<W: Sink>(sink: &mut W, piece: &[u8]) -> Result<(), SinkError>
+    ensures ok { OnOk result (Appends (W.holding sink.old) (W.holding sink.new) piece.now) }
+    ensures err { OnErr result (AppendsProperPrefix (W.holding sink.old) (W.holding sink.new) piece.now) }
+    ensures failed { IsErrOf result SinkError.Failed → Rose (W.faults sink.old) (W.faults sink.new) }
+    ensures memory { IsErrOf result SinkError.Memory → Rose (W.refusals sink.old) (W.refusals sink.new) }
+    ensures faults_stay { W.faults sink.old ≤ W.faults sink.new }
+    ensures refusals_stay { W.refusals sink.old ≤ W.refusals sink.new }
+{
+    let mut rest = piece;
+    while !rest.is_empty() {
+        let n = sink.write(rest)?;
+        rest = &rest[n..];
+    }
+    Ok(())
+}
+
+/// Bytes held in memory, taken in pieces of at most a given size, with calls that fail by their number.
+#[derive(Drop)]
+pub struct BytesSink {
+    bytes: Vec<u8>,
+    most: usize,
+    fails: Vec<u64>,
+    calls: u64,
+    faults: u64,
+    refusals: u64,
+}
+
+impl Model for BytesSink {
+    ghost use Rattle.std.specs.Prelude.{◌≤◌};
+    ghost use Rattle.cull_base.specs.Stream.{SinkBytes};
+
+    ghost Value = { SinkBytes };
+
+    ghost view = { λ s. record { held = s.bytes.items; most = s.most; fails = s.fails.items; calls = s.calls; faults = s.faults; refusals = s.refusals } };
+
+    ghost invariant = { λ s. 1 ≤ s.most };
+}
+
+impl BytesSink {
+    /// Takes per call the least of `most` and the piece's length. It fails in the calls whose numbers, counted from 1,
+    /// are in `fails`, and in no other. Condition: `most` is at least 1.
+    pub fn new(alloc: Global, most: usize, fails: Vec<u64>) -> BytesSink
+        requires { 1 ≤ most }
+        ensures { result ≡ record { held = []; most = most; fails = fails.items; calls = 0; faults = 0; refusals = 0 } }
+    {
+        BytesSink {
+            bytes: Vec::new(alloc),
+            most,
+            fails,
+            calls: 0,
+            faults: 0,
+            refusals: 0,
+        }
+    }
+
+    pub fn held(&self) -> &[u8]
+        ensures { result.now ≡ self.now.held }
+    {
+        &self.bytes
+    }
+}
+
+impl Sink for BytesSink {
+    ghost holding = { λ s. Some s.held };
+
+    ghost faults = { λ s. s.faults };
+
+    ghost refusals = { λ s. s.refusals };
+
+    fn write(&mut self, piece: &[u8]) -> Result<usize, SinkError>
+        ensures within { IfOk result (λ n. n ≤ length piece.now) }
+        ensures some { IfOk result (λ n. 0 < length piece.now → 0 < n) }
+        ensures appended { IfOk result (λ n. self.new.held ≡ self.old.held ++ take n piece.now) }
+        ensures kept { OnErr result (self.new.held ≡ self.old.held) }
+        ensures failed { IsErrOf result SinkError.Failed → Rose self.old.faults self.new.faults }
+        ensures memory { IsErrOf result SinkError.Memory → Rose self.old.refusals self.new.refusals }
+        ensures faults_stay { self.old.faults ≤ self.new.faults }
+        ensures refusals_stay { self.old.refusals ≤ self.new.refusals }
+
+        ensures numbered { IsErrOf result SinkError.Failed ↔ Contains self.old.fails self.new.calls }
+        ensures call { self.new.calls ≡ next_count self.old.calls }
+        ensures amount { IfOk result (λ n. n ≡ min self.old.most (length piece.now)) }
+        ensures same { (self.new.most ≡ self.old.most) × (self.new.fails ≡ self.old.fails) }
+    {
+        self.calls = self.calls.saturating_add(1);
+        if self.fails.contains(&self.calls) {
+            self.faults = self.faults.saturating_add(1);
+            return Err(SinkError::Failed);
+        }
+        let n = self.most.min(piece.len());
+        if self.bytes.extend_from_slice(&piece[..n]).is_err() {
+            self.refusals = self.refusals.saturating_add(1);
+            return Err(SinkError::Memory);
+        }
+        Ok(n)
+    }
+}
+
+/// Bytes held in memory, each piece taken whole. It never fails, but it may be refused memory.
+#[derive(Drop)]
+pub struct SureSink {
+    bytes: Vec<u8>,
+    refusals: u64,
+}
+
+impl Model for SureSink {
+    ghost use Rattle.cull_base.specs.Stream.{SureBytes};
+
+    ghost Value = { SureBytes };
+
+    ghost view = { λ s. record { held = s.bytes.items; refusals = s.refusals } };
+}
+
+impl SureSink {
+    pub fn new(alloc: Global) -> SureSink
+        ensures { result ≡ record { held = []; refusals = 0 } }
+    {
+        SureSink {
+            bytes: Vec::new(alloc),
+            refusals: 0,
+        }
+    }
+
+    pub fn held(&self) -> &[u8]
+        ensures { result.now ≡ self.now.held }
+    {
+        &self.bytes
+    }
+}
+
+impl Sink for SureSink {
+    ghost holding = { λ s. Some s.held };
+
+    ghost faults = { λ _. 0 };
+
+    ghost refusals = { λ s. s.refusals };
+
+    fn write(&mut self, piece: &[u8]) -> Result<usize, SinkError>
+        ensures within { IfOk result (λ n. n ≡ length piece.now) }
+        ensures appended { OnOk result (self.new.held ≡ self.old.held ++ piece.now) }
+        ensures kept { OnErr result (self.new.held ≡ self.old.held) }
+        ensures memory { OnErr result (result ≡ Err SinkError.Memory) }
+        ensures refused { OnErr result (Rose self.old.refusals self.new.refusals) }
+        ensures refusals_stay { self.old.refusals ≤ self.new.refusals }
+    {
+        if self.bytes.extend_from_slice(piece).is_err() {
+            self.refusals = self.refusals.saturating_add(1);
+            return Err(SinkError::Memory);
+        }
+        Ok(piece.len())
+    }
+}

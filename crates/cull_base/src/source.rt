@@ -1,0 +1,154 @@
+//! Where bytes come from.
+ghost use Rattle.std.specs.Prelude.{◌≡◌, ℕ, List, [], ◌+◌, ◌<◌, ◌≤◌, length, drop, min, IfOk, OnErr, IfSome, Option, Some, IsErr, ◌↔◌, ◌^◌};
+ghost use Rattle.std.specs.List.{Contains};
+ghost use Rattle.cull_base.specs.Stream.{Rose, TakesFront, next_count, SourceBytes};
+
+use crate::memory::Failed;
+use std::marker::Model;
+
+/// A source of bytes.
+pub trait Source {
+    /// The bytes that are left, where they are told.
+    ghost left: { Self → Option (List ℕ) };
+
+    /// How often it has failed.
+    ghost faults: { Self → ℕ };
+
+    /// A number that a call raises by one at most.
+    ghost turns: { Self → ℕ };
+
+    /// Takes bytes from the front of what is left into the front of the buffer. Ok(0) on a buffer that isn't
+    /// empty is the end. Failed comes only where the count of faults rose; it takes no byte.
+    fn read(&mut self, buf: &mut [u8]) -> Result<usize, Failed>
+        ensures within { IfOk result (λ n. n ≤ length buf.old) }
+        ensures taken { IfOk result (λ n. TakesFront (left self.old) (left self.new) buf.new n) }
+        ensures end { IfOk result (λ n. n ≡ 0 → 0 < length buf.old → IfSome (left self.old) (λ bytes. bytes ≡ [])) }
+        ensures failed { OnErr result (Rose (faults self.old) (faults self.new)) }
+        ensures kept { OnErr result (left self.new ≡ left self.old) }
+        ensures faults_stay { faults self.old ≤ faults self.new }
+        ensures turn { turns self.new ≤ turns self.old + 1 };
+}
+
+// Copies the front of the bytes to the front of the buffer, at most so many.
+fn copy_front(bytes: &[u8], buf: &mut [u8], most: usize) -> usize
+    ensures amount { result ≡ min most (min (length buf.old) (length bytes.now)) }
+    ensures copied { take result buf.new ≡ take result bytes.now }
+{
+    let n = most.min(buf.len().min(bytes.len()));
+    buf[..n].copy_from_slice(&bytes[..n]);
+    n
+}
+
+/// Bytes in memory that come in pieces of at most a given size, with calls that fail by their number.
+#[derive(Drop)]
+pub struct BytesSource {
+    bytes: Vec<u8>,
+    taken: usize,
+    most: usize,
+    fails: Vec<u64>,
+    calls: u64,
+    faults: u64,
+}
+
+impl Model for BytesSource {
+    ghost use Rattle.std.specs.Prelude.{◌≤◌, length, drop};
+    ghost use Rattle.cull_base.specs.Stream.{SourceBytes};
+
+    ghost Value = { SourceBytes };
+
+    ghost view = { λ s. record { left = drop s.taken s.bytes.items; most = s.most; fails = s.fails.items; calls = s.calls; faults = s.faults } };
+
+    ghost invariant = { λ s. (s.taken ≤ length s.bytes.items) × (1 ≤ s.most) };
+}
+
+impl BytesSource {
+    /// Gives per call the least of `most`, the buffer's length and what is left. It fails in the calls whose
+    /// numbers, counted from 1, are in `fails`, and in no other. Condition: `most` is at least 1.
+    pub fn new(bytes: Vec<u8>, most: usize, fails: Vec<u64>) -> BytesSource
+        requires { 1 ≤ most }
+        ensures { result ≡ record { left = bytes.items; most = most; fails = fails.items; calls = 0; faults = 0 } }
+    {
+        BytesSource {
+            bytes,
+            taken: 0,
+            most,
+            fails,
+            calls: 0,
+            faults: 0,
+        }
+    }
+}
+
+impl Source for BytesSource {
+    ghost left = { λ s. Some s.left };
+
+    ghost faults = { λ s. s.faults };
+
+    ghost turns = { λ s. s.calls };
+
+    fn read(&mut self, buf: &mut [u8]) -> Result<usize, Failed>
+        ensures within { IfOk result (λ n. n ≤ length buf.old) }
+        ensures taken { IfOk result (λ n. TakesFront (Some self.old.left) (Some self.new.left) buf.new n) }
+        ensures end { IfOk result (λ n. n ≡ 0 → 0 < length buf.old → self.old.left ≡ []) }
+        ensures failed { OnErr result (Rose self.old.faults self.new.faults) }
+        ensures kept { OnErr result (self.new.left ≡ self.old.left) }
+        ensures faults_stay { self.old.faults ≤ self.new.faults }
+        ensures turn { self.new.calls ≤ self.old.calls + 1 }
+
+        ensures numbered { IsErr result ↔ Contains self.old.fails self.new.calls }
+        ensures call { self.new.calls ≡ next_count self.old.calls }
+        ensures amount { IfOk result (λ n. n ≡ min self.old.most (min (length buf.old) (length self.old.left))) }
+        ensures unfailed { IfOk result (λ n. self.new.faults ≡ self.old.faults) }
+        ensures same { (self.new.most ≡ self.old.most) × (self.new.fails ≡ self.old.fails) }
+    {
+        self.calls = self.calls.saturating_add(1);
+        if self.fails.contains(&self.calls) {
+            self.faults = self.faults.saturating_add(1);
+            return Err(Failed);
+        }
+        let n = copy_front(&self.bytes[self.taken..], buf, self.most);
+        self.taken += n;
+        Ok(n)
+    }
+}
+
+/// Bytes in memory that come whole and never fail.
+#[derive(Drop)]
+pub struct SureSource {
+    bytes: Vec<u8>,
+    taken: usize,
+}
+
+impl Model for SureSource {
+    ghost use Rattle.std.specs.Prelude.{◌≤◌, ℕ, List, length, drop};
+
+    ghost Value = { List ℕ };
+
+    ghost view = { λ s. drop s.taken s.bytes.items };
+
+    ghost invariant = { λ s. s.taken ≤ length s.bytes.items };
+}
+
+impl SureSource {
+    pub fn new(bytes: Vec<u8>) -> SureSource
+        ensures { result ≡ bytes.items }
+    {
+        SureSource { bytes, taken: 0 }
+    }
+}
+
+impl Source for SureSource {
+    ghost left = { λ s. Some s };
+
+    ghost faults = { λ _. 0 };
+
+    ghost turns = { λ _. 0 };
+
+    fn read(&mut self, buf: &mut [u8]) -> Result<usize, Failed>
+        ensures sure { IfOk result (λ n. n ≤ length buf.old) }
+    {
+        let n = copy_front(&self.bytes[self.taken..], buf, buf.len());
+        self.taken += n;
+        Ok(n)
+    }
+}
