@@ -1,5 +1,5 @@
 //! Pieces: triangles on the screen.
-ghost use Rattle.std.specs.Prelude.{◌≡◌, ℕ, ℤ, pos, ◌≤◌, ◌^◌, ◌-ℤ◌, ◌*ℤ◌, MatchOption, IsSome, IsTrue, ◌↔◌, length, slice_index_or, ◌<ℤ◌, ◌≤ℤ◌};
+ghost use Rattle.std.specs.Prelude.{◌≡◌, ℕ, ℤ, pos, ◌≤◌, ◌^◌, ◌-ℤ◌, ◌*ℤ◌, MatchOption, IsSome, IsTrue, ◌↔◌, length, slice_index_or, List, [], ◌∷◌, ◌<ℤ◌, ◌≤ℤ◌};
 ghost use Rattle.std.specs.List.{All};
 ghost use Rattle.std.specs.Int.{int_div_euclid};
 ghost use Rattle.cull_base.specs.Piece.{Within, edge_value, first_pixel, pixel_behind, least_of_three, greatest_of_three};

@@ -1,5 +1,5 @@
 //! Where bytes come from.
-ghost use Rattle.std.specs.Prelude.{◌≡◌, ℕ, List, [], ◌+◌, ◌<◌, ◌≤◌, length, drop, min, IfOk, OnErr, IfSome, Option, Some, IsErr, ◌↔◌, ◌^◌};
+ghost use Rattle.std.specs.Prelude.{◌≡◌, ℕ, List, [], ◌+◌, ◌<◌, ◌≤◌, length, drop, take, min, IfOk, IsOk, OnErr, IfSome, Option, Some, IsErr, ◌↔◌, ◌^◌};
 ghost use Rattle.std.specs.List.{Contains};
 ghost use Rattle.cull_base.specs.Stream.{Rose, TakesFront, next_count, SourceBytes};
 
@@ -145,7 +145,9 @@ impl Source for SureSource {
     ghost turns = { λ _. 0 };
 
     fn read(&mut self, buf: &mut [u8]) -> Result<usize, Failed>
-        ensures sure { IfOk result (λ n. n ≤ length buf.old) }
+        ensures amount { IfOk result (λ n. n ≡ min (length buf.old) (length self.old)) }
+        ensures taken { IfOk result (λ n. TakesFront (Some self.old) (Some self.new) buf.new n) }
+        ensures sure { IsOk result }
     {
         let n = copy_front(&self.bytes[self.taken..], buf, buf.len());
         self.taken += n;
