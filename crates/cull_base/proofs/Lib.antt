@@ -1,2 +1,5 @@
 pub mod Ring
 pub mod Bounds
+pub mod Rectangles
+pub mod Places
+pub mod Streams

@@ -1,5 +1,6 @@
 //! Rectangles of whole pixels.
-ghost use Rattle.std.specs.Prelude.{◌≡◌, ℤ, IsTrue, ◌↔◌, false};
+ghost use Rattle.std.specs.Prelude.{◌≡◌, ℤ, IsTrue, ◌↔◌, false, int_lt};
+ghost use Rattle.std.specs.Int.{int_min, int_max};
 
 /// The pixels from (x0, y0) to before (x1, y1); none where a first is not below its second.
 #[derive(Clone, Copy, Debug, PartialEq, Eq)]
@@ -10,6 +11,25 @@ pub struct Rect {
     pub y1: i32,
 }
 
+// Whether some number lies from a0 to before a1 and from b0 to before b1.
+fn overlap(a0: i32, a1: i32, b0: i32, b1: i32) -> bool
+    ensures { result ≡ int_lt (int_max a0 b0) (int_min a1 b1) }
+{
+    a0.max(b0) < a1.min(b1)
+}
+
+fn greater(a: i32, b: i32) -> i32
+    ensures { result ≡ int_max a b }
+{
+    a.max(b)
+}
+
+fn lesser(a: i32, b: i32) -> i32
+    ensures { result ≡ int_min a b }
+{
+    a.min(b)
+}
+
 impl Rect {
     ghost use Rattle.cull_base.specs.Rectangle.{HasPixel, meets, cut_of, no_pixels};
 
@@ -18,8 +38,8 @@ impl Rect {
         ensures value { result ≡ meets self.now other.now }
         ensures pixel { IsTrue result ↔ ((x : ℤ) × (y : ℤ) × HasPixel self.now x y × HasPixel other.now x y) }
     {
-        self.x0.max(other.x0) < self.x1.min(other.x1)
-            && self.y0.max(other.y0) < self.y1.min(other.y1)
+        overlap(self.x0, self.x1, other.x0, other.x1)
+            && overlap(self.y0, self.y1, other.y0, other.y1)
     }
 
     /// The pixels in both; (0, 0, 0, 0) where there are none.
@@ -30,10 +50,10 @@ impl Rect {
     {
         if self.meets(other) {
             Rect {
-                x0: self.x0.max(other.x0),
-                y0: self.y0.max(other.y0),
-                x1: self.x1.min(other.x1),
-                y1: self.y1.min(other.y1),
+                x0: greater(self.x0, other.x0),
+                y0: greater(self.y0, other.y0),
+                x1: lesser(self.x1, other.x1),
+                y1: lesser(self.y1, other.y1),
             }
         } else {
             Rect {

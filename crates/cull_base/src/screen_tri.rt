@@ -92,16 +92,28 @@ fn are_nearness(values: &[u32; 3]) -> bool
     values.iter().all(|q| *q <= 65535)
 }
 
-fn first_pixel(a: i32, b: i32, c: i32) -> i32
-    ensures { result ≡ first_pixel (least_of_three (a ∷ b ∷ c ∷ [])) }
+fn least(values: &[i32; 3]) -> i32
+    ensures { result ≡ least_of_three values.now }
 {
-    a.min(b.min(c)).div_euclid(16)
+    values[0].min(values[1].min(values[2]))
 }
 
-fn pixel_behind(a: i32, b: i32, c: i32) -> i32
-    ensures { result ≡ pixel_behind (greatest_of_three (a ∷ b ∷ c ∷ [])) }
+fn greatest(values: &[i32; 3]) -> i32
+    ensures { result ≡ greatest_of_three values.now }
 {
-    a.max(b.max(c)).div_euclid(16) + 1
+    values[0].max(values[1].max(values[2]))
+}
+
+fn first_of(least: i32) -> i32
+    ensures { result ≡ first_pixel least }
+{
+    least.div_euclid(16)
+}
+
+fn behind(greatest: i32) -> i32
+    ensures { result ≡ pixel_behind greatest }
+{
+    greatest.div_euclid(16) + 1
 }
 
 impl ScreenTri {
@@ -150,13 +162,11 @@ impl ScreenTri {
     pub fn boxed(&self) -> Rect
         ensures { result ≡ box_of self.now }
     {
-        let [x0, x1, x2] = self.x;
-        let [y0, y1, y2] = self.y;
         Rect {
-            x0: first_pixel(x0, x1, x2),
-            y0: first_pixel(y0, y1, y2),
-            x1: pixel_behind(x0, x1, x2),
-            y1: pixel_behind(y0, y1, y2),
+            x0: first_of(least(&self.x)),
+            y0: first_of(least(&self.y)),
+            x1: behind(greatest(&self.x)),
+            y1: behind(greatest(&self.y)),
         }
     }
 }

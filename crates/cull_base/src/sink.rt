@@ -1,5 +1,5 @@
 //! Where bytes go.
-ghost use Rattle.std.specs.Prelude.{◌≡◌, ℕ, List, [], ◌+◌, ◌++◌, ◌<◌, ◌≤◌, length, take, min, IfOk, OnOk, OnErr, IsOk, IfSome, Option, Some, IsErr, IsErrOf, ◌↔◌, ◌^◌};
+ghost use Rattle.std.specs.Prelude.{◌≡◌, ℕ, List, [], ◌+◌, ◌++◌, ◌<◌, ◌≤◌, length, take, drop, min, IfOk, OnOk, OnErr, IsOk, IfSome, Option, Some, IsErr, IsErrOf, ◌↔◌, ◌^◌};
 ghost use Rattle.std.specs.List.{Contains};
 ghost use Rattle.cull_base.specs.Stream.{Rose, Appends, AppendsProperPrefix, next_count, SinkBytes, SureBytes};
 
@@ -31,6 +31,14 @@ pub trait Sink {
         ensures refusals_stay { refusals self.old ≤ refusals self.new };
 }
 
+// What of a piece is left behind its first n bytes.
+fn behind(piece: &[u8], n: usize) -> &[u8]
+    requires { n ≤ length piece.now }
+    ensures { result.now ≡ drop n piece.now }
+{
+    &piece[n..]
+}
+
 /// Appends the whole piece, offered again from its first byte not taken. After an error a front of it that isn't the
 /// whole was appended.
 pub fn write_whole<W: Sink>(sink: &mut W, piece: &[u8]) -> Result<(), SinkError>
@@ -44,7 +52,7 @@ pub fn write_whole<W: Sink>(sink: &mut W, piece: &[u8]) -> Result<(), SinkError>
     let mut rest = piece;
     while !rest.is_empty() {
         let n = sink.write(rest)?;
-        rest = &rest[n..];
+        rest = behind(rest, n);
     }
     Ok(())
 }

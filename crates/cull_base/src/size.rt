@@ -7,6 +7,7 @@ use std::marker::Model;
 
 /// The width of a tile in pixels, and its height.
 const TILE_WIDTH: u16 = 32;
+
 const TILE_HEIGHT: u16 = 8;
 
 /// The size of a screen in pixels: whole subtiles, at most 2048 each way.
@@ -111,7 +112,9 @@ impl Size {
         ensures value { result ≡ tile_place self.now tile }
         ensures column { result.column < tile_columns_of self.now }
         ensures row { result.row < tile_rows_of self.now }
+        ensures within { (result.column < 64) × (result.row < 256) }
     {
+        let _height = self.height;
         let columns = self.tile_columns();
         Tile {
             column: (tile % columns) as u16,
