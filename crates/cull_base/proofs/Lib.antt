@@ -3,3 +3,4 @@ pub mod Bounds
 pub mod Rectangles
 pub mod Places
 pub mod Streams
+pub mod Rows
