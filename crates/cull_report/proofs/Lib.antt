@@ -1,2 +1,4 @@
 pub mod Writing
 pub mod Verdicts
+pub mod Pixels
+pub mod Hiding

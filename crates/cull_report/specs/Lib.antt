@@ -1,3 +1,5 @@
 pub mod Lines
 pub mod Text
 pub mod Writing
+pub mod Area
+pub mod Rectangle

@@ -2,6 +2,7 @@
 #![tactic(auto)]
 
 mod line;
+mod rectangle;
 mod report;
 
 pub use line::Line;
