@@ -1,4 +1,5 @@
 pub mod Writing
-pub mod Verdicts
+pub mod ReportLines
 pub mod Pixels
 pub mod Hiding
+pub mod Agreement

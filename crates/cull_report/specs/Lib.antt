@@ -3,3 +3,4 @@ pub mod Text
 pub mod Writing
 pub mod Area
 pub mod Rectangle
+pub mod Scene

@@ -1,9 +1,13 @@
 //! The verdicts of a frame, and the texts that are written of it.
 #![tactic(auto)]
 
+mod built;
 mod line;
 mod rectangle;
 mod report;
+mod objects;
 
+pub use built::{identity_clips, is_built};
 pub use line::Line;
-pub use report::write_frame;
+pub use report::{write_frame, write_header};
+pub use objects::verdicts;

@@ -4,6 +4,7 @@ ghost use Rattle.cull_report.specs.Text.{header_text, frame_line, verdict_line, 
 ghost use Rattle.cull_report.specs.Writing.{Seen, Writes};
 
 use crate::line::Line;
+use scene_reader::Scene;
 use cull_base::{Sink, SinkError, Verdict, write_whole};
 
 const REPORT_VERSION: u64 = 1;
@@ -112,4 +113,13 @@ pub fn write_frame<W: Sink>(
     let occluded = count_of(verdicts, Verdict::Occluded);
     let outside = count_of(verdicts, Verdict::Outside);
     write_line(sink, &end_line(frame, visible, occluded, outside))
+}
+
+/// Writes the report's first line. Failed and Memory are the sink's, as for a frame.
+pub fn write_header<W: Sink>(sink: &mut W, scene: &Scene) -> Result<(), SinkError>
+    ensures { Writes (record { holding = W.holding sink.old; faults = W.faults sink.old; refusals = W.refusals sink.old }) (record { holding = W.holding sink.new; faults = W.faults sink.new; refusals = W.refusals sink.new }) result (header_text scene.now.width scene.now.height (length scene.now.cameras) (length scene.now.objects)) }
+{
+    let size = scene.size();
+    let line = header_line(size.width(), size.height(), scene.cameras().len(), scene.objects().len());
+    write_line(sink, &line)
 }

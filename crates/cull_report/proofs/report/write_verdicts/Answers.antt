@@ -5,7 +5,7 @@ use Rattle.cull_base.proofs.Streams.{appends_then}
 use Rattle.cull_report.specs.Text.{verdict_line, verdict_lines}
 use Rattle.cull_report.specs.Writing.{Seen, Writes}
 use Rattle.cull_report.proofs.Writing.{writes_then, writes_no_more}
-use Rattle.cull_report.proofs.Verdicts.{verdict_lines-push, verdict_lines-next}
+use Rattle.cull_report.proofs.ReportLines.{verdict_lines-push, verdict_lines-next}
 use Rattle.cull_report.proofs.report.write_verdicts.Goals as goal
 
 pub loop-object-preserved : goal.loop-object-preserved
