@@ -79,6 +79,7 @@ fn cut(inside: &ClipVertex, outside: &ClipVertex, near: u16) -> HomPoint
     }
 }
 
+#[tactic(auto, unfolding(crate::specs::NearPart::near_part))]
 fn part(v0: &ClipVertex, v1: &ClipVertex, v2: &ClipVertex, near: u16) -> Polygon
     requires near { near ≤ 1024 }
     requires v0 { is_past_guard v0.now near ≡ false }

@@ -12,14 +12,14 @@ pub struct Polygon {
 }
 
 impl Model for Polygon {
-    ghost use Rattle.std.specs.Prelude.{◌≤◌, ◌≢◌, List, take};
+    ghost use Rattle.std.specs.Prelude.{◌≡◌, ◌≤◌, ◌≢◌, List, length, take};
     ghost use Rattle.near_clip.specs.declared.hom_point.HomPoint.{HomPoint};
 
     ghost Value = { List HomPoint };
 
     ghost view = { λ p. take p.len p.points };
 
-    ghost invariant = { λ p. (p.len ≤ 4) × (p.len ≢ 1) × (p.len ≢ 2) };
+    ghost invariant = { λ p. (length p.points ≡ 4) × (p.len ≤ 4) × (p.len ≢ 1) × (p.len ≢ 2) };
 }
 
 impl Polygon {
