@@ -1,6 +1,6 @@
 -- The pieces of a triangle, of a list of triangles, and the box of what is in front of the near plane.
-use Rattle.std.specs.Prelude.{ℕ, ℤ, pos, List, [], ◌∷◌, map, filter, Bool, true, false, not, cond, ◌||◌, int_lt, slice_index, Option, Some, None}
-use Rattle.std.specs.List.{swap, flat_map}
+use Rattle.std.specs.Prelude.{◌≡◌, ◌<◌, ℕ, ℤ, pos, ◌⊎◌, length, IsTrue, List, [], ◌∷◌, map, filter, Bool, true, false, not, cond, ◌||◌, int_lt, slice_index, Option, Some, None}
+use Rattle.std.specs.List.{swap, flat_map, All}
 use Rattle.std.specs.Ordering.{int_eq}
 use Rattle.cull_base.specs.declared.clip.ClipVertex.{ClipVertex}
 use Rattle.cull_base.specs.declared.clip.Side.{Side}
@@ -14,7 +14,7 @@ use Rattle.cull_base.specs.Guard.{is_past_guard}
 use Rattle.cull_base.specs.Piece.{Piece, doubled_area, first_pixel, pixel_behind}
 use Rattle.cull_base.specs.Depth.{least_of, greatest_of}
 use Rattle.near_clip.specs.NearPart.{near_part, corner}
-use Rattle.snap_setup.specs.declared.snap.Snapped.{Snapped}
+use Rattle.snap_setup.specs.declared.snapping.Snapped.{Snapped}
 use Rattle.snap_setup.specs.Snapping.{snapped}
 
 -- three snapped points as they stand, whatever the area
@@ -60,6 +60,13 @@ is_any_past_guard v0 v1 v2 near = is_past_guard v0 near || (is_past_guard v1 nea
 unfoldable pub pieces_of : ClipVertex → ClipVertex → ClipVertex → ℕ → Dimensions → Winding → Side → List Piece
 pieces_of v0 v1 v2 near size winding side = cond (is_any_past_guard v0 v1 v2 near) [] (kept_of (snapped_part v0 v1 v2 near size side) winding)
 
+-- why a triangle gives no piece: a vertex is past the guard, all of it is behind the near plane, or each triangle of the polygon is left out
+abbrev pub GivesNone : ClipVertex → ClipVertex → ClipVertex → ℕ → Dimensions → Winding → Side → Type 0
+GivesNone v0 v1 v2 near size winding side =
+    IsTrue (is_any_past_guard v0 v1 v2 near)
+    ⊎ ((near_part v0 v1 v2 near ≡ [])
+    ⊎ All (λ t. is_left_out winding t ≡ true) (triangles_of (snapped_part v0 v1 v2 near size side)))
+
 -- the pixels that points may reach, if there is a point
 abbrev pub box_around : List Snapped → Option Rect
 box_around [] = None
@@ -75,6 +82,10 @@ near_box_of v0 v1 v2 near size = box_around (snapped_part v0 v1 v2 near size Obj
 -- vertex k of a triangle, looked up among the clips
 abbrev pub clip_at : List ClipVertex → Tri → ℕ → ClipVertex
 clip_at clips t k = corner clips (slice_index t.0 k)
+
+-- each vertex of the triangle is among n clips
+abbrev pub HasClips : ℕ → Tri → Type 0
+HasClips n t = All (λ i. i < n) t.0
 
 -- the occluder pieces of the triangles, one triangle after another
 unfoldable pub list_of_clips : List ClipVertex → List Tri → ℕ → Dimensions → Winding → List Piece

@@ -1,12 +1,13 @@
 -- From clip space to the screen: coordinates in sixteenths of a pixel, and nearness.
-use Rattle.std.specs.Prelude.{ℕ, ℤ, pos, ◌*◌, ◌+ℤ◌, ◌-ℤ◌, ◌*ℤ◌}
-use Rattle.std.specs.Int.{int_div_euclid, unsigned_abs}
+use Rattle.std.specs.Prelude.{ℕ, ℤ, pos, ◌*◌, ◌≤◌, ◌+ℤ◌, ◌-ℤ◌, ◌*ℤ◌}
+use Rattle.std.specs.Int.RustNames.{unsigned_abs}
 use Rattle.cull_base.specs.declared.clip.Side.{Side}
 use Rattle.cull_base.specs.declared.clip.Side.TheVariants.{Occluder, Object}
 use Rattle.cull_base.specs.Screen.{Dimensions}
+use Rattle.cull_base.specs.Piece.{Within}
 use Rattle.cull_base.specs.Depth.{floor_of, ceiling_of}
 use Rattle.near_clip.specs.declared.hom_point.HomPoint.{HomPoint}
-use Rattle.snap_setup.specs.declared.snap.Snapped.{Snapped}
+use Rattle.snap_setup.specs.declared.snapping.Snapped.{Snapped}
 
 -- The floor of n/d + 1/2, where d is positive. It is that of (2n + d)/2d.
 abbrev pub round_half : ℤ → ℤ → ℤ
@@ -31,3 +32,9 @@ nearness_of p near side = unsigned_abs (rounded_by side (pos (65535 * near) *ℤ
 
 unfoldable pub snapped : HomPoint → ℕ → Dimensions → Side → Snapped
 snapped p near size side = record { x = screen_x p size; y = screen_y p size; q = nearness_of p near side }
+
+-- what is true of each snapped point
+pub record IsSnapped (s : Snapped) : Type 0 where
+  pub x_within : Within s.x
+  pub y_within : Within s.y
+  pub nearness_within : s.q ≤ 65535

@@ -1,13 +1,16 @@
-// A library with one function.
+//! From clip vertices to pieces: clipping, snapping to sixteenths of a pixel, and the choice of which triangles
+//! are kept. Every quotient is exact.
 #![tactic(auto)]
 
-ghost use Rattle.std.specs.Prelude.{◌≡◌};
-ghost use Rattle.snap_setup.specs.Echo.{echo_of};
+mod boxes;
+mod frame;
+mod kept;
+mod quotient;
+mod snapping;
+mod triangle;
 
-// The `ensures` clause is the contract: what `echo` returns is `echo_of` of its argument, a definition
-// in `specs/Echo.antt`, which a caller's clause can cite too.
-pub fn echo(x: usize) -> usize
-    ensures { result ≡ echo_of x }
-{
-    x
-}
+pub use boxes::near_box;
+pub use frame::frame_list;
+pub use kept::Pieces;
+pub use snapping::{Snapped, snap};
+pub use triangle::set_up;
