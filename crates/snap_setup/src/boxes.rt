@@ -13,6 +13,30 @@ use crate::snapping::{place_x, place_y};
 use cull_base::{ClipVertex, Rect, Size};
 use near_clip::{HomPoint, clip_near};
 
+fn lesser(a: i32, b: i32) -> i32
+    ensures { result ≡ int_min a b }
+{
+    a.min(b)
+}
+
+fn greater(a: i32, b: i32) -> i32
+    ensures { result ≡ int_max a b }
+{
+    a.max(b)
+}
+
+fn first_of(least: i32) -> i32
+    ensures { result ≡ first_pixel least }
+{
+    least.div_euclid(16)
+}
+
+fn behind(greatest: i32) -> i32
+    ensures { result ≡ pixel_behind greatest }
+{
+    greatest.div_euclid(16) + 1
+}
+
 // The least and the greatest coordinates so far.
 #[derive(Clone, Copy)]
 struct Extent {
@@ -43,10 +67,10 @@ impl Extent {
         ensures { result ≡ record { left = int_min self.left other.left; top = int_min self.top other.top; right = int_max self.right other.right; bottom = int_max self.bottom other.bottom } }
     {
         Extent {
-            left: self.left.min(other.left),
-            top: self.top.min(other.top),
-            right: self.right.max(other.right),
-            bottom: self.bottom.max(other.bottom),
+            left: lesser(self.left, other.left),
+            top: lesser(self.top, other.top),
+            right: greater(self.right, other.right),
+            bottom: greater(self.bottom, other.bottom),
         }
     }
 
@@ -54,10 +78,10 @@ impl Extent {
         ensures { result ≡ record { x0 = first_pixel self.left; y0 = first_pixel self.top; x1 = pixel_behind self.right; y1 = pixel_behind self.bottom } }
     {
         Rect {
-            x0: self.left.div_euclid(16),
-            y0: self.top.div_euclid(16),
-            x1: self.right.div_euclid(16) + 1,
-            y1: self.bottom.div_euclid(16) + 1,
+            x0: first_of(self.left),
+            y0: first_of(self.top),
+            x1: behind(self.right),
+            y1: behind(self.bottom),
         }
     }
 }

@@ -18,20 +18,38 @@ pub struct Snapped {
 }
 
 /// The nearness of a point on the near plane.
-const NEAREST: i64 = 65535;
+const NEAREST: u64 = 65535;
 
-// Half a screen reaches from 0 to w: so many sixteenths of a pixel make the offset, to the nearest whole number.
+#[inline(always)]
+fn wide_product(a: u32, b: i64) -> i128
+    requires { a ≤ 2 ^ 15 }
+    ensures value { result ≡ pos a *ℤ b }
+    ensures near { Near (2 ^ 78) result }
+{
+    i128::from(a) * i128::from(b)
+}
+
+#[inline(always)]
+fn wide_sum(a: i128, b: i64) -> i128
+    requires { Near (2 ^ 78) a }
+    ensures { result ≡ a +ℤ b }
+{
+    a + i128::from(b)
+}
+
+// From the middle of the screen to its edge is the offset w, and half the number of pixels: the offset in sixteenths
+// of a pixel, rounded.
 fn rounded(pixels: u16, offset: i64, w: i64) -> i32
     requires pixels { pixels ≤ 2048 }
-    requires low { (pos 16385 *ℤ neg_ℤ w) ≤ℤ offset }
+    requires low { neg_ℤ (pos 16385 *ℤ w) ≤ℤ offset }
     requires high { offset ≤ℤ (pos 16385 *ℤ w) }
     requires w_least { pos 1 ≤ℤ w }
     requires w_most { w ≤ℤ pos (2 ^ 49) }
     ensures value { result ≡ round_half (pos (8 * pixels) *ℤ offset) w }
     ensures within { Within result }
 {
-    let numerator = i128::from(pixels) * 16 * i128::from(offset) + i128::from(w);
-    floor_quotient(numerator, 2 * w) as i32
+    let doubled = wide_product(16 * u32::from(pixels), offset);
+    floor_quotient(wide_sum(doubled, w), 2 * w) as i32
 }
 
 #[inline(always)]
@@ -56,6 +74,15 @@ pub(crate) fn place_y(point: &HomPoint, near: u16, size: Size) -> i32
     rounded(size.height(), point.w - point.y, point.w)
 }
 
+#[inline(always)]
+fn nearness_numerator(near: u16, scale: u64) -> u64
+    requires near { near ≤ 1024 }
+    requires scale { scale ≤ 2 ^ 25 }
+    ensures { result ≡ 65535 * near * scale }
+{
+    NEAREST * u64::from(near) * scale
+}
+
 fn nearness(point: &HomPoint, near: u16, side: Side) -> u32
     requires near_least { 1 ≤ near }
     requires near_most { near ≤ 1024 }
@@ -63,10 +90,11 @@ fn nearness(point: &HomPoint, near: u16, side: Side) -> u32
     ensures value { result ≡ nearness_of point.now near side }
     ensures within { result ≤ 65535 }
 {
-    let numerator = NEAREST * i64::from(near) * point.scale;
+    let numerator = nearness_numerator(near, point.scale.unsigned_abs());
+    let w = point.w.unsigned_abs();
     match side {
-        Side::Occluder => numerator.div_euclid(point.w) as u32,
-        Side::Object => (-(-numerator).div_euclid(point.w)) as u32,
+        Side::Occluder => (numerator / w) as u32,
+        Side::Object => numerator.div_ceil(w) as u32,
     }
 }
 
