@@ -1,13 +1,12 @@
 -- What it says of a point that it is in reach.
-use Rattle.std.proofs.Common.{◌≡◌, ℕ, ℤ, pos, negsuc, neg_ℤ, zero, suc, sym, ◌+◌, ◌*◌, ◌^◌, ◌<◌, ◌≤◌, ◌<ℤ◌, ◌≤ℤ◌, ◌+ℤ◌, ◌-ℤ◌, ◌*ℤ◌, FitsSigned, w64, arith, refl, ◌/◌, ◌%◌, min}
+use Rattle.std.proofs.Common.{◌≡◌, ℕ, ℤ, pos, negsuc, zero, suc, sym, ◌+◌, ◌*◌, ◌^◌, ◌<◌, ◌≤◌, ◌≤ℤ◌, ◌+ℤ◌, ◌-ℤ◌, ◌*ℤ◌, FitsSigned, w64, arith, refl, ◌/◌, ◌%◌, min}
 use Rattle.std.proofs.lemmas.Int.{ints}
 use Rattle.std.proofs.Math.Nat.{mul-le-mul_left, mul-le-mul}
 use Rattle.near_clip.specs.declared.hom_point.HomPoint.{HomPoint}
-use Rattle.near_clip.specs.Reach.{IsInReach, WithinScaled}
+use Rattle.near_clip.specs.Reach.{IsInReach}
 use Rattle.std.proofs.Math.Nat.{div-le_of_le-mul, div-add-mod, lt_of_mul-lt-mul_left}
 use Rattle.std.specs.Int.{div_ceil}
 use Rattle.std.specs.Int.RustNames.{unsigned_abs}
-use Rattle.cull_base.specs.declared.clip.Side.{Side}
 use Rattle.cull_base.specs.declared.clip.Side.TheVariants.{Occluder, Object}
 use Rattle.cull_base.specs.Screen.{Dimensions}
 use Rattle.cull_base.specs.Bounds.{Near}

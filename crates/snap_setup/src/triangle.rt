@@ -5,7 +5,7 @@ ghost use Rattle.cull_base.specs.Bounds.{Near};
 ghost use Rattle.cull_base.specs.Guard.{is_past_guard};
 ghost use Rattle.cull_base.specs.Piece.{Within, doubled_area};
 ghost use Rattle.near_clip.specs.NearPart.{corner};
-ghost use Rattle.snap_setup.specs.Pieces.{triangle, is_dropped, pieces_of, kept_of, snapped_part, GivesNone};
+ghost use Rattle.snap_setup.specs.Pieces.{triangle, is_dropped, pieces_of, kept_of, snapped_part, is_any_past_guard, GivesNone};
 ghost use Rattle.snap_setup.specs.Judged.{piece_if};
 ghost use Rattle.snap_setup.specs.Snapping.{IsSnapped};
 
@@ -114,6 +114,15 @@ fn outline(tri: &[ClipVertex; 3], near: u16, size: Size, winding: Winding, side:
     Pieces::of(first, piece(&p0, &p2, &p3, winding))
 }
 
+fn is_any_past_guard(tri: &[ClipVertex; 3], near: u16) -> bool
+    requires near_least { 1 ≤ near }
+    requires near_most { near ≤ 1024 }
+    ensures { result ≡ is_any_past_guard (corner tri.now 0) (corner tri.now 1) (corner tri.now 2) near }
+{
+    let [v0, v1, v2] = tri;
+    past_guard(v0, near) || past_guard(v1, near) || past_guard(v2, near)
+}
+
 /// The pieces of a triangle, each turned so that its doubled area is positive. There is none where a vertex is
 /// past the guard, and else none exactly where all of it is behind the near plane or each triangle of the clipped
 /// polygon has area 0 or a dropped winding. Condition: `near` is 1 to 1024.
@@ -124,7 +133,7 @@ pub fn set_up(tri: &[ClipVertex; 3], near: u16, size: Size, winding: Winding, si
     ensures most { length result ≤ 2 }
     ensures none { (result ≡ []) ↔ GivesNone (corner tri.now 0) (corner tri.now 1) (corner tri.now 2) near size winding side }
 {
-    if past_guard(&tri[0], near) || past_guard(&tri[1], near) || past_guard(&tri[2], near) {
+    if is_any_past_guard(tri, near) {
         return Pieces::none();
     }
     outline(tri, near, size, winding, side)

@@ -1,4 +1,4 @@
-use Rattle.std.proofs.Common.{◌≡◌, ◌+ℤ◌, ◌*ℤ◌, ℤ, pos, ◌*◌, FitsSigned, w32, w64, rules}
+use Rattle.std.proofs.Common.{◌≡◌, ◌+ℤ◌, ◌*ℤ◌, pos, ◌*◌, FitsSigned, w32, w64, rules}
 use Rattle.std.proofs.lemmas.Int.{to_z-of_z}
 use Rattle.snap_setup.specs.Snapping.{round_half}
 use Rattle.snap_setup.proofs.Reached.{x_fits, x_is}

@@ -1,4 +1,4 @@
-use Rattle.std.proofs.Common.{◌≡◌, ℤ, ℕ, FitsSigned, w32, rules, refl}
+use Rattle.std.proofs.Common.{FitsSigned, w32, rules, refl}
 use Rattle.std.proofs.lemmas.Int.{to_z-of_z}
 use Rattle.snap_setup.specs.Snapping.{snapped}
 use Rattle.snap_setup.proofs.snapping.snap.Goals as goal

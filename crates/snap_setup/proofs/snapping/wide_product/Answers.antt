@@ -1,4 +1,4 @@
-use Rattle.std.proofs.Common.{◌≡◌, ◌*ℤ◌, ◌^◌, ℕ, ℤ, pos, ◌≤◌, FitsSigned, w64, arith, rules}
+use Rattle.std.proofs.Common.{◌*ℤ◌, ◌^◌, ℕ, ℤ, pos, ◌≤◌, FitsSigned, w64, arith}
 use Rattle.std.specs.Int.{w128}
 use Rattle.std.proofs.lemmas.Int.{ints, to_z-of_z}
 use Rattle.cull_base.specs.Bounds.{Near}
@@ -7,7 +7,6 @@ use Rattle.snap_setup.proofs.snapping.wide_product.Goals as goal
 
 product_near : (a : ℕ) (b : ℤ) → a ≤ 2 ^ 15 → FitsSigned w64 b → Near (2 ^ 78) (pos a *ℤ b)
 product_near a b le f = near-mul (2 ^ 15) (2 ^ 63) (pos a) b (omega (arith, ints), omega (arith, ints)) (omega (arith, ints), omega (arith, ints))
-
 
 pub returns-clause-value : goal.returns-clause-value
 returns-clause-value c =
