@@ -4,3 +4,6 @@
 mod guard;
 
 pub use guard::past_guard;
+
+#[cfg(test)]
+mod tests;

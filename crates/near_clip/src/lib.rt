@@ -9,3 +9,6 @@ mod polygon;
 pub use clip::clip_near;
 pub use hom_point::HomPoint;
 pub use polygon::Polygon;
+
+#[cfg(test)]
+mod tests;
