@@ -14,3 +14,6 @@ pub use frame::frame_list;
 pub use kept::Pieces;
 pub use snapping::{Snapped, snap};
 pub use triangle::set_up;
+
+#[cfg(test)]
+mod tests;
