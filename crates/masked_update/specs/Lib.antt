@@ -1,0 +1,4 @@
+pub mod SubTile
+pub mod Masks
+pub mod Fields
+pub mod TileOf

@@ -1,0 +1,10 @@
+//! The masked update: subtiles of two depths and a mask, tiles of eight subtiles, and the plain drawing of a frame list.
+#![tactic(auto)]
+
+mod sub_tile;
+mod tile_state;
+mod tile_view;
+
+pub use sub_tile::SubTile;
+pub use tile_state::TileState;
+pub use tile_view::{PlainView, TileView};
