@@ -117,7 +117,7 @@ impl Edge {
         requires ay { Within ay }
         requires bx { Within bx }
         requires by { Within by }
-        ensures value { let a : Point = record { x = ax; y = ay } in let b : Point = record { x = bx; y = by } in (x y : ℕ) → value_at result x y ≡ edge_value a b (middle x y) +ℤ bias_of side (is_top_or_left a b) }
+        ensures { let a : Point = record { x = ax; y = ay } in let b : Point = record { x = bx; y = by } in (x y : ℕ) → value_at result x y ≡ edge_value a b (middle x y) +ℤ bias_of side (is_top_or_left a b) }
     {
         let across = difference(bx, ax);
         let down = difference(by, ay);
@@ -148,7 +148,7 @@ impl Edge {
     #[inline(always)]
     fn lanes(&self, start: i64) -> u64
         requires { Near (2 ^ 62) start }
-        ensures value { result ≡ mask_l (map (λ c. is_not_negative (start +ℤ (self.now.column *ℤ pos c))) columns) }
+        ensures { result ≡ mask_l (map (λ c. is_not_negative (start +ℤ (self.now.column *ℤ pos c))) columns) }
     {
         i64x8::splat(start)
             .strict_add(self.offsets)

@@ -78,6 +78,21 @@ impl Edges {
         )
     }
 
+    // The mask of subtile j of a tile.
+    #[inline(always)]
+    fn mask_of(&self, tile: Tile, j: u16) -> u32
+        requires column { tile.column < 64 }
+        requires row { tile.row < 256 }
+        requires j { j < 8 }
+        ensures value { result ≡ mask_l (inside_of self.now (sub_of tile j)) }
+        ensures samples { samples_of result ≡ inside_of self.now (sub_of tile j) }
+    {
+        self.mask(Sub {
+            column: 4 * tile.column + j % 4,
+            row: 2 * tile.row + j / 4,
+        })
+    }
+
     /// The masks of a tile's subtiles, of which it has four columns and two rows. Condition: the tile lies within
     /// 2048 by 2048 pixels.
     pub fn tile_masks(&self, tile: Tile) -> [u32; 8]
@@ -86,21 +101,15 @@ impl Edges {
         ensures value { (j : ℕ) → j < 8 → slice_index result j ≡ mask_l (inside_of self.now (sub_of tile j)) }
         ensures samples { (j : ℕ) → j < 8 → samples_of (slice_index result j) ≡ inside_of self.now (sub_of tile j) }
     {
-        let column = tile.column * 4;
-        let row = tile.row * 2;
-        let mask_at = |right: u16, down: u16| self.mask(Sub {
-            column: column + right,
-            row: row + down,
-        });
         [
-            mask_at(0, 0),
-            mask_at(1, 0),
-            mask_at(2, 0),
-            mask_at(3, 0),
-            mask_at(0, 1),
-            mask_at(1, 1),
-            mask_at(2, 1),
-            mask_at(3, 1),
+            self.mask_of(tile, 0),
+            self.mask_of(tile, 1),
+            self.mask_of(tile, 2),
+            self.mask_of(tile, 3),
+            self.mask_of(tile, 4),
+            self.mask_of(tile, 5),
+            self.mask_of(tile, 6),
+            self.mask_of(tile, 7),
         ]
     }
 }
