@@ -6,8 +6,8 @@ ghost use Rattle.cull_base.specs.Bounds.{Near};
 ghost use Rattle.depth_plane.specs.Plane.{plane_of, numerator_at, IsNearer, point_of, DepthAtMost};
 
 use crate::corner::{greatest_along, least_along, numerator_at};
-use crate::quotient::{ceiling, cut_to_range, floor};
-use crate::setup::{difference, doubled_area, origin_value, weighted};
+use crate::quotient::{ceiling, cut_to_range, floor, is_greater};
+use crate::setup::vertices_of;
 use cull_base::{Sample, ScreenTri, Sub};
 use std::marker::Model;
 
@@ -54,35 +54,12 @@ impl Plane {
         ensures denominator { result.area ≡ denominator tri.now }
         ensures positive { pos 0 <ℤ result.area }
     {
-        let [x0, x1, x2] = tri.x();
-        let [y0, y1, y2] = tri.y();
-        let [q0, q1, q2] = tri.q();
+        let vertices = vertices_of(tri);
         Plane {
-            across: weighted(
-                q0,
-                q1,
-                q2,
-                difference(y1, y2),
-                difference(y2, y0),
-                difference(y0, y1),
-            ),
-            down: weighted(
-                q0,
-                q1,
-                q2,
-                difference(x2, x1),
-                difference(x0, x2),
-                difference(x1, x0),
-            ),
-            level: weighted(
-                q0,
-                q1,
-                q2,
-                origin_value(x1, y1, x2, y2),
-                origin_value(x2, y2, x0, y0),
-                origin_value(x0, y0, x1, y1),
-            ),
-            area: i128::from(doubled_area(x0, y0, x1, y1, x2, y2)),
+            across: vertices.across(),
+            down: vertices.down(),
+            level: vertices.level(),
+            area: i128::from(vertices.area()),
         }
     }
 
@@ -161,14 +138,6 @@ impl Plane {
         ensures value { IsTrue result ↔ IsNearer self.now other.now (point_of sample) }
         ensures pieces { (s t : Piece) → self.now ≡ plane_of s → other.now ≡ plane_of t → (IsTrue result ↔ DepthLess t s (point_of sample)) }
     {
-        let n = self.at(sample);
-        let other_n = other.at(sample);
-        let whole = floor(n, self.area);
-        let other_whole = floor(other_n, other.area);
-        if whole == other_whole {
-            (n - whole * self.area) * other.area > (other_n - other_whole * other.area) * self.area
-        } else {
-            whole > other_whole
-        }
+        is_greater(self.at(sample), self.area, other.at(sample), other.area)
     }
 }
