@@ -89,14 +89,14 @@ pub has-not : (m k : ℕ) → m < 2 ^ 32 → k < 32 → has (samples_of (4294967
 unfolding samples_of
 has-not m k h l = has-bits-not 32 m k h l
 
-has-none : (xs : List Bool) (k : ℕ) → is_none xs ≡ true → has xs k ≡ false
+pub has-none : (xs : List Bool) (k : ℕ) → is_none xs ≡ true → has xs k ≡ false
 has-none [] k e = refl
 has-none (false ∷ xs) zero e = refl
 has-none (false ∷ xs) (suc k) e = has-none xs k e
 has-none (true ∷ xs) k e = cc
 
 -- a set that isn't empty has a sample
-one_of : (xs : List Bool) → is_none xs ≡ false → (k : ℕ) × (k < length xs) × (has xs k ≡ true)
+pub one_of : (xs : List Bool) → is_none xs ≡ false → (k : ℕ) × (k < length xs) × (has xs k ≡ true)
 one_of [] e = cc
 one_of (true ∷ xs) e = (0, omega arith, refl)
 one_of (false ∷ xs) e = let r = one_of xs e in (suc r.0, omega arith, r.2)

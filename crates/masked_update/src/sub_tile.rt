@@ -1,5 +1,6 @@
 //! A subtile: a reference depth, a working depth and the samples that the working depth holds for.
-ghost use Rattle.std.specs.Prelude.{◌≡◌, ℕ, ◌<◌, ◌≤◌, ◌^◌, ◌+◌, ◌-◌, ◌*◌, cond, not, ◌&&◌, nat_eq, nat_lt, min, IsTrue, ◌↔◌, true};
+ghost use Rattle.std.specs.Prelude.{◌≡◌, ℕ, ◌<◌, ◌≤◌, ◌^◌, ◌+◌, ◌-◌, ◌*◌, cond, not, ◌&&◌, nat_eq, nat_lt, min, IsTrue, ◌↔◌, true, List, [], ◌∷◌, ◌++◌};
+ghost use Rattle.std.specs.List.{All};
 
 use std::marker::Model;
 
@@ -33,7 +34,10 @@ impl Model for SubTile {
 }
 
 ghost use Rattle.cull_base.specs.State.{samples_of, empty_state, step_with, has, hides};
-ghost use Rattle.cull_base.specs.Fold.{IsLayered};
+ghost use Rattle.cull_base.specs.Fold.{IsLayered, IsSound};
+ghost use Rattle.cull_base.specs.Piece.{Piece, IsPiece, covered};
+ghost use Rattle.cull_base.specs.Depth.{low_of};
+ghost use Rattle.cull_base.specs.declared.place.Sub.{Sub};
 
 // The mask that an incoming bound t leaves: it drops a working layer that is further behind it than above the reference.
 #[inline(always)]
@@ -105,11 +109,13 @@ impl SubTile {
     }
 
     /// Merges the bound t at the samples of the mask c. Condition: t is at most 65535.
+    /// Where t and c are a piece's least bound and its covered samples, a sound state stays sound.
     pub fn merge(&mut self, t: u32, c: u32)
         requires { t ≤ 65535 }
         ensures step { self.new ≡ step_with self.old t (samples_of c) }
         ensures never_falls { self.old.reference ≤ self.new.reference }
         ensures layered { IsLayered self.new }
+        ensures sound { (u : Sub) (pieces : List Piece) (x : Piece) → All IsPiece pieces → IsPiece x → t ≡ low_of x u → samples_of c ≡ covered x u → IsSound u pieces self.old → IsSound u (pieces ++ x ∷ []) self.new }
     {
         if c == 0 || t <= self.reference {
             return;
