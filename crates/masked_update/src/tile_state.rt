@@ -2,9 +2,10 @@
 ghost use Rattle.std.specs.Prelude.{◌≡◌, ℕ, ◌<◌, ◌+◌, length, replicate, slice_index, slice_index_or, true, false, ◌≤◌, IsTrue, ◌↔◌};
 ghost use Rattle.cull_base.specs.State.{empty_state, samples_of};
 ghost use Rattle.cull_base.specs.Fold.{step};
-ghost use Rattle.cull_base.specs.Piece.{IsPiece, covered};
+ghost use Rattle.cull_base.specs.Piece.{IsPiece, covered, box_of};
 ghost use Rattle.cull_base.specs.Depth.{greatest_nearness};
-ghost use Rattle.cull_base.specs.Screen.{tile_count_of, tile_sub, is_on_screen};
+ghost use Rattle.cull_base.specs.Screen.{IsSize, tile_count_of, tile_rect_of, tile_sub, is_on_screen};
+ghost use Rattle.cull_base.specs.Rectangle.{meets};
 ghost use Rattle.depth_plane.specs.Plane.{plane_of};
 ghost use Rattle.masked_update.specs.Merged.{IsMerged};
 
@@ -99,14 +100,25 @@ fn is_some_behind(subs: &[SubTile; 8], q: u32) -> bool
     subs.iter().any(|sub_tile| sub_tile.reference() < q)
 }
 
-// Where the piece is no nearer than any reference of the tile, its masks aren't asked.
+// Whether the piece's box has a pixel in the tile.
+fn meets_tile(tri: &ScreenTri, size: Size, tile: u32) -> bool
+    requires { tile < tile_count_of size }
+    ensures value { result ≡ meets (box_of tri.now) (tile_rect_of size tile) }
+    ensures valid { IsSize size.width size.height }
+{
+    let _width = size.width();
+    tri.boxed().meets(&size.tile_rect(tile))
+}
+
+// Where the piece's box has no pixel in the tile, or the piece is no nearer than any reference there, its masks aren't asked.
 fn merge(subs: &mut [SubTile; 8], tri: &ScreenTri, size: Size, tile: u32)
     requires tile { tile < tile_count_of size }
     ensures merged { IsMerged size tile tri.now subs.old subs.new }
     ensures eight { length subs.new ≡ 8 }
     ensures valid { IsPiece tri.now }
 {
-    if is_some_behind(subs, greatest_nearness(tri)) {
+    let top = greatest_nearness(tri);
+    if meets_tile(tri, size, tile) && is_some_behind(subs, top) {
         merge_covered(subs, tri, size, tile);
     }
 }
