@@ -3,6 +3,8 @@
 
 mod draw;
 mod sub_tile;
+#[cfg(test)]
+mod tests;
 mod tile_state;
 mod tile_view;
 

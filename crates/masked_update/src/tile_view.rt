@@ -20,6 +20,7 @@ pub trait TileView {
 }
 
 /// The tiles of a slice, by their places in it.
+#[derive(Clone, Copy)]
 pub struct PlainView<'a> {
     states: &'a [TileState],
 }

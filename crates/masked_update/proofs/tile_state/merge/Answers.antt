@@ -11,9 +11,9 @@ returns-else-meets_tile-clause-merged c =
     all_stay c.args.size c.args.tile c.args.tri.now c.args.subs.now
     (λ j h on. elim c.else-meets_tile.branch [
       | else-meets_tile-via-then-meets_tile+else-is_some_behind w ↦
-        let top = c.greatest_nearness-top.ensures.value in
-        let le = w.is_some_behind.ensures w.if-is_some_behind.false j h in
-        step_behind (tile_sub c.args.size c.args.tile j) _ c.args.tri.now piece (omega (arith, top, le))
+          let top = c.greatest_nearness-top.ensures.value in
+          let le = w.is_some_behind.ensures w.if-is_some_behind.false j h in
+          step_behind (tile_sub c.args.size c.args.tile j) _ c.args.tri.now piece (omega (arith, top, le))
       | else-meets_tile-via-else-meets_tile w ↦
-        step_outside c.args.size c.args.tile j _ c.args.tri.now c.meets_tile.ensures.valid piece (sym c.meets_tile.ensures.value ∙ w.if-meets_tile.false) h on
+          step_outside c.args.size c.args.tile j _ c.args.tri.now c.meets_tile.ensures.valid piece (sym c.meets_tile.ensures.value ∙ w.if-meets_tile.false) h on
     ])
