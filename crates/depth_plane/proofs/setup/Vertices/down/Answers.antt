@@ -1,0 +1,13 @@
+use Rattle.std.proofs.Common.{rules, FitsSigned, w64}
+use Rattle.std.specs.Int.{w128}
+use Rattle.std.proofs.lemmas.Int.{to_z-of_z}
+use Rattle.depth_plane.proofs.setup.Vertices.down.Goals as goal
+
+pub returns-clause-near : goal.returns-clause-near
+returns-clause-near c =
+    let fa : FitsSigned w64 c.right_of.result = search rules in
+    let fb : FitsSigned w64 c.right_of-2.result = search rules in
+    let fc : FitsSigned w64 c.right_of-3.result = search rules in
+    let fr : FitsSigned w128 c.weighted.result = search rules in
+    let h = simp to_z-of_z at c.weighted.ensures.nearer in
+    simp to_z-of_z (h c.right_of.ensures.near c.right_of-2.ensures.near c.right_of-3.ensures.near)

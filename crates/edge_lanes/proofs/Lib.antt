@@ -1,0 +1,5 @@
+pub mod Lanes
+pub mod Masks
+pub mod Steps
+pub mod Sides
+pub mod Inside

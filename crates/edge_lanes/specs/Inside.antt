@@ -1,0 +1,30 @@
+-- Which samples lie inside the three edges of a piece.
+use Rattle.std.specs.Prelude.{ℕ, ℤ, pos, ◌+◌, ◌*◌, ◌/◌, ◌%◌, ◌+ℤ◌, ◌*ℤ◌, List, Bool, ◌&&◌}
+use Rattle.cull_base.specs.Piece.{each_sample}
+use Rattle.cull_base.specs.declared.place.Sub.{Sub}
+use Rattle.cull_base.specs.declared.place.Tile.{Tile}
+use Rattle.edge_lanes.specs.Lanes.{is_not_negative}
+use Rattle.edge_lanes.specs.declared.edge.Edge.{Edge}
+use Rattle.edge_lanes.specs.declared.edges.Edges.{Edges}
+
+-- the value of an edge at the sample of a pixel
+abbrev pub value_at : Edge → ℕ → ℕ → ℤ
+value_at e x y = (e.start +ℤ (e.column *ℤ pos x)) +ℤ (e.row *ℤ pos y)
+
+abbrev pub is_inside : Edges → ℕ → ℕ → Bool
+is_inside e x y = is_not_negative (value_at e.first x y) && (is_not_negative (value_at e.second x y) && is_not_negative (value_at e.third x y))
+
+-- which samples of a subtile lie inside all three edges
+unfoldable pub inside_of : Edges → Sub → List Bool
+inside_of e u = each_sample (λ k. is_inside e (8 * u.column + k % 8) (4 * u.row + k / 8))
+
+-- the same by the values that the edges have at the subtile's first sample
+abbrev pub is_inside_from : Edge → ℤ → ℕ → ℕ → Bool
+is_inside_from e start row column = is_not_negative ((start +ℤ (e.row *ℤ pos row)) +ℤ (e.column *ℤ pos column))
+
+abbrev pub inside_from : Edges → ℤ → ℤ → ℤ → ℕ → Bool
+inside_from e first second third k = is_inside_from e.first first (k / 8) (k % 8) && (is_inside_from e.second second (k / 8) (k % 8) && is_inside_from e.third third (k / 8) (k % 8))
+
+-- subtile j of a tile, of which it has four columns and two rows
+abbrev pub sub_of : Tile → ℕ → Sub
+sub_of tile j = record { column = 4 * tile.column + j % 4; row = 2 * tile.row + j / 4 }

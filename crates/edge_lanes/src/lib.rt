@@ -1,0 +1,8 @@
+//! Coverage: which of a subtile's 32 samples lie inside the three edges of a piece, eight columns at a time.
+#![tactic(auto)]
+
+mod arithmetic;
+mod edge;
+mod edges;
+
+pub use edges::Edges;

@@ -1,0 +1,10 @@
+pub mod Bits
+pub mod Steps
+pub mod Hiding
+pub mod Merging
+pub mod Drawing
+pub mod Sounds
+pub mod Fractions
+pub mod Best
+pub mod MergeSound
+pub mod Boxes
