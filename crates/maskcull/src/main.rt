@@ -38,3 +38,6 @@ fn main(rt: HostRuntime) -> ExitCode {
     let status = run(&rt, alloc, &words, &mut input, &mut report, &mut notes);
     ExitCode::from(status.code())
 }
+
+#[cfg(test)]
+mod tests;
