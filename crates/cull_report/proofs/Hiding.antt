@@ -48,8 +48,8 @@ pub hidden_if_each : (r : Rect) (q : ℕ) (state_of : Sub → State) → HidesEa
 unfolding is_hidden
 hidden_if_each r q state_of h =
     all_from (λ y. list_all (λ x. hides (state_of (sub_of_pixel x y)) (sample_of_pixel x y) q) (range_with_len (natural r.x0) (natural r.x1 - natural r.x0))) (natural r.y0) (natural r.y1 - natural r.y0) (λ py y0 y1.
-        all_from (λ x. hides (state_of (sub_of_pixel x py)) (sample_of_pixel x py) q) (natural r.x0) (natural r.x1 - natural r.x0) (λ px x0 x1.
-            h px py (x0, omega arith, y0, omega arith)))
+    all_from (λ x. hides (state_of (sub_of_pixel x py)) (sample_of_pixel x py) q) (natural r.x0) (natural r.x1 - natural r.x0) (λ px x0 x1.
+    h px py (x0, omega arith, y0, omega arith)))
 
 -- two tests that hold alike are one
 pub same_test : (a b : Bool) → (a ≡ true → b ≡ true) → (b ≡ true → a ≡ true) → a ≡ b

@@ -3,11 +3,11 @@
 
 mod built;
 mod line;
+mod objects;
 mod rectangle;
 mod report;
-mod objects;
 
 pub use built::{identity_clips, is_built};
 pub use line::Line;
-pub use report::{write_frame, write_header};
 pub use objects::verdicts;
+pub use report::{write_frame, write_header};

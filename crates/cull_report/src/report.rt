@@ -4,8 +4,8 @@ ghost use Rattle.cull_report.specs.Text.{header_text, frame_line, verdict_line, 
 ghost use Rattle.cull_report.specs.Writing.{Seen, Writes};
 
 use crate::line::Line;
-use scene_reader::Scene;
 use cull_base::{Sink, SinkError, Verdict, write_whole};
+use scene_reader::Scene;
 
 const REPORT_VERSION: u64 = 1;
 
@@ -93,7 +93,10 @@ fn count_of(verdicts: &[Verdict], wanted: Verdict) -> usize
     ensures occluded { wanted ≡ Verdict.Occluded → result ≡ count_by is_occluded verdicts.now }
     ensures outside { wanted ≡ Verdict.Outside → result ≡ count_by is_outside verdicts.now }
 {
-    verdicts.iter().filter(|verdict| **verdict == wanted).count()
+    verdicts
+        .iter()
+        .filter(|verdict| **verdict == wanted)
+        .count()
 }
 
 /// Writes a frame's lines: the number of its pieces, each object's verdict, and how many there are of each.
@@ -120,6 +123,11 @@ pub fn write_header<W: Sink>(sink: &mut W, scene: &Scene) -> Result<(), SinkErro
     ensures { Writes (record { holding = W.holding sink.old; faults = W.faults sink.old; refusals = W.refusals sink.old }) (record { holding = W.holding sink.new; faults = W.faults sink.new; refusals = W.refusals sink.new }) result (header_text scene.now.width scene.now.height (length scene.now.cameras) (length scene.now.objects)) }
 {
     let size = scene.size();
-    let line = header_line(size.width(), size.height(), scene.cameras().len(), scene.objects().len());
+    let line = header_line(
+        size.width(),
+        size.height(),
+        scene.cameras().len(),
+        scene.objects().len(),
+    );
     write_line(sink, &line)
 }

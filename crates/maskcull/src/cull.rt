@@ -123,11 +123,7 @@ fn report_scene<W: Sink>(alloc: Global, scene: &Scene, report: &mut W) -> Result
 }
 
 /// Reads a scene, draws it and writes its report.
-pub fn cull<S: Source, W: Sink>(
-    alloc: Global,
-    input: &mut S,
-    report: &mut W,
-) -> Result<(), Failure>
+pub fn cull<S: Source, W: Sink>(alloc: Global, input: &mut S, report: &mut W) -> Result<(), Failure>
     ensures done { OnOk result (IfSome (S.left input.old) (λ bytes. (s : Parts) × IsDrawable bytes s × (S.left input.new ≡ Some []) × Appends (W.holding report.old) (W.holding report.new) (report_text s))) }
     ensures refusal { IfErr result (λ f. IfScene f IsRefusal) }
     ensures scene { IfErr result (λ f. IfScene f (λ e. IfSome (S.left input.old) (λ bytes. first_fault bytes ≡ Some e))) }

@@ -7,10 +7,9 @@ mod failure;
 mod run;
 mod words;
 
+use adapters::{Input, Output};
 pub use failure::Status;
 pub use run::run;
-
-use adapters::{Input, Output};
 use std::alloc::{AllocError, Global};
 use std::env;
 use std::io::BufReader;

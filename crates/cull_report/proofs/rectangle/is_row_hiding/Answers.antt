@@ -21,7 +21,7 @@ returns-then-not-is_tile_hiding g c = (
   (λ t. absurd cc),
   (λ all.
       let yes = c.is_tile_hiding.ensures.1 (λ px py inside column row.
-          let at = tile_of_pixel px py c.args.row c.loop-column.column c.tile_columns.result (tile_columns_of c.args.size) c.tile_columns.ensures.value column row in
-          rw (c.state.ensures, ← at) (all px py inside row)) in
-      rw c.if-not-is_tile_hiding.true at yes)
+      let at = tile_of_pixel px py c.args.row c.loop-column.column c.tile_columns.result (tile_columns_of c.args.size) c.tile_columns.ensures.value column row in
+      rw (c.state.ensures, ← at) (all px py inside row)) in
+      rw c.if-not-is_tile_hiding.true at yes),
 )

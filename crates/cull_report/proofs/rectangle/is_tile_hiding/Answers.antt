@@ -16,11 +16,11 @@ returns-then-not-hides c = (
   (λ all.
       let j = c.loop-j.j in
       let yes = c.hides.ensures.1 (λ k lt has.
-          let x : c.args.column * 32 + c.from.result % 4 * 8 ≡ c.args.column * 32 + j % 4 * 8 = rw c.from.ensures in
-          let y : c.args.row * 8 + c.from-in-loop-j.result / 4 * 4 ≡ c.args.row * 8 + j / 4 * 4 = rw c.from-in-loop-j.ensures in
-          let in_area = inside c.args.area.now _ _ k (sym (c.samples_in.ensures k lt) ∙ has) in
-          let here : IsIn c.args.area.now (c.args.column * 32 + j % 4 * 8 + k % 8) (c.args.row * 8 + j / 4 * 4 + k / 8) = rw (x, y) at in_area in
-          let at = all (c.args.column * 32 + j % 4 * 8 + k % 8) (c.args.row * 8 + j / 4 * 4 + k / 8) here (tile_column c.args.column j k lt) (tile_row c.args.row j k c.loop-j-test.true lt) in
-          rw (c.sub.ensures.value) (rw (subtile c.args.column c.args.row j k c.loop-j-test.true lt, sample c.args.column c.args.row j k lt) at at)) in
-      rw c.if-not-hides.true at yes)
+      let x : c.args.column * 32 + c.from.result % 4 * 8 ≡ c.args.column * 32 + j % 4 * 8 = rw c.from.ensures in
+      let y : c.args.row * 8 + c.from-in-loop-j.result / 4 * 4 ≡ c.args.row * 8 + j / 4 * 4 = rw c.from-in-loop-j.ensures in
+      let in_area = inside c.args.area.now _ _ k (sym (c.samples_in.ensures k lt) ∙ has) in
+      let here : IsIn c.args.area.now (c.args.column * 32 + j % 4 * 8 + k % 8) (c.args.row * 8 + j / 4 * 4 + k / 8) = rw (x, y) at in_area in
+      let at = all (c.args.column * 32 + j % 4 * 8 + k % 8) (c.args.row * 8 + j / 4 * 4 + k / 8) here (tile_column c.args.column j k lt) (tile_row c.args.row j k c.loop-j-test.true lt) in
+      rw (c.sub.ensures.value) (rw (subtile c.args.column c.args.row j k c.loop-j-test.true lt, sample c.args.column c.args.row j k lt) at at)) in
+      rw c.if-not-hides.true at yes),
 )

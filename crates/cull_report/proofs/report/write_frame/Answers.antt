@@ -20,7 +20,7 @@ returns-in_err-write_line g c =
     let s1 = seen (g.W.Sink.holding c.write_line.new.sink) (g.W.Sink.faults c.write_line.new.sink) (g.W.Sink.refusals c.write_line.new.sink) in
     let failed : Writes s0 s1 (Err e) (frame_line c.args.frame c.args.pieces) = rw (← c.frame_line.ensures) c.in_err-write_line.ensures in
     rw (p.1, p.2) (writes_no_more s0 s1 e (frame_line c.args.frame c.args.pieces)
-        (verdict_lines 0 verdicts ++ end_line c.args.frame (count_by is_visible verdicts) (count_by is_occluded verdicts) (count_by is_outside verdicts)) failed)
+    (verdict_lines 0 verdicts ++ end_line c.args.frame (count_by is_visible verdicts) (count_by is_occluded verdicts) (count_by is_outside verdicts)) failed)
 
 pub returns-in_err-write_verdicts : goal.returns-in_err-write_verdicts
 unfolding frame_text
@@ -33,7 +33,7 @@ returns-in_err-write_verdicts g c =
     let s2 = seen (g.W.Sink.holding c.write_verdicts.new.sink) (g.W.Sink.faults c.write_verdicts.new.sink) (g.W.Sink.refusals c.write_verdicts.new.sink) in
     let first : Writes s0 s1 c.write_line.result (frame_line c.args.frame c.args.pieces) = rw (← c.frame_line.ensures) c.write_line.ensures in
     rw (p.1, p.2) (writes_then s0 s1 s2 (Err e) (frame_line c.args.frame c.args.pieces) _ (rw (← c.frame_line.ensures) c.in_ok-write_line.ensures.ok) first.faults_stay first.refusals_stay
-        (writes_no_more s1 s2 e (verdict_lines 0 verdicts) (end_line c.args.frame (count_by is_visible verdicts) (count_by is_occluded verdicts) (count_by is_outside verdicts)) c.in_err-write_verdicts.ensures))
+    (writes_no_more s1 s2 e (verdict_lines 0 verdicts) (end_line c.args.frame (count_by is_visible verdicts) (count_by is_occluded verdicts) (count_by is_outside verdicts)) c.in_err-write_verdicts.ensures))
 
 pub returns : goal.returns
 unfolding frame_text
@@ -51,5 +51,5 @@ returns g c =
     let first : Writes s0 s1 c.write_line.result (frame_line c.args.frame c.args.pieces) = rw (← c.frame_line.ensures) c.write_line.ensures in
     let ended : Writes s2 s3 c.write_line-2.result last = rw (← is) c.write_line-2.ensures in
     writes_then s0 s1 s3 c.write_line-2.result (frame_line c.args.frame c.args.pieces) (verdict_lines 0 verdicts ++ last)
-        (rw (← c.frame_line.ensures) c.in_ok-write_line.ensures.ok) first.faults_stay first.refusals_stay
-        (writes_then s1 s2 s3 c.write_line-2.result (verdict_lines 0 verdicts) last c.in_ok-write_verdicts.ensures.ok c.write_verdicts.ensures.faults_stay c.write_verdicts.ensures.refusals_stay ended)
+    (rw (← c.frame_line.ensures) c.in_ok-write_line.ensures.ok) first.faults_stay first.refusals_stay
+    (writes_then s1 s2 s3 c.write_line-2.result (verdict_lines 0 verdicts) last c.in_ok-write_verdicts.ensures.ok c.write_verdicts.ensures.faults_stay c.write_verdicts.ensures.refusals_stay ended)

@@ -9,5 +9,5 @@ pub returns-clause-members : goal.returns-clause-members
 unfolding frame_pieces
 returns-clause-members c =
     let is : list_of_clips c.deref.result.now c.occluders.result.now c.near.result c.size.result c.winding.result ≡ frame_pieces c.args.scene.now =
-        rw (c.deref.ensures.value, c.in_ok-clips.ensures, c.vertices.ensures, c.occluders.ensures, c.near.ensures.value, c.size.ensures, c.winding.ensures) refl in
+    rw (c.deref.ensures.value, c.in_ok-clips.ensures, c.vertices.ensures, c.occluders.ensures, c.near.ensures.value, c.size.ensures, c.winding.ensures) refl in
     subst (λ (pieces : List Piece). IfOk c.frame_list.result (λ f. f.members ≡ pieces)) is c.frame_list.ensures.members

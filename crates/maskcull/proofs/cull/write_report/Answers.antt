@@ -25,8 +25,8 @@ returns g c =
     let s1 = seen (g.W.Sink.holding c.write_header.new.sink) (g.W.Sink.faults c.write_header.new.sink) (g.W.Sink.refusals c.write_header.new.sink) in
     let s2 = seen (g.W.Sink.holding c.write_frame.new.sink) (g.W.Sink.faults c.write_frame.new.sink) (g.W.Sink.refusals c.write_frame.new.sink) in
     let rest : Writes s1 s2 c.write_frame.result (frame_text 0 (length (frame_pieces s)) (scene_verdicts s)) =
-        subst (λ (n : ℕ). Writes s1 s2 c.write_frame.result (frame_text 0 n (scene_verdicts s))) c.requires.pieces
-        (subst (λ (vs : List Verdict). Writes s1 s2 c.write_frame.result (frame_text 0 c.args.frame.now.pieces vs)) c.requires.verdicts
-        (rw (c.deref.ensures.value) at c.write_frame.ensures)) in
+    subst (λ (n : ℕ). Writes s1 s2 c.write_frame.result (frame_text 0 n (scene_verdicts s))) c.requires.pieces
+    (subst (λ (vs : List Verdict). Writes s1 s2 c.write_frame.result (frame_text 0 c.args.frame.now.pieces vs)) c.requires.verdicts
+    (rw (c.deref.ensures.value) at c.write_frame.ensures)) in
     writes_then s0 s1 s2 c.write_frame.result (header_text s.width s.height (length s.cameras) (length s.objects)) (frame_text 0 (length (frame_pieces s)) (scene_verdicts s))
-        c.in_ok-write_header.ensures.ok c.write_header.ensures.faults_stay c.write_header.ensures.refusals_stay rest
+    c.in_ok-write_header.ensures.ok c.write_header.ensures.faults_stay c.write_header.ensures.refusals_stay rest
