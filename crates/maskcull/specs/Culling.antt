@@ -10,13 +10,13 @@ use Rattle.maskcull.specs.declared.failure.Status.TheVariants as statuses
 use Rattle.maskcull.specs.declared.failure.Failure.TheVariants.{Usage, Scene, NotBuilt, ReadFault, ReportFault, Memory}
 
 -- the bytes are the layout of the scene s
-pub record IsLayoutOf (bytes : List ℕ) (s : Parts) : Type 0 where
+pub record IsSceneOf (bytes : List ℕ) (s : Parts) : Type 0 where
   pub scene : IsScene s
   pub spelled : bytes ≡ layout s
 
 -- the bytes are the layout of the scene s, which can be drawn
 pub record IsDrawable (bytes : List ℕ) (s : Parts) : Type 0 where
-  pub layout : IsLayoutOf bytes s
+  pub layout : IsSceneOf bytes s
   pub built : IsBuilt s
 
 -- a fact of the refusal, if the failure is one

@@ -9,7 +9,7 @@ ghost use Rattle.cull_base.specs.Screen.{tile_count_of};
 ghost use Rattle.cull_base.specs.Tiles.{tile_after};
 ghost use Rattle.masked_update.specs.TileOf.{tile_at};
 ghost use Rattle.cull_report.specs.Writing.{Seen, Writes};
-ghost use Rattle.maskcull.specs.Culling.{IsLayoutOf, IsDrawable, IfScene, EndsAs};
+ghost use Rattle.maskcull.specs.Culling.{IsSceneOf, IsDrawable, IfScene, EndsAs};
 
 use crate::failure::Failure;
 use cull_base::{FrameList, Memory, Sink, SinkError, Source, Verdict};
@@ -31,12 +31,12 @@ fn read_built<S: Source>(alloc: Global, input: &mut S) -> Result<Scene, Failure>
     ensures drawable { IfOk result (λ s. IfSome (S.left input.old) (λ bytes. IsDrawable bytes s)) }
     ensures whole { OnOk result (IfSome (S.left input.old) (λ _. S.left input.new ≡ Some [])) }
     ensures built { IfOk result (λ s. IsBuilt s) }
-    ensures only { IfOk result (λ s. IfSome (S.left input.old) (λ bytes. (t : Parts) → IsLayoutOf bytes t → t ≡ s)) }
+    ensures only { IfOk result (λ s. IfSome (S.left input.old) (λ bytes. (t : Parts) → IsSceneOf bytes t → t ≡ s)) }
     ensures fault_free { OnOk result (IfSome (S.left input.old) (λ bytes. first_fault bytes ≡ None)) }
     ensures refusal { IfErr result (λ f. IfScene f IsRefusal) }
     ensures scene { IfErr result (λ f. IfScene f (λ e. IfSome (S.left input.old) (λ bytes. first_fault bytes ≡ Some e))) }
-    ensures no_scene { IfErr result (λ f. IfScene f (λ e. IfSome (S.left input.old) (λ bytes. (t : Parts) → IsLayoutOf bytes t → ⊥))) }
-    ensures not_built { IsErrOf result Failure.NotBuilt → IfSome (S.left input.old) (λ bytes. (s : Parts) × IsLayoutOf bytes s × (IsBuilt s → ⊥) × ((t : Parts) → IsLayoutOf bytes t → t ≡ s) × (first_fault bytes ≡ None)) }
+    ensures no_scene { IfErr result (λ f. IfScene f (λ e. IfSome (S.left input.old) (λ bytes. (t : Parts) → IsSceneOf bytes t → ⊥))) }
+    ensures not_built { IsErrOf result Failure.NotBuilt → IfSome (S.left input.old) (λ bytes. (s : Parts) × IsSceneOf bytes s × (IsBuilt s → ⊥) × ((t : Parts) → IsSceneOf bytes t → t ≡ s) × (first_fault bytes ≡ None)) }
     ensures read { IsErrOf result Failure.ReadFault → Rose (S.faults input.old) (S.faults input.new) }
     ensures never { (IsErrOf result Failure.Usage → ⊥) × (IsErrOf result Failure.ReportFault → ⊥) }
 {
@@ -127,14 +127,14 @@ pub fn cull<S: Source, W: Sink>(alloc: Global, input: &mut S, report: &mut W) ->
     ensures done { OnOk result (IfSome (S.left input.old) (λ bytes. (s : Parts) × IsDrawable bytes s × (S.left input.new ≡ Some []) × Appends (W.holding report.old) (W.holding report.new) (report_text s))) }
     ensures refusal { IfErr result (λ f. IfScene f IsRefusal) }
     ensures scene { IfErr result (λ f. IfScene f (λ e. IfSome (S.left input.old) (λ bytes. first_fault bytes ≡ Some e))) }
-    ensures not_built { IsErrOf result Failure.NotBuilt → IfSome (S.left input.old) (λ bytes. (s : Parts) × IsLayoutOf bytes s × (IsBuilt s → ⊥)) }
+    ensures not_built { IsErrOf result Failure.NotBuilt → IfSome (S.left input.old) (λ bytes. (s : Parts) × IsSceneOf bytes s × (IsBuilt s → ⊥)) }
     ensures read { IsErrOf result Failure.ReadFault → Rose (S.faults input.old) (S.faults input.new) }
     ensures report { IsErrOf result Failure.ReportFault → Rose (W.faults report.old) (W.faults report.new) }
     ensures never { IsErrOf result Failure.Usage → ⊥ }
 
     // What comes of bytes that are refused, that can't be drawn yet and that can.
     ensures refused { IfSome (S.left input.old) (λ bytes. (e : SceneError) → first_fault bytes ≡ Some e → EndsAs result (Failure.Scene e)) }
-    ensures undrawn { IfSome (S.left input.old) (λ bytes. (s : Parts) → IsLayoutOf bytes s → (IsBuilt s → ⊥) → EndsAs result Failure.NotBuilt) }
+    ensures undrawn { IfSome (S.left input.old) (λ bytes. (s : Parts) → IsSceneOf bytes s → (IsBuilt s → ⊥) → EndsAs result Failure.NotBuilt) }
     ensures drawn { IfSome (S.left input.old) (λ bytes. (s : Parts) → IsDrawable bytes s → OnErr result (EndsAs result Failure.ReportFault)) }
 
     // What stands on the report.

@@ -5,7 +5,7 @@ ghost use Rattle.scene_reader.specs.Layout.{Parts};
 ghost use Rattle.scene_reader.specs.Fault.{first_fault, IsRefusal};
 ghost use Rattle.scene_reader.specs.declared.error.SceneError.{SceneError};
 ghost use Rattle.cull_report.specs.Scene.{IsBuilt, report_text};
-ghost use Rattle.maskcull.specs.Culling.{IsLayoutOf, IsDrawable, StatusIs, MayHaveWritten};
+ghost use Rattle.maskcull.specs.Culling.{IsSceneOf, IsDrawable, StatusIs, MayHaveWritten};
 ghost use Rattle.maskcull.specs.Notes.{IsNoted, note_text, refusal_text, status_text};
 ghost use Rattle.maskcull.specs.Outcome.{status_of};
 ghost use Rattle.maskcull.specs.Words.{IsAccepted};
@@ -45,13 +45,13 @@ pub fn run<R: Threads + Wait + Sync, S: Source, W: Sink, E: Sink>(
     ensures usage { (result ≡ Status.Usage) ↔ (IsAccepted (map string_bytes words.now) → ⊥) }
     ensures scene { result ≡ Status.Scene → (e : SceneError) × IsRefusal e × IfSome (S.left input.old) (λ bytes. first_fault bytes ≡ Some e)
         × IsNoted (E.holding notes.old) (E.holding notes.new) (E.faults notes.old) (E.faults notes.new) (E.refusals notes.old) (E.refusals notes.new) (refusal_text e) }
-    ensures not_built { result ≡ Status.NotBuilt → IfSome (S.left input.old) (λ bytes. (s : Parts) × IsLayoutOf bytes s × (IsBuilt s → ⊥)) }
+    ensures not_built { result ≡ Status.NotBuilt → IfSome (S.left input.old) (λ bytes. (s : Parts) × IsSceneOf bytes s × (IsBuilt s → ⊥)) }
     ensures read { result ≡ Status.ReadFault → Rose (S.faults input.old) (S.faults input.new) }
     ensures report { result ≡ Status.ReportFault → Rose (W.faults report.old) (W.faults report.new) }
 
     // What comes of accepted words with bytes that are refused, that can't be drawn yet and that can.
     ensures refused { IsAccepted (map string_bytes words.now) → IfSome (S.left input.old) (λ bytes. (e : SceneError) → first_fault bytes ≡ Some e → StatusIs result Status.Scene) }
-    ensures undrawn { IsAccepted (map string_bytes words.now) → IfSome (S.left input.old) (λ bytes. (s : Parts) → IsLayoutOf bytes s → (IsBuilt s → ⊥) → StatusIs result Status.NotBuilt) }
+    ensures undrawn { IsAccepted (map string_bytes words.now) → IfSome (S.left input.old) (λ bytes. (s : Parts) → IsSceneOf bytes s → (IsBuilt s → ⊥) → StatusIs result Status.NotBuilt) }
     ensures complete { IsAccepted (map string_bytes words.now) → IfSome (S.left input.old) (λ bytes. (s : Parts) → IsDrawable bytes s
         → (Rose (S.faults input.old) (S.faults input.new) → ⊥) → (Rose (W.faults report.old) (W.faults report.new) → ⊥) → (result ≡ Status.Done) ⊎ (result ≡ Status.Memory)) }
 
