@@ -1,0 +1,4 @@
+pub mod Layout
+pub mod Fault
+pub mod PartsFault
+pub mod Law

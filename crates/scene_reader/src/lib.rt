@@ -1,0 +1,14 @@
+//! Scenes: their bytes are read, tested and written here, so the layers above never see a scene that isn't valid.
+#![tactic(auto)]
+
+mod error;
+mod laws;
+mod reading;
+mod scene;
+mod writing;
+
+pub use error::SceneError;
+pub use laws::one_layout;
+pub use reading::read_scene;
+pub use scene::{Scene, SceneParts};
+pub use writing::write_scene;
