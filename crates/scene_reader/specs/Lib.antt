@@ -2,3 +2,4 @@ pub mod Layout
 pub mod Fault
 pub mod PartsFault
 pub mod Law
+pub mod Reading

@@ -2,6 +2,7 @@
 #![tactic(auto)]
 
 mod error;
+mod intake;
 mod laws;
 mod reading;
 mod scene;

@@ -1,0 +1,22 @@
+-- What reading takes from a source.
+use Rattle.std.specs.Prelude.{ℕ, ◌≡◌, ◌+◌, ◌<◌, List, [], ◌++◌, length, Option, option_map, IfSome}
+use Rattle.std.specs.List.{All}
+use Rattle.scene_reader.specs.declared.error.SceneError.{SceneError}
+use Rattle.scene_reader.specs.declared.error.SceneError.TheVariants.{Truncated}
+
+-- these bytes were taken from the front of what was left, where that is told
+pub record Takes (before after : Option (List ℕ)) (bytes : List ℕ) : Type 0 where
+  pub front : before ≡ option_map (λ rest. bytes ++ rest) after
+  pub fits : All (λ b. b < 256) bytes
+
+-- nothing is left, where that is told
+abbrev pub IsAtEnd : Option (List ℕ) → Type 0
+IsAtEnd after = IfSome after (λ rest. rest ≡ [])
+
+-- the end came before so many bytes, and the answer tells it, with what was taken before
+pub record EndsWithin (wanted need taken : ℕ) (before after : Option (List ℕ)) (e : SceneError) : Type 0 where
+  pub bytes : List ℕ
+  pub takes : Takes before after bytes
+  pub few : length bytes < wanted
+  pub ended : IsAtEnd after
+  pub told : e ≡ Truncated need (taken + length bytes)
