@@ -1,6 +1,6 @@
 -- The first fault of bytes that aren't the layout of a scene. Each step is tested over the whole before the next step.
 use Rattle.std.specs.Prelude.{ℕ, zero, suc, ℤ, pos, ◌+◌, ◌*◌, ◌%◌, ◌^◌, ◌+ℤ◌, List, [], ◌∷◌, length, take, drop, map, slice_index, slice_index_or, Bool, true, false, not, ◌&&◌, ◌||◌, ◌==◌, nat_lt, int_lt, if◌then◌else◌, Option, Some, None}
-use Rattle.std.specs.List.{list_any, starts_with}
+use Rattle.std.specs.List.{list_any, starts_with, range_with_len}
 use Rattle.std.specs.Option.{option_or}
 use Rattle.std.specs.Prelude.{nat_eq}
 use Rattle.std.specs.Int.{w16, w32, from_le_bytes, cast_signed}
@@ -99,11 +99,15 @@ unfoldable pub entries : ℕ → ℕ → List ℕ → List (List ℕ)
 entries size zero bytes = []
 entries size (suc n) bytes = take size bytes ∷ entries size n (drop size bytes)
 
-abbrev pub words_in : ℕ → List ℕ → List ℕ
-words_in n bytes = map (from_le_bytes w32) (entries 4 n bytes)
+abbrev pub signed_at : ℕ → List ℕ → ℤ
+signed_at place bytes = cast_signed w32 (word_at place bytes)
 
-abbrev pub row_of : ℕ → List ℕ → List ℤ
-row_of n bytes = map (cast_signed w32) (words_in n bytes)
+-- n numbers, one behind the other
+unfoldable pub words_in : ℕ → List ℕ → List ℕ
+words_in n bytes = map (λ k. word_at (4 * k) bytes) (range_with_len 0 n)
+
+unfoldable pub row_of : ℕ → List ℕ → List ℤ
+row_of n bytes = map (λ k. signed_at (4 * k) bytes) (range_with_len 0 n)
 
 abbrev pub tri_of : List ℕ → Tri
 tri_of bytes = record { 0 = words_in 3 bytes }

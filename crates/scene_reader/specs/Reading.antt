@@ -1,6 +1,7 @@
 -- What reading takes from a source.
-use Rattle.std.specs.Prelude.{ℕ, ◌≡◌, ◌+◌, ◌<◌, List, [], ◌++◌, length, Option, option_map, IfSome}
+use Rattle.std.specs.Prelude.{ℕ, ◌≡◌, ◌+◌, ◌*◌, ◌<◌, List, [], ◌++◌, length, map, Option, option_map, IfSome}
 use Rattle.std.specs.List.{All}
+use Rattle.scene_reader.specs.Fault.{entries}
 use Rattle.scene_reader.specs.declared.error.SceneError.{SceneError}
 use Rattle.scene_reader.specs.declared.error.SceneError.TheVariants.{Truncated}
 
@@ -20,3 +21,10 @@ pub record EndsWithin (wanted need taken : ℕ) (before after : Option (List ℕ
   pub few : length bytes < wanted
   pub ended : IsAtEnd after
   pub told : e ≡ Truncated need (taken + length bytes)
+
+-- a table was taken: so many entries of so many bytes each, every one read as an item
+pub record TakesTable {X : Type 0} (size count : ℕ) (read : List ℕ → X) (before after : Option (List ℕ)) (items : List X) : Type 0 where
+  pub bytes : List ℕ
+  pub takes : Takes before after bytes
+  pub whole : length bytes ≡ size * count
+  pub each : items ≡ map read (entries size count bytes)

@@ -4,8 +4,10 @@
 mod error;
 mod intake;
 mod laws;
+mod numbers;
 mod reading;
 mod scene;
+mod tables;
 mod writing;
 
 pub use error::SceneError;
