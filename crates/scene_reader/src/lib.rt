@@ -5,6 +5,7 @@ mod error;
 mod intake;
 mod laws;
 mod numbers;
+mod objects;
 mod reading;
 mod scene;
 mod tables;
