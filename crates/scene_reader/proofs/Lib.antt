@@ -1,3 +1,4 @@
 pub mod Takes
 pub mod Entries
 pub mod Shapes
+pub mod Valid

@@ -1,5 +1,5 @@
 //! Objects: made from their kind and six numbers, and tested.
-ghost use Rattle.std.specs.Prelude.{◌≡◌, ℕ, ◌+◌, ◌≤◌, ◌^◌, true, false, ◌||◌, int_lt, IfSome, IfNone};
+ghost use Rattle.std.specs.Prelude.{◌≡◌, ℕ, ◌+◌, ◌≤◌, ◌^◌, true, false, ◌||◌, int_lt, length, IfSome, IfNone};
 ghost use Rattle.cull_base.specs.Guard.{is_beyond};
 ghost use Rattle.scene_reader.specs.Layout.{IsObject, kind_of, numbers_of, axis};
 ghost use Rattle.scene_reader.specs.Fault.{is_bad_row, is_bad_object};
@@ -88,7 +88,8 @@ fn runs_back(low: &[i32; 3], high: &[i32; 3]) -> bool
 }
 
 fn is_bad_block(low: &[i32; 3], high: &[i32; 3]) -> bool
-    ensures { result ≡ is_bad_object 0 1 (numbers_of (Object.Block low.now high.now)) }
+    ensures value { result ≡ is_bad_object 0 1 (numbers_of (Object.Block low.now high.now)) }
+    ensures corners { (length low.now ≡ 3) × (length high.now ≡ 3) }
 {
     is_bad_row(low) || is_bad_row(high) || runs_back(low, high)
 }
