@@ -2,3 +2,4 @@ pub mod Takes
 pub mod Entries
 pub mod Shapes
 pub mod Valid
+pub mod First

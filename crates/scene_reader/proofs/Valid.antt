@@ -1,18 +1,19 @@
 -- The tests and the facts that they stand for.
-use Rattle.std.proofs.Common.{◌≡◌, ℕ, ℤ, pos, negsuc, ◌+◌, ◌<◌, ◌≤◌, ◌^◌, ◌∷◌, List, [], length, arith, refl, sym, ap, ◌∙◌, Bool, true, false, All}
+use Rattle.std.proofs.Common.{◌≡◌, ℕ, ℤ, pos, negsuc, ◌+◌, ◌<◌, ◌≤◌, ◌^◌, ◌%◌, ◌∷◌, List, [], length, arith, refl, sym, ap, ◌∙◌, Bool, true, false, All}
 use Rattle.std.specs.Prelude.{◌||◌, ◌≤ℤ◌, ◌<ℤ◌, ◌+ℤ◌, int_lt, nat_lt, not, neg_ℤ}
 use Rattle.std.specs.List.{AllByRecursion, list_any}
 use Rattle.std.proofs.lemmas.Int.{ints}
-use Rattle.std.proofs.lemmas.Bool.{or_from, or_parts, le-ltb, lt-ltb, ltb-false}
+use Rattle.std.proofs.lemmas.Bool.{or_from, or_parts, le-ltb, lt-ltb, ltb-false, ltb-true, eqb-true, eq-eqb, not-false, not_from_true}
 use Rattle.std.proofs.lemmas.List.Elements.{All-from_recursion, recursion_from_All}
 use Rattle.cull_base.specs.Bounds.{Near}
 use Rattle.cull_base.specs.Guard.{is_beyond}
+use Rattle.cull_base.specs.Screen.{IsSize}
 use Rattle.cull_base.specs.declared.rect.Rect.{Rect}
 use Rattle.cull_base.specs.declared.scene_types.Tri.{Tri}
 use Rattle.cull_base.specs.declared.scene_types.Object.{Object}
 use Rattle.cull_base.specs.declared.scene_types.Object.TheVariants.{Area, Block, Mesh}
 use Rattle.scene_reader.specs.Layout.{InLimits, IsRow, IsTri, IsObject, numbers_of, kind_of, axis}
-use Rattle.scene_reader.specs.Fault.{is_bad_row, is_bad_object, is_not_zero}
+use Rattle.scene_reader.specs.Fault.{is_bad_row, is_bad_object, is_bad_size}
 use Rattle.scene_reader.proofs.Shapes.{area_is, block_is}
 
 pub le_from_lt : (a b : ℤ) → int_lt a b ≡ false → b ≤ℤ a
@@ -83,3 +84,43 @@ mesh_good m first count small h =
     in_limits n h = (omega (arith, ints, h), omega (arith, ints, h))
     zero_in : InLimits (pos 0)
     zero_in = in_limits 0 (omega arith)
+
+-- ---- sizes
+
+pub size_valid : (w h : ℕ) → is_bad_size w h ≡ false → IsSize w h
+size_valid w h e =
+    let p = or_parts _ _ e in
+    let q = or_parts _ _ p.0 in
+    let r = or_parts _ _ q.0 in
+    let s = or_parts _ _ r.0 in
+    let t = or_parts _ _ s.0 in
+    record {
+      whole_columns = eqb-true _ _ (not-false _ t.0);
+      wide = ltb-false w 8 t.1;
+      within_width = ltb-false 2048 w s.1;
+      whole_rows = eqb-true _ _ (not-false _ r.1);
+      high = ltb-false h 4 q.1;
+      within_height = ltb-false 2048 h p.1;
+    }
+
+pub size_good : (w h : ℕ) → IsSize w h → is_bad_size w h ≡ false
+size_good w h s =
+    or_from _ _ (or_from _ _ (or_from _ _ (or_from _ _ (or_from _ _
+    (not_from_true _ (eq-eqb (w % 8) 0 s.whole_columns)) (le-ltb w 8 s.wide)) (le-ltb 2048 w s.within_width))
+    (not_from_true _ (eq-eqb (h % 4) 0 s.whole_rows))) (le-ltb h 4 s.high)) (le-ltb 2048 h s.within_height)
+
+-- ---- triangles
+
+indices_parts : (n : ℕ) (vs : List ℕ) → list_any (λ v. not (nat_lt v n)) vs ≡ false → AllByRecursion (λ v. v < n) vs
+indices_parts n [] e = tt
+indices_parts n (v ∷ vs) e = let p = or_parts _ _ e in (ltb-true v n (not-false _ p.0), indices_parts n vs p.1)
+
+pub indices_within : (n : ℕ) (vs : List ℕ) → list_any (λ v. not (nat_lt v n)) vs ≡ false → All (λ v. v < n) vs
+indices_within n vs e = All-from_recursion (λ v. v < n) vs (indices_parts n vs e)
+
+indices_good_parts : (n : ℕ) (vs : List ℕ) → AllByRecursion (λ v. v < n) vs → list_any (λ v. not (nat_lt v n)) vs ≡ false
+indices_good_parts n [] h = refl
+indices_good_parts n (v ∷ vs) h = or_from _ _ (not_from_true _ (lt-ltb v n h.0)) (indices_good_parts n vs h.1)
+
+pub indices_good : (n : ℕ) (vs : List ℕ) → All (λ v. v < n) vs → list_any (λ v. not (nat_lt v n)) vs ≡ false
+indices_good n vs h = indices_good_parts n vs (recursion_from_All (λ v. v < n) vs h)

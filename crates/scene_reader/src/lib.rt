@@ -1,6 +1,7 @@
 //! Scenes: their bytes are read, tested and written here, so the layers above never see a scene that isn't valid.
 #![tactic(auto)]
 
+mod checks;
 mod error;
 mod intake;
 mod laws;
