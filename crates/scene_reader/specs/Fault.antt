@@ -9,6 +9,7 @@ use Rattle.cull_base.specs.Guard.{is_beyond}
 use Rattle.cull_base.specs.declared.scene_types.Tri.{Tri}
 use Rattle.scene_reader.specs.declared.error.SceneError.{SceneError}
 use Rattle.scene_reader.specs.declared.error.SceneError.TheVariants.{Truncated, BadMagic, BadVersion, BadSize, BadNear, BadWinding, BadReserved, BadCount, Trailing, BadVertex, BadIndex, BadKind, BadObject, BadCamera, Read, Memory}
+use Rattle.scene_reader.specs.declared.header.Counts.{Counts}
 use Rattle.scene_reader.specs.Layout.{magic}
 
 -- an answer that speaks of the bytes: neither of a source that failed nor of want of memory
@@ -32,14 +33,6 @@ short_at place bytes = from_le_bytes w16 (take 2 (drop place bytes))
 
 abbrev pub word_at : ℕ → List ℕ → ℕ
 word_at place bytes = from_le_bytes w32 (take 4 (drop place bytes))
-
--- how many entries each table has
-pub record Counts : Type 0 where
-  pub frames : ℕ
-  pub vertices : ℕ
-  pub occluders : ℕ
-  pub object_tris : ℕ
-  pub objects : ℕ
 
 abbrev pub counts_at : List ℕ → Counts
 counts_at bytes = record { frames = short_at 14 bytes; vertices = word_at 16 bytes; occluders = word_at 20 bytes; object_tris = word_at 24 bytes; objects = word_at 28 bytes }

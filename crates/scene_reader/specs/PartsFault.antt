@@ -3,7 +3,8 @@ use Rattle.std.specs.Prelude.{ℕ, ◌-◌, ◌^◌, min, List, length, map, Opt
 use Rattle.std.specs.Option.{option_or}
 use Rattle.scene_reader.specs.declared.error.SceneError.{SceneError}
 use Rattle.scene_reader.specs.Layout.{Parts, kind_of, numbers_of}
-use Rattle.scene_reader.specs.Fault.{Counts, screen_fault, count_fault, tables_fault}
+use Rattle.scene_reader.specs.declared.header.Counts.{Counts}
+use Rattle.scene_reader.specs.Fault.{screen_fault, count_fault, tables_fault}
 
 -- a count that is too large for 32 bits is told as the greatest number of 32 bits
 abbrev pub told : ℕ → ℕ

@@ -3,6 +3,7 @@
 
 mod checks;
 mod error;
+mod header;
 mod intake;
 mod laws;
 mod numbers;
