@@ -85,6 +85,9 @@ numbers_of (Area r w) = r.x0 ∷ r.y0 ∷ r.x1 ∷ r.y1 ∷ w ∷ pos 0 ∷ []
 numbers_of (Block low high) = axis low 0 ∷ axis low 1 ∷ axis low 2 ∷ axis high 0 ∷ axis high 1 ∷ axis high 2 ∷ []
 numbers_of (Mesh first count) = pos first ∷ pos count ∷ pos 0 ∷ pos 0 ∷ pos 0 ∷ pos 0 ∷ []
 
+abbrev pub stored : Object → ℕ × List ℤ
+stored o = (kind_of o, numbers_of o)
+
 abbrev pub object_bytes : Object → List ℕ
 object_bytes o = kind_of o ∷ row_bytes (numbers_of o)
 

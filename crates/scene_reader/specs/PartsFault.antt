@@ -2,7 +2,7 @@
 use Rattle.std.specs.Prelude.{ℕ, ◌-◌, ◌^◌, min, List, length, map, Option}
 use Rattle.std.specs.Option.{option_or}
 use Rattle.scene_reader.specs.declared.error.SceneError.{SceneError}
-use Rattle.scene_reader.specs.Layout.{Parts, kind_of, numbers_of}
+use Rattle.scene_reader.specs.Layout.{Parts, stored}
 use Rattle.scene_reader.specs.declared.header.Counts.{Counts}
 use Rattle.scene_reader.specs.Fault.{screen_fault, count_fault, tables_fault}
 
@@ -17,4 +17,4 @@ unfoldable pub first_fault_of_parts : Parts → Option SceneError
 first_fault_of_parts p =
     option_or (screen_fault p.width p.height p.near)
     (option_or (count_fault (counts_of_parts p))
-    (tables_fault p.vertices p.occluders p.object_tris (map (λ o. (kind_of o, numbers_of o)) p.objects) p.cameras))
+    (tables_fault p.vertices p.occluders p.object_tris (map stored p.objects) p.cameras))

@@ -1,7 +1,9 @@
 -- What reading takes from a source.
-use Rattle.std.specs.Prelude.{ℕ, ◌≡◌, ◌+◌, ◌*◌, ◌<◌, List, [], ◌++◌, length, map, Option, option_map, IfSome}
+use Rattle.std.specs.Prelude.{ℕ, ℤ, ◌≡◌, ◌+◌, ◌*◌, ◌<◌, List, [], ◌++◌, length, map, Option, None, option_map, IfSome}
 use Rattle.std.specs.List.{All}
-use Rattle.scene_reader.specs.Fault.{entries}
+use Rattle.cull_base.specs.declared.scene_types.Object.{Object}
+use Rattle.scene_reader.specs.Layout.{IsObject, stored}
+use Rattle.scene_reader.specs.Fault.{entries, raw_of, first_among, object_fault}
 use Rattle.scene_reader.specs.declared.error.SceneError.{SceneError}
 use Rattle.scene_reader.specs.declared.error.SceneError.TheVariants.{Truncated}
 
@@ -28,3 +30,11 @@ pub record TakesTable {X : Type 0} (size count : ℕ) (read : List ℕ → X) (b
   pub takes : Takes before after bytes
   pub whole : length bytes ≡ size * count
   pub each : items ≡ map read (entries size count bytes)
+
+-- the objects of a table up to its first fault, which is kept
+pub record TakesObjects (count object_tris : ℕ) (before after : Option (List ℕ)) (items : List Object) (fault : Option SceneError) : Type 0 where
+  pub raws : List (ℕ × List ℤ)
+  pub table : TakesTable 25 count raw_of before after raws
+  pub first : fault ≡ first_among (object_fault object_tris) 0 raws
+  pub whole : fault ≡ None → map stored items ≡ raws
+  pub valid : All (IsObject object_tris) items

@@ -7,6 +7,7 @@ mod header;
 mod intake;
 mod laws;
 mod numbers;
+mod object_table;
 mod objects;
 mod reading;
 mod scene;

@@ -38,3 +38,51 @@ pub fn read_vertices<S: Source>(
     }
     Ok(vertices)
 }
+
+/// The next table of triangles.
+pub fn read_triangles<S: Source>(
+    alloc: Global,
+    source: &mut S,
+    count: u32,
+    need: u32,
+    taken: u32,
+) -> Result<Vec<Tri>, SceneError>
+    requires { taken + 12 * count < 2 ^ 32 }
+    ensures taken { IfOk result (λ v. TakesTable 12 count (tri_of) (S.left source.old) (S.left source.new) v.items) }
+    ensures short { IfErr result (λ e. IsRefusal e → EndsWithin (12 * count) need taken (S.left source.old) (S.left source.new) e) }
+    ensures read { IsErrOf result SceneError.Read → Rose (S.faults source.old) (S.faults source.new) }
+    ensures faults_stay { S.faults source.old ≤ S.faults source.new }
+    ensures turns { S.turns source.new ≤ S.turns source.old + 12 * count }
+{
+    let mut triangles = Vec::with_capacity(alloc, count as usize)?;
+    let mut entry = [0; 12];
+    for i in 0..count {
+        fetch(source, &mut entry, need, taken + TRIANGLE * i)?;
+        triangles.push(Tri(words_of(&entry)))?;
+    }
+    Ok(triangles)
+}
+
+/// The next table of cameras.
+pub fn read_cameras<S: Source>(
+    alloc: Global,
+    source: &mut S,
+    count: u32,
+    need: u32,
+    taken: u32,
+) -> Result<Vec<[i32; 12]>, SceneError>
+    requires { taken + 48 * count < 2 ^ 32 }
+    ensures taken { IfOk result (λ v. TakesTable 48 count (row_of 12) (S.left source.old) (S.left source.new) v.items) }
+    ensures short { IfErr result (λ e. IsRefusal e → EndsWithin (48 * count) need taken (S.left source.old) (S.left source.new) e) }
+    ensures read { IsErrOf result SceneError.Read → Rose (S.faults source.old) (S.faults source.new) }
+    ensures faults_stay { S.faults source.old ≤ S.faults source.new }
+    ensures turns { S.turns source.new ≤ S.turns source.old + 48 * count }
+{
+    let mut cameras = Vec::with_capacity(alloc, count as usize)?;
+    let mut entry = [0; 48];
+    for i in 0..count {
+        fetch(source, &mut entry, need, taken + CAMERA * i)?;
+        cameras.push(row_of(&entry))?;
+    }
+    Ok(cameras)
+}
