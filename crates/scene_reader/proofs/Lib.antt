@@ -3,3 +3,4 @@ pub mod Entries
 pub mod Shapes
 pub mod Valid
 pub mod First
+pub mod Kept
