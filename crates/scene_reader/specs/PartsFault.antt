@@ -1,8 +1,9 @@
 -- The first fault of parts that aren't a scene: the steps of `first_fault` that speak of parts.
 use Rattle.std.specs.Prelude.{ℕ, ◌-◌, ◌^◌, min, List, length, map, Option}
 use Rattle.std.specs.Option.{option_or}
+use Rattle.std.specs.List.{All}
 use Rattle.scene_reader.specs.declared.error.SceneError.{SceneError}
-use Rattle.scene_reader.specs.Layout.{Parts, stored}
+use Rattle.scene_reader.specs.Layout.{Parts, IsRow, IsTri, stored}
 use Rattle.scene_reader.specs.declared.header.Counts.{Counts}
 use Rattle.scene_reader.specs.Fault.{screen_fault, count_fault, tables_fault}
 
@@ -18,3 +19,10 @@ first_fault_of_parts p =
     option_or (screen_fault p.width p.height p.near)
     (option_or (count_fault (counts_of_parts p))
     (tables_fault p.vertices p.occluders p.object_tris (map stored p.objects) p.cameras))
+
+-- what is within the limits and refers to what is there, the objects left out
+pub record AreTables (p : Parts) : Type 0 where
+  pub vertices : All (IsRow 3) p.vertices
+  pub occluders : All (IsTri (length p.vertices)) p.occluders
+  pub object_tris : All (IsTri (length p.vertices)) p.object_tris
+  pub cameras : All (IsRow 12) p.cameras

@@ -2,8 +2,9 @@
 use Rattle.std.specs.Prelude.{ℕ, ℤ, ◌≡◌, ◌+◌, ◌*◌, ◌<◌, List, [], ◌++◌, length, map, Option, None, option_map, IfSome}
 use Rattle.std.specs.List.{All}
 use Rattle.cull_base.specs.declared.scene_types.Object.{Object}
-use Rattle.scene_reader.specs.Layout.{IsObject, stored}
-use Rattle.scene_reader.specs.Fault.{entries, raw_of, first_among, object_fault}
+use Rattle.scene_reader.specs.declared.header.Header.{Header}
+use Rattle.scene_reader.specs.Layout.{Parts, IsObject, stored}
+use Rattle.scene_reader.specs.Fault.{entries, raw_of, row_of, tri_of, first_among, object_fault}
 use Rattle.scene_reader.specs.declared.error.SceneError.{SceneError}
 use Rattle.scene_reader.specs.declared.error.SceneError.TheVariants.{Truncated}
 
@@ -38,3 +39,27 @@ pub record TakesObjects (count object_tris : ℕ) (before after : Option (List �
   pub first : fault ≡ first_among (object_fault object_tris) 0 raws
   pub whole : fault ≡ None → map stored items ≡ raws
   pub valid : All (IsObject object_tris) items
+
+-- bytes that are a table, every entry of so many bytes
+pub record IsTable {X : Type 0} (size count : ℕ) (read : List ℕ → X) (bytes : List ℕ) (items : List X) : Type 0 where
+  pub whole : length bytes ≡ size * count
+  pub each : items ≡ map read (entries size count bytes)
+
+-- the five tables behind a header were taken, with the first fault among the objects
+pub record TakesParts (h : Header) (before after : Option (List ℕ)) (p : Parts) (fault : Option SceneError) : Type 0 where
+  pub vertex_bytes : List ℕ
+  pub occluder_bytes : List ℕ
+  pub object_tri_bytes : List ℕ
+  pub object_bytes : List ℕ
+  pub camera_bytes : List ℕ
+  pub raws : List (ℕ × List ℤ)
+  pub takes : Takes before after (vertex_bytes ++ (occluder_bytes ++ (object_tri_bytes ++ (object_bytes ++ camera_bytes))))
+  pub vertices : IsTable 12 h.counts.vertices (row_of 3) vertex_bytes p.vertices
+  pub occluders : IsTable 12 h.counts.occluders tri_of occluder_bytes p.occluders
+  pub object_tris : IsTable 12 h.counts.object_tris tri_of object_tri_bytes p.object_tris
+  pub objects : IsTable 25 h.counts.objects raw_of object_bytes raws
+  pub cameras : IsTable 48 h.counts.frames (row_of 12) camera_bytes p.cameras
+  pub first : fault ≡ first_among (object_fault h.counts.object_tris) 0 raws
+  pub whole : fault ≡ None → map stored p.objects ≡ raws
+  pub valid : All (IsObject h.counts.object_tris) p.objects
+  pub header : (p.width ≡ h.width) × (p.height ≡ h.height) × (p.near ≡ h.near) × (p.winding ≡ h.winding)

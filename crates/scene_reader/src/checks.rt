@@ -2,12 +2,15 @@
 ghost use Rattle.std.specs.Prelude.{◌≡◌, ℕ, ◌≤◌, ◌^◌, ◌<◌, ℤ, List, None, Some, length, not, nat_lt, IsNone};
 ghost use Rattle.std.specs.List.{All, list_any};
 ghost use Rattle.cull_base.specs.Screen.{IsSize};
-ghost use Rattle.scene_reader.specs.Layout.{IsRow, IsTri, IsObject, kind_of, numbers_of};
-ghost use Rattle.scene_reader.specs.Fault.{first_among, vertex_fault, index_fault, object_fault, camera_fault, screen_fault};
+ghost use Rattle.scene_reader.specs.Layout.{IsRow, IsTri};
+ghost use Rattle.scene_reader.specs.Fault.{first_among, vertex_fault, index_fault, object_fault, camera_fault, screen_fault, tables_fault};
+ghost use Rattle.scene_reader.specs.Header.{AreCounts};
+ghost use Rattle.scene_reader.specs.PartsFault.{counts_of_parts, AreTables};
 
 use crate::error::SceneError;
-use crate::objects::{is_bad_object, is_bad_row};
-use cull_base::{Object, Size, Tri};
+use crate::objects::is_bad_row;
+use crate::scene::SceneParts;
+use cull_base::{Size, Tri};
 
 /// The first vertex with a coordinate outside the limits.
 pub fn vertex_fault(vertices: &[[i32; 3]]) -> Option<SceneError>
@@ -70,4 +73,28 @@ pub fn screen_fault(width: u16, height: u16, near: u16) -> Option<SceneError>
         return Some(SceneError::BadNear(near));
     }
     None
+}
+
+/// The first fault of the tables of parts whose header is accepted, where that of the objects is given.
+#[tactic(auto, unfolding(crate::specs::Fault::tables_fault))]
+pub fn tables_fault(parts: &SceneParts, objects: Option<SceneError>) -> Option<SceneError>
+    requires { AreCounts (counts_of_parts parts.now) }
+    ensures value { (raws : List (ℕ × List ℤ)) → objects ≡ first_among (object_fault (length parts.now.object_tris)) 0 raws
+        → result ≡ tables_fault parts.now.vertices parts.now.occluders parts.now.object_tris raws parts.now.cameras }
+    ensures valid { IsNone result → AreTables parts.now × (objects ≡ None) }
+{
+    let vertices = parts.vertices.len() as u32;
+    if let Some(fault) = vertex_fault(&parts.vertices) {
+        return Some(fault);
+    }
+    if let Some(fault) = index_fault(0, vertices, &parts.occluders) {
+        return Some(fault);
+    }
+    if let Some(fault) = index_fault(1, vertices, &parts.object_tris) {
+        return Some(fault);
+    }
+    if objects.is_some() {
+        return objects;
+    }
+    camera_fault(&parts.cameras)
 }

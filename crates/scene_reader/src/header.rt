@@ -1,7 +1,7 @@
 //! The header: the first 32 bytes, with all that is told before the tables.
-ghost use Rattle.std.specs.Prelude.{◌≡◌, Some, MatchResult};
+ghost use Rattle.std.specs.Prelude.{◌≡◌, Some, IsNone, IfOk, MatchResult};
 ghost use Rattle.scene_reader.specs.Fault.{count_fault, counts_at, header_fault};
-ghost use Rattle.scene_reader.specs.Header.{IsHeaderOf};
+ghost use Rattle.scene_reader.specs.Header.{IsHeaderOf, AreCounts};
 
 use crate::checks::screen_fault;
 use crate::error::SceneError;
@@ -34,7 +34,8 @@ pub struct Header {
 /// The first count that is out of its limits.
 #[tactic(auto, unfolding(crate::specs::Fault::count_fault))]
 pub fn count_fault(counts: &Counts) -> Option<SceneError>
-    ensures { result ≡ count_fault counts.now }
+    ensures value { result ≡ count_fault counts.now }
+    ensures valid { IsNone result → AreCounts counts.now }
 {
     if counts.frames == 0 || 256 < counts.frames {
         return Some(SceneError::BadCount {
@@ -72,7 +73,8 @@ pub fn count_fault(counts: &Counts) -> Option<SceneError>
 /// What the bytes of a header say, or the first fault in them.
 #[tactic(auto, unfolding(crate::specs::Fault::header_fault))]
 pub fn header_of(bytes: &[u8; 32]) -> Result<Header, SceneError>
-    ensures { MatchResult result (λ h. IsHeaderOf bytes.now h) (λ e. header_fault bytes.now ≡ Some e) }
+    ensures value { MatchResult result (λ h. IsHeaderOf bytes.now h) (λ e. header_fault bytes.now ≡ Some e) }
+    ensures counts { IfOk result (λ h. AreCounts h.counts) }
 {
     if !bytes.starts_with(b"MSOC") {
         return Err(SceneError::BadMagic);
