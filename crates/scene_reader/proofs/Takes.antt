@@ -4,7 +4,7 @@ use Rattle.std.specs.Prelude.{IfSome}
 use Rattle.std.specs.Option.{option_map}
 use Rattle.std.specs.List.{All}
 use Rattle.std.proofs.Math.Seq.{take-add}
-use Rattle.std.proofs.lemmas.List.{length-drop, length-take, drop-drop, take-take, take_at, drop_at, get_or-append-add, get_or_append_left}
+use Rattle.std.proofs.lemmas.List.{length-drop, length-take, length-append, drop-drop, take-take, take_at, drop_at, get_or-append-add, get_or_append_left}
 use Rattle.std.proofs.lemmas.List.Elements.{All-append, All-take, All-nil, All-from_get_or}
 use Rattle.std.proofs.lemmas.Slice.{take-put_mid}
 use borrow.Rule.Slice.PartMut.{put_mid, post_of}
@@ -67,3 +67,23 @@ bytes_of_part k m buffer part in_buffer fits = All-from_get_or IsByte part 0 (λ
 pub takes_more : (a b c : Option (List ℕ)) (k m n : ℕ) (buffer part : List ℕ) → k ≤ length buffer → n ≤ length part → All IsByte part → Takes a b (take k buffer) → TakesFront b c part n → Takes a c (take (k + n) (put_mid k m buffer part))
 takes_more a b c k m n buffer part in_buffer in_part fits before now =
     rw (front_put k m n buffer part in_buffer in_part) (takes_then a b c (take k buffer) (take n part) before (takes_front b c part n fits now))
+
+-- an end that came after more was taken
+pub ends_later : (a b c : Option (List ℕ)) (x : List ℕ) (n wanted need taken later : ℕ) (e : SceneError) → length x ≡ n → taken + n ≡ later
+    → Takes a b x → EndsWithin wanted need later b c e → EndsWithin (n + wanted) need taken a c e
+ends_later a b c x n wanted need taken later e len is p s = record {
+  bytes = x ++ s.bytes;
+  takes = takes_then a b c x s.bytes p s.takes;
+  few = omega (arith, length-append x s.bytes, len, s.few);
+  ended = s.ended;
+  told = s.told ∙ ap (Truncated need) (omega (arith, length-append x s.bytes, len, is));
+  }
+
+pub ends_wider : (a c : Option (List ℕ)) (wanted more need taken : ℕ) (e : SceneError) → wanted ≤ more → EndsWithin wanted need taken a c e → EndsWithin more need taken a c e
+ends_wider a c wanted more need taken e le s = record {
+  bytes = s.bytes;
+  takes = s.takes;
+  few = omega (arith, s.few, le);
+  ended = s.ended;
+  told = s.told;
+  }

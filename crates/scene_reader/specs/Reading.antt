@@ -1,10 +1,10 @@
 -- What reading takes from a source.
-use Rattle.std.specs.Prelude.{ℕ, ℤ, ◌≡◌, ◌+◌, ◌*◌, ◌<◌, List, [], ◌++◌, length, map, Option, None, option_map, IfSome}
+use Rattle.std.specs.Prelude.{ℕ, ℤ, ◌≡◌, ◌+◌, ◌*◌, ◌<◌, List, [], ◌++◌, length, map, drop, Option, None, Some, option_map, IfSome}
 use Rattle.std.specs.List.{All}
 use Rattle.cull_base.specs.declared.scene_types.Object.{Object}
 use Rattle.scene_reader.specs.declared.header.Header.{Header}
-use Rattle.scene_reader.specs.Layout.{Parts, IsObject, stored}
-use Rattle.scene_reader.specs.Fault.{entries, raw_of, row_of, tri_of, first_among, object_fault}
+use Rattle.scene_reader.specs.Layout.{Parts, IsScene, layout, IsObject, stored}
+use Rattle.scene_reader.specs.Fault.{entries, raw_of, row_of, tri_of, first_among, object_fault, first_fault, header_fault}
 use Rattle.scene_reader.specs.declared.error.SceneError.{SceneError}
 use Rattle.scene_reader.specs.declared.error.SceneError.TheVariants.{Truncated}
 
@@ -63,3 +63,16 @@ pub record TakesParts (h : Header) (before after : Option (List ℕ)) (p : Parts
   pub whole : fault ≡ None → map stored p.objects ≡ raws
   pub valid : All (IsObject h.counts.object_tris) p.objects
   pub header : (p.width ≡ h.width) × (p.height ≡ h.height) × (p.near ≡ h.near) × (p.winding ≡ h.winding)
+
+-- an error is the first fault of the bytes, where they are told; of a header that is refused nothing behind it is taken
+abbrev pub Refuses : Option (List ℕ) → Option (List ℕ) → SceneError → Type 0
+Refuses before after e = IfSome before (λ bytes. (first_fault bytes ≡ Some e) × (header_fault bytes ≡ Some e → after ≡ Some (drop 32 bytes)))
+
+-- the scene's layout was taken, and nothing is left
+pub record ReadsScene (before after : Option (List ℕ)) (s : Parts) : Type 0 where
+  pub bytes : List ℕ
+  pub takes : Takes before after bytes
+  pub ended : IsAtEnd after
+  pub scene : IsScene s
+  pub whole : bytes ≡ layout s
+  pub first : first_fault bytes ≡ None

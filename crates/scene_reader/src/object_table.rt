@@ -16,7 +16,7 @@ use cull_base::{Object, Source};
 use std::alloc::{AllocError, Global};
 
 /// Bytes of an object.
-const OBJECT: u32 = 25;
+pub const OBJECT: u32 = 25;
 
 /// The objects up to the first fault, and that fault.
 #[derive(Drop)]

@@ -57,6 +57,14 @@ impl Scene {
         Ok(Scene { parts })
     }
 
+    /// A scene of parts that are known to be valid.
+    pub(crate) fn sealed(parts: SceneParts) -> Scene
+        requires { IsScene parts }
+        ensures { result ≡ parts }
+    {
+        Scene { parts }
+    }
+
     /// The screen, in pixels.
     pub fn size(&self) -> Size
         ensures { result ≡ record { width = self.now.width; height = self.now.height } }

@@ -11,9 +11,9 @@ use cull_base::{Source, Tri};
 use std::alloc::Global;
 
 /// Bytes of a vertex, of a triangle and of a camera.
-const VERTEX: u32 = 12;
-const TRIANGLE: u32 = 12;
-const CAMERA: u32 = 48;
+pub const VERTEX: u32 = 12;
+pub const TRIANGLE: u32 = 12;
+pub const CAMERA: u32 = 48;
 
 /// The next table of vertices.
 pub fn read_vertices<S: Source>(
