@@ -4,3 +4,4 @@ pub mod Shapes
 pub mod Valid
 pub mod First
 pub mod Kept
+pub mod Codes

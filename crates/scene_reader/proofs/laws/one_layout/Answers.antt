@@ -1,0 +1,5 @@
+use Rattle.scene_reader.proofs.Codes.{row_again}
+use Rattle.scene_reader.proofs.laws.one_layout.Goals as goal
+
+pub returns : goal.returns
+returns c = ?
