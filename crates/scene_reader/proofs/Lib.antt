@@ -5,3 +5,4 @@ pub mod Valid
 pub mod First
 pub mod Kept
 pub mod Codes
+pub mod Headers
