@@ -6,3 +6,5 @@ pub mod First
 pub mod Kept
 pub mod Codes
 pub mod Headers
+pub mod Pieces
+pub mod Wholes
