@@ -7,7 +7,7 @@ use Rattle.std.specs.Cmp.Lexicographic.{same_text}
 use Rattle.std.proofs.Math.Seq.{take-add}
 use Rattle.std.proofs.lemmas.Bool.{le-ltb, lt-ltb}
 use Rattle.std.proofs.lemmas.List.{length-drop, length-take, length-append, length-map, map-id, take_at, drop_at, take_all, drop_more, get_or_append_left}
-use Rattle.std.proofs.lemmas.List.Elements.{All-from_recursion, recursion_from_All}
+use Rattle.std.proofs.lemmas.List.Elements.{All-from_recursion, recursion_from_All, All-take, All-drop}
 use Rattle.cull_base.specs.Screen.{IsSize}
 use Rattle.cull_base.specs.declared.rect.Rect.{Rect}
 use Rattle.cull_base.specs.declared.clip.Winding.{Winding}
@@ -128,3 +128,242 @@ scene_accepted p s =
       reserved = (header_begins p).2;
       counts = rw (says_counts (header_bytes p) p says) (scene_counts p s);
     }
+
+-- ---- bytes in six pieces
+
+-- a header and five tables, of the sizes that the header announces
+pub record Sized (n : Counts) (h v o t j c : List ℕ) : Type 0 where
+  pub header : length h ≡ 32
+  pub counts : counts_at h ≡ n
+  pub vertices : length v ≡ 12 * n.vertices
+  pub occluders : length o ≡ 12 * n.occluders
+  pub object_tris : length t ≡ 12 * n.object_tris
+  pub objects : length j ≡ 25 * n.objects
+  pub cameras : length c ≡ 48 * n.frames
+
+abbrev pub joined : List ℕ → List ℕ → List ℕ → List ℕ → List ℕ → List ℕ → List ℕ
+joined h v o t j c = h ++ (v ++ (o ++ (t ++ (j ++ c))))
+
+-- what is left behind a front
+past : (b pre rest : List ℕ) (k : ℕ) → b ≡ pre ++ rest → length pre ≡ k → drop k b ≡ rest
+past b pre rest k e len = ap (drop k) e ∙ drop_at pre rest k len
+
+module _ (n : Counts) (h v o t j c : List ℕ) (s : Sized n h v o t j c) where
+  b-counts : counts_at (joined h v o t j c) ≡ n
+  b-counts = counts_front h (v ++ (o ++ (t ++ (j ++ c)))) s.header ∙ s.counts
+
+  pub joined_length : length (joined h v o t j c) ≡ scene_length n
+  joined_length = omega (arith, length-append h (v ++ (o ++ (t ++ (j ++ c)))), length-append v (o ++ (t ++ (j ++ c))), length-append o (t ++ (j ++ c)), length-append t (j ++ c), length-append j c, s.header, s.vertices, s.occluders, s.object_tris, s.objects, s.cameras)
+
+  at_vertices : drop 32 (joined h v o t j c) ≡ v ++ (o ++ (t ++ (j ++ c)))
+  at_vertices = past _ h _ 32 refl s.header
+
+  at_occluders : drop (32 + 12 * n.vertices) (joined h v o t j c) ≡ o ++ (t ++ (j ++ c))
+  at_occluders = past _ (h ++ v) _ _ (sym (append_assoc h v (o ++ (t ++ (j ++ c))))) (omega (arith, length-append h v, s.header, s.vertices))
+
+  at_object_tris : drop (32 + 12 * n.vertices + 12 * n.occluders) (joined h v o t j c) ≡ t ++ (j ++ c)
+  at_object_tris = past (joined h v o t j c) ((h ++ v) ++ o) (t ++ (j ++ c)) (32 + 12 * n.vertices + 12 * n.occluders) (simp append_assoc) (omega (arith, length-append (h ++ v) o, length-append h v, s.header, s.vertices, s.occluders))
+
+  at_objects : drop (32 + 12 * n.vertices + 12 * n.occluders + 12 * n.object_tris) (joined h v o t j c) ≡ j ++ c
+  at_objects = past (joined h v o t j c) (((h ++ v) ++ o) ++ t) (j ++ c) (32 + 12 * n.vertices + 12 * n.occluders + 12 * n.object_tris) (simp append_assoc) (omega (arith, length-append ((h ++ v) ++ o) t, length-append (h ++ v) o, length-append h v, s.header, s.vertices, s.occluders, s.object_tris))
+
+  at_cameras : drop (32 + 12 * n.vertices + 12 * n.occluders + 12 * n.object_tris + 25 * n.objects) (joined h v o t j c) ≡ c
+  at_cameras = past (joined h v o t j c) ((((h ++ v) ++ o) ++ t) ++ j) c (32 + 12 * n.vertices + 12 * n.occluders + 12 * n.object_tris + 25 * n.objects) (simp append_assoc) (omega (arith, length-append (((h ++ v) ++ o) ++ t) j, length-append ((h ++ v) ++ o) t, length-append (h ++ v) o, length-append h v, s.header, s.vertices, s.occluders, s.object_tris, s.objects))
+
+  pub joined_vertices : vertices_in (joined h v o t j c) ≡ map (row_of 3) (entries 12 n.vertices v)
+  joined_vertices =
+      ap (λ (m : Counts). map (row_of 3) (entries 12 m.vertices (drop 32 (joined h v o t j c)))) b-counts
+      ∙ ap (λ (r : List ℕ). map (row_of 3) (entries 12 n.vertices r)) at_vertices
+      ∙ ap (map (row_of 3)) (entries_front 12 n.vertices v (o ++ (t ++ (j ++ c))) s.vertices)
+
+  pub joined_occluders : occluders_in (joined h v o t j c) ≡ map tri_of (entries 12 n.occluders o)
+  joined_occluders =
+      ap (λ (m : Counts). map tri_of (entries 12 m.occluders (drop (32 + 12 * m.vertices) (joined h v o t j c)))) b-counts
+      ∙ ap (λ (r : List ℕ). map tri_of (entries 12 n.occluders r)) at_occluders
+      ∙ ap (map tri_of) (entries_front 12 n.occluders o (t ++ (j ++ c)) s.occluders)
+
+  pub joined_object_tris : object_tris_in (joined h v o t j c) ≡ map tri_of (entries 12 n.object_tris t)
+  joined_object_tris =
+      ap (λ (m : Counts). map tri_of (entries 12 m.object_tris (drop (32 + 12 * m.vertices + 12 * m.occluders) (joined h v o t j c)))) b-counts
+      ∙ ap (λ (r : List ℕ). map tri_of (entries 12 n.object_tris r)) at_object_tris
+      ∙ ap (map tri_of) (entries_front 12 n.object_tris t (j ++ c) s.object_tris)
+
+  pub joined_objects : objects_in (joined h v o t j c) ≡ map raw_of (entries 25 n.objects j)
+  joined_objects =
+      ap (λ (m : Counts). map raw_of (entries 25 m.objects (drop (32 + 12 * m.vertices + 12 * m.occluders + 12 * m.object_tris) (joined h v o t j c)))) b-counts
+      ∙ ap (λ (r : List ℕ). map raw_of (entries 25 n.objects r)) at_objects
+      ∙ ap (map raw_of) (entries_front 25 n.objects j c s.objects)
+
+  pub joined_cameras : cameras_in (joined h v o t j c) ≡ map (row_of 12) (entries 48 n.frames c)
+  joined_cameras =
+      ap (λ (m : Counts). map (row_of 12) (entries 48 m.frames (drop (32 + 12 * m.vertices + 12 * m.occluders + 12 * m.object_tris + 25 * m.objects) (joined h v o t j c)))) b-counts
+      ∙ ap (λ (r : List ℕ). map (row_of 12) (entries 48 n.frames r)) at_cameras
+
+  length_fine : length_fault (joined h v o t j c) ≡ None
+  unfolding length_fault
+  length_fine =
+      let need : scene_length (counts_at (joined h v o t j c)) ≡ length (joined h v o t j c) = ap scene_length b-counts ∙ sym joined_length in
+      or_none_from _ _ (fault_none_from _ _ (le-ltb (length (joined h v o t j c)) (scene_length (counts_at (joined h v o t j c))) (omega (arith, need)))) (fault_none_from _ _ (le-ltb (scene_length (counts_at (joined h v o t j c))) (length (joined h v o t j c)) (omega (arith, need))))
+
+  -- behind an accepted header and with the length announced the tables decide
+  pub joined_first : (vs : List (List ℤ)) (os ts : List Tri) (raws : List (ℕ × List ℤ)) (cs : List (List ℤ)) → header_fault h ≡ None
+      → IsTable 12 n.vertices (row_of 3) v vs → IsTable 12 n.occluders tri_of o os → IsTable 12 n.object_tris tri_of t ts → IsTable 25 n.objects raw_of j raws → IsTable 48 n.frames (row_of 12) c cs
+      → first_fault (joined h v o t j c) ≡ tables_fault vs os ts raws cs
+  unfolding first_fault
+  joined_first vs os ts raws cs fine tv to tt tj tc =
+      let b = joined h v o t j c in
+      let ev : vertices_in b ≡ vs = joined_vertices ∙ sym tv.each in
+      let eo : occluders_in b ≡ os = joined_occluders ∙ sym to.each in
+      let et : object_tris_in b ≡ ts = joined_object_tris ∙ sym tt.each in
+      let ej : objects_in b ≡ raws = joined_objects ∙ sym tj.each in
+      let ec : cameras_in b ≡ cs = joined_cameras ∙ sym tc.each in
+      or_second (header_fault b) _ (header_front h (v ++ (o ++ (t ++ (j ++ c)))) s.header ∙ fine)
+      ∙ or_second (length_fault b) _ length_fine
+      ∙ ap (λ (x : List (List ℤ)). tables_fault x (occluders_in b) (object_tris_in b) (objects_in b) (cameras_in b)) ev
+      ∙ ap (λ (x : List Tri). tables_fault vs x (object_tris_in b) (objects_in b) (cameras_in b)) eo
+      ∙ ap (λ (x : List Tri). tables_fault vs os x (objects_in b) (cameras_in b)) et
+      ∙ ap (λ (x : List (ℕ × List ℤ)). tables_fault vs os ts x (cameras_in b)) ej
+      ∙ ap (λ (x : List (List ℤ)). tables_fault vs os ts raws x) ec
+
+-- ---- the tables of a scene have no fault
+
+first_good : {X : Type 0} (P : X → Type 0) (fault : ℕ → X → Option SceneError) → ((i : ℕ) (x : X) → P x → fault i x ≡ None) → (i : ℕ) (xs : List X) → AllByRecursion P xs → first_among fault i xs ≡ None
+first_good P fault fine i [] h = refl
+first_good P fault fine i (x ∷ xs) h = or_none_from _ _ (fine i x h.0) (first_good P fault fine (i + 1) xs h.1)
+
+first_good_map : {X Y : Type 0} (P : X → Type 0) (fault : ℕ → Y → Option SceneError) (view : X → Y) → ((i : ℕ) (x : X) → P x → fault i (view x) ≡ None) → (i : ℕ) (xs : List X) → AllByRecursion P xs → first_among fault i (map view xs) ≡ None
+first_good_map P fault view fine i [] h = refl
+first_good_map P fault view fine i (x ∷ xs) h = or_none_from _ _ (fine i x h.0) (first_good_map P fault view fine (i + 1) xs h.1)
+
+kind_small : (o : Object) → kind_of o ≤ 2
+kind_small (Area r w) = omega arith
+kind_small (Block low high) = omega arith
+kind_small (Mesh first count) = omega arith
+
+pub object_good : (m : ℕ) (o : Object) → m ≤ 262144 → IsObject m o → is_bad_object m (kind_of o) (numbers_of o) ≡ false
+object_good m (Area r w) few h = area_good m r w h
+object_good m (Block low high) few h = block_good m low high h
+object_good m (Mesh first count) few h = mesh_good m first count few h
+
+object_fine : (m i : ℕ) (o : Object) → m ≤ 262144 → IsObject m o → object_fault m i (stored o) ≡ None
+object_fine m i o few h = or_none_from _ _ (fault_none_from _ (BadKind i) (le-ltb 2 (kind_of o) (kind_small o))) (fault_none_from _ (BadObject i) (object_good m o few h))
+
+pub scene_tables : (p : Parts) → IsScene p → tables_fault p.vertices p.occluders p.object_tris (map stored p.objects) p.cameras ≡ None
+unfolding tables_fault
+scene_tables p s =
+    let nv = length p.vertices in
+    let m = length p.object_tris in
+    let tri : (table i : ℕ) (t : Tri) → IsTri nv t → index_fault table nv i t ≡ None = λ table i t h. fault_none_from _ (BadIndex table i) (indices_good nv t.0 h.1) in
+    or_none_from _ _ (first_good (IsRow 3) vertex_fault (λ i row h. fault_none_from _ (BadVertex i) (row_good row h.1)) 0 p.vertices (recursion_from_All (IsRow 3) p.vertices s.vertices))
+    (or_none_from _ _ (first_good (IsTri nv) (index_fault 0 nv) (tri 0) 0 p.occluders (recursion_from_All (IsTri nv) p.occluders s.occluders))
+    (or_none_from _ _ (first_good (IsTri nv) (index_fault 1 nv) (tri 1) 0 p.object_tris (recursion_from_All (IsTri nv) p.object_tris s.object_tris))
+    (or_none_from _ _ (first_good_map (IsObject m) (object_fault m) stored (λ i o h. object_fine m i o s.few_object_tris h) 0 p.objects (recursion_from_All (IsObject m) p.objects s.objects))
+    (first_good (IsRow 12) camera_fault (λ i row h. fault_none_from _ (BadCamera i) (row_good row h.1)) 0 p.cameras (recursion_from_All (IsRow 12) p.cameras s.cameras)))))
+
+-- ---- the layout of a scene
+
+module _ (p : Parts) (s : IsScene p) where
+  layout_vertices : IsTable 12 (length p.vertices) (row_of 3) (flat_map row_bytes p.vertices) p.vertices
+  layout_vertices = subst (λ (xs : List (List ℤ)). IsTable 12 (length p.vertices) (row_of 3) (flat_map row_bytes p.vertices) xs) (map-id p.vertices) (table_flat (IsRow 3) 12 (length p.vertices) row_bytes (row_of 3) (λ x. x) (λ x h. row_length 3 x h) (λ x h. row_again 3 x h) p.vertices refl (recursion_from_All (IsRow 3) p.vertices s.vertices))
+
+  layout_cameras : IsTable 48 (length p.cameras) (row_of 12) (flat_map row_bytes p.cameras) p.cameras
+  layout_cameras = subst (λ (xs : List (List ℤ)). IsTable 48 (length p.cameras) (row_of 12) (flat_map row_bytes p.cameras) xs) (map-id p.cameras) (table_flat (IsRow 12) 48 (length p.cameras) row_bytes (row_of 12) (λ x. x) (λ x h. row_length 12 x h) (λ x h. row_again 12 x h) p.cameras refl (recursion_from_All (IsRow 12) p.cameras s.cameras))
+
+  layout_tris : (xs : List Tri) → All (IsTri (length p.vertices)) xs → IsTable 12 (length xs) tri_of (flat_map tri_bytes xs) xs
+  layout_tris xs h = subst (λ (ys : List Tri). IsTable 12 (length xs) tri_of (flat_map tri_bytes xs) ys) (map-id xs) (table_flat (IsTri (length p.vertices)) 12 (length xs) tri_bytes tri_of (λ x. x) (λ x h. tri_length (length p.vertices) x h) (λ x h. tri_again (length p.vertices) x s.few_vertices h) xs refl (recursion_from_All (IsTri (length p.vertices)) xs h))
+
+  layout_objects : IsTable 25 (length p.objects) raw_of (flat_map object_bytes p.objects) (map stored p.objects)
+  layout_objects = table_flat (IsObject (length p.object_tris)) 25 (length p.objects) object_bytes raw_of stored (λ x h. object_length (length p.object_tris) x s.few_object_tris h) (λ x h. raw_again (length p.object_tris) x s.few_object_tris h) p.objects refl (recursion_from_All (IsObject (length p.object_tris)) p.objects s.objects)
+
+  pub layout_sized : Sized (counts_of p) (header_bytes p) (flat_map row_bytes p.vertices) (flat_map tri_bytes p.occluders) (flat_map tri_bytes p.object_tris) (flat_map object_bytes p.objects) (flat_map row_bytes p.cameras)
+  unfolding counts_of
+  layout_sized = record {
+    header = header_length p;
+    counts = says_counts (header_bytes p) p (header_says p s);
+    vertices = layout_vertices.whole;
+    occluders = (layout_tris p.occluders s.occluders).whole;
+    object_tris = (layout_tris p.object_tris s.object_tris).whole;
+    objects = layout_objects.whole;
+    cameras = layout_cameras.whole;
+    }
+
+  pub scene_first : first_fault (layout p) ≡ None
+  unfolding layout counts_of
+  scene_first =
+      joined_first (counts_of p) (header_bytes p) (flat_map row_bytes p.vertices) (flat_map tri_bytes p.occluders) (flat_map tri_bytes p.object_tris) (flat_map object_bytes p.objects) (flat_map row_bytes p.cameras) layout_sized
+      p.vertices p.occluders p.object_tris (map stored p.objects) p.cameras (header_fine (header_bytes p) (scene_accepted p s))
+      layout_vertices (layout_tris p.occluders s.occluders) (layout_tris p.object_tris s.object_tris) layout_objects layout_cameras
+      ∙ scene_tables p s
+
+-- ---- from bytes to the layout
+
+-- bytes whose pieces are read as these parts are their layout
+pub joined_layout : (n : Counts) (h v o t j c : List ℕ) (p : Parts) (raws : List (ℕ × List ℤ)) → Sized n h v o t j c → All IsByte (joined h v o t j c) → header_fault h ≡ None → HeaderSays h p
+    → IsTable 12 n.vertices (row_of 3) v p.vertices → IsTable 12 n.occluders tri_of o p.occluders → IsTable 12 n.object_tris tri_of t p.object_tris → IsTable 25 n.objects raw_of j raws → IsTable 48 n.frames (row_of 12) c p.cameras
+    → map stored p.objects ≡ raws → joined h v o t j c ≡ layout p
+unfolding layout
+joined_layout n h v o t j c p raws s fits fine says tv to tt tj tc objects =
+    let f1 = split h _ fits in
+    let f2 = split v _ f1.1 in
+    let f3 = split o _ f2.1 in
+    let f4 = split t _ f3.1 in
+    let f5 = split j c f4.1 in
+    let eh = header_back p h s.header f1.0 (header_accepted h fine) says in
+    let ev = sym (table_back 12 n.vertices row_bytes (row_of 3) v p.vertices (λ e l k. row_back 3 e l k) tv f2.0) in
+    let eo = sym (table_back 12 n.occluders tri_bytes tri_of o p.occluders (λ e l k. tri_back e l k) to f3.0) in
+    let et = sym (table_back 12 n.object_tris tri_bytes tri_of t p.object_tris (λ e l k. tri_back e l k) tt f4.0) in
+    let ej : j ≡ flat_map object_bytes p.objects = sym (objects_raw p.objects ∙ ap (flat_map raw_bytes) objects ∙ table_back 25 n.objects raw_bytes raw_of j raws (λ e l k. raw_back e l k) tj f5.0) in
+    let ec = sym (table_back 48 n.frames row_bytes (row_of 12) c p.cameras (λ e l k. row_back 12 e l k) tc f5.1) in
+    ap (λ (x : List ℕ). joined x v o t j c) eh
+    ∙ ap (λ (x : List ℕ). joined (header_bytes p) x o t j c) ev
+    ∙ ap (λ (x : List ℕ). joined (header_bytes p) (flat_map row_bytes p.vertices) x t j c) eo
+    ∙ ap (λ (x : List ℕ). joined (header_bytes p) (flat_map row_bytes p.vertices) (flat_map tri_bytes p.occluders) x j c) et
+    ∙ ap (λ (x : List ℕ). joined (header_bytes p) (flat_map row_bytes p.vertices) (flat_map tri_bytes p.occluders) (flat_map tri_bytes p.object_tris) x c) ej
+    ∙ ap (λ (x : List ℕ). joined (header_bytes p) (flat_map row_bytes p.vertices) (flat_map tri_bytes p.occluders) (flat_map tri_bytes p.object_tris) (flat_map object_bytes p.objects) x) ec
+  where
+    split : (xs ys : List ℕ) → All IsByte (xs ++ ys) → All IsByte xs × All IsByte ys
+    split xs ys fits =
+        (subst (All IsByte) (take_at xs ys (length xs) refl) (All-take IsByte (length xs) (xs ++ ys) fits), subst (All IsByte) (drop_at xs ys (length xs) refl) (All-drop IsByte (length xs) (xs ++ ys) fits))
+
+-- ---- only one scene has a layout
+
+winding_one : (a b : Winding) → winding_code a ≡ winding_code b → a ≡ b
+winding_one Both Both e = refl
+winding_one Both DropClockwise e = absurd (omega (arith, e))
+winding_one Both DropCounter e = absurd (omega (arith, e))
+winding_one DropClockwise Both e = absurd (omega (arith, e))
+winding_one DropClockwise DropClockwise e = refl
+winding_one DropClockwise DropCounter e = absurd (omega (arith, e))
+winding_one DropCounter Both e = absurd (omega (arith, e))
+winding_one DropCounter DropClockwise e = absurd (omega (arith, e))
+winding_one DropCounter DropCounter e = refl
+
+row_axis : (k : ℕ) (a b : ℕ × List ℤ) → a ≡ b → axis a.1 k ≡ axis b.1 k
+row_axis k a b e = ap (λ (r : ℕ × List ℤ). axis r.1 k) e
+
+natural : ℤ → ℕ
+natural (pos n) = n
+natural (negsuc n) = 0
+
+three_same : (xs ys : List ℤ) → length xs ≡ 3 → length ys ≡ 3 → axis xs 0 ≡ axis ys 0 → axis xs 1 ≡ axis ys 1 → axis xs 2 ≡ axis ys 2 → xs ≡ ys
+three_same xs ys l k e0 e1 e2 = sym (three xs l) ∙ (rw (e0, e1, e2) refl) ∙ three ys k
+
+stored_one : (m : ℕ) (a b : Object) → IsObject m a → IsObject m b → stored a ≡ stored b → a ≡ b
+unfolding natural
+stored_one m (Area r w) (Area q u) ha hb e =
+    let e0 = row_axis 0 _ _ e in let e1 = row_axis 1 _ _ e in let e2 = row_axis 2 _ _ e in let e3 = row_axis 3 _ _ e in let e4 = row_axis 4 _ _ e in
+    ?
+stored_one m (Area r w) (Block low high) ha hb e = absurd (omega (arith, ap (λ (x : ℕ × List ℤ). x.0) e))
+stored_one m (Area r w) (Mesh first count) ha hb e = absurd (omega (arith, ap (λ (x : ℕ × List ℤ). x.0) e))
+stored_one m (Block low high) (Area q u) ha hb e = absurd (omega (arith, ap (λ (x : ℕ × List ℤ). x.0) e))
+stored_one m (Block low high) (Block low2 high2) ha hb e =
+    let el = three_same low low2 ha.0.0 hb.0.0 (row_axis 0 _ _ e) (row_axis 1 _ _ e) (row_axis 2 _ _ e) in
+    let eh = three_same high high2 ha.1.0 hb.1.0 (row_axis 3 _ _ e) (row_axis 4 _ _ e) (row_axis 5 _ _ e) in
+    rw (el, eh) refl
+stored_one m (Block low high) (Mesh first count) ha hb e = absurd (omega (arith, ap (λ (x : ℕ × List ℤ). x.0) e))
+stored_one m (Mesh first count) (Area q u) ha hb e = absurd (omega (arith, ap (λ (x : ℕ × List ℤ). x.0) e))
+stored_one m (Mesh first count) (Block low high) ha hb e = absurd (omega (arith, ap (λ (x : ℕ × List ℤ). x.0) e))
+stored_one m (Mesh first count) (Mesh first2 count2) ha hb e =
+    let ef : first ≡ first2 = ap (λ (r : ℕ × List ℤ). natural (axis r.1 0)) e in
+    let ec : count ≡ count2 = ap (λ (r : ℕ × List ℤ). natural (axis r.1 1)) e in
+    rw (ef, ec) refl
