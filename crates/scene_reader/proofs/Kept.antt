@@ -49,7 +49,7 @@ first_append fault i j [] x e = or_none (fault i x) ∙ ap (λ (k : ℕ). fault 
 first_append fault i j (y ∷ xs) x e =
     ap (option_or (fault i y)) (first_append fault (i + 1) j xs x (omega (arith, e))) ∙ or_assoc (fault i y) (first_among fault (i + 1) xs) (fault j x)
 
-length_entries : (size n : ℕ) (bytes : List ℕ) → length (entries size n bytes) ≡ n
+pub length_entries : (size n : ℕ) (bytes : List ℕ) → length (entries size n bytes) ≡ n
 unfolding entries
 length_entries size zero bytes = refl
 length_entries size (suc n) bytes = ap suc (length_entries size n (drop size bytes))
