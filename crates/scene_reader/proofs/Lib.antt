@@ -8,3 +8,4 @@ pub mod Codes
 pub mod Headers
 pub mod Pieces
 pub mod Wholes
+pub mod Refusals

@@ -4,8 +4,7 @@ ghost use Rattle.std.specs.List.{All, list_any};
 ghost use Rattle.cull_base.specs.Screen.{IsSize};
 ghost use Rattle.scene_reader.specs.Layout.{IsRow, IsTri};
 ghost use Rattle.scene_reader.specs.Fault.{first_among, vertex_fault, index_fault, object_fault, camera_fault, screen_fault, tables_fault};
-ghost use Rattle.scene_reader.specs.Header.{AreCounts};
-ghost use Rattle.scene_reader.specs.PartsFault.{counts_of_parts, AreTables};
+ghost use Rattle.scene_reader.specs.PartsFault.{AreTables};
 
 use crate::error::SceneError;
 use crate::objects::is_bad_row;
@@ -78,7 +77,10 @@ pub fn screen_fault(width: u16, height: u16, near: u16) -> Option<SceneError>
 /// The first fault of the tables of parts whose header is accepted, where that of the objects is given.
 #[tactic(auto, unfolding(crate::specs::Fault::tables_fault))]
 pub fn tables_fault(parts: &SceneParts, objects: Option<SceneError>) -> Option<SceneError>
-    requires { AreCounts (counts_of_parts parts.now) }
+    requires vertices { length parts.now.vertices ≤ 262144 }
+    requires occluders { length parts.now.occluders ≤ 65536 }
+    requires object_tris { length parts.now.object_tris ≤ 262144 }
+    requires cameras { length parts.now.cameras ≤ 256 }
     ensures value { (raws : List (ℕ × List ℤ)) → objects ≡ first_among (object_fault (length parts.now.object_tris)) 0 raws
         → result ≡ tables_fault parts.now.vertices parts.now.occluders parts.now.object_tris raws parts.now.cameras }
     ensures valid { IsNone result → AreTables parts.now × (objects ≡ None) }
