@@ -1,5 +1,5 @@
 -- What reading answers, from what was taken.
-use Rattle.std.proofs.Common.{◌≡◌, ℕ, ℤ, ◌+◌, ◌-◌, ◌*◌, ◌<◌, ◌≤◌, ◌++◌, ◌∷◌, List, [], length, take, drop, map, arith, refl, sym, ap, ◌∙◌, subst, Bool, true, false, All, append_assoc, Option, Some, None, rules}
+use Rattle.std.proofs.Common.{◌≡◌, ℕ, ℤ, ◌+◌, ◌-◌, ◌*◌, ◌<◌, ◌≤◌, ◌++◌, ◌∷◌, List, [], length, take, drop, map, arith, refl, sym, ap, ◌∙◌, subst, Bool, true, false, All, append_assoc, Option, Some, None, Result, Err, rules}
 use Rattle.std.specs.Prelude.{IfSome, nat_lt, slice_index}
 use Rattle.std.specs.Option.{option_or, option_map}
 use Rattle.std.proofs.lemmas.Bool.{le-ltb, lt-ltb}
@@ -189,3 +189,9 @@ module _ (before mid last : Option (List ℕ)) (h : List ℕ) (hd : Header) (p :
         whole = joined_layout hd.counts h t.vertex_bytes t.occluder_bytes t.object_tri_bytes t.object_bytes t.camera_bytes p t.raws sized takes.fits is.accepted (parts_fit clear).says t.vertices t.occluders t.object_tris t.objects t.cameras (t.whole clear);
         first = whole_first ∙ fine;
       }
+
+pub err_is : {T : Type 0} (a b : SceneError) → ◌≡◌ {A = Result T SceneError} (Err a) (Err b) → a ≡ b
+err_is a b e = cc
+
+pub refuses_same : (before after : Option (List ℕ)) (e f : SceneError) → e ≡ f → Refuses before after f → Refuses before after e
+refuses_same before after e f is h = subst (λ (x : SceneError). Refuses before after x) (sym is) h
