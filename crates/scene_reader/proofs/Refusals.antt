@@ -1,6 +1,6 @@
 -- What reading answers, from what was taken.
-use Rattle.std.proofs.Common.{◌≡◌, ℕ, ℤ, ◌+◌, ◌-◌, ◌*◌, ◌<◌, ◌≤◌, ◌++◌, ◌∷◌, List, [], length, take, drop, map, arith, refl, sym, ap, ◌∙◌, subst, Bool, true, false, All, append_assoc, Option, Some, None, Result, Err, rules}
-use Rattle.std.specs.Prelude.{IfSome, nat_lt, slice_index}
+use Rattle.std.proofs.Common.{◌≡◌, ℕ, ℤ, ◌+◌, ◌-◌, ◌*◌, ◌<◌, ◌≤◌, ◌++◌, ◌∷◌, List, [], length, take, drop, map, arith, refl, sym, ap, ◌∙◌, subst, Bool, true, false, All, append_assoc, Option, Some, None, Result, Ok, Err, rules}
+use Rattle.std.specs.Prelude.{IfSome, IfOk, IfErr, nat_lt, slice_index}
 use Rattle.std.specs.Option.{option_or, option_map}
 use Rattle.std.proofs.lemmas.Bool.{le-ltb, lt-ltb}
 use Rattle.std.proofs.lemmas.List.{length-append, append-nil, drop_at, drop_all, length-map}
@@ -18,7 +18,7 @@ use Rattle.scene_reader.specs.PartsFault.{AreTables}
 use Rattle.scene_reader.specs.Reading.{Takes, IsAtEnd, EndsWithin, TakesParts, Refuses, ReadsScene}
 use Rattle.scene_reader.proofs.Takes.{IsByte, takes_then}
 use Rattle.scene_reader.proofs.Headers.{or_first, or_second, or_refusal, fault_refusal, header_front, header_accepted, counts_front, fault_none_from, header_refusal}
-use Rattle.scene_reader.proofs.Wholes.{Sized, joined, joined_first, joined_length, joined_layout, table_count, Fits, fits_from, scene_from}
+use Rattle.scene_reader.proofs.Wholes.{Sized, joined, joined_first, joined_length, joined_layout, table_count, Fits, fits_from, scene_from, scene_first, layout_one}
 
 -- ---- refusals aren't faults of the source
 
@@ -195,3 +195,61 @@ err_is a b e = cc
 
 pub refuses_same : (before after : Option (List ℕ)) (e f : SceneError) → e ≡ f → Refuses before after f → Refuses before after e
 refuses_same before after e f is h = subst (λ (x : SceneError). Refuses before after x) (sym is) h
+
+-- ---- the promises about told bytes
+
+told_layout : (before after : Option (List ℕ)) (s : Parts) → ReadsScene before after s → IfSome before (λ bytes. (bytes ≡ layout s) × (after ≡ Some []))
+told_layout None after s r = tt
+told_layout (Some b) None s r = let no = r.takes.front in absurd cc
+told_layout (Some b) (Some rest) s r =
+    let none : rest ≡ [] = r.ended in
+    (same_Some b (r.bytes ++ rest) r.takes.front ∙ ap (λ (x : List ℕ). r.bytes ++ x) none ∙ append-nil r.bytes ∙ r.whole, ap Some none)
+
+told_first : (before after : Option (List ℕ)) (s : Parts) → ReadsScene before after s → IfSome before (λ bytes. first_fault bytes ≡ None)
+told_first None after s r = tt
+told_first (Some b) after s r = let l = told_layout (Some b) after s r in ap first_fault (l.0 ∙ sym r.whole) ∙ r.first
+
+told_only : (before after : Option (List ℕ)) (s : Parts) → ReadsScene before after s → IfSome before (λ bytes. (t : Parts) → IsScene t → bytes ≡ layout t → t ≡ s)
+told_only None after s r = tt
+told_only (Some b) after s r = λ t scene is. let l = told_layout (Some b) after s r in layout_one t s scene r.scene (sym is ∙ l.0)
+
+told_refused : (before after : Option (List ℕ)) (e : SceneError) → Refuses before after e → IfSome before (λ bytes. first_fault bytes ≡ Some e)
+told_refused None after e h = tt
+told_refused (Some b) after e h = h.0
+
+told_header : (before after : Option (List ℕ)) (e : SceneError) → Refuses before after e → IfSome before (λ bytes. header_fault bytes ≡ Some e → after ≡ Some (drop 32 bytes))
+told_header None after e h = tt
+told_header (Some b) after e h = h.1
+
+told_never : (before after : Option (List ℕ)) (e : SceneError) → Refuses before after e → IfSome before (λ bytes. (t : Parts) → IsScene t → bytes ≡ layout t → ⊥)
+told_never None after e h = tt
+told_never (Some b) after e h = λ t scene is. let no : ◌≡◌ {A = Option SceneError} None (Some e) = sym (scene_first t scene) ∙ ap first_fault (sym is) ∙ h.0 in cc
+
+module _ (before after : Option (List ℕ)) where
+  pub ok_scene : (r : Result Parts SceneError) → IfOk r (λ s. ReadsScene before after s) → IfOk r (λ s. IsScene s)
+  ok_scene (Ok s) h = h.scene
+  ok_scene (Err e) h = tt
+
+  pub ok_layout : (r : Result Parts SceneError) → IfOk r (λ s. ReadsScene before after s) → IfOk r (λ s. IfSome before (λ bytes. (bytes ≡ layout s) × (after ≡ Some [])))
+  ok_layout (Ok s) h = told_layout before after s h
+  ok_layout (Err e) h = tt
+
+  pub ok_only : (r : Result Parts SceneError) → IfOk r (λ s. ReadsScene before after s) → IfOk r (λ s. IfSome before (λ bytes. (t : Parts) → IsScene t → bytes ≡ layout t → t ≡ s))
+  ok_only (Ok s) h = told_only before after s h
+  ok_only (Err e) h = tt
+
+  pub ok_first : (r : Result Parts SceneError) → IfOk r (λ s. ReadsScene before after s) → IfOk r (λ s. IfSome before (λ bytes. first_fault bytes ≡ None))
+  ok_first (Ok s) h = told_first before after s h
+  ok_first (Err e) h = tt
+
+  pub err_refused : (r : Result Parts SceneError) → IfErr r (λ e. IsRefusal e → Refuses before after e) → IfErr r (λ e. IsRefusal e → IfSome before (λ bytes. first_fault bytes ≡ Some e))
+  err_refused (Ok s) h = tt
+  err_refused (Err e) h = λ k. told_refused before after e (h k)
+
+  pub err_header : (r : Result Parts SceneError) → IfErr r (λ e. IsRefusal e → Refuses before after e) → IfErr r (λ e. IsRefusal e → IfSome before (λ bytes. header_fault bytes ≡ Some e → after ≡ Some (drop 32 bytes)))
+  err_header (Ok s) h = tt
+  err_header (Err e) h = λ k. told_header before after e (h k)
+
+  pub err_never : (r : Result Parts SceneError) → IfErr r (λ e. IsRefusal e → Refuses before after e) → IfErr r (λ e. IsRefusal e → IfSome before (λ bytes. (t : Parts) → IsScene t → bytes ≡ layout t → ⊥))
+  err_never (Ok s) h = tt
+  err_never (Err e) h = λ k. told_never before after e (h k)
