@@ -1,0 +1,11 @@
+pub mod Takes
+pub mod Entries
+pub mod Shapes
+pub mod Valid
+pub mod First
+pub mod Kept
+pub mod Codes
+pub mod Headers
+pub mod Pieces
+pub mod Wholes
+pub mod Refusals

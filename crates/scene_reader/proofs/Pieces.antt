@@ -1,0 +1,121 @@
+-- Headers and tables as bytes, and back.
+use Rattle.std.proofs.Common.{◌≡◌, ℕ, ℤ, pos, suc, zero, ◌+◌, ◌-◌, ◌*◌, ◌^◌, ◌<◌, ◌≤◌, ◌++◌, ◌∷◌, List, [], length, get_or, take, drop, map, arith, refl, sym, ap, ◌∙◌, subst, Bool, true, false, All, w16, w32, append_assoc, take-append-drop}
+use Rattle.std.specs.Prelude.{slice_index, nat_eq}
+use Rattle.std.specs.List.{AllByRecursion, flat_map, starts_with}
+use Rattle.std.specs.Int.{cast_unsigned}
+use Rattle.std.proofs.lemmas.Int.{ints}
+use Rattle.std.specs.Cmp.Lexicographic.{same_text}
+use Rattle.std.proofs.Math.Seq.{take-add}
+use Rattle.std.proofs.lemmas.List.{length-drop, length-take, length-append, drop-drop, take_at, drop_at, take_all, take-append-le, drop-append-le, drop_more, nil_from_length, drop_all}
+use Rattle.std.proofs.lemmas.List.Elements.{All-take, All-drop, recursion_from_All, All-from_recursion}
+use Rattle.std.proofs.lemmas.List.Folds.{flat_map-map}
+use Rattle.cull_base.specs.declared.clip.Winding.{Winding}
+use Rattle.cull_base.specs.declared.clip.Winding.TheVariants.{Both, DropClockwise, DropCounter}
+use Rattle.cull_base.specs.declared.scene_types.Tri.{Tri}
+use Rattle.cull_base.specs.declared.scene_types.Object.{Object}
+use Rattle.cull_base.specs.declared.scene_types.Object.TheVariants.{Area, Block, Mesh}
+use Rattle.scene_reader.specs.declared.header.Counts.{Counts}
+use Rattle.scene_reader.specs.Layout.{Parts, IsScene, IsRow, IsTri, IsObject, InLimits, magic, short_bytes, word_bytes, row_bytes, tri_bytes, object_bytes, kind_of, numbers_of, stored, winding_code, header_bytes, axis}
+use Rattle.scene_reader.specs.Fault.{short_at, word_at, counts_at, entries, row_of, tri_of, raw_of}
+use Rattle.scene_reader.specs.Reading.{IsTable}
+use Rattle.scene_reader.proofs.Takes.{IsByte}
+use Rattle.scene_reader.proofs.Codes.{short_again, word_again, short_back, word_back, row_back, tri_back, row_again, tri_again}
+use Rattle.scene_reader.proofs.Headers.{Accepted}
+
+-- ---- tables: from bytes to entries and back to the bytes
+
+-- entries behind one another are the bytes
+pub entries_whole : {X : Type 0} (size : ℕ) (enc : X → List ℕ) (read : List ℕ → X) → ((e : List ℕ) → length e ≡ size → All IsByte e → enc (read e) ≡ e)
+    → (n : ℕ) (bytes : List ℕ) → length bytes ≡ size * n → All IsByte bytes → flat_map enc (map read (entries size n bytes)) ≡ bytes
+unfolding entries
+entries_whole size enc read back zero bytes len fits = sym (nil_from_length bytes (omega (arith, len)))
+entries_whole size enc read back (suc n) bytes len fits =
+    let more : length bytes ≡ size + size * n = omega (arith, len) in
+    let one = back (take size bytes) (omega (arith, length-take size bytes, more)) (All-take IsByte size bytes fits) in
+    let rest = entries_whole size enc read back n (drop size bytes) (omega (arith, length-drop size bytes, more)) (All-drop IsByte size bytes fits) in
+    rw (one, rest) (take-append-drop size bytes)
+
+-- the same, up to a fact that each item has to meet
+pub table_back : {X : Type 0} (size count : ℕ) (enc : X → List ℕ) (read : List ℕ → X) (bytes : List ℕ) (items : List X) → ((e : List ℕ) → length e ≡ size → All IsByte e → enc (read e) ≡ e)
+    → IsTable size count read bytes items → All IsByte bytes → flat_map enc items ≡ bytes
+table_back size count enc read bytes items back t fits = ap (flat_map enc) t.each ∙ entries_whole size enc read back count bytes t.whole fits
+
+-- ---- tables: from items to bytes and back to the items
+
+pub length_flat : {X : Type 0} (size : ℕ) (enc : X → List ℕ) → ((x : X) → length (enc x) ≡ size) → (xs : List X) → length (flat_map enc xs) ≡ size * length xs
+length_flat size enc len [] = omega arith
+length_flat size enc len (x ∷ xs) = let rest = length_flat size enc len xs in omega (arith, length-append (enc x) (flat_map enc xs), len x, rest)
+
+-- the same for items that all meet a fact
+pub length_flat_of : {X : Type 0} (P : X → Type 0) (size : ℕ) (enc : X → List ℕ) → ((x : X) → P x → length (enc x) ≡ size) → (xs : List X) → AllByRecursion P xs → length (flat_map enc xs) ≡ size * length xs
+length_flat_of P size enc len [] h = omega arith
+length_flat_of P size enc len (x ∷ xs) h = let rest = length_flat_of P size enc len xs h.1 in omega (arith, length-append (enc x) (flat_map enc xs), len x h.0, rest)
+
+pub entries_flat : {X Y : Type 0} (P : X → Type 0) (size : ℕ) (enc : X → List ℕ) (read : List ℕ → Y) (view : X → Y) → ((x : X) → P x → length (enc x) ≡ size) → ((x : X) → P x → read (enc x) ≡ view x)
+    → (xs : List X) → AllByRecursion P xs → map read (entries size (length xs) (flat_map enc xs)) ≡ map view xs
+unfolding entries
+entries_flat P size enc read view len again [] h = refl
+entries_flat P size enc read view len again (x ∷ xs) h =
+    rw (take_at (enc x) (flat_map enc xs) size (len x h.0), drop_at (enc x) (flat_map enc xs) size (len x h.0), again x h.0, entries_flat P size enc read view len again xs h.1) refl
+
+pub table_flat : {X Y : Type 0} (P : X → Type 0) (size count : ℕ) (enc : X → List ℕ) (read : List ℕ → Y) (view : X → Y) → ((x : X) → P x → length (enc x) ≡ size) → ((x : X) → P x → read (enc x) ≡ view x)
+    → (xs : List X) → length xs ≡ count → AllByRecursion P xs → IsTable size count read (flat_map enc xs) (map view xs)
+table_flat P size count enc read view len again xs n h = record {
+  whole = length_flat_of P size enc len xs h ∙ ap (λ (k : ℕ). size * k) n;
+  each = sym (entries_flat P size enc read view len again xs h) ∙ ap (λ (k : ℕ). map read (entries size k (flat_map enc xs))) n;
+  }
+
+-- entries are read within the front of bytes
+pub entries_front : (size n : ℕ) (front rest : List ℕ) → length front ≡ size * n → entries size n (front ++ rest) ≡ entries size n front
+unfolding entries
+entries_front size zero front rest len = refl
+entries_front size (suc n) front rest len =
+    let fits : size ≤ length front = omega (arith, len) in
+    let left : length (drop size front) ≡ size * n = omega (arith, length-drop size front, len) in
+    rw (take-append-le size front rest fits, drop-append-le size front rest fits, entries_front size n (drop size front) rest left) refl
+
+-- ---- objects
+
+pub raw_bytes : ℕ × List ℤ → List ℕ
+raw_bytes raw = raw.0 ∷ row_bytes raw.1
+
+pub objects_raw : (xs : List Object) → flat_map object_bytes xs ≡ flat_map raw_bytes (map stored xs)
+unfolding raw_bytes
+objects_raw xs = sym (flat_map-map raw_bytes stored xs)
+
+pub raw_back : (e : List ℕ) → length e ≡ 25 → All IsByte e → raw_bytes (raw_of e) ≡ e
+unfolding raw_bytes
+raw_back [] len fits = absurd (omega (arith, len))
+raw_back (b ∷ rest) len fits = ap (λ (t : List ℕ). b ∷ t) (row_back 6 rest (omega (arith, len)) (All-drop IsByte 1 (b ∷ rest) fits))
+
+zero_in : InLimits (pos 0)
+zero_in = (omega (arith, ints), omega (arith, ints))
+
+small_in : (n m : ℕ) → n ≤ m → m ≤ 262144 → InLimits (pos n)
+small_in n m h few = (omega (arith, ints, h, few), omega (arith, ints, h, few))
+
+six_in : (a b c d e f : ℤ) → InLimits a → InLimits b → InLimits c → InLimits d → InLimits e → InLimits f → IsRow 6 (a ∷ b ∷ c ∷ d ∷ e ∷ f ∷ [])
+six_in a b c d e f ha hb hc hd he hf = (refl, All-from_recursion InLimits (a ∷ b ∷ c ∷ d ∷ e ∷ f ∷ []) (ha, (hb, (hc, (hd, (he, (hf, tt)))))))
+
+at_axis : (row : List ℤ) (k : ℕ) → IsRow 3 row → k < 3 → InLimits (axis row k)
+at_axis row k h lt = h.1 k (pos 0) (omega (arith, h.0, lt))
+
+pub numbers_row : (object_tris : ℕ) (o : Object) → object_tris ≤ 262144 → IsObject object_tris o → IsRow 6 (numbers_of o)
+numbers_row m (Area r w) few h = six_in r.x0 r.y0 r.x1 r.y1 w (pos 0) h.2 h.3 h.4 h.5 h.6 zero_in
+numbers_row m (Block low high) few h =
+    six_in (axis low 0) (axis low 1) (axis low 2) (axis high 0) (axis high 1) (axis high 2)
+    (at_axis low 0 h.0 (omega arith)) (at_axis low 1 h.0 (omega arith)) (at_axis low 2 h.0 (omega arith)) (at_axis high 0 h.1 (omega arith)) (at_axis high 1 h.1 (omega arith)) (at_axis high 2 h.1 (omega arith))
+numbers_row m (Mesh first count) few h =
+    six_in (pos first) (pos count) (pos 0) (pos 0) (pos 0) (pos 0) (small_in first m (omega (arith, h)) few) (small_in count m (omega (arith, h)) few) zero_in zero_in zero_in zero_in
+
+pub raw_again : (object_tris : ℕ) (o : Object) → object_tris ≤ 262144 → IsObject object_tris o → raw_of (object_bytes o) ≡ stored o
+raw_again m o few h = ap (λ (n : List ℤ). (kind_of o, n)) (row_again 6 (numbers_of o) (numbers_row m o few h))
+
+pub row_length : (n : ℕ) (row : List ℤ) → IsRow n row → length (row_bytes row) ≡ 4 * n
+row_length n row h = length_flat 4 (λ z. word_bytes (cast_unsigned w32 z)) (λ z. refl) row ∙ ap (λ (k : ℕ). 4 * k) h.0
+
+pub tri_length : (n : ℕ) (t : Tri) → IsTri n t → length (tri_bytes t) ≡ 12
+tri_length n t h = length_flat 4 word_bytes (λ w. refl) t.0 ∙ ap (λ (k : ℕ). 4 * k) h.0
+
+pub object_length : (object_tris : ℕ) (o : Object) → object_tris ≤ 262144 → IsObject object_tris o → length (object_bytes o) ≡ 25
+object_length m o few h = ap suc (row_length 6 (numbers_of o) (numbers_row m o few h))

@@ -1,0 +1,15 @@
+use Rattle.std.proofs.Common.{◌≡◌, ℕ, ◌+◌, ◌≤◌, ◌-◌, length, take}
+use Rattle.scene_reader.specs.Reading.{Takes}
+use Rattle.scene_reader.proofs.intake.fill.Given as goal
+
+abbrev pub invariant-loop-filled : goal.invariant-loop-filled
+invariant-loop-filled g l =
+    record {
+      within : l.filled ≤ length l.buffer;
+      taken : Takes (g.S.Source.left l.fn.source) (g.S.Source.left l.source) (take l.filled l.buffer);
+      faults : g.S.Source.faults l.fn.source ≤ g.S.Source.faults l.source;
+      turns : g.S.Source.turns l.source ≤ g.S.Source.turns l.fn.source + l.filled;
+    }
+
+abbrev pub decreases-loop-filled : goal.decreases-loop-filled
+decreases-loop-filled g l = length l.buffer - l.filled

@@ -1,0 +1,13 @@
+use Rattle.std.proofs.Common.{◌≡◌, ◌+◌, ◌*◌, ◌≤◌, length}
+use Rattle.scene_reader.specs.Fault.{row_of}
+use Rattle.scene_reader.specs.Reading.{TakesTable}
+use Rattle.scene_reader.proofs.tables.read_cameras.Given as goal
+
+abbrev pub invariant-loop-i : goal.invariant-loop-i
+invariant-loop-i g l =
+    record {
+      buffer : length l.entry ≡ 48;
+      taken : TakesTable 48 l.i (row_of 12) (g.S.Source.left l.fn.source) (g.S.Source.left l.source) l.cameras.items;
+      faults : g.S.Source.faults l.fn.source ≤ g.S.Source.faults l.source;
+      turns : g.S.Source.turns l.source ≤ g.S.Source.turns l.fn.source + 48 * l.i;
+    }

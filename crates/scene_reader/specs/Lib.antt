@@ -1,0 +1,6 @@
+pub mod Layout
+pub mod Fault
+pub mod PartsFault
+pub mod Header
+pub mod Law
+pub mod Reading

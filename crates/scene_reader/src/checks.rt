@@ -1,0 +1,102 @@
+//! The first fault of a scene's parts, step by step. Each step goes over a whole table.
+ghost use Rattle.std.specs.Prelude.{◌≡◌, ℕ, ◌≤◌, ◌^◌, ◌<◌, ℤ, List, None, Some, length, not, nat_lt, IsNone};
+ghost use Rattle.std.specs.List.{All, list_any};
+ghost use Rattle.cull_base.specs.Screen.{IsSize};
+ghost use Rattle.scene_reader.specs.Layout.{IsRow, IsTri};
+ghost use Rattle.scene_reader.specs.Fault.{first_among, vertex_fault, index_fault, object_fault, camera_fault, screen_fault, tables_fault};
+ghost use Rattle.scene_reader.specs.PartsFault.{AreTables};
+
+use crate::error::SceneError;
+use crate::objects::is_bad_row;
+use crate::scene::SceneParts;
+use cull_base::{Size, Tri};
+
+/// The first vertex with a coordinate outside the limits.
+pub fn vertex_fault(vertices: &[[i32; 3]]) -> Option<SceneError>
+    requires { length vertices.now < 2 ^ 32 }
+    ensures value { result ≡ first_among vertex_fault 0 vertices.now }
+    ensures valid { IsNone result → All (IsRow 3) vertices.now }
+{
+    for (i, vertex) in vertices.iter().enumerate() {
+        if is_bad_row(vertex) {
+            return Some(SceneError::BadVertex(i as u32));
+        }
+    }
+    None
+}
+
+fn names_past(triangle: &Tri, vertices: u32) -> bool
+    ensures value { result ≡ list_any (λ v. not (nat_lt v vertices)) triangle.now.0 }
+    ensures three { length triangle.now.0 ≡ 3 }
+{
+    triangle.0.iter().any(|v| !(*v < vertices))
+}
+
+/// The first triangle of a table that names a vertex which isn't there.
+pub fn index_fault(table: u8, vertices: u32, triangles: &[Tri]) -> Option<SceneError>
+    requires { length triangles.now < 2 ^ 32 }
+    ensures value { result ≡ first_among (index_fault table vertices) 0 triangles.now }
+    ensures valid { IsNone result → All (IsTri vertices) triangles.now }
+{
+    for (i, triangle) in triangles.iter().enumerate() {
+        if names_past(triangle, vertices) {
+            return Some(SceneError::BadIndex { table, i: i as u32 });
+        }
+    }
+    None
+}
+
+/// The first camera with an entry outside the limits.
+pub fn camera_fault(cameras: &[[i32; 12]]) -> Option<SceneError>
+    requires { length cameras.now < 2 ^ 32 }
+    ensures value { result ≡ first_among camera_fault 0 cameras.now }
+    ensures valid { IsNone result → All (IsRow 12) cameras.now }
+{
+    for (i, camera) in cameras.iter().enumerate() {
+        if is_bad_row(camera) {
+            return Some(SceneError::BadCamera(i as u32));
+        }
+    }
+    None
+}
+
+/// What is wrong with the size or the near distance.
+pub fn screen_fault(width: u16, height: u16, near: u16) -> Option<SceneError>
+    ensures value { result ≡ screen_fault width height near }
+    ensures valid { IsNone result → IsSize width height × (1 ≤ near) × (near ≤ 1024) }
+{
+    if Size::new(width, height).is_none() {
+        return Some(SceneError::BadSize(width, height));
+    }
+    if near == 0 || 1024 < near {
+        return Some(SceneError::BadNear(near));
+    }
+    None
+}
+
+/// The first fault of the tables of parts whose header is accepted, where that of the objects is given.
+#[tactic(auto, unfolding(crate::specs::Fault::tables_fault))]
+pub fn tables_fault(parts: &SceneParts, objects: Option<SceneError>) -> Option<SceneError>
+    requires vertices { length parts.now.vertices ≤ 262144 }
+    requires occluders { length parts.now.occluders ≤ 65536 }
+    requires object_tris { length parts.now.object_tris ≤ 262144 }
+    requires cameras { length parts.now.cameras ≤ 256 }
+    ensures value { (raws : List (ℕ × List ℤ)) → objects ≡ first_among (object_fault (length parts.now.object_tris)) 0 raws
+        → result ≡ tables_fault parts.now.vertices parts.now.occluders parts.now.object_tris raws parts.now.cameras }
+    ensures valid { IsNone result → AreTables parts.now × (objects ≡ None) }
+{
+    let vertices = parts.vertices.len() as u32;
+    if let Some(fault) = vertex_fault(&parts.vertices) {
+        return Some(fault);
+    }
+    if let Some(fault) = index_fault(0, vertices, &parts.occluders) {
+        return Some(fault);
+    }
+    if let Some(fault) = index_fault(1, vertices, &parts.object_tris) {
+        return Some(fault);
+    }
+    if objects.is_some() {
+        return objects;
+    }
+    camera_fault(&parts.cameras)
+}

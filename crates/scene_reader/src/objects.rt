@@ -1,0 +1,117 @@
+//! Objects: made from their kind and six numbers, and tested.
+ghost use Rattle.std.specs.Prelude.{◌≡◌, ℕ, ◌+◌, ◌≤◌, ◌^◌, true, false, ◌||◌, int_lt, length, IfSome, IfNone};
+ghost use Rattle.cull_base.specs.Guard.{is_beyond};
+ghost use Rattle.scene_reader.specs.Layout.{IsObject, kind_of, numbers_of, axis};
+ghost use Rattle.scene_reader.specs.Fault.{is_bad_row, is_bad_object};
+
+use cull_base::{Object, Rect};
+
+/// Numbers of vertices, cameras and objects lie at most so far from 0.
+const LIMIT: i32 = 1 << 24;
+
+pub fn is_beyond(number: i32) -> bool
+    ensures { result ≡ is_beyond (2 ^ 24) number }
+{
+    number < -LIMIT || LIMIT < number
+}
+
+/// Whether a number lies outside the limits.
+pub fn is_bad_row(row: &[i32]) -> bool
+    ensures { result ≡ is_bad_row row.now }
+{
+    row.iter().any(|number| is_beyond(*number))
+}
+
+fn area_of(n: &[i32; 6]) -> Option<Object>
+    ensures made { IfSome result (λ o. (kind_of o ≡ 0) × (numbers_of o ≡ n.now)) }
+    ensures refused { IfNone result ((object_tris : ℕ) → is_bad_object object_tris 0 n.now ≡ true) }
+{
+    if n[5] != 0 {
+        return None;
+    }
+    let rect = Rect {
+        x0: n[0],
+        y0: n[1],
+        x1: n[2],
+        y1: n[3],
+    };
+    Some(Object::Area { rect, w: n[4] })
+}
+
+fn block_of(n: &[i32; 6]) -> Object
+    ensures { (kind_of result ≡ 1) × (numbers_of result ≡ n.now) }
+{
+    Object::Block {
+        low: [n[0], n[1], n[2]],
+        high: [n[3], n[4], n[5]],
+    }
+}
+
+fn mesh_of(n: &[i32; 6]) -> Option<Object>
+    ensures made { IfSome result (λ o. (kind_of o ≡ 2) × (numbers_of o ≡ n.now)) }
+    ensures refused { IfNone result ((object_tris : ℕ) → is_bad_object object_tris 2 n.now ≡ true) }
+{
+    if n[0] < 0 || n[1] < 0 || n[2] != 0 || n[3] != 0 || n[4] != 0 || n[5] != 0 {
+        return None;
+    }
+    Some(Object::Mesh {
+        first: n[0] as u32,
+        count: n[1] as u32,
+    })
+}
+
+/// The object of a known kind that has these numbers. None where there isn't one.
+pub fn object_of(kind: u8, numbers: &[i32; 6]) -> Option<Object>
+    requires { kind ≤ 2 }
+    ensures made { IfSome result (λ o. (kind_of o ≡ kind) × (numbers_of o ≡ numbers.now)) }
+    ensures refused { IfNone result ((object_tris : ℕ) → is_bad_object object_tris kind numbers.now ≡ true) }
+{
+    match kind {
+        0 => area_of(numbers),
+        1 => Some(block_of(numbers)),
+        _ => mesh_of(numbers),
+    }
+}
+
+fn is_bad_area(rect: &Rect, w: i32) -> bool
+    ensures { result ≡ is_bad_object 0 0 (numbers_of (Object.Area rect.now w)) }
+{
+    is_bad_row(&[rect.x0, rect.y0, rect.x1, rect.y1, w])
+        || rect.x1 < rect.x0
+        || rect.y1 < rect.y0
+}
+
+fn runs_back(low: &[i32; 3], high: &[i32; 3]) -> bool
+    ensures { result ≡ (int_lt (axis high.now 0) (axis low.now 0) || int_lt (axis high.now 1) (axis low.now 1) || int_lt (axis high.now 2) (axis low.now 2)) }
+{
+    high[0] < low[0] || high[1] < low[1] || high[2] < low[2]
+}
+
+fn is_bad_block(low: &[i32; 3], high: &[i32; 3]) -> bool
+    ensures value { result ≡ is_bad_object 0 1 (numbers_of (Object.Block low.now high.now)) }
+    ensures corners { (length low.now ≡ 3) × (length high.now ≡ 3) }
+{
+    is_bad_row(low) || is_bad_row(high) || runs_back(low, high)
+}
+
+#[tactic(auto, unfolding(crate::specs::Fault::is_bad_object))]
+fn is_bad_mesh(first: u32, count: u32, object_tris: u32) -> bool
+    requires { object_tris ≤ 262144 }
+    ensures value { result ≡ is_bad_object object_tris 2 (numbers_of (Object.Mesh first count)) }
+    ensures valid { result ≡ false → first + count ≤ object_tris }
+{
+    u64::from(object_tris) < u64::from(first) + u64::from(count)
+}
+
+/// Whether an object has numbers that its kind doesn't allow, beside so many object triangles.
+pub fn is_bad_object(object: &Object, object_tris: u32) -> bool
+    requires { object_tris ≤ 262144 }
+    ensures value { result ≡ is_bad_object object_tris (kind_of object.now) (numbers_of object.now) }
+    ensures valid { result ≡ false → IsObject object_tris object.now }
+{
+    match object {
+        Object::Area { rect, w } => is_bad_area(rect, *w),
+        Object::Block { low, high } => is_bad_block(low, high),
+        Object::Mesh { first, count } => is_bad_mesh(*first, *count, object_tris),
+    }
+}

@@ -1,0 +1,124 @@
+//! Reading a scene from a source, in pieces of any size.
+ghost use Rattle.std.specs.Prelude.{◌≡◌, ◌+◌, ◌<◌, ◌≤◌, ℕ, List, [], Option, Some, None, drop, length, IfOk, IfErr, IfSome, OnOk, IsErrOf, ◌-◌};
+ghost use Rattle.cull_base.specs.Stream.{Rose};
+ghost use Rattle.scene_reader.specs.Layout.{Parts, IsScene, layout};
+ghost use Rattle.scene_reader.specs.Fault.{IsRefusal, first_fault, header_fault, scene_length};
+ghost use Rattle.scene_reader.specs.Header.{AreCounts};
+ghost use Rattle.scene_reader.specs.Reading.{Takes, IsAtEnd, EndsWithin, TakesParts, Refuses, ReadsScene};
+
+use crate::checks::tables_fault;
+use crate::error::SceneError;
+use crate::header::{HEADER, Header, header_of};
+use crate::intake::{fetch, fill};
+use crate::object_table::{OBJECT, read_objects};
+use crate::scene::{Scene, SceneParts};
+use crate::tables::{CAMERA, TRIANGLE, VERTEX, read_cameras, read_triangles, read_vertices};
+use cull_base::Source;
+use std::alloc::Global;
+
+/// Parts as they were read, and the first fault among their objects.
+#[derive(Drop)]
+struct Draft {
+    parts: SceneParts,
+    objects_fault: Option<SceneError>,
+}
+
+/// Reads the five tables that a header announces.
+fn read_parts<S: Source>(
+    alloc: Global,
+    source: &mut S,
+    header: Header,
+) -> Result<Draft, SceneError>
+    requires { AreCounts header.counts }
+    ensures taken { IfOk result (λ d. TakesParts header (S.left source.old) (S.left source.new) d.parts d.objects_fault) }
+    ensures short { IfErr result (λ e. IsRefusal e → EndsWithin (scene_length header.counts - 32) (scene_length header.counts) 32 (S.left source.old) (S.left source.new) e) }
+    ensures read { IsErrOf result SceneError.Read → Rose (S.faults source.old) (S.faults source.new) }
+    ensures faults_stay { S.faults source.old ≤ S.faults source.new }
+    ensures turns { S.turns source.new + 32 ≤ S.turns source.old + scene_length header.counts }
+{
+    let Header {
+        width,
+        height,
+        near,
+        winding,
+        counts,
+    } = header;
+    let occluders_at = HEADER + VERTEX * counts.vertices;
+    let object_tris_at = occluders_at + TRIANGLE * counts.occluders;
+    let objects_at = object_tris_at + TRIANGLE * counts.object_tris;
+    let cameras_at = objects_at + OBJECT * counts.objects;
+    let need = cameras_at + CAMERA * counts.frames;
+    let vertices = read_vertices(alloc, source, counts.vertices, need, HEADER)?;
+    let occluders = read_triangles(alloc, source, counts.occluders, need, occluders_at)?;
+    let object_tris = read_triangles(alloc, source, counts.object_tris, need, object_tris_at)?;
+    let objects = read_objects(alloc, source, counts.objects, counts.object_tris, need, objects_at)?;
+    let cameras = read_cameras(alloc, source, counts.frames, need, cameras_at)?;
+    let parts = SceneParts {
+        width,
+        height,
+        near,
+        winding,
+        vertices,
+        occluders,
+        object_tris,
+        objects: objects.items,
+        cameras,
+    };
+    Ok(Draft {
+        parts,
+        objects_fault: objects.fault,
+    })
+}
+
+/// Asks for one byte more, to see that there is none.
+fn read_end<S: Source>(source: &mut S) -> Result<(), SceneError>
+    ensures ended { OnOk result (Takes (S.left source.old) (S.left source.new) [] × IsAtEnd (S.left source.new)) }
+    ensures trailing { IfErr result (λ e. IsRefusal e → (e ≡ SceneError.Trailing) × (bytes : List ℕ) × Takes (S.left source.old) (S.left source.new) bytes × (0 < length bytes)) }
+    ensures read { IsErrOf result SceneError.Read → Rose (S.faults source.old) (S.faults source.new) }
+    ensures faults_stay { S.faults source.old ≤ S.faults source.new }
+    ensures turns { S.turns source.new ≤ S.turns source.old + 1 }
+{
+    let mut more = [0; 1];
+    match fill(source, &mut more) {
+        Err(_) => Err(SceneError::Read),
+        Ok(0) => Ok(()),
+        Ok(_) => Err(SceneError::Trailing),
+    }
+}
+
+/// Reads the header, the tables and the end, and tests what was read.
+fn read_whole<S: Source>(alloc: Global, source: &mut S) -> Result<Scene, SceneError>
+    ensures ok { IfOk result (λ s. ReadsScene (S.left source.old) (S.left source.new) s) }
+    ensures refused { IfErr result (λ e. IsRefusal e → Refuses (S.left source.old) (S.left source.new) e) }
+    ensures read { IsErrOf result SceneError.Read → Rose (S.faults source.old) (S.faults source.new) }
+    ensures faults_stay { S.faults source.old ≤ S.faults source.new }
+    ensures turns { S.turns source.new ≤ S.turns source.old + 8728609 }
+{
+    let mut bytes = [0; 32];
+    fetch(source, &mut bytes, HEADER, 0)?;
+    let header = header_of(&bytes)?;
+    let draft = read_parts(alloc, source, header)?;
+    read_end(source)?;
+    match tables_fault(&draft.parts, draft.objects_fault) {
+        Some(fault) => Err(fault),
+        None => Ok(Scene::sealed(draft.parts)),
+    }
+}
+
+/// Reads a scene to the source's end. A refusal is the first fault of the bytes; of a header that is refused no byte
+/// behind it is read. Read comes only where the source failed, and Memory at any time.
+pub fn read_scene<S: Source>(alloc: Global, source: &mut S) -> Result<Scene, SceneError>
+    ensures ok { IfOk result (λ s. IsScene s) }
+    ensures layout { IfOk result (λ s. IfSome (S.left source.old) (λ bytes. (bytes ≡ layout s) × (S.left source.new ≡ Some []))) }
+    ensures only { IfOk result (λ s. IfSome (S.left source.old) (λ bytes. (t : Parts) → IsScene t → bytes ≡ layout t → t ≡ s)) }
+    ensures ok_first { IfOk result (λ s. IfSome (S.left source.old) (λ bytes. first_fault bytes ≡ None)) }
+    ensures refused { IfErr result (λ e. IsRefusal e → IfSome (S.left source.old) (λ bytes. first_fault bytes ≡ Some e)) }
+    ensures not_a_scene { IfErr result (λ e. IsRefusal e → IfSome (S.left source.old) (λ bytes. (t : Parts) → IsScene t → bytes ≡ layout t → ⊥)) }
+    ensures read { IsErrOf result SceneError.Read → Rose (S.faults source.old) (S.faults source.new) }
+    ensures faults_stay { S.faults source.old ≤ S.faults source.new }
+    // Of a header that is refused 32 bytes are taken, or all there were.
+    ensures header { IfErr result (λ e. IsRefusal e → IfSome (S.left source.old) (λ bytes. header_fault bytes ≡ Some e → S.left source.new ≡ Some (drop 32 bytes))) }
+    ensures turns { S.turns source.new ≤ S.turns source.old + 8728609 }
+{
+    read_whole(alloc, source)
+}

@@ -1,0 +1,124 @@
+//! A scene: its parts, tested once, so that whoever holds one need not test them again.
+ghost use Rattle.std.specs.Prelude.{◌≡◌, MatchResult, IsOk};
+
+use crate::error::SceneError;
+use cull_base::{Object, Size, Tri, Winding};
+use std::marker::Model;
+
+/// What a scene is made of, valid or not. Coordinates and camera entries are whole numbers; a camera is three rows of
+/// four, of x, y and w.
+#[derive(Drop)]
+pub struct SceneParts {
+    pub width: u16,
+    pub height: u16,
+    pub near: u16,
+    pub winding: Winding,
+    pub vertices: Vec<[i32; 3]>,
+    pub occluders: Vec<Tri>,
+    pub object_tris: Vec<Tri>,
+    pub objects: Vec<Object>,
+    pub cameras: Vec<[i32; 12]>,
+}
+
+impl Model for SceneParts {
+    ghost use Rattle.scene_reader.specs.Layout.{Parts};
+
+    ghost Value = { Parts };
+
+    ghost view = { λ p. record { width = p.width; height = p.height; near = p.near; winding = p.winding; vertices = p.vertices.items; occluders = p.occluders.items; object_tris = p.object_tris.items; objects = p.objects.items; cameras = p.cameras.items } };
+}
+
+/// A valid scene.
+#[derive(Drop)]
+pub struct Scene {
+    parts: SceneParts,
+}
+
+impl Model for Scene {
+    ghost use Rattle.scene_reader.specs.Layout.{Parts, IsScene};
+
+    ghost Value = { Parts };
+
+    ghost view = { λ s. s.parts };
+
+    ghost invariant = { λ s. IsScene s.parts };
+}
+
+impl Scene {
+    ghost use Rattle.scene_reader.specs.Layout.{IsScene};
+    ghost use Rattle.scene_reader.specs.PartsFault.{first_fault_of_parts};
+
+    /// A scene of these parts. It takes no memory; a refusal drops the parts. Too large a count is told as 4294967295.
+    pub fn new(parts: SceneParts) -> Result<Scene, SceneError>
+        ensures value { MatchResult result (λ s. (s ≡ parts) × (first_fault_of_parts parts ≡ None)) (λ e. first_fault_of_parts parts ≡ Some e) }
+        ensures given { IsScene parts → IsOk result }
+        ensures valid { IsOk result → IsScene parts }
+    {
+        Ok(Scene { parts })
+    }
+
+    /// A scene of parts that are known to be valid.
+    pub(crate) fn sealed(parts: SceneParts) -> Scene
+        requires { IsScene parts }
+        ensures { result ≡ parts }
+    {
+        Scene { parts }
+    }
+
+    /// The screen, in pixels.
+    pub fn size(&self) -> Size
+        ensures { result ≡ record { width = self.now.width; height = self.now.height } }
+    {
+        match Size::new(self.parts.width, self.parts.height) {
+            Some(size) => size,
+            None => unreachable!(),
+        }
+    }
+
+    /// The near distance, from 1 to 1024.
+    pub fn near(&self) -> u16
+        ensures value { result ≡ self.now.near }
+        ensures valid { IsScene self.now }
+    {
+        self.parts.near
+    }
+
+    pub fn winding(&self) -> Winding
+        ensures { result ≡ self.now.winding }
+    {
+        self.parts.winding
+    }
+
+    /// x, y and z of each vertex.
+    pub fn vertices(&self) -> &[[i32; 3]]
+        ensures { result.now ≡ self.now.vertices }
+    {
+        &self.parts.vertices
+    }
+
+    pub fn occluders(&self) -> &[Tri]
+        ensures { result.now ≡ self.now.occluders }
+    {
+        &self.parts.occluders
+    }
+
+    /// The triangles that meshes are made of.
+    pub fn object_tris(&self) -> &[Tri]
+        ensures { result.now ≡ self.now.object_tris }
+    {
+        &self.parts.object_tris
+    }
+
+    pub fn objects(&self) -> &[Object]
+        ensures { result.now ≡ self.now.objects }
+    {
+        &self.parts.objects
+    }
+
+    /// The camera of each frame: twelve numbers, the rows of x, y and w.
+    pub fn cameras(&self) -> &[[i32; 12]]
+        ensures { result.now ≡ self.now.cameras }
+    {
+        &self.parts.cameras
+    }
+}
