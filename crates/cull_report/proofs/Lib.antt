@@ -3,3 +3,4 @@ pub mod ReportLines
 pub mod Pixels
 pub mod Hiding
 pub mod Agreement
+pub mod Occluders

@@ -4,3 +4,4 @@ pub mod Writing
 pub mod Area
 pub mod Rectangle
 pub mod Scene
+pub mod Behind

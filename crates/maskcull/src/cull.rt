@@ -8,6 +8,7 @@ ghost use Rattle.cull_report.specs.Scene.{IsBuilt, size_of, frame_pieces, scene_
 ghost use Rattle.cull_base.specs.Screen.{tile_count_of};
 ghost use Rattle.cull_base.specs.Tiles.{tile_after};
 ghost use Rattle.masked_update.specs.TileOf.{tile_at};
+ghost use Rattle.cull_report.specs.Behind.{HidesTruly};
 ghost use Rattle.cull_report.specs.Writing.{Seen, Writes};
 ghost use Rattle.maskcull.specs.Culling.{IsSceneOf, IsDrawable, IfScene, EndsAs};
 
@@ -81,6 +82,7 @@ fn draw(alloc: Global, scene: &Scene) -> Result<Frame, Memory>
     requires { IsBuilt scene.now }
     ensures pieces { IfOk result (λ f. f.pieces ≡ length (frame_pieces scene.now)) }
     ensures verdicts { IfOk result (λ f. f.verdicts.items ≡ scene_verdicts scene.now) }
+    ensures hidden { OnOk result (HidesTruly scene.now) }
 {
     let list = pieces_of(alloc, scene)?;
     let states = draw_plain(alloc, &list)?;
@@ -115,6 +117,7 @@ fn report_scene<W: Sink>(alloc: Global, scene: &Scene, report: &mut W) -> Result
     requires { IsBuilt scene.now }
     ensures ok { OnOk result (Appends (W.holding report.old) (W.holding report.new) (report_text scene.now)) }
     ensures err { OnErr result (AppendsPrefix (W.holding report.old) (W.holding report.new) (report_text scene.now)) }
+    ensures hidden { OnOk result (HidesTruly scene.now) }
     ensures causes { IfErr result (λ f. (f ≡ Failure.Memory) ⊎ ((f ≡ Failure.ReportFault) × Rose (W.faults report.old) (W.faults report.new))) }
 {
     let frame = draw(alloc, scene)?;
@@ -124,7 +127,7 @@ fn report_scene<W: Sink>(alloc: Global, scene: &Scene, report: &mut W) -> Result
 
 /// Reads a scene, draws it and writes its report.
 pub fn cull<S: Source, W: Sink>(alloc: Global, input: &mut S, report: &mut W) -> Result<(), Failure>
-    ensures done { OnOk result (IfSome (S.left input.old) (λ bytes. (s : Parts) × IsDrawable bytes s × (S.left input.new ≡ Some []) × Appends (W.holding report.old) (W.holding report.new) (report_text s))) }
+    ensures done { OnOk result (IfSome (S.left input.old) (λ bytes. (s : Parts) × IsDrawable bytes s × (S.left input.new ≡ Some []) × Appends (W.holding report.old) (W.holding report.new) (report_text s) × HidesTruly s)) }
     ensures refusal { IfErr result (λ f. IfScene f IsRefusal) }
     ensures scene { IfErr result (λ f. IfScene f (λ e. IfSome (S.left input.old) (λ bytes. first_fault bytes ≡ Some e))) }
     ensures not_built { IsErrOf result Failure.NotBuilt → IfSome (S.left input.old) (λ bytes. (s : Parts) × IsSceneOf bytes s × (IsBuilt s → ⊥)) }

@@ -4,6 +4,7 @@ ghost use Rattle.cull_base.specs.Stream.{Rose, Appends, AppendsPrefix};
 ghost use Rattle.scene_reader.specs.Layout.{Parts};
 ghost use Rattle.scene_reader.specs.Fault.{first_fault, IsRefusal};
 ghost use Rattle.scene_reader.specs.declared.error.SceneError.{SceneError};
+ghost use Rattle.cull_report.specs.Behind.{HidesTruly};
 ghost use Rattle.cull_report.specs.Scene.{IsBuilt, report_text};
 ghost use Rattle.maskcull.specs.Culling.{IsSceneOf, IsDrawable, StatusIs, MayHaveWritten};
 ghost use Rattle.maskcull.specs.Notes.{IsNoted, note_text, refusal_text, status_text};
@@ -37,8 +38,10 @@ pub fn run<R: Threads + Wait + Sync, S: Source, W: Sink, E: Sink>(
     report: &mut W,
     notes: &mut E,
 ) -> Status
-    // The report is that of one thread that merges all pieces in submission order.
-    ensures done { result ≡ Status.Done → IfSome (S.left input.old) (λ bytes. (s : Parts) × IsDrawable bytes s × (S.left input.new ≡ Some []) × Appends (W.holding report.old) (W.holding report.new) (report_text s)) }
+    // The report is that of one thread that merges all pieces in submission order, and each object that it calls
+    // occluded has a piece strictly in front of it at each of its samples in the screen.
+    ensures done { result ≡ Status.Done → IfSome (S.left input.old) (λ bytes. (s : Parts) × IsDrawable bytes s × (S.left input.new ≡ Some [])
+        × Appends (W.holding report.old) (W.holding report.new) (report_text s) × HidesTruly s) }
     ensures done_notes { result ≡ Status.Done → notes.new ≡ notes.old }
 
     // The causes.
