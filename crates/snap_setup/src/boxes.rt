@@ -1,9 +1,9 @@
 //! The pixels that a triangle's part in front of the near plane may reach.
-ghost use Rattle.std.specs.Prelude.{◌≡◌, ℕ, ℤ, pos, [], ◌≤◌, ◌^◌, false, ◌↔◌, IsNone};
+ghost use Rattle.std.specs.Prelude.{◌≡◌, ◌≤◌, false, ◌↔◌, IsNone};
 ghost use Rattle.std.specs.List.{All};
 ghost use Rattle.std.specs.Int.{int_min, int_max};
 ghost use Rattle.cull_base.specs.Guard.{is_past_guard};
-ghost use Rattle.cull_base.specs.Piece.{Within, first_pixel, pixel_behind};
+ghost use Rattle.cull_base.specs.Piece.{first_pixel, pixel_behind};
 ghost use Rattle.near_clip.specs.NearPart.{corner, is_inside};
 ghost use Rattle.snap_setup.specs.Snapping.{screen_x, screen_y, IsInSight};
 ghost use Rattle.snap_setup.specs.Pieces.{near_box_of};

@@ -1,5 +1,5 @@
 //! The pieces of one triangle.
-ghost use Rattle.std.specs.Prelude.{◌≡◌, ℕ, ℤ, pos, [], false, true, ◌≤◌, ◌^◌, ◌-ℤ◌, ◌*ℤ◌, ◌<ℤ◌, ◌↔◌, Some, length};
+ghost use Rattle.std.specs.Prelude.{◌≡◌, ℤ, pos, [], false, ◌≤◌, ◌^◌, ◌-ℤ◌, ◌*ℤ◌, ◌<ℤ◌, ◌↔◌, Some, length};
 ghost use Rattle.std.specs.List.{All};
 ghost use Rattle.cull_base.specs.Bounds.{Near};
 ghost use Rattle.cull_base.specs.Guard.{is_past_guard};
