@@ -111,7 +111,8 @@ fn outline(tri: &[ClipVertex; 3], near: u16, size: Size, winding: Winding, side:
         return Pieces::of(first, None);
     }
     let p3 = snap(&polygon.get(3), near, size, side);
-    Pieces::of(first, piece(&p0, &p2, &p3, winding))
+    let second = piece(&p0, &p2, &p3, winding);
+    Pieces::of(first, second)
 }
 
 fn is_any_past_guard(tri: &[ClipVertex; 3], near: u16) -> bool
