@@ -1,5 +1,5 @@
 //! The guard: how far from the viewer a clip vertex may lie.
-ghost use Rattle.std.specs.Prelude.{◌≡◌, ℕ, ℤ, pos, ◌≤◌, ◌<◌, ◌*◌};
+ghost use Rattle.std.specs.Prelude.{◌≡◌, pos, ◌≤◌, ◌*◌};
 ghost use Rattle.cull_base.specs.Guard.{is_beyond, is_past_guard};
 
 use cull_base::ClipVertex;

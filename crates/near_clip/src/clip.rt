@@ -1,5 +1,5 @@
 //! Which part of a triangle lies in front of the near plane.
-ghost use Rattle.std.specs.Prelude.{◌≡◌, ℕ, ℤ, pos, ◌+ℤ◌, ◌-ℤ◌, ◌*ℤ◌, ◌≤ℤ◌, ◌*◌, ◌^◌, ◌≤◌, [], false, ◌↔◌, length};
+ghost use Rattle.std.specs.Prelude.{◌≡◌, ℤ, ◌+ℤ◌, ◌-ℤ◌, ◌*ℤ◌, ◌^◌, ◌≤◌, [], false, ◌↔◌};
 ghost use Rattle.std.specs.List.{All};
 ghost use Rattle.cull_base.specs.Bounds.{Near};
 ghost use Rattle.cull_base.specs.Guard.{is_past_guard};

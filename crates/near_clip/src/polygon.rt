@@ -1,5 +1,5 @@
 //! What is left of a triangle at the near plane.
-ghost use Rattle.std.specs.Prelude.{◌≡◌, ℕ, [], ◌∷◌, ◌<◌, ◌≤◌, ◌≢◌, length, slice_index_or};
+ghost use Rattle.std.specs.Prelude.{◌≡◌, [], ◌∷◌, ◌<◌, ◌≤◌, ◌≢◌, length, slice_index_or};
 
 use crate::hom_point::HomPoint;
 use std::marker::Model;

@@ -10,7 +10,7 @@ use Rattle.cull_base.specs.Guard.{is_past_guard}
 use Rattle.cull_base.specs.Piece.{Piece}
 use Rattle.near_clip.specs.declared.hom_point.HomPoint.{HomPoint}
 use Rattle.near_clip.specs.NearPart.{near_part, corner}
-use Rattle.near_clip.proofs.Reaches.{all_corners}
+use Rattle.near_clip.proofs.Reaches.{all_corners, near_part-outside}
 use Rattle.snap_setup.specs.declared.snapping.Snapped.{Snapped}
 use Rattle.snap_setup.specs.Snapping.{snapped}
 use Rattle.snap_setup.specs.Pieces.{triangle, triangles_of, is_left_out, turned, kept_of, snapped_part, is_any_past_guard, pieces_of, GivesNone}
@@ -108,7 +108,7 @@ gives_none v0 v1 v2 near size winding side = (to (is_any_past_guard v0 v1 v2 nea
 
     from : GivesNone v0 v1 v2 near size winding side → pieces_of v0 v1 v2 near size winding side ≡ []
     from (inl h) = rw h refl
-    from (inr (inl e)) = let ts : kept_from winding (triangles_of points) ≡ [] = rw e refl in same (is_any_past_guard v0 v1 v2 near) (kept_from winding (triangles_of points)) ts
+    from (inr (inl h)) = let e = near_part-outside v0 v1 v2 near h.0 h.1 h.2 in let ts : kept_from winding (triangles_of points) ≡ [] = rw e refl in same (is_any_past_guard v0 v1 v2 near) (kept_from winding (triangles_of points)) ts
     from (inr (inr h)) = same (is_any_past_guard v0 v1 v2 near) (kept_from winding (triangles_of points)) (none_kept winding (triangles_of points) h)
 
 -- what the two ways through `set_up` give

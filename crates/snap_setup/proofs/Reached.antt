@@ -1,5 +1,5 @@
 -- What it says of a point that it is in reach.
-use Rattle.std.proofs.Common.{◌≡◌, ℕ, ℤ, pos, negsuc, zero, suc, sym, ◌+◌, ◌*◌, ◌^◌, ◌<◌, ◌≤◌, ◌≤ℤ◌, ◌+ℤ◌, ◌-ℤ◌, ◌*ℤ◌, FitsSigned, w64, arith, refl, ◌/◌, ◌%◌, min}
+use Rattle.std.proofs.Common.{◌≡◌, ℕ, ℤ, pos, negsuc, zero, suc, sym, ◌+◌, ◌*◌, ◌^◌, ◌<◌, ◌≤◌, ◌≤ℤ◌, ◌+ℤ◌, ◌-ℤ◌, ◌*ℤ◌, arith, refl, ◌/◌, ◌%◌, min}
 use Rattle.std.proofs.lemmas.Int.{ints}
 use Rattle.std.proofs.Math.Nat.{mul-le-mul_left, mul-le-mul}
 use Rattle.near_clip.specs.declared.hom_point.HomPoint.{HomPoint}
@@ -10,7 +10,7 @@ use Rattle.std.specs.Int.RustNames.{unsigned_abs}
 use Rattle.cull_base.specs.declared.clip.Side.TheVariants.{Occluder, Object}
 use Rattle.cull_base.specs.Screen.{Dimensions}
 use Rattle.cull_base.specs.Bounds.{Near}
-use Rattle.snap_setup.specs.Snapping.{round_half, screen_x, screen_y, nearness_of}
+use Rattle.snap_setup.specs.Snapping.{round_half, screen_x, screen_y, nearness_of, IsInSight}
 use Rattle.snap_setup.proofs.Floors.{ceiling_is}
 
 pub natural : (z : ℤ) → pos 0 ≤ℤ z → (n : ℕ) × (z ≡ pos n)
@@ -56,18 +56,32 @@ w_positive near (negsuc s) w h k = absurd (omega (arith, ints, h))
 pub reached : (near : ℕ) (p : HomPoint) → near ≤ 1024 → IsInReach near p → (s w : ℕ) × IsReached near p s w
 reached near p le r = reached_from near p.x p.y p.w p.scale le (omega (arith, ints, r.scale_least)) (w_positive near p.scale p.w r.scale_least r.w_least) r
 
-fits : (x : ℤ) (n : ℕ) → n ≤ 2 ^ 49 → Near (2 ^ 49) x → FitsSigned w64 (x +ℤ pos n) × FitsSigned w64 (pos n -ℤ x)
-fits x n h near = (omega (arith, ints), omega (arith, ints))
+sight : (x y : ℤ) (s w near : ℕ) → 1 ≤ near → 1 ≤ s → near * s ≤ w → w ≤ 2 ^ 49 → let p : HomPoint = record { x = x; y = y; w = pos w; scale = pos s } in
+    IsInReach near p → Near (2 ^ 49) x → Near (2 ^ 49) y → IsInSight p
+sight x y s w near hn hs least most r hx hy =
+    let one = mul-le-mul hn hs in
+    record {
+      w_least = omega (arith, ints, one, least);
+      w_most = omega (arith, ints, most);
+      x_beside = (omega (arith, ints, r.x_within, least), omega (arith, ints, r.x_within, least));
+      y_beside = (omega (arith, ints, r.y_within, least), omega (arith, ints, r.y_within, least));
+      x_near = hx;
+      y_near = hy;
+    }
 
-along : (x w : ℤ) (n : ℕ) → w ≡ pos n → FitsSigned w64 (x +ℤ pos n) × FitsSigned w64 (pos n -ℤ x) → FitsSigned w64 (x +ℤ w) × FitsSigned w64 (w -ℤ x)
-along x w n e h = rw e h
+sight_along : (near : ℕ) (x y s' w' : ℤ) (s w : ℕ) → s' ≡ pos s → w' ≡ pos w → 1 ≤ near → let p : HomPoint = record { x = x; y = y; w = w'; scale = s' } in
+    IsReached near p s w → IsInReach near p → IsInSight p
+sight_along near x y (pos s') (pos w') s w es ew hn k r =
+    let a : s' ≡ s = omega (arith, ints, es) in
+    let b : w' ≡ w = omega (arith, ints, ew) in
+    let least : near * s' ≤ w' = rw (a, b) k.w_least in
+    sight x y s' w' near hn (omega (arith, k.scale_least)) least (omega (arith, k.w_most)) r k.x_near k.y_near
+sight_along near x y (negsuc s') w' s w es ew hn k r = absurd (omega (arith, ints, es))
+sight_along near x y (pos s') (negsuc w') s w es ew hn k r = absurd (omega (arith, ints, ew))
 
--- the offsets fit
-pub x_fits : (near : ℕ) (p : HomPoint) → near ≤ 1024 → IsInReach near p → FitsSigned w64 (p.x +ℤ p.w)
-x_fits near p le h = let (s, w, r) = reached near p le h in (along p.x p.w w r.w_is (fits p.x w r.w_most r.x_near)).0
-
-pub y_fits : (near : ℕ) (p : HomPoint) → near ≤ 1024 → IsInReach near p → FitsSigned w64 (p.w -ℤ p.y)
-y_fits near p le h = let (s, w, r) = reached near p le h in (along p.y p.w w r.w_is (fits p.y w r.w_most r.y_near)).1
+-- what is in reach is in sight
+pub in_sight : (near : ℕ) (p : HomPoint) → 1 ≤ near → near ≤ 1024 → IsInReach near p → IsInSight p
+in_sight near p hn le h = let (s, w, r) = reached near p le h in sight_along near p.x p.y p.scale p.w s w r.scale_is r.w_is hn r h
 
 pub x_is : (p : HomPoint) (size : Dimensions) (width : ℕ) (r : ℤ) → width ≡ size.width → r ≡ round_half (pos (8 * width) *ℤ (p.x +ℤ p.w)) p.w → r ≡ screen_x p size
 x_is p size width r e h = rw (h, e) refl

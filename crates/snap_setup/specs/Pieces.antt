@@ -13,7 +13,7 @@ use Rattle.cull_base.specs.Screen.{Dimensions}
 use Rattle.cull_base.specs.Guard.{is_past_guard}
 use Rattle.cull_base.specs.Piece.{Piece, doubled_area, first_pixel, pixel_behind}
 use Rattle.cull_base.specs.Depth.{least_of, greatest_of}
-use Rattle.near_clip.specs.NearPart.{near_part, corner}
+use Rattle.near_clip.specs.NearPart.{near_part, corner, is_inside}
 use Rattle.snap_setup.specs.declared.snapping.Snapped.{Snapped}
 use Rattle.snap_setup.specs.Snapping.{snapped}
 
@@ -60,11 +60,15 @@ is_any_past_guard v0 v1 v2 near = is_past_guard v0 near || (is_past_guard v1 nea
 unfoldable pub pieces_of : ClipVertex → ClipVertex → ClipVertex → ℕ → Dimensions → Winding → Side → List Piece
 pieces_of v0 v1 v2 near size winding side = cond (is_any_past_guard v0 v1 v2 near) [] (kept_of (snapped_part v0 v1 v2 near size side) winding)
 
+-- all of a triangle is behind the near plane
+abbrev pub IsBehind : ClipVertex → ClipVertex → ClipVertex → ℕ → Type 0
+IsBehind v0 v1 v2 near = (is_inside v0 near ≡ false) × (is_inside v1 near ≡ false) × (is_inside v2 near ≡ false)
+
 -- why a triangle gives no piece: a vertex is past the guard, all of it is behind the near plane, or each triangle of the polygon is left out
 abbrev pub GivesNone : ClipVertex → ClipVertex → ClipVertex → ℕ → Dimensions → Winding → Side → Type 0
 GivesNone v0 v1 v2 near size winding side =
     IsTrue (is_any_past_guard v0 v1 v2 near)
-    ⊎ ((near_part v0 v1 v2 near ≡ [])
+    ⊎ (IsBehind v0 v1 v2 near
     ⊎ All (λ t. is_left_out winding t ≡ true) (triangles_of (snapped_part v0 v1 v2 near size side)))
 
 -- the pixels that points may reach, if there is a point

@@ -1,12 +1,14 @@
 -- From clip space to the screen: coordinates in sixteenths of a pixel, and nearness.
-use Rattle.std.specs.Prelude.{ℕ, ℤ, pos, ◌*◌, ◌≤◌, ◌+ℤ◌, ◌-ℤ◌, ◌*ℤ◌}
+use Rattle.std.specs.Prelude.{ℕ, ℤ, pos, ◌*◌, ◌^◌, ◌≤◌, ◌≤ℤ◌, ◌+ℤ◌, ◌-ℤ◌, ◌*ℤ◌}
 use Rattle.std.specs.Int.RustNames.{unsigned_abs}
 use Rattle.cull_base.specs.declared.clip.Side.{Side}
 use Rattle.cull_base.specs.declared.clip.Side.TheVariants.{Occluder, Object}
 use Rattle.cull_base.specs.Screen.{Dimensions}
+use Rattle.cull_base.specs.Bounds.{Near}
 use Rattle.cull_base.specs.Piece.{Within}
 use Rattle.cull_base.specs.Depth.{floor_of, ceiling_of}
 use Rattle.near_clip.specs.declared.hom_point.HomPoint.{HomPoint}
+use Rattle.near_clip.specs.Reach.{WithinScaled}
 use Rattle.snap_setup.specs.declared.snapping.Snapped.{Snapped}
 
 -- The floor of n/d + 1/2, where d is positive. It is that of (2n + d)/2d.
@@ -32,6 +34,15 @@ nearness_of p near side = unsigned_abs (rounded_by side (pos (65535 * near) *ℤ
 
 unfoldable pub snapped : HomPoint → ℕ → Dimensions → Side → Snapped
 snapped p near size side = record { x = screen_x p size; y = screen_y p size; q = nearness_of p near side }
+
+-- in front of the viewer, with w and the coordinates small enough for the sums of snapping
+pub record IsInSight (p : HomPoint) : Type 0 where
+  pub w_least : pos 1 ≤ℤ p.w
+  pub w_most : p.w ≤ℤ pos (2 ^ 49)
+  pub x_beside : WithinScaled 16384 p.w p.x
+  pub y_beside : WithinScaled 16384 p.w p.y
+  pub x_near : Near (2 ^ 49) p.x
+  pub y_near : Near (2 ^ 49) p.y
 
 -- what is true of each snapped point
 pub record IsSnapped (s : Snapped) : Type 0 where

@@ -1,12 +1,11 @@
 //! The pixels that a triangle's part in front of the near plane may reach.
-ghost use Rattle.std.specs.Prelude.{◌≡◌, ℕ, ℤ, pos, [], ◌≤◌, ◌^◌, false, ◌↔◌, IsNone};
+ghost use Rattle.std.specs.Prelude.{◌≡◌, ◌≤◌, false, ◌↔◌, IsNone};
 ghost use Rattle.std.specs.List.{All};
 ghost use Rattle.std.specs.Int.{int_min, int_max};
 ghost use Rattle.cull_base.specs.Guard.{is_past_guard};
-ghost use Rattle.cull_base.specs.Piece.{Within, first_pixel, pixel_behind};
+ghost use Rattle.cull_base.specs.Piece.{first_pixel, pixel_behind};
 ghost use Rattle.near_clip.specs.NearPart.{corner, is_inside};
-ghost use Rattle.near_clip.specs.Reach.{IsInReach};
-ghost use Rattle.snap_setup.specs.Snapping.{screen_x, screen_y};
+ghost use Rattle.snap_setup.specs.Snapping.{screen_x, screen_y, IsInSight};
 ghost use Rattle.snap_setup.specs.Pieces.{near_box_of};
 
 use crate::snapping::{place_x, place_y};
@@ -47,14 +46,12 @@ struct Extent {
 }
 
 impl Extent {
-    fn of(point: &HomPoint, near: u16, size: Size) -> Extent
-        requires near_least { 1 ≤ near }
-        requires near_most { near ≤ 1024 }
-        requires reach { IsInReach near point.now }
+    fn of(point: &HomPoint, size: Size) -> Extent
+        requires { IsInSight point.now }
         ensures { result ≡ record { left = screen_x point.now size; top = screen_y point.now size; right = screen_x point.now size; bottom = screen_y point.now size } }
     {
-        let x = place_x(point, near, size);
-        let y = place_y(point, near, size);
+        let x = place_x(point, size);
+        let y = place_y(point, size);
         Extent {
             left: x,
             top: y,
@@ -99,12 +96,12 @@ pub fn near_box(tri: &[ClipVertex; 3], near: u16, size: Size) -> Option<Rect>
     if polygon.len() == 0 {
         return None;
     }
-    let extent = Extent::of(&polygon.get(0), near, size)
-        .with(Extent::of(&polygon.get(1), near, size))
-        .with(Extent::of(&polygon.get(2), near, size));
+    let extent = Extent::of(&polygon.get(0), size)
+        .with(Extent::of(&polygon.get(1), size))
+        .with(Extent::of(&polygon.get(2), size));
     if polygon.len() == 3 {
         return Some(extent.boxed());
     }
-    let all = extent.with(Extent::of(&polygon.get(3), near, size));
+    let all = extent.with(Extent::of(&polygon.get(3), size));
     Some(all.boxed())
 }

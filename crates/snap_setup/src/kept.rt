@@ -1,6 +1,5 @@
 //! What a triangle leaves on the screen.
-ghost use Rattle.std.specs.Prelude.{◌≡◌, ℕ, List, [], ◌∷◌, ◌++◌, ◌<◌, ◌≤◌, ◌+◌, length, slice_index_or, Option, Some, None};
-ghost use Rattle.snap_setup.specs.Kept.{kept_in};
+ghost use Rattle.std.specs.Prelude.{◌≡◌, List, [], ◌++◌, ◌<◌, ◌≤◌, ◌+◌, length, slice_index_or};
 
 use cull_base::{FrameList, ScreenTri};
 use std::marker::Model;

@@ -1,8 +1,6 @@
 //! Floors of whole quotients.
-ghost use Rattle.std.specs.Prelude.{◌≡◌, ℕ, ℤ, pos, neg_ℤ, ◌^◌, ◌*ℤ◌, ◌+ℤ◌, ◌≤ℤ◌, ◌<ℤ◌};
-ghost use Rattle.cull_base.specs.Bounds.{Near};
+ghost use Rattle.std.specs.Prelude.{◌≡◌, ℤ, pos, ◌<ℤ◌};
 ghost use Rattle.cull_base.specs.Depth.{floor_of};
-ghost use Rattle.snap_setup.specs.Snapping.{round_half};
 
 /// Below this size a numerator is divided in 64 bits.
 const NARROW: i128 = 0x4000_0000_0000_0000;

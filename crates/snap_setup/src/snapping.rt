@@ -1,9 +1,9 @@
 //! Where a point stands on the screen, and how near it is.
-ghost use Rattle.std.specs.Prelude.{◌≡◌, ℕ, ℤ, pos, neg_ℤ, ◌*◌, ◌^◌, ◌*ℤ◌, ◌+ℤ◌, ◌-ℤ◌, ◌≤ℤ◌, ◌<ℤ◌, ◌≤◌};
+ghost use Rattle.std.specs.Prelude.{◌≡◌, ℤ, pos, neg_ℤ, ◌*◌, ◌^◌, ◌*ℤ◌, ◌+ℤ◌, ◌≤ℤ◌, ◌≤◌};
 ghost use Rattle.cull_base.specs.Bounds.{Near};
 ghost use Rattle.cull_base.specs.Piece.{Within};
 ghost use Rattle.near_clip.specs.Reach.{IsInReach};
-ghost use Rattle.snap_setup.specs.Snapping.{round_half, screen_x, screen_y, nearness_of};
+ghost use Rattle.snap_setup.specs.Snapping.{round_half, screen_x, screen_y, nearness_of, snapped, IsInSight, IsSnapped};
 
 use crate::quotient::floor_quotient;
 use cull_base::{Side, Size};
@@ -37,8 +37,7 @@ fn wide_sum(a: i128, b: i64) -> i128
     a + i128::from(b)
 }
 
-// From the middle of the screen to its edge is the offset w, and half the number of pixels: the offset in sixteenths
-// of a pixel, rounded.
+// So many pixels are reached by offsets from 0 to twice w. The place of an offset in sixteenths of a pixel, rounded.
 fn rounded(pixels: u16, offset: i64, w: i64) -> i32
     requires pixels { pixels ≤ 2048 }
     requires low { neg_ℤ (pos 16385 *ℤ w) ≤ℤ offset }
@@ -53,10 +52,8 @@ fn rounded(pixels: u16, offset: i64, w: i64) -> i32
 }
 
 #[inline(always)]
-pub(crate) fn place_x(point: &HomPoint, near: u16, size: Size) -> i32
-    requires near_least { 1 ≤ near }
-    requires near_most { near ≤ 1024 }
-    requires reach { IsInReach near point.now }
+pub(crate) fn place_x(point: &HomPoint, size: Size) -> i32
+    requires { IsInSight point.now }
     ensures value { result ≡ screen_x point.now size }
     ensures within { Within result }
 {
@@ -64,10 +61,8 @@ pub(crate) fn place_x(point: &HomPoint, near: u16, size: Size) -> i32
 }
 
 #[inline(always)]
-pub(crate) fn place_y(point: &HomPoint, near: u16, size: Size) -> i32
-    requires near_least { 1 ≤ near }
-    requires near_most { near ≤ 1024 }
-    requires reach { IsInReach near point.now }
+pub(crate) fn place_y(point: &HomPoint, size: Size) -> i32
+    requires { IsInSight point.now }
     ensures value { result ≡ screen_y point.now size }
     ensures within { Within result }
 {
@@ -98,8 +93,6 @@ fn nearness(point: &HomPoint, near: u16, side: Side) -> u32
     }
 }
 
-ghost use Rattle.snap_setup.specs.Snapping.{snapped, IsSnapped};
-
 /// The point on the screen, its coordinates rounded to the nearest whole number and its nearness down for an
 /// occluder, up for an object. Condition: `near` is 1 to 1024; the scale is 1 to 2^25, w is `near` to 16384 `near`
 /// times the scale, x and y are at most 16384 `near` times the scale away from 0.
@@ -111,8 +104,8 @@ pub fn snap(point: &HomPoint, near: u16, size: Size, side: Side) -> Snapped
     ensures within { IsSnapped result }
 {
     Snapped {
-        x: place_x(point, near, size),
-        y: place_y(point, near, size),
+        x: place_x(point, size),
+        y: place_y(point, size),
         q: nearness(point, near, side),
     }
 }

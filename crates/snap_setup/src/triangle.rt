@@ -1,5 +1,5 @@
 //! The pieces of one triangle.
-ghost use Rattle.std.specs.Prelude.{◌≡◌, ℕ, ℤ, pos, [], false, true, ◌≤◌, ◌^◌, ◌-ℤ◌, ◌*ℤ◌, ◌<ℤ◌, ◌↔◌, Some, length};
+ghost use Rattle.std.specs.Prelude.{◌≡◌, ℤ, pos, [], false, ◌≤◌, ◌^◌, ◌-ℤ◌, ◌*ℤ◌, ◌<ℤ◌, ◌↔◌, Some, length};
 ghost use Rattle.std.specs.List.{All};
 ghost use Rattle.cull_base.specs.Bounds.{Near};
 ghost use Rattle.cull_base.specs.Guard.{is_past_guard};
@@ -111,7 +111,8 @@ fn outline(tri: &[ClipVertex; 3], near: u16, size: Size, winding: Winding, side:
         return Pieces::of(first, None);
     }
     let p3 = snap(&polygon.get(3), near, size, side);
-    Pieces::of(first, piece(&p0, &p2, &p3, winding))
+    let second = piece(&p0, &p2, &p3, winding);
+    Pieces::of(first, second)
 }
 
 fn is_any_past_guard(tri: &[ClipVertex; 3], near: u16) -> bool

@@ -1,7 +1,21 @@
-use Rattle.std.proofs.Common.{arith}
+use Rattle.std.proofs.Common.{rules, arith}
 use Rattle.near_clip.specs.NearPart.{corner}
+use Rattle.near_clip.specs.Reach.{IsInReach}
+use Rattle.snap_setup.proofs.Reached.{in_sight}
 use Rattle.snap_setup.proofs.BoxSteps.{box_none, box_three, box_four}
 use Rattle.snap_setup.proofs.boxes.near_box.Goals as goal
+
+pub of-requires : goal.of-requires
+of-requires c = let r : IsInReach c.args.near c.get.result = search rules in in_sight c.args.near c.get.result c.requires.near_least c.requires.near_most r
+
+pub of-requires-2 : goal.of-requires-2
+of-requires-2 c = let r : IsInReach c.args.near c.get-2.result = search rules in in_sight c.args.near c.get-2.result c.requires.near_least c.requires.near_most r
+
+pub of-requires-3 : goal.of-requires-3
+of-requires-3 c = let r : IsInReach c.args.near c.get-3.result = search rules in in_sight c.args.near c.get-3.result c.requires.near_least c.requires.near_most r
+
+pub of-requires-4 : goal.of-requires-4
+of-requires-4 c = let r : IsInReach c.args.near c.get-4.result = search rules in in_sight c.args.near c.get-4.result c.requires.near_least c.requires.near_most r
 
 pub returns-then-len-eq0-clause-value : goal.returns-then-len-eq0-clause-value
 returns-then-len-eq0-clause-value c =

@@ -20,7 +20,7 @@ pub returns : goal.returns
 returns c =
     let v = c.args.tri.now in
     part_four (corner v 0) (corner v 1) (corner v 2) c.args.near c.args.size c.args.winding c.args.side c.clip_near-polygon.result
-    c.get.result c.get-2.result c.get-3.result c.get-4.result c.snap-p0.result c.snap-p1.result c.snap-p2.result c.snap-p3.result c.piece-first.result c.piece.result c.of-2.result
+    c.get.result c.get-2.result c.get-3.result c.get-4.result c.snap-p0.result c.snap-p1.result c.snap-p2.result c.snap-p3.result c.piece-first.result c.piece-second.result c.of-2.result
     c.clip_near-polygon.ensures.value
     (omega (arith, c.len.ensures.value, c.len.ensures.most, c.len.ensures.not_one, c.len.ensures.not_two, c.if-len-eq0.false, c.len-2.ensures.value, c.if-len-eq3.false))
-    c.get.ensures c.get-2.ensures c.get-3.ensures c.get-4.ensures c.snap-p0.ensures.value c.snap-p1.ensures.value c.snap-p2.ensures.value c.snap-p3.ensures.value c.piece-first.ensures c.piece.ensures c.of-2.ensures
+    c.get.ensures c.get-2.ensures c.get-3.ensures c.get-4.ensures c.snap-p0.ensures.value c.snap-p1.ensures.value c.snap-p2.ensures.value c.snap-p3.ensures.value c.piece-first.ensures c.piece-second.ensures c.of-2.ensures
