@@ -1,5 +1,5 @@
 //! The three edges of a piece, and the masks of the samples inside all of them.
-ghost use Rattle.std.specs.Prelude.{◌≡◌, ℕ, ℤ, ◌+◌, ◌*◌, ◌/◌, ◌%◌, ◌<◌, ◌^◌, slice_index};
+ghost use Rattle.std.specs.Prelude.{◌≡◌, ℕ, ℤ, ◌+◌, ◌*◌, ◌/◌, ◌%◌, ◌<◌, ◌^◌, ◌-◌, slice_index, IsTrue};
 ghost use Rattle.std.specs.Simd.Lanes.{mask_l};
 ghost use Rattle.cull_base.specs.Piece.{covered, touched, each_sample};
 ghost use Rattle.cull_base.specs.Bounds.{Near};
@@ -71,11 +71,40 @@ impl Edges {
         ensures value { result ≡ mask_l (inside_of self.now sub) }
         ensures samples { samples_of result ≡ inside_of self.now sub }
     {
-        self.lanes(
-            self.first.start_at(sub),
-            self.second.start_at(sub),
-            self.third.start_at(sub),
-        )
+        let first = self.first.start_at(sub);
+        let second = self.second.start_at(sub);
+        let third = self.third.start_at(sub);
+        if self.is_outside(first, second, third) {
+            0
+        } else if self.is_whole(first, second, third) {
+            u32::MAX
+        } else {
+            self.lanes(first, second, third)
+        }
+    }
+
+    // Whether an edge rejects the whole subtile.
+    #[inline(always)]
+    fn is_outside(&self, first: i64, second: i64, third: i64) -> bool
+        requires first { Near (2 ^ 61 + 2 ^ 47) first }
+        requires second { Near (2 ^ 61 + 2 ^ 47) second }
+        requires third { Near (2 ^ 61 + 2 ^ 47) third }
+        ensures { IsTrue result → mask_l (each_sample (inside_from self.now first second third)) ≡ 0 }
+    {
+        self.first.is_outside(first)
+            || self.second.is_outside(second)
+            || self.third.is_outside(third)
+    }
+
+    // Whether each edge accepts the whole subtile.
+    #[inline(always)]
+    fn is_whole(&self, first: i64, second: i64, third: i64) -> bool
+        requires first { Near (2 ^ 61 + 2 ^ 47) first }
+        requires second { Near (2 ^ 61 + 2 ^ 47) second }
+        requires third { Near (2 ^ 61 + 2 ^ 47) third }
+        ensures { IsTrue result → mask_l (each_sample (inside_from self.now first second third)) ≡ 2 ^ 32 - 1 }
+    {
+        self.first.is_whole(first) && self.second.is_whole(second) && self.third.is_whole(third)
     }
 
     // The mask of subtile j of a tile.

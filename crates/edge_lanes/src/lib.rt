@@ -4,5 +4,7 @@
 mod arithmetic;
 mod edge;
 mod edges;
+mod shared;
 
 pub use edges::Edges;
+pub use shared::shared_edge;
