@@ -8,7 +8,7 @@ use Rattle.std.proofs.lemmas.Int.{ints, clamps}
 use Rattle.std.proofs.lemmas.Bool.Decides.{nat_tests}
 use Rattle.cull_base.specs.Piece.{each_sample}
 use Rattle.edge_lanes.specs.Lanes.{is_not_negative, highest_of, lowest_of}
-use Rattle.edge_lanes.specs.Inside.{inside_from, is_inside_from}
+use Rattle.edge_lanes.specs.Inside.{inside_from, inside_all}
 use Rattle.edge_lanes.specs.declared.edge.Edge.{Edge}
 use Rattle.edge_lanes.specs.declared.edges.Edges.{Edges}
 
@@ -29,18 +29,18 @@ not_negative : (v : ℤ) → pos 0 ≤ℤ v → is_not_negative v ≡ true
 not_negative (pos n) h = grind (arith, nat_tests)
 not_negative (negsuc n) h = absurd (omega (arith, ints, h))
 
-rejects : (e : Edge) (s : ℤ) (r c : ℕ) → r < 4 → c < 8 → (s +ℤ highest_of e.column e.row) <ℤ pos 0 → is_inside_from e s r c ≡ false
-rejects e s r c lr lc h =
-    let p = step_most e.column 7 c (omega arith) in let q = step_most e.row 3 r (omega arith) in
-    negative _ (below s (e.row *ℤ pos r) (e.column *ℤ pos c) _ _ q p h)
+rejects : (e : Edge) (s : ℤ) (k : ℕ) → k < 32 → (s +ℤ highest_of e.column e.row) <ℤ pos 0 → inside_from e s k ≡ false
+rejects e s k l h =
+    let p = step_most e.column 7 (k % 8) (omega arith) in let q = step_most e.row 3 (k / 8) (omega arith) in
+    negative _ (below s (e.row *ℤ pos (k / 8)) (e.column *ℤ pos (k % 8)) _ _ q p h)
   where
     below : (s a b x y : ℤ) → a ≤ℤ x → b ≤ℤ y → (s +ℤ (y +ℤ x)) <ℤ pos 0 → ((s +ℤ a) +ℤ b) <ℤ pos 0
     below s a b x y p q h = omega (arith, ints)
 
-accepts : (e : Edge) (s : ℤ) (r c : ℕ) → r < 4 → c < 8 → pos 0 ≤ℤ (s +ℤ lowest_of e.column e.row) → is_inside_from e s r c ≡ true
-accepts e s r c lr lc h =
-    let p = step_least e.column 7 c (omega arith) in let q = step_least e.row 3 r (omega arith) in
-    not_negative _ (above s (e.row *ℤ pos r) (e.column *ℤ pos c) _ _ q p h)
+accepts : (e : Edge) (s : ℤ) (k : ℕ) → k < 32 → pos 0 ≤ℤ (s +ℤ lowest_of e.column e.row) → inside_from e s k ≡ true
+accepts e s k l h =
+    let p = step_least e.column 7 (k % 8) (omega arith) in let q = step_least e.row 3 (k / 8) (omega arith) in
+    not_negative _ (above s (e.row *ℤ pos (k / 8)) (e.column *ℤ pos (k % 8)) _ _ q p h)
   where
     above : (s a b x y : ℤ) → x ≤ℤ a → y ≤ℤ b → pos 0 ≤ℤ (s +ℤ (y +ℤ x)) → pos 0 ≤ℤ ((s +ℤ a) +ℤ b)
     above s a b x y p q h = omega (arith, ints)
@@ -65,21 +65,16 @@ any_false true true c (inl e) = cc
 any_false true true c (inr (inl e)) = cc
 any_false true true c (inr (inr e)) = e
 
-pub rejected : (e : Edges) (s t u : ℤ) → ((s +ℤ highest_of e.first.column e.first.row) <ℤ pos 0) ⊎ (((t +ℤ highest_of e.second.column e.second.row) <ℤ pos 0) ⊎ ((u +ℤ highest_of e.third.column e.third.row) <ℤ pos 0)) →
-    mask_l (each_sample (inside_from e s t u)) ≡ 0
-rejected e s t u h = mask_l-none (inside_from e s t u) (λ k l. any_false _ _ _ (at k l h))
-  where
-    at : (k : ℕ) → k < 32 → ((s +ℤ highest_of e.first.column e.first.row) <ℤ pos 0) ⊎ (((t +ℤ highest_of e.second.column e.second.row) <ℤ pos 0) ⊎ ((u +ℤ highest_of e.third.column e.third.row) <ℤ pos 0)) →
-        (is_inside_from e.first s (k / 8) (k % 8) ≡ false) ⊎ ((is_inside_from e.second t (k / 8) (k % 8) ≡ false) ⊎ (is_inside_from e.third u (k / 8) (k % 8) ≡ false))
-    at k l (inl x) = inl (rejects e.first s (k / 8) (k % 8) (omega arith) (omega arith) x)
-    at k l (inr (inl x)) = inr (inl (rejects e.second t (k / 8) (k % 8) (omega arith) (omega arith) x))
-    at k l (inr (inr x)) = inr (inr (rejects e.third u (k / 8) (k % 8) (omega arith) (omega arith) x))
+abbrev Rejects : Edge → ℤ → Type 0
+Rejects e s = (s +ℤ highest_of e.column e.row) <ℤ pos 0
 
-pub accepted : (e : Edges) (s t u : ℤ) → pos 0 ≤ℤ (s +ℤ lowest_of e.first.column e.first.row) → pos 0 ≤ℤ (t +ℤ lowest_of e.second.column e.second.row) → pos 0 ≤ℤ (u +ℤ lowest_of e.third.column e.third.row) →
-    mask_l (each_sample (inside_from e s t u)) ≡ 2 ^ 32 - 1
-accepted e s t u x y z =
-    mask_l-all (inside_from e s t u) (λ k l.
-    let a = accepts e.first s (k / 8) (k % 8) (omega arith) (omega arith) x in
-    let b = accepts e.second t (k / 8) (k % 8) (omega arith) (omega arith) y in
-    let c = accepts e.third u (k / 8) (k % 8) (omega arith) (omega arith) z in
-    rw (a, b, c) refl)
+pub rejected : (e : Edges) (s t u : ℤ) → Rejects e.first s ⊎ (Rejects e.second t ⊎ Rejects e.third u) → mask_l (each_sample (inside_all e s t u)) ≡ 0
+rejected e s t u h = mask_l-none (inside_all e s t u) (λ k l. any_false _ _ _ (at k l h))
+  where
+    at : (k : ℕ) → k < 32 → Rejects e.first s ⊎ (Rejects e.second t ⊎ Rejects e.third u) → (inside_from e.first s k ≡ false) ⊎ ((inside_from e.second t k ≡ false) ⊎ (inside_from e.third u k ≡ false))
+    at k l (inl x) = inl (rejects e.first s k l x)
+    at k l (inr (inl x)) = inr (inl (rejects e.second t k l x))
+    at k l (inr (inr x)) = inr (inr (rejects e.third u k l x))
+
+pub accepted : (e : Edge) (s : ℤ) → pos 0 ≤ℤ (s +ℤ lowest_of e.column e.row) → mask_l (each_sample (inside_from e s)) ≡ 2 ^ 32 - 1
+accepted e s h = mask_l-all (inside_from e s) (λ k l. accepts e s k l h)

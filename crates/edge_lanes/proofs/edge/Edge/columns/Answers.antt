@@ -1,7 +1,7 @@
 use Rattle.std.proofs.Common.{arith, FitsSigned, w64, ℕ, ◌*ℤ◌, ◌+ℤ◌, pos}
 use Rattle.std.proofs.lemmas.Int.{ints}
 use Rattle.edge_lanes.proofs.Lanes.{lane_test, mask_of_eight}
-use Rattle.edge_lanes.proofs.edge.Edge.lanes.Goals as goal
+use Rattle.edge_lanes.proofs.edge.Edge.columns.Goals as goal
 
 pub overflow_add-result : goal.overflow_add-result
 overflow_add-result c = let e = c.args.self.now.are_offsets in rw e (omega (arith, ints, c.requires, c.args.self.now.column_near, c.ranges))
