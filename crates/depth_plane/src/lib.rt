@@ -5,5 +5,7 @@ mod corner;
 mod plane;
 mod quotient;
 mod setup;
+#[cfg(test)]
+mod tests;
 
 pub use plane::Plane;
