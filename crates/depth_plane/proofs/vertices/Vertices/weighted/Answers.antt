@@ -3,7 +3,7 @@ use Rattle.std.specs.Int.{w128}
 use Rattle.std.proofs.lemmas.Int.{ints, to_z-of_z}
 use Rattle.cull_base.specs.Bounds.{Near}
 use Rattle.cull_base.proofs.Bounds.{near-mul}
-use Rattle.depth_plane.proofs.setup.Vertices.weighted.Goals as goal
+use Rattle.depth_plane.proofs.vertices.Vertices.weighted.Goals as goal
 
 scaled_near : (q : ℕ) (a s : ℤ) → q ≤ 65535 → Near (2 ^ 30) a → s ≡ pos q *ℤ a → Near (65535 * 2 ^ 30) s
 scaled_near q a s h k e = rw e (near-mul 65535 (2 ^ 30) (pos q) a (omega (arith, ints), omega (arith, ints)) k)

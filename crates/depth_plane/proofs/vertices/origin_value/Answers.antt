@@ -1,6 +1,6 @@
 use Rattle.std.proofs.Common.{◌≡◌, ℤ, ◌-ℤ◌, ◌*ℤ◌, FitsSigned, w32, w64, rules, refl}
 use Rattle.std.proofs.lemmas.Int.{to_z-of_z}
-use Rattle.depth_plane.proofs.setup.origin_value.Goals as goal
+use Rattle.depth_plane.proofs.vertices.origin_value.Goals as goal
 
 joined : (r p q a b c d ax ay bx by : ℤ) → r ≡ p -ℤ q → p ≡ a *ℤ b → q ≡ c *ℤ d → a ≡ ax → b ≡ by → c ≡ bx → d ≡ ay → r ≡ (ax *ℤ by) -ℤ (bx *ℤ ay)
 joined r p q a b c d ax ay bx by er ep eq ea eb ec ed = rw (er, ep, eq, ea, eb, ec, ed) refl

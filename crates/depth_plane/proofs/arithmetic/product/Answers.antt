@@ -2,7 +2,7 @@ use Rattle.std.proofs.Common.{◌≡◌, ◌*ℤ◌, ◌^◌, FitsSigned, w64, a
 use Rattle.std.proofs.lemmas.Int.{ints, to_z-of_z}
 use Rattle.cull_base.specs.Bounds.{Near}
 use Rattle.cull_base.proofs.Bounds.{near-mul}
-use Rattle.depth_plane.proofs.setup.product.Goals as goal
+use Rattle.depth_plane.proofs.arithmetic.product.Goals as goal
 
 pub returns-clause-value : goal.returns-clause-value
 returns-clause-value c =
