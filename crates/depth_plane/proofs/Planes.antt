@@ -5,6 +5,8 @@ use Rattle.cull_base.specs.Depth.{numerator, denominator, DepthLess}
 use Rattle.cull_base.proofs.Ring.{diff, diff-add, diff-sub, diff-mul, diff-same, pos_is, over1, over2, over3, over4}
 use Rattle.std.specs.List.{range_with_len}
 use Rattle.cull_base.specs.declared.place.Sub.{Sub}
+use Rattle.depth_plane.specs.Vertices.{IsVertex, across_of, down_of, level_of, area_of}
+use Rattle.depth_plane.specs.declared.vertices.Vertices.{Vertices}
 use Rattle.depth_plane.specs.Plane.{Coefficients, plane_of, numerator_at}
 
 abbrev edge : ℤ → ℤ → ℤ → ℤ → ℤ → ℤ → ℤ
@@ -34,16 +36,14 @@ unfolding plane_of
 area-plane_of t = refl
 
 -- from the coefficients as they are computed
-pub plane_of-computed : (t : Piece) (p q r : ℕ) (ax ay bx by cx cy a d l n : ℤ) →
-    (ax ≡ (vertex t 0).x) × (ay ≡ (vertex t 0).y) × (p ≡ nearness t 0) → (bx ≡ (vertex t 1).x) × (by ≡ (vertex t 1).y) × (q ≡ nearness t 1) → (cx ≡ (vertex t 2).x) × (cy ≡ (vertex t 2).y) × (r ≡ nearness t 2) →
-    a ≡ ((pos p *ℤ (by -ℤ cy)) +ℤ (pos q *ℤ (cy -ℤ ay))) +ℤ (pos r *ℤ (ay -ℤ by)) →
-    d ≡ ((pos p *ℤ (cx -ℤ bx)) +ℤ (pos q *ℤ (ax -ℤ cx))) +ℤ (pos r *ℤ (bx -ℤ ax)) →
-    l ≡ ((pos p *ℤ ((bx *ℤ cy) -ℤ (cx *ℤ by))) +ℤ (pos q *ℤ ((cx *ℤ ay) -ℤ (ax *ℤ cy)))) +ℤ (pos r *ℤ ((ax *ℤ by) -ℤ (bx *ℤ ay))) →
-    n ≡ ((bx -ℤ ax) *ℤ (cy -ℤ ay)) -ℤ ((by -ℤ ay) *ℤ (cx -ℤ ax)) →
+pub plane_of-computed : (t : Piece) (v : Vertices) (a d l n : ℤ) → IsVertex v.a t 0 → IsVertex v.b t 1 → IsVertex v.c t 2 → a ≡ across_of v → d ≡ down_of v → l ≡ level_of v → n ≡ area_of v →
     record { across = a; down = d; level = l; area = n } ≡ plane_of t
 unfolding plane_of
-plane_of-computed t p q r ax ay bx by cx cy a d l n (eax, eay, ep) (ebx, eby, eq) (ecx, ecy, er) ea ed el en =
-    rw (ea, ed, el, en, eax, eay, ebx, eby, ecx, ecy, ep, eq, er) refl
+plane_of-computed t v a d l n ia ib ic ea ed el en =
+    let ax = ia.x in let ay = ia.y in let p = ia.q in
+    let bx = ib.x in let by = ib.y in let q = ib.q in
+    let cx = ic.x in let cy = ic.y in let r = ic.q in
+    rw (ea, ed, el, en, ax, ay, bx, by, cx, cy, p, q, r) refl
 
 map-same : {X : Type 0} (f g : ℕ → X) → ((k : ℕ) → f k ≡ g k) → (ks : List ℕ) → map f ks ≡ map g ks
 map-same f g h [] = refl

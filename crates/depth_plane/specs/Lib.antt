@@ -1,2 +1,3 @@
 pub mod Plane
 pub mod Corner
+pub mod Vertices

@@ -7,13 +7,14 @@ ghost use Rattle.depth_plane.specs.Plane.{plane_of, numerator_at, IsNearer, poin
 
 use crate::corner::{greatest_along, least_along, numerator_at};
 use crate::quotient::{ceiling, cut_to_range, floor, is_greater};
-use crate::setup::vertices_of;
+use crate::vertices::Vertices;
 use cull_base::{Sample, ScreenTri, Sub};
 use std::marker::Model;
 
-/// What lies between the first and the last sample of a subtile, in sixteenths of a pixel.
+/// From the first sample of a subtile to the last in its row, in sixteenths of a pixel.
 const SPAN_ACROSS: u32 = 112;
 
+/// From the first sample of a subtile to the last in its column.
 const SPAN_DOWN: u32 = 48;
 
 /// The depth of a piece at (x, y), in sixteenths of a pixel: `(across * x + down * y + level) / area`.
@@ -54,7 +55,7 @@ impl Plane {
         ensures denominator { result.area ≡ denominator tri.now }
         ensures positive { pos 0 <ℤ result.area }
     {
-        let vertices = vertices_of(tri);
+        let vertices = Vertices::of(tri);
         Plane {
             across: vertices.across(),
             down: vertices.down(),

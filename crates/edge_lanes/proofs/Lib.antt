@@ -3,3 +3,5 @@ pub mod Masks
 pub mod Steps
 pub mod Sides
 pub mod Inside
+pub mod Extremes
+pub mod Sharing

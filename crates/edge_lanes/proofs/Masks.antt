@@ -25,7 +25,7 @@ and_low x y m n =
     same false false k = omega arith
 
 -- three masks, joined
-pub mask_l-and : (f g h : ℕ → Bool) (cs : List ℕ) → bit_and (bit_and (mask_l (map f cs)) (mask_l (map g cs))) (mask_l (map h cs)) ≡ mask_l (map (λ c. f c && (g c && h c)) cs)
+mask_l-and : (f g h : ℕ → Bool) (cs : List ℕ) → bit_and (bit_and (mask_l (map f cs)) (mask_l (map g cs))) (mask_l (map h cs)) ≡ mask_l (map (λ c. f c && (g c && h c)) cs)
 mask_l-and f g h [] = refl
 mask_l-and f g h (c ∷ cs) =
     let e = mask_l-and f g h cs in let one = and_low (f c) (g c) (mask_l (map f cs)) (mask_l (map g cs)) in
@@ -35,6 +35,10 @@ mask_l-and f g h (c ∷ cs) =
     and_assoc : (a b d : Bool) → ((a && b) && d) ≡ (a && (b && d))
     and_assoc true b d = refl
     and_assoc false b d = refl
+
+pub mask_l-and_samples : (f g h : ℕ → Bool) → bit_and (bit_and (mask_l (each_sample f)) (mask_l (each_sample g))) (mask_l (each_sample h)) ≡ mask_l (each_sample (λ k. f k && (g k && h k)))
+unfolding each_sample
+mask_l-and_samples f g h = mask_l-and f g h (range_with_len 0 32)
 
 -- a mask is made of its four rows
 pub mask_of_rows : (p : ℕ → Bool) → mask_l (each_sample p) ≡ (row_of p 0 + row_of p 1 * 256) + (row_of p 2 + row_of p 3 * 256) * 65536

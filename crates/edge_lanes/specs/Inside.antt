@@ -18,12 +18,12 @@ is_inside e x y = is_not_negative (value_at e.first x y) && (is_not_negative (va
 unfoldable pub inside_of : Edges → Sub → List Bool
 inside_of e u = each_sample (λ k. is_inside e (8 * u.column + k % 8) (4 * u.row + k / 8))
 
--- the same by the values that the edges have at the subtile's first sample
-abbrev pub is_inside_from : Edge → ℤ → ℕ → ℕ → Bool
-is_inside_from e start row column = is_not_negative ((start +ℤ (e.row *ℤ pos row)) +ℤ (e.column *ℤ pos column))
+-- sample k of a subtile is inside an edge that has this value at the subtile's first sample
+abbrev pub inside_from : Edge → ℤ → ℕ → Bool
+inside_from e start k = is_not_negative ((start +ℤ (e.row *ℤ pos (k / 8))) +ℤ (e.column *ℤ pos (k % 8)))
 
-abbrev pub inside_from : Edges → ℤ → ℤ → ℤ → ℕ → Bool
-inside_from e first second third k = is_inside_from e.first first (k / 8) (k % 8) && (is_inside_from e.second second (k / 8) (k % 8) && is_inside_from e.third third (k / 8) (k % 8))
+abbrev pub inside_all : Edges → ℤ → ℤ → ℤ → ℕ → Bool
+inside_all e first second third k = inside_from e.first first k && (inside_from e.second second k && inside_from e.third third k)
 
 -- subtile j of a tile, of which it has four columns and two rows
 abbrev pub sub_of : Tile → ℕ → Sub

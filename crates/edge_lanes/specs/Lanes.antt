@@ -1,5 +1,6 @@
 -- Eight columns at a time, and the test that serves both sides.
-use Rattle.std.specs.Prelude.{ℕ, ℤ, pos, negsuc, ◌+◌, ◌*◌, ◌*ℤ◌, List, [], ◌∷◌, Bool, cond, int_le, map}
+use Rattle.std.specs.Prelude.{ℕ, ℤ, pos, negsuc, ◌+◌, ◌*◌, ◌+ℤ◌, ◌*ℤ◌, List, [], ◌∷◌, Bool, cond, int_le, map}
+use Rattle.std.specs.Int.{int_min, int_max}
 use Rattle.std.specs.Simd.Lanes.{mask_l}
 use Rattle.cull_base.specs.declared.clip.Side.{Side}
 use Rattle.cull_base.specs.declared.clip.Side.TheVariants.{Occluder, Object}
@@ -10,6 +11,13 @@ columns = 0 ∷ 1 ∷ 2 ∷ 3 ∷ 4 ∷ 5 ∷ 6 ∷ 7 ∷ []
 -- what each of eight columns adds to a value
 abbrev pub offsets_of : ℤ → List ℤ
 offsets_of step = map (λ c. step *ℤ pos c) columns
+
+-- the most and the least that a sample of a subtile adds to the value at its first
+abbrev pub highest_of : ℤ → ℤ → ℤ
+highest_of column row = int_max (column *ℤ pos 7) (pos 0) +ℤ int_max (row *ℤ pos 3) (pos 0)
+
+abbrev pub lowest_of : ℤ → ℤ → ℤ
+lowest_of column row = int_min (column *ℤ pos 7) (pos 0) +ℤ int_min (row *ℤ pos 3) (pos 0)
 
 -- what is added to an edge's value, so that a sample counts where the sum isn't negative
 abbrev pub bias_of : Side → Bool → ℤ

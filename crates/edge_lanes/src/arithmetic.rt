@@ -1,5 +1,6 @@
 //! Steps of arithmetic that stay inside 64 bits, each with its value and its bound.
 ghost use Rattle.std.specs.Prelude.{◌≡◌, ℕ, ℤ, pos, ◌^◌, ◌+◌, ◌<◌, ◌+ℤ◌, ◌-ℤ◌, ◌*ℤ◌, neg_ℤ};
+ghost use Rattle.std.specs.Int.{int_min, int_max};
 ghost use Rattle.cull_base.specs.Piece.{Within};
 ghost use Rattle.cull_base.specs.Bounds.{Near};
 
@@ -61,4 +62,35 @@ pub fn steps(step: i64, count: u32) -> i64
     ensures near { Near (2 ^ 45) result }
 {
     step * i64::from(count)
+}
+
+// The most that steps from none to so many add, and the least.
+#[inline(always)]
+pub fn rise(step: i64, count: u32) -> i64
+    requires near { Near (2 ^ 34) step }
+    requires few { count < 2 ^ 11 }
+    ensures value { result ≡ int_max (step *ℤ pos count) (pos 0) }
+    ensures near { Near (2 ^ 45) result }
+{
+    steps(step, count).max(0)
+}
+
+#[inline(always)]
+pub fn fall(step: i64, count: u32) -> i64
+    requires near { Near (2 ^ 34) step }
+    requires few { count < 2 ^ 11 }
+    ensures value { result ≡ int_min (step *ℤ pos count) (pos 0) }
+    ensures near { Near (2 ^ 45) result }
+{
+    steps(step, count).min(0)
+}
+
+#[inline(always)]
+pub fn total(a: i64, b: i64) -> i64
+    requires a_near { Near (2 ^ 45) a }
+    requires b_near { Near (2 ^ 45) b }
+    ensures value { result ≡ a +ℤ b }
+    ensures near { Near (2 ^ 46) result }
+{
+    a + b
 }

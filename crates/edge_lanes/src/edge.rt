@@ -1,11 +1,13 @@
 //! One edge of a piece: its value at a first sample, and what each pixel to the right and below adds.
-ghost use Rattle.std.specs.Prelude.{◌≡◌, ℕ, ℤ, pos, ◌^◌, ◌+◌, ◌*◌, ◌<◌, ◌+ℤ◌, ◌-ℤ◌, ◌*ℤ◌, map};
+ghost use Rattle.std.specs.Prelude.{◌≡◌, ℕ, ℤ, pos, ◌^◌, ◌+◌, ◌*◌, ◌<◌, ◌+ℤ◌, ◌-ℤ◌, ◌*ℤ◌, ◌<ℤ◌, ◌≤ℤ◌, IsTrue, ◌↔◌, map};
 ghost use Rattle.std.specs.Simd.Lanes.{mask_l};
-ghost use Rattle.cull_base.specs.Piece.{Within, Point, middle, edge_value, is_top_or_left};
+ghost use Rattle.cull_base.specs.Piece.{Within, Point, middle, edge_value, is_top_or_left, each_sample};
 ghost use Rattle.cull_base.specs.Bounds.{Near};
-ghost use Rattle.edge_lanes.specs.Lanes.{offsets_of, columns, is_not_negative, bias_of};
+ghost use Rattle.edge_lanes.specs.Lanes.{offsets_of, columns, is_not_negative, bias_of, highest_of, lowest_of, row_of};
 
-use crate::arithmetic::{difference, minus, opposite, pixel_step, product, steps};
+use crate::arithmetic::{
+    difference, fall, minus, opposite, pixel_step, product, rise, steps, total,
+};
 use cull_base::{Side, Sub};
 use std::simd::prelude::*;
 
@@ -19,10 +21,15 @@ pub struct Edge {
     row: i64,
     // what each of eight columns adds, kept since lanes have no fast product
     offsets: i64x8,
+    // the most and the least that a sample of a subtile adds to its first
+    highest: i64,
+    lowest: i64,
     ghost start_near: { Near (2 ^ 61 + 1) start },
     ghost column_near: { Near (2 ^ 34) column },
     ghost row_near: { Near (2 ^ 34) row },
     ghost are_offsets: { offsets ≡ offsets_of column },
+    ghost is_highest: { highest ≡ highest_of column row },
+    ghost is_lowest: { lowest ≡ lowest_of column row },
 }
 
 #[inline(always)]
@@ -70,6 +77,25 @@ fn first_value(across: i64, down: i64, ax: i32, ay: i32) -> i64
     )
 }
 
+// The most and the least that a subtile's samples add.
+#[inline(always)]
+fn highest(column: i64, row: i64) -> i64
+    requires column { Near (2 ^ 34) column }
+    requires row { Near (2 ^ 34) row }
+    ensures { result ≡ highest_of column row }
+{
+    total(rise(column, 7), rise(row, 3))
+}
+
+#[inline(always)]
+fn lowest(column: i64, row: i64) -> i64
+    requires column { Near (2 ^ 34) column }
+    requires row { Near (2 ^ 34) row }
+    ensures { result ≡ lowest_of column row }
+{
+    total(fall(column, 7), fall(row, 3))
+}
+
 #[inline(always)]
 fn from_steps(start: i64, column: i64, row: i64) -> Edge
     requires start { Near (2 ^ 61 + 1) start }
@@ -84,6 +110,8 @@ fn from_steps(start: i64, column: i64, row: i64) -> Edge
         column,
         row,
         offsets: i64x8::splat(column).strict_mul(i64x8::from_array([0, 1, 2, 3, 4, 5, 6, 7])),
+        highest: highest(column, row),
+        lowest: lowest(column, row),
     }
 }
 
@@ -109,7 +137,7 @@ fn lowered(start: i64, by: i64) -> i64
 }
 
 impl Edge {
-    ghost use Rattle.edge_lanes.specs.Inside.{value_at, is_inside_from};
+    ghost use Rattle.edge_lanes.specs.Inside.{value_at, inside_from};
 
     /// The edge from a to b, in sixteenths of a pixel.
     pub fn of(ax: i32, ay: i32, bx: i32, by: i32, side: Side) -> Edge
@@ -144,9 +172,27 @@ impl Edge {
         )
     }
 
-    /// Bit c is set where the value at column c isn't negative, in a row that begins with this value.
+    /// Whether no sample of a subtile that begins with this value is inside.
     #[inline(always)]
-    fn lanes(&self, start: i64) -> u64
+    pub fn is_outside(&self, start: i64) -> bool
+        requires { Near (2 ^ 61 + 2 ^ 47) start }
+        ensures { IsTrue result ↔ ((start +ℤ highest_of self.now.column self.now.row) <ℤ pos 0) }
+    {
+        start + self.highest < 0
+    }
+
+    /// Whether each sample of such a subtile is inside.
+    #[inline(always)]
+    fn is_whole(&self, start: i64) -> bool
+        requires { Near (2 ^ 61 + 2 ^ 47) start }
+        ensures { IsTrue result ↔ (pos 0 ≤ℤ (start +ℤ lowest_of self.now.column self.now.row)) }
+    {
+        start + self.lowest >= 0
+    }
+
+    // Bit c is set where the value at column c isn't negative, in a row that begins with this value.
+    #[inline(always)]
+    fn columns(&self, start: i64) -> u64
         requires { Near (2 ^ 62) start }
         ensures { result ≡ mask_l (map (λ c. is_not_negative (start +ℤ (self.now.column *ℤ pos c))) columns) }
     {
@@ -156,13 +202,38 @@ impl Edge {
             .to_bitmask()
     }
 
-    /// The same for a row of a subtile that begins with this value.
+    // The same for a row of a subtile that begins with this value.
     #[inline(always)]
-    pub fn row_bits(&self, start: i64, row: u32) -> u64
+    fn row_of(&self, start: i64, row: u32) -> u64
         requires start { Near (2 ^ 61 + 2 ^ 47) start }
         requires row { row < 4 }
-        ensures { result ≡ mask_l (map (λ c. is_inside_from self.now start row c) columns) }
+        ensures value { result ≡ row_of (inside_from self.now start) row }
+        ensures byte { result < 2 ^ 8 }
     {
-        self.lanes(lowered(start, steps(self.row, row)))
+        self.columns(lowered(start, steps(self.row, row)))
+    }
+
+    // The mask of a subtile that begins with this value, row by row.
+    #[inline(always)]
+    fn rows(&self, start: i64) -> u32
+        requires { Near (2 ^ 61 + 2 ^ 47) start }
+        ensures { result ≡ mask_l (each_sample (inside_from self.now start)) }
+    {
+        let upper = self.row_of(start, 0) + self.row_of(start, 1) * 256;
+        let lower = self.row_of(start, 2) + self.row_of(start, 3) * 256;
+        (upper + lower * 65536) as u32
+    }
+
+    /// The samples of a subtile that are inside this edge, where the subtile begins with this value.
+    #[inline(always)]
+    pub fn mask(&self, start: i64) -> u32
+        requires { Near (2 ^ 61 + 2 ^ 47) start }
+        ensures { result ≡ mask_l (each_sample (inside_from self.now start)) }
+    {
+        if self.is_whole(start) {
+            u32::MAX
+        } else {
+            self.rows(start)
+        }
     }
 }

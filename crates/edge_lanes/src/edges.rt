@@ -1,12 +1,11 @@
 //! The three edges of a piece, and the masks of the samples inside all of them.
-ghost use Rattle.std.specs.Prelude.{◌≡◌, ℕ, ℤ, ◌+◌, ◌*◌, ◌/◌, ◌%◌, ◌<◌, ◌^◌, slice_index};
+ghost use Rattle.std.specs.Prelude.{◌≡◌, ℕ, ℤ, ◌+◌, ◌*◌, ◌/◌, ◌%◌, ◌<◌, ◌^◌, slice_index, IsTrue};
 ghost use Rattle.std.specs.Simd.Lanes.{mask_l};
 ghost use Rattle.cull_base.specs.Piece.{covered, touched, each_sample};
 ghost use Rattle.cull_base.specs.Bounds.{Near};
 ghost use Rattle.cull_base.specs.State.{samples_of};
 ghost use Rattle.cull_base.specs.declared.place.Sub.{Sub};
 ghost use Rattle.cull_base.specs.declared.clip.Side.{Side};
-ghost use Rattle.edge_lanes.specs.Lanes.{row_of};
 
 use crate::edge::Edge;
 use cull_base::{ScreenTri, Side, Sub, Tile};
@@ -20,7 +19,7 @@ pub struct Edges {
 }
 
 impl Edges {
-    ghost use Rattle.edge_lanes.specs.Inside.{inside_of, inside_from, sub_of};
+    ghost use Rattle.edge_lanes.specs.Inside.{inside_of, inside_all, sub_of};
 
     pub fn of(tri: &ScreenTri, side: Side) -> Edges
         ensures covered { side ≡ Side.Occluder → (u : Sub) → inside_of result u ≡ covered tri.now u }
@@ -35,31 +34,17 @@ impl Edges {
         }
     }
 
-    // Row by row, where the edges begin the subtile with these values.
+    // Whether an edge rejects each sample of a subtile that begins with these values.
     #[inline(always)]
-    fn row(&self, first: i64, second: i64, third: i64, row: u32) -> u64
+    fn is_outside(&self, first: i64, second: i64, third: i64) -> bool
         requires first { Near (2 ^ 61 + 2 ^ 47) first }
         requires second { Near (2 ^ 61 + 2 ^ 47) second }
         requires third { Near (2 ^ 61 + 2 ^ 47) third }
-        requires row { row < 4 }
-        ensures value { result ≡ row_of (inside_from self.now first second third) row }
-        ensures byte { result < 2 ^ 8 }
+        ensures { IsTrue result → mask_l (each_sample (inside_all self.now first second third)) ≡ 0 }
     {
-        self.first.row_bits(first, row)
-            & self.second.row_bits(second, row)
-            & self.third.row_bits(third, row)
-    }
-
-    #[inline(always)]
-    fn lanes(&self, first: i64, second: i64, third: i64) -> u32
-        requires first { Near (2 ^ 61 + 2 ^ 47) first }
-        requires second { Near (2 ^ 61 + 2 ^ 47) second }
-        requires third { Near (2 ^ 61 + 2 ^ 47) third }
-        ensures { result ≡ mask_l (each_sample (inside_from self.now first second third)) }
-    {
-        let upper = self.row(first, second, third, 0) + self.row(first, second, third, 1) * 256;
-        let lower = self.row(first, second, third, 2) + self.row(first, second, third, 3) * 256;
-        (upper + lower * 65536) as u32
+        self.first.is_outside(first)
+            || self.second.is_outside(second)
+            || self.third.is_outside(third)
     }
 
     /// The samples of a subtile that lie inside: bit 8r + c is column c of row r. Condition: the subtile lies within
@@ -71,11 +56,14 @@ impl Edges {
         ensures value { result ≡ mask_l (inside_of self.now sub) }
         ensures samples { samples_of result ≡ inside_of self.now sub }
     {
-        self.lanes(
-            self.first.start_at(sub),
-            self.second.start_at(sub),
-            self.third.start_at(sub),
-        )
+        let first = self.first.start_at(sub);
+        let second = self.second.start_at(sub);
+        let third = self.third.start_at(sub);
+        if self.is_outside(first, second, third) {
+            0
+        } else {
+            self.first.mask(first) & self.second.mask(second) & self.third.mask(third)
+        }
     }
 
     // The mask of subtile j of a tile.

@@ -4,5 +4,9 @@
 mod arithmetic;
 mod edge;
 mod edges;
+mod shared;
+#[cfg(test)]
+mod tests;
 
 pub use edges::Edges;
+pub use shared::shared_edge;

@@ -1,4 +1,4 @@
-use Rattle.std.proofs.Common.{arith, FitsSigned, w64, ◌*ℤ◌, pos}
+use Rattle.std.proofs.Common.{arith, rules, FitsSigned, w64, ◌*ℤ◌, pos}
 use Rattle.std.proofs.lemmas.Int.{ints, to_z-of_z}
 use Rattle.edge_lanes.proofs.edge.from_steps.Goals as goal
 
@@ -16,4 +16,13 @@ invariant_of-result c =
     let p5 : FitsSigned w64 (t *ℤ pos 5) = omega (arith, ints, c.requires.column) in
     let p6 : FitsSigned w64 (t *ℤ pos 6) = omega (arith, ints, c.requires.column) in
     let p7 : FitsSigned w64 (t *ℤ pos 7) = omega (arith, ints, c.requires.column) in
-    record { start_near = simp to_z-of_z c.requires.start; column_near = simp to_z-of_z c.requires.column; row_near = simp to_z-of_z c.requires.row; are_offsets = simp to_z-of_z }
+    let fh : FitsSigned w64 c.highest.result = search rules in
+    let fl : FitsSigned w64 c.lowest.result = search rules in
+    record {
+      start_near = simp to_z-of_z c.requires.start;
+      column_near = simp to_z-of_z c.requires.column;
+      row_near = simp to_z-of_z c.requires.row;
+      are_offsets = simp to_z-of_z;
+      is_highest = let e = simp to_z-of_z at c.highest.ensures in simp to_z-of_z e;
+      is_lowest = let e = simp to_z-of_z at c.lowest.ensures in simp to_z-of_z e;
+    }

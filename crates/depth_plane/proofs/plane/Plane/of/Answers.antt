@@ -21,9 +21,8 @@ returns-clause-value c =
     let fl : FitsSigned w128 c.level.result = search rules in
     let fn : FitsSigned w64 c.area.result = search rules in
     let fm : FitsSigned w128 c.from.result = search rules in
-    let v = c.vertices_of-vertices.result in
-    simp to_z-of_z (plane_of-computed c.args.tri.now v.a.q v.b.q v.c.q v.a.x v.a.y v.b.x v.b.y v.c.x v.c.y c.across.result c.down.result c.level.result c.from.result
-    c.vertices_of-vertices.ensures.a c.vertices_of-vertices.ensures.b c.vertices_of-vertices.ensures.c
+    simp to_z-of_z (plane_of-computed c.args.tri.now c.of-vertices.result c.across.result c.down.result c.level.result c.from.result
+    c.of-vertices.ensures.a c.of-vertices.ensures.b c.of-vertices.ensures.c
     c.across.ensures.value c.down.ensures.value c.level.ensures.value (let e = simp to_z-of_z at c.from.ensures in e ∙ c.area.ensures.value))
 
 pub invariant_of-result : goal.invariant_of-result
@@ -40,7 +39,7 @@ invariant_of-result c =
       across = c.across.ensures.near;
       down = c.down.ensures.near;
       level = c.level.ensures.near;
-      positive_area = positive c.from.result _ c.args.tri.now is c.vertices_of-vertices.ensures.valid.positive_area refl;
+      positive_area = positive c.from.result _ c.args.tri.now is c.of-vertices.ensures.valid.positive_area refl;
       area_within = within c.from.result near;
     })
 
