@@ -1,0 +1,6 @@
+pub mod Floors
+pub mod Reached
+pub mod Areas
+pub mod KeptPieces
+pub mod FrameLists
+pub mod BoxSteps
