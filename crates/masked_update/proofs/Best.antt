@@ -1,16 +1,16 @@
 -- The best depth is there where some member covers, and it is at least what any covering member reaches.
-use Rattle.std.proofs.Common.{◌≡◌, ℕ, ℤ, pos, zero, suc, ◌+◌, ◌<◌, ◌≤◌, ◌*ℤ◌, ◌≤ℤ◌, ◌<ℤ◌, List, [], ◌∷◌, ◌++◌, Bool, true, false, length, get_or, arith, refl, ap, ◌∙◌, sym, subst, ◌⊎◌, inl, inr}
+use Rattle.std.proofs.Common.{◌≡◌, ℕ, pos, zero, suc, ◌<◌, ◌≤◌, ◌*ℤ◌, List, [], ◌∷◌, ◌++◌, Bool, true, false, length, arith, refl, ◌∙◌, sym, subst, ◌⊎◌, inl, inr}
 use Rattle.std.specs.List.{Contains}
 use Rattle.std.proofs.lemmas.Int.{ints}
 use Rattle.std.proofs.lemmas.List.Elements.{Contains-append_left, Contains-append_right}
 use Rattle.cull_base.specs.Piece.{Piece, Point, IsPiece, covers, sample, covered}
 use Rattle.cull_base.specs.Depth.{numerator, denominator, low_of, DepthAtLeast, DepthNoGreater}
-use Rattle.cull_base.specs.State.{State, has, bound_at, empty_state, step_with}
+use Rattle.cull_base.specs.State.{State, bound_at, empty_state}
 use Rattle.cull_base.specs.Fold.{HasBestDepth, BestAtLeast, IsSound, IsLayered, step}
 use Rattle.cull_base.specs.declared.place.Sub.{Sub}
 use Rattle.depth_plane.proofs.Products.{le_times}
 use Rattle.masked_update.proofs.Fractions.{either_le, through, reaches_through}
-use Rattle.masked_update.proofs.Merging.{length-covered, has-covered, low_reached}
+use Rattle.masked_update.proofs.Unchanged.{length-covered, has-covered, low_reached}
 use Rattle.masked_update.proofs.Sounds.{Reached, step_reached, empty_reached}
 
 abbrev pub AllPieces : List Piece → Type 0
@@ -20,10 +20,10 @@ AllPieces pieces = (t : Piece) → Contains pieces t → IsPiece t
 Reaches : List Piece → Point → ℕ → Type 0
 Reaches pieces p v = (t : Piece) × Contains pieces t × (covers t p ≡ true) × DepthAtLeast t p v
 
-at_head : (x : Piece) (xs : List Piece) → Contains (x ∷ xs) x
+pub at_head : (x : Piece) (xs : List Piece) → Contains (x ∷ xs) x
 at_head x xs = (0, omega arith, refl)
 
-in_tail : (x y : Piece) (xs : List Piece) → Contains xs y → Contains (x ∷ xs) y
+pub in_tail : (x y : Piece) (xs : List Piece) → Contains xs y → Contains (x ∷ xs) y
 in_tail x y xs (k, lt, e) = (suc k, omega arith, e)
 
 head_or_tail : (x y : Piece) (xs : List Piece) → Contains (x ∷ xs) y → (x ≡ y) ⊎ Contains xs y

@@ -11,7 +11,7 @@ use Rattle.cull_base.specs.declared.place.Sub.{Sub}
 use Rattle.cull_base.proofs.Rectangles.{meets_pixel}
 use Rattle.depth_plane.proofs.Boxes.{covers-in_box}
 use Rattle.masked_update.proofs.Bits.{one_of}
-use Rattle.masked_update.proofs.Merging.{step_none, length-covered, has-covered}
+use Rattle.masked_update.proofs.Unchanged.{step_none, length-covered, has-covered}
 
 -- a sample of a subtile on the screen lies in the tile's rectangle
 in_tile : (size : Dimensions) (tile j k : ℕ) → IsSize size.width size.height → j < 8 → k < 32 → is_on_screen size (tile_sub size tile j) ≡ true

@@ -1,6 +1,6 @@
 -- The states of a tile after a list, and what is sound of them.
-use Rattle.std.proofs.Common.{◌≡◌, ℕ, zero, suc, ◌+◌, ◌<◌, ◌≤◌, ◌*◌, List, [], ◌∷◌, ◌++◌, Bool, true, false, cond, length, take, map, get_or, slice_index_or, arith, refl, ap, ◌∙◌, sym, subst, append_assoc, replicate, below_more}
-use Rattle.std.specs.List.{fold, range_with_len, Contains}
+use Rattle.std.proofs.Common.{◌≡◌, ℕ, ◌+◌, ◌<◌, List, [], ◌∷◌, ◌++◌, Bool, true, false, cond, length, take, get_or, slice_index_or, arith, refl, ap, ◌∙◌, sym, subst, append_assoc, replicate, below_more}
+use Rattle.std.specs.List.{fold}
 use Rattle.std.proofs.lemmas.List.{ext_get_or, get_or_append_left, get_or_default, get_or-replicate, get_or_push, append-nil}
 use Rattle.std.proofs.lemmas.List.Elements.{Contains-append_left, Contains-append_right}
 use Rattle.std.proofs.Math.Seq.{take-length}
@@ -9,11 +9,12 @@ use Rattle.std.proofs.lemmas.List.FromFn.{length-map-range_with_len, get_or-map-
 use Rattle.cull_base.specs.Piece.{Piece, IsPiece}
 use Rattle.cull_base.specs.State.{State, empty_state}
 use Rattle.cull_base.specs.Fold.{step, after, IsSound, IsLayered}
-use Rattle.cull_base.specs.Screen.{Dimensions, tile_sub, is_on_screen}
-use Rattle.cull_base.specs.Tiles.{Listed, tile_after}
+use Rattle.cull_base.specs.Screen.{Dimensions, IsSize, tile_sub, is_on_screen}
+use Rattle.cull_base.specs.Tiles.{Listed, tile_list, tile_after}
 use Rattle.cull_base.specs.declared.place.Sub.{Sub}
 use Rattle.masked_update.specs.TileOf.{TileOf, sub_at, tile_at, no_tile}
 use Rattle.masked_update.specs.Drawn.{IsDrawn}
+use Rattle.masked_update.proofs.Lists.{after-tile_list}
 use Rattle.masked_update.proofs.Best.{AllPieces, IsReached, none_reached, step_is_reached, reached_is_sound, reached_is_layered}
 
 pub no_piece : Piece
@@ -43,18 +44,25 @@ after_is_reached : (u : Sub) (pieces : List Piece) → AllPieces pieces → IsRe
 unfolding after
 after_is_reached u pieces all = along u [] pieces empty_state all (none_reached u)
 
+own_list_of : (size : Dimensions) (tile j : ℕ) (pieces : List Piece) → (0 < length pieces → IsSize size.width size.height) → AllPieces pieces → j < 8 → is_on_screen size (tile_sub size tile j) ≡ true
+    → after (tile_sub size tile j) (tile_list size tile pieces) ≡ after (tile_sub size tile j) pieces
+unfolding tile_list
+own_list_of size tile j [] sized all h on = refl
+own_list_of size tile j (x ∷ xs) sized all h on = after-tile_list size tile j (x ∷ xs) (sized (omega arith)) all h on
+
 -- what the loop over the pieces of a list has made of a tile
 pub drawn_is : (list : Listed) (tile : ℕ) (t : TileOf) → length t.subs ≡ 8 → t.count ≡ length list.members
     → ((j : ℕ) → j < 8 → is_on_screen list.size (tile_sub list.size tile j) ≡ true → sub_at t j ≡ after (tile_sub list.size tile j) list.members)
     → ((j : ℕ) → j < 8 → is_on_screen list.size (tile_sub list.size tile j) ≡ false → sub_at t j ≡ empty_state)
-    → ((k : ℕ) → k < length list.members → IsPiece (slice_index_or list.members k no_piece)) → IsDrawn list tile t
-drawn_is list tile t eight count merged others pieces =
+    → ((k : ℕ) → k < length list.members → IsPiece (slice_index_or list.members k no_piece)) → (0 < length list.members → IsSize list.size.width list.size.height) → IsDrawn list tile t
+drawn_is list tile t eight count merged others pieces sized =
     let all = all_of list.members pieces in
     record {
       states = ext_get_or empty_state t.subs (tile_after list.size tile list.members) (eight ∙ sym (length-map-range_with_len states 0 8)) (λ j h. let h' : j < 8 = omega (arith, h, eight) in state_is (is_on_screen list.size (tile_sub list.size tile j)) j refl h' ∙ sym (get_or-map-range_with_len states 0 8 j j empty_state h' (omega arith)));
       count = count;
       sound = λ j h on. subst (IsSound (tile_sub list.size tile j) list.members) (sym (merged j h on)) (reached_is_sound (tile_sub list.size tile j) list.members (after (tile_sub list.size tile j) list.members) all (after_is_reached (tile_sub list.size tile j) list.members all));
       layered = λ j h on. subst IsLayered (sym (merged j h on)) (reached_is_layered (tile_sub list.size tile j) list.members (after (tile_sub list.size tile j) list.members) (after_is_reached (tile_sub list.size tile j) list.members all));
+      own_list = λ j h on. own_list_of list.size tile j list.members sized all h on;
     }
   where
     states : ℕ → State

@@ -1,8 +1,8 @@
 -- Fractions with positive denominators are compared by their cross products.
 use Rattle.std.proofs.Common.{◌≡◌, ℤ, pos, ◌*ℤ◌, ◌≤ℤ◌, ◌<ℤ◌, arith, refl, ◌⊎◌, inl, inr, Bool, true, false, int_le}
 use Rattle.std.proofs.lemmas.Int.{ints}
-use Rattle.cull_base.proofs.Ring.{diff, diff-mul, diff-same, over3}
-use Rattle.depth_plane.proofs.Products.{mul_comm, le_times, le_from_times}
+use Rattle.cull_base.proofs.Ring.{diff-mul, diff-same, over3}
+use Rattle.depth_plane.proofs.Products.{le_times, le_from_times}
 
 pub either_le : (a b : ℤ) → (a ≤ℤ b) ⊎ (b ≤ℤ a)
 either_le a b = by (int_le a b) refl

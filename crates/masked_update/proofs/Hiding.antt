@@ -1,5 +1,5 @@
 -- What all samples of a mask hide: those of the working layer by the working depth, the others by the reference.
-use Rattle.std.proofs.Common.{◌≡◌, ℕ, ◌-◌, ◌<◌, ◌≤◌, ◌^◌, Bool, true, false, ◌&&◌, not, cond, nat_eq, nat_lt, arith, refl, ◌≢◌, bit_and, ap, subst, sym, ◌∙◌, ◌↔◌, IsTrue}
+use Rattle.std.proofs.Common.{◌≡◌, ℕ, ◌-◌, ◌<◌, ◌^◌, Bool, true, false, ◌&&◌, not, cond, nat_lt, arith, refl, ◌≢◌, bit_and, subst, sym, ◌∙◌, ◌↔◌, IsTrue}
 use Rattle.std.proofs.lemmas.Bool.Decides.{nat_tests}
 use Rattle.cull_base.specs.State.{State, samples_of, has, hides}
 use Rattle.masked_update.specs.SubTile.{seen}

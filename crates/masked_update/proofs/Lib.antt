@@ -1,10 +1,11 @@
 pub mod Bits
 pub mod Steps
 pub mod Hiding
-pub mod Merging
+pub mod Unchanged
 pub mod Drawing
 pub mod Sounds
 pub mod Fractions
 pub mod Best
 pub mod MergeSound
 pub mod Boxes
+pub mod Lists

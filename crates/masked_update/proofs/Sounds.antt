@@ -1,7 +1,7 @@
 -- A step keeps what is reached: each bound is 0, or some piece that was merged reaches it at the sample.
 use Rattle.std.proofs.Common.{◌≡◌, ℕ, zero, suc, ◌+◌, ◌*◌, ◌<◌, ◌≤◌, List, [], ◌∷◌, Bool, true, false, ◌&&◌, ◌||◌, not, cond, length, nat_lt, nat_le, arith, refl, ap, ◌∙◌, sym, min, ◌⊎◌, inl, inr}
 use Rattle.std.proofs.lemmas.Bool.Decides.{nat_tests}
-use Rattle.cull_base.specs.State.{State, is_none, is_all, union, has, no_samples, samples_of, step_with, kept, lowered, settled, bound_at}
+use Rattle.cull_base.specs.State.{State, is_none, is_all, union, has, no_samples, step_with, kept, lowered, settled, bound_at}
 use Rattle.masked_update.proofs.Bits.{has-none, length-samples_of, none-samples_of}
 
 -- `Reaches k v` says that a piece is at least so near at sample k

@@ -1,5 +1,5 @@
 -- The step of a state, by the fields of the subtile that is seen as it.
-use Rattle.std.proofs.Common.{◌≡◌, ℕ, ◌+◌, ◌-◌, ◌*◌, ◌<◌, ◌≤◌, ◌^◌, Bool, true, false, ◌&&◌, ◌||◌, not, cond, nat_eq, nat_lt, nat_le, arith, refl, ◌⊎◌, ◌≢◌, bit_or, min, ap, subst, sym, ◌∙◌}
+use Rattle.std.proofs.Common.{◌≡◌, ℕ, ◌+◌, ◌*◌, ◌<◌, ◌≤◌, ◌^◌, true, false, ◌&&◌, ◌||◌, not, cond, nat_eq, nat_lt, nat_le, arith, refl, ◌⊎◌, ◌≢◌, bit_or, min, subst, sym, ◌∙◌}
 use Rattle.std.proofs.lemmas.Bool.Decides.{nat_tests}
 use Rattle.std.proofs.lemmas.Nat.{or_lt, le_or_r}
 use Rattle.cull_base.specs.State.{State, is_none, samples_of, step_with, kept}

@@ -1,5 +1,5 @@
 -- A subtile's fields are given back by the state that it is seen as.
-use Rattle.std.specs.Prelude.{◌≡◌, ℕ, ◌<◌, ◌^◌}
+use Rattle.std.specs.Prelude.{◌≡◌, ◌<◌, ◌^◌}
 use Rattle.std.proofs.Common.{ap, arith}
 use Rattle.std.specs.Simd.Lanes.{mask_l}
 use Rattle.cull_base.specs.State.{samples_of}

@@ -2,6 +2,7 @@
 #![tactic(auto)]
 
 mod draw;
+mod merging;
 mod sub_tile;
 #[cfg(test)]
 mod tests;

@@ -1,5 +1,4 @@
-use Rattle.std.proofs.Common.{◌≡◌, ℕ, ◌+◌, ◌<◌, ◌≤◌, arith, ap, ◌++◌, ◌∷◌, [], subst, sym, List, length, length-append}
-use Rattle.std.specs.Vec.{vec_capacity}
+use Rattle.std.proofs.Common.{ℕ, ◌+◌, ◌<◌, arith, ap, ◌∷◌, [], subst, sym, List, length, length-append}
 use Rattle.cull_base.specs.Screen.{tile_count_of}
 use Rattle.masked_update.specs.TileOf.{TileOf, tile_at}
 use Rattle.masked_update.specs.Drawn.{IsDrawn}

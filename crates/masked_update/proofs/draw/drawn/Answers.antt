@@ -1,11 +1,9 @@
-use Rattle.std.proofs.Common.{◌≡◌, ℕ, ◌+◌, ◌<◌, ◌≤◌, arith, refl, ap, ◌∙◌, sym, below_more, length, take, slice_index_or, subst, get_or}
+use Rattle.std.proofs.Common.{◌≡◌, ◌+◌, ◌<◌, arith, ap, ◌∙◌, sym, below_more, length, subst, get_or}
 use Rattle.std.proofs.lemmas.List.{get_or_default}
-use Rattle.cull_base.specs.State.{State}
-use Rattle.cull_base.specs.Piece.{Piece, IsPiece}
-use Rattle.cull_base.specs.Fold.{step}
+use Rattle.cull_base.specs.Piece.{IsPiece}
 use Rattle.cull_base.specs.Screen.{tile_sub}
 use Rattle.masked_update.specs.TileOf.{TileOf, sub_at}
-use Rattle.masked_update.proofs.Drawing.{no_piece, after-none, after-more, empty_at, drawn_is, taken, whole_list}
+use Rattle.masked_update.proofs.Drawing.{no_piece, after-none, empty_at, drawn_is, taken, whole_list}
 use Rattle.masked_update.proofs.draw.drawn.Goals as goal
 
 pub loop-i-init : goal.loop-i-init
@@ -17,6 +15,7 @@ loop-i-init c =
       eight = ap (λ (t : TileOf). length t.subs) e;
       count = ap (λ (t : TileOf). t.count) e;
       pieces = λ k h. absurd (omega (arith, h));
+      sized = λ h. absurd (omega (arith, h));
     }
 
 pub loop-i-preserved : goal.loop-i-preserved
@@ -32,6 +31,7 @@ loop-i-preserved c =
       eight = c.take.ensures.eight;
       count = c.take.ensures.counted ∙ ap (λ n. n + 1) c.loop-i.invariant.count;
       pieces = below_more _ _ c.loop-i.invariant.pieces (subst IsPiece (sym is ∙ get_or_default pieces c.loop-i.i c.get.result.now no_piece lt) c.take.ensures.valid);
+      sized = λ _. rw c.size.ensures at c.take.ensures.sized;
     }
 
 pub returns : goal.returns
@@ -41,3 +41,4 @@ returns c =
     (λ j h on. c.loop-i.invariant.merged j h on ∙ whole_list _ c.args.list.now.members c.loop-i.i i)
     c.loop-i.invariant.others
     (λ k h. c.loop-i.invariant.pieces k (omega (arith, i, h)))
+    (λ h. c.loop-i.invariant.sized (omega (arith, i, h)))

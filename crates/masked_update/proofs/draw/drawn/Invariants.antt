@@ -2,7 +2,7 @@ use Rattle.std.proofs.Common.{ℕ, ◌<◌, ◌≡◌, true, false, length, take
 use Rattle.cull_base.specs.State.{empty_state}
 use Rattle.cull_base.specs.Fold.{after}
 use Rattle.cull_base.specs.Piece.{IsPiece}
-use Rattle.cull_base.specs.Screen.{tile_sub, is_on_screen}
+use Rattle.cull_base.specs.Screen.{IsSize, tile_sub, is_on_screen}
 use Rattle.masked_update.specs.TileOf.{sub_at}
 use Rattle.masked_update.proofs.Drawing.{no_piece}
 use Rattle.masked_update.proofs.draw.drawn.Given as goal
@@ -14,4 +14,5 @@ invariant-loop-i l = record {
   eight : length l.state.subs ≡ 8;
   count : l.state.count ≡ l.i;
   pieces : (k : ℕ) → k < l.i → IsPiece (slice_index_or l.list.members k no_piece);
+  sized : 0 < l.i → IsSize l.list.size.width l.list.size.height;
 }

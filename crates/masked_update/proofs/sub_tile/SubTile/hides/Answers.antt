@@ -1,4 +1,4 @@
-use Rattle.std.proofs.Common.{◌<◌, ◌^◌, arith}
+use Rattle.std.proofs.Common.{arith}
 use Rattle.masked_update.proofs.Hiding.{hides_both, hides_not}
 use Rattle.masked_update.proofs.sub_tile.SubTile.hides.Goals as goal
 

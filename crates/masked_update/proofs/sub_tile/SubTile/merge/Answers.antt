@@ -1,6 +1,5 @@
-use Rattle.std.proofs.Common.{rules, ◌≡◌, ◌≤◌, ◌<◌, ◌^◌, arith, inl, inr, sym, ap, refl, subst}
-use Rattle.cull_base.specs.State.{State, step_with, samples_of}
-use Rattle.cull_base.specs.Fold.{IsLayered}
+use Rattle.std.proofs.Common.{rules, ◌≡◌, arith, inl, inr, sym, ap, refl}
+use Rattle.cull_base.specs.State.{State}
 use Rattle.masked_update.proofs.Steps.{stays, step_filled, step_more, next_layers, layered_of, filled_layers, lowered_within}
 use Rattle.masked_update.proofs.MergeSound.{merge_sound}
 use Rattle.masked_update.proofs.sub_tile.SubTile.merge.Goals as goal

@@ -1,5 +1,5 @@
 -- Pieces that change nothing in a subtile.
-use Rattle.std.proofs.Common.{◌≡◌, ℕ, ◌<◌, ◌≤◌, ◌+◌, List, Bool, true, false, ◌||◌, cond, arith, refl, ap, ◌∙◌, sym, length, nat_le, map, max, pos, slice_index_or}
+use Rattle.std.proofs.Common.{◌≡◌, ℕ, ◌<◌, ◌≤◌, List, Bool, true, false, ◌||◌, cond, arith, refl, ap, ◌∙◌, sym, length, nat_le, max, pos, slice_index_or}
 use Rattle.std.proofs.lemmas.Bool.Decides.{nat_tests}
 use Rattle.std.proofs.lemmas.Int.{ints}
 use Rattle.std.proofs.lemmas.List.FromFn.{get_or-map-range_with_len}

@@ -1,10 +1,10 @@
-use Rattle.std.proofs.Common.{◌≡◌, refl, ap, ◌∙◌}
+use Rattle.std.proofs.Common.{refl, ap, ◌∙◌}
 use Rattle.cull_base.specs.Piece.{covered}
 use Rattle.cull_base.specs.Screen.{tile_sub}
 use Rattle.cull_base.specs.declared.place.Tile.{Tile}
 use Rattle.edge_lanes.specs.Inside.{sub_of}
-use Rattle.masked_update.proofs.Merging.{step_empty, all_stay}
-use Rattle.masked_update.proofs.tile_state.merge_covered.Goals as goal
+use Rattle.masked_update.proofs.Unchanged.{step_empty, all_stay}
+use Rattle.masked_update.proofs.merging.merge_covered.Goals as goal
 
 pub returns-else-not-are_empty : goal.returns-else-not-are_empty
 returns-else-not-are_empty c =

@@ -1,9 +1,9 @@
-use Rattle.std.proofs.Common.{◌≡◌, ◌≤◌, arith, sym, ◌∙◌}
+use Rattle.std.proofs.Common.{arith, sym, ◌∙◌}
 use Rattle.cull_base.specs.Screen.{tile_sub}
-use Rattle.masked_update.proofs.Merging.{step_behind, all_stay}
+use Rattle.masked_update.proofs.Unchanged.{step_behind, all_stay}
 use Rattle.masked_update.proofs.Boxes.{step_outside}
-use Rattle.masked_update.proofs.tile_state.merge.Goals as goal
-use Rattle.masked_update.proofs.tile_state.merge.Goals.{else-meets_tile-via-then-meets_tile+else-is_some_behind, else-meets_tile-via-else-meets_tile}
+use Rattle.masked_update.proofs.merging.merge_into_tile.Goals as goal
+use Rattle.masked_update.proofs.merging.merge_into_tile.Goals.{else-meets_tile-via-then-meets_tile+else-is_some_behind, else-meets_tile-via-else-meets_tile}
 
 pub returns-else-meets_tile-clause-merged : goal.returns-else-meets_tile-clause-merged
 returns-else-meets_tile-clause-merged c =
@@ -15,5 +15,5 @@ returns-else-meets_tile-clause-merged c =
           let le = w.is_some_behind.ensures w.if-is_some_behind.false j h in
           step_behind (tile_sub c.args.size c.args.tile j) _ c.args.tri.now piece (omega (arith, top, le))
       | else-meets_tile-via-else-meets_tile w ↦
-          step_outside c.args.size c.args.tile j _ c.args.tri.now c.meets_tile.ensures.valid piece (sym c.meets_tile.ensures.value ∙ w.if-meets_tile.false) h on
+          step_outside c.args.size c.args.tile j _ c.args.tri.now c.meets_tile.ensures.sized piece (sym c.meets_tile.ensures.value ∙ w.if-meets_tile.false) h on
     ])

@@ -1,8 +1,7 @@
-use Rattle.std.proofs.Common.{◌≡◌, ◌≤◌, arith, sym, rules}
-use Rattle.cull_base.specs.Depth.{greatest_nearness}
-use Rattle.masked_update.proofs.Merging.{step_behind, step_empty}
-use Rattle.masked_update.proofs.tile_state.merge_piece.Goals as goal
-use Rattle.masked_update.proofs.tile_state.merge_piece.Goals.{else-mask-ne0-via-then-mask-ne0+else-reference-greatest_nearness, else-mask-ne0-via-else-mask-ne0}
+use Rattle.std.proofs.Common.{arith, sym}
+use Rattle.masked_update.proofs.Unchanged.{step_behind, step_empty}
+use Rattle.masked_update.proofs.merging.merge_piece.Goals as goal
+use Rattle.masked_update.proofs.merging.merge_piece.Goals.{else-mask-ne0-via-then-mask-ne0+else-reference-greatest_nearness, else-mask-ne0-via-else-mask-ne0}
 
 pub returns-else-mask-ne0 : goal.returns-else-mask-ne0
 returns-else-mask-ne0 c = elim c.else-mask-ne0.branch [

@@ -2,7 +2,7 @@ use Rattle.std.proofs.Common.{ℕ, ◌<◌, ◌≤◌, ◌≡◌, true, false, s
 use Rattle.cull_base.specs.State.{empty_state}
 use Rattle.cull_base.specs.Fold.{step}
 use Rattle.cull_base.specs.Screen.{tile_sub, is_on_screen}
-use Rattle.masked_update.proofs.tile_state.merge_masks.Given as goal
+use Rattle.masked_update.proofs.merging.merge_masks.Given as goal
 
 abbrev pub invariant-loop-j : goal.invariant-loop-j
 invariant-loop-j l = record {
