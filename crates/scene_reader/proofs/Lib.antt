@@ -9,3 +9,4 @@ pub mod Headers
 pub mod Pieces
 pub mod Wholes
 pub mod Refusals
+pub mod OneLayout
