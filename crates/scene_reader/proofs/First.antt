@@ -5,7 +5,7 @@ use Rattle.std.proofs.lemmas.List.{drop_more, drop_all}
 use Rattle.scene_reader.specs.declared.error.SceneError.{SceneError}
 use Rattle.scene_reader.specs.Fault.{first_among}
 
-or_none : {X : Type 0} (o p : Option X) → o ≡ None → option_or o p ≡ p
+pub or_none : {X : Type 0} (o p : Option X) → o ≡ None → option_or o p ≡ p
 or_none o p e = rw e refl
 
 -- a member without a fault is passed

@@ -21,14 +21,14 @@ use Rattle.scene_reader.specs.declared.header.Counts.{Counts}
 use Rattle.scene_reader.specs.Layout.{Parts, IsScene, IsRow, IsTri, IsObject, magic, short_bytes, word_bytes, row_bytes, tri_bytes, object_bytes, kind_of, numbers_of, stored, winding_code, header_bytes, layout, axis}
 use Rattle.scene_reader.specs.Fault.{fault_if, first_among, short_at, word_at, counts_at, entries, row_of, tri_of, raw_of, header_fault, length_fault, tables_fault, first_fault, scene_length, vertices_in, occluders_in, object_tris_in, objects_in, cameras_in, vertex_fault, index_fault, object_fault, camera_fault, is_bad_row, is_bad_object}
 use Rattle.scene_reader.specs.Header.{AreCounts}
-use Rattle.scene_reader.specs.PartsFault.{AreTables}
+use Rattle.scene_reader.specs.PartsFault.{AreTables, told, counts_of_parts, first_fault_of_parts}
 use Rattle.scene_reader.proofs.Kept.{length_entries}
 use Rattle.scene_reader.specs.Reading.{IsTable}
 use Rattle.scene_reader.proofs.Takes.{IsByte}
 use Rattle.scene_reader.proofs.Valid.{row_good, indices_good, area_good, block_good, mesh_good}
 use Rattle.scene_reader.proofs.Shapes.{three}
 use Rattle.scene_reader.proofs.Codes.{short_again, word_again, short_back, word_back, row_back, tri_back, row_again, tri_again}
-use Rattle.scene_reader.proofs.Headers.{Accepted, header_front, header_fine, header_accepted, counts_front, short_front, or_second, or_none_from, fault_none_from}
+use Rattle.scene_reader.proofs.Headers.{Accepted, header_front, header_fine, header_accepted, counts_front, short_front, or_second, or_none_from, fault_none_from, screen_good, counts_good}
 use Rattle.scene_reader.proofs.Pieces.{table_back, table_flat, entries_front, raw_bytes, objects_raw, raw_back, raw_again, row_length, tri_length, object_length}
 
 -- ---- headers
@@ -249,6 +249,10 @@ object_good m (Mesh first count) few h = mesh_good m first count few h
 
 object_fine : (m i : ℕ) (o : Object) → m ≤ 262144 → IsObject m o → object_fault m i (stored o) ≡ None
 object_fine m i o few h = or_none_from _ _ (fault_none_from _ (BadKind i) (le-ltb 2 (kind_of o) (kind_small o))) (fault_none_from _ (BadObject i) (object_good m o few h))
+
+-- an object that isn't bad has no fault
+pub fine_object : (m i : ℕ) (o : Object) → is_bad_object m (kind_of o) (numbers_of o) ≡ false → object_fault m i (stored o) ≡ None
+fine_object m i o good = or_none_from _ _ (fault_none_from _ (BadKind i) (le-ltb 2 (kind_of o) (kind_small o))) (fault_none_from _ (BadObject i) good)
 
 pub scene_tables : (p : Parts) → IsScene p → tables_fault p.vertices p.occluders p.object_tris (map stored p.objects) p.cameras ≡ None
 unfolding tables_fault
@@ -493,3 +497,21 @@ fits_from h n p a e w y z k cf cv co ct cj =
       objects = ap (λ (m : Counts). m.objects) e ∙ sym cj;
       } in
     record { says = says; accepted = a; counts = subst AreCounts (says_counts h p says) a.counts }
+
+-- ---- parts that are a scene have no fault
+
+told_is : (n limit : ℕ) → n ≤ limit → limit ≤ 262144 → told n ≡ n
+told_is n limit h few = omega (arith, h, few)
+
+pub parts_fine : (p : Parts) → IsScene p → first_fault_of_parts p ≡ None
+unfolding first_fault_of_parts
+parts_fine p s =
+    let counts : AreCounts (counts_of_parts p) = record {
+      some_frames = omega (arith, told_is (length p.cameras) 256 s.few_frames (omega arith), s.some_frames);
+      few_frames = omega (arith, told_is (length p.cameras) 256 s.few_frames (omega arith), s.few_frames);
+      few_vertices = omega (arith, told_is (length p.vertices) 262144 s.few_vertices (omega arith), s.few_vertices);
+      few_occluders = omega (arith, told_is (length p.occluders) 65536 s.few_occluders (omega arith), s.few_occluders);
+      few_object_tris = omega (arith, told_is (length p.object_tris) 262144 s.few_object_tris (omega arith), s.few_object_tris);
+      few_objects = omega (arith, told_is (length p.objects) 65536 s.few_objects (omega arith), s.few_objects);
+      } in
+    or_none_from _ _ (screen_good p.width p.height p.near s.size s.near_some s.near_within) (or_none_from _ _ (counts_good (counts_of_parts p) counts) (scene_tables p s))
