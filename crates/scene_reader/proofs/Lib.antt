@@ -10,3 +10,4 @@ pub mod Pieces
 pub mod Wholes
 pub mod Refusals
 pub mod OneLayout
+pub mod Appending
