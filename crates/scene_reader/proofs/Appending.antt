@@ -1,11 +1,11 @@
 -- Appending entry after entry, and what an error leaves.
-use Rattle.std.proofs.Common.{◌≡◌, ℕ, ◌+◌, ◌<◌, ◌≤◌, ◌++◌, ◌∷◌, List, [], length, get_or, take, drop, arith, refl, sym, ap, ◌∙◌, subst, append_assoc, Option, ℤ, Result, Ok, Err}
+use Rattle.std.proofs.Common.{◌≡◌, ℕ, ◌+◌, ◌<◌, ◌++◌, ◌∷◌, List, [], length, get_or, take, drop, arith, refl, sym, ap, ◌∙◌, subst, Option, ℤ, Result, Ok, Err}
 use Rattle.std.specs.Prelude.{OnOk, OnErr}
 use Rattle.cull_base.specs.declared.scene_types.Object.TheVariants.{Block}
 use Rattle.scene_reader.specs.Layout.{Parts, axis, numbers_of, row_bytes, short_bytes, word_bytes, winding_code, header_bytes}
 use Rattle.scene_reader.proofs.Shapes.{three}
 use Rattle.std.specs.List.{flat_map}
-use Rattle.std.proofs.lemmas.List.{length-append, take-append-le, take_at, take-append-drop, take_more, drop_more, append-nil}
+use Rattle.std.proofs.lemmas.List.{length-append, take-append-le, take-append-drop, take_more, drop_more, append-nil}
 use Rattle.std.proofs.lemmas.List.Concat.{flat_map-append}
 use Rattle.std.proofs.Math.Seq.{take-append-add}
 use Rattle.cull_base.specs.Stream.{Appends, AppendsPrefix, AppendsProperPrefix}
@@ -56,7 +56,7 @@ block_bytes low high l h =
 pub header_literal : (p : Parts) (w h n f v o t j : List ℕ) (k : ℕ) → w ≡ short_bytes p.width → h ≡ short_bytes p.height → n ≡ short_bytes p.near → k ≡ winding_code p.winding → f ≡ short_bytes (length p.cameras)
     → v ≡ word_bytes (length p.vertices) → o ≡ word_bytes (length p.occluders) → t ≡ word_bytes (length p.object_tris) → j ≡ word_bytes (length p.objects)
     → 77 ∷ 83 ∷ 79 ∷ 67 ∷ 1 ∷ 0 ∷ get_or w 0 0 ∷ get_or w 1 0 ∷ get_or h 0 0 ∷ get_or h 1 0 ∷ get_or n 0 0 ∷ get_or n 1 0 ∷ k ∷ 0 ∷ get_or f 0 0 ∷ get_or f 1 0
-      ∷ get_or v 0 0 ∷ get_or v 1 0 ∷ get_or v 2 0 ∷ get_or v 3 0 ∷ get_or o 0 0 ∷ get_or o 1 0 ∷ get_or o 2 0 ∷ get_or o 3 0
-      ∷ get_or t 0 0 ∷ get_or t 1 0 ∷ get_or t 2 0 ∷ get_or t 3 0 ∷ get_or j 0 0 ∷ get_or j 1 0 ∷ get_or j 2 0 ∷ get_or j 3 0 ∷ [] ≡ header_bytes p
+    ∷ get_or v 0 0 ∷ get_or v 1 0 ∷ get_or v 2 0 ∷ get_or v 3 0 ∷ get_or o 0 0 ∷ get_or o 1 0 ∷ get_or o 2 0 ∷ get_or o 3 0
+    ∷ get_or t 0 0 ∷ get_or t 1 0 ∷ get_or t 2 0 ∷ get_or t 3 0 ∷ get_or j 0 0 ∷ get_or j 1 0 ∷ get_or j 2 0 ∷ get_or j 3 0 ∷ [] ≡ header_bytes p
 unfolding header_bytes
 header_literal p w h n f v o t j k ew eh en ek ef ev eo et ej = rw (ew, eh, en, ek, ef, ev, eo, et, ej) refl

@@ -1,12 +1,12 @@
 -- Bytes without a fault are the layout of a scene.
-use Rattle.std.proofs.Common.{◌≡◌, ℕ, ℤ, pos, negsuc, suc, zero, ◌+◌, ◌-◌, ◌*◌, ◌<◌, ◌≤◌, ◌++◌, ◌∷◌, List, [], length, get_or, take, drop, map, arith, refl, sym, ap, ◌∙◌, subst, Bool, true, false, All, append_assoc, take-append-drop, Option, Some, None, inl, inr}
-use Rattle.std.specs.Prelude.{slice_index, nat_lt, int_lt, ◌||◌, not, ◌≤ℤ◌}
-use Rattle.std.specs.List.{AllByRecursion, range_with_len, list_any}
+use Rattle.std.proofs.Common.{◌≡◌, ℕ, ℤ, pos, negsuc, suc, zero, ◌+◌, ◌*◌, ◌≤◌, ◌++◌, ◌∷◌, List, [], length, take, drop, map, arith, refl, sym, ap, ◌∙◌, subst, false, All, take-append-drop, Option, None, inl, inr}
+use Rattle.std.specs.Prelude.{slice_index, nat_lt, not, ◌≤ℤ◌}
+use Rattle.std.specs.List.{AllByRecursion, list_any}
 use Rattle.std.proofs.lemmas.Int.{ints}
-use Rattle.std.proofs.lemmas.Bool.{or_parts, ltb-false, not-false, both_ways, cases_eq}
-use Rattle.std.proofs.lemmas.List.{length-append, length-take, length-drop, length-map}
+use Rattle.std.proofs.lemmas.Bool.{or_parts, ltb-false, both_ways, cases_eq}
+use Rattle.std.proofs.lemmas.List.{length-take, length-drop, length-map}
 use Rattle.std.proofs.lemmas.List.FromFn.{length-map-range_with_len}
-use Rattle.std.proofs.lemmas.List.Elements.{All-from_recursion, recursion_from_All}
+use Rattle.std.proofs.lemmas.List.Elements.{All-from_recursion}
 use Rattle.cull_base.specs.declared.rect.Rect.{Rect}
 use Rattle.cull_base.specs.declared.clip.Winding.{Winding}
 use Rattle.cull_base.specs.declared.clip.Winding.TheVariants.{Both, DropClockwise, DropCounter}
@@ -14,9 +14,9 @@ use Rattle.cull_base.specs.declared.scene_types.Tri.{Tri}
 use Rattle.cull_base.specs.declared.scene_types.Object.{Object}
 use Rattle.cull_base.specs.declared.scene_types.Object.TheVariants.{Area, Block, Mesh}
 use Rattle.scene_reader.specs.declared.error.SceneError.{SceneError}
-use Rattle.scene_reader.specs.declared.error.SceneError.TheVariants.{Truncated, Trailing, BadVertex, BadIndex, BadKind, BadObject, BadCamera}
+use Rattle.scene_reader.specs.declared.error.SceneError.TheVariants.{Truncated, Trailing}
 use Rattle.scene_reader.specs.declared.header.Counts.{Counts}
-use Rattle.scene_reader.specs.Layout.{Parts, IsScene, IsRow, IsTri, IsObject, kind_of, numbers_of, stored, winding_code, layout, axis}
+use Rattle.scene_reader.specs.Layout.{Parts, IsScene, IsRow, IsTri, IsObject, numbers_of, stored, winding_code, layout, axis}
 use Rattle.scene_reader.specs.Fault.{fault_if, first_among, short_at, counts_at, entries, row_of, tri_of, raw_of, words_in, scene_length, header_fault, length_fault, tables_fault, first_fault, vertex_fault, index_fault, object_fault, camera_fault, is_bad_row, is_bad_object, is_not_zero}
 use Rattle.scene_reader.specs.Law.{IsLayoutOf}
 use Rattle.scene_reader.specs.PartsFault.{AreTables}
@@ -50,7 +50,7 @@ tri_len e = refl
 -- ---- objects
 
 zero_from : (z : ℤ) → is_not_zero z ≡ false → z ≡ pos 0
-zero_from (pos n) e = elim (cases_eq n 0) [ | inl is ↦ ap pos is | inr ne ↦ absurd (both_ways _ e (not_zero (pos n) ne)) ]
+zero_from (pos n) e = elim (cases_eq n 0) [ inl is ↦ ap pos is | inr ne ↦ absurd (both_ways _ e (not_zero (pos n) ne)) ]
 zero_from (negsuc n) e = absurd (both_ways _ e refl)
 
 natural_of : (z : ℤ) → pos 0 ≤ℤ z → (k : ℕ) × (z ≡ pos k)
@@ -93,7 +93,7 @@ made_mesh m ns good len =
     let r4 = or_parts (is_not_zero (axis ns 4)) _ r3.1 in
     let r5 = or_parts (is_not_zero (axis ns 5)) _ r4.1 in
     let numbers : numbers_of (Mesh f.0 c.0) ≡ ns =
-        six_same (axis ns 0) (axis ns 1) (axis ns 2) (axis ns 3) (axis ns 4) (axis ns 5) (pos f.0) (pos c.0) f.1 c.1 (zero_from (axis ns 2) r2.0) (zero_from (axis ns 3) r3.0) (zero_from (axis ns 4) r4.0) (zero_from (axis ns 5) r5.0) ∙ six ns len in
+    six_same (axis ns 0) (axis ns 1) (axis ns 2) (axis ns 3) (axis ns 4) (axis ns 5) (pos f.0) (pos c.0) f.1 c.1 (zero_from (axis ns 2) r2.0) (zero_from (axis ns 3) r3.0) (zero_from (axis ns 4) r4.0) (zero_from (axis ns 5) r5.0) ∙ six ns len in
     (Mesh f.0 c.0, ap (λ (x : List ℤ). (2, x)) numbers, mesh_valid m f.0 c.0 (ap (λ (x : List ℤ). is_bad_object m 2 x) numbers ∙ good))
 
 made_kind : (m kind : ℕ) (ns : List ℤ) → kind ≤ 2 → is_bad_object m kind ns ≡ false → length ns ≡ 6 → Made m kind ns
@@ -165,9 +165,9 @@ module _ (n : Counts) (h v o t j c : List ℕ) (s : Sized n h v o t j c) (fits :
         occluders = tris_valid (length vs) os (first_valid (λ x. list_any (λ v. not (nat_lt v (length vs))) x.0 ≡ false) (index_fault 0 (length vs)) (λ i x f. fault_none _ _ f) 0 os p2.0) (each_of (λ x. length x.0 ≡ 3) tri_of (λ e. tri_len e) (entries 12 n.occluders o));
         object_tris = tris_valid (length vs) ts (first_valid (λ x. list_any (λ v. not (nat_lt v (length vs))) x.0 ≡ false) (index_fault 1 (length vs)) (λ i x f. fault_none _ _ f) 0 ts p3.0) (each_of (λ x. length x.0 ≡ 3) tri_of (λ e. tri_len e) (entries 12 n.object_tris t));
         cameras = rows_valid 12 cs (first_valid (λ row. is_bad_row row ≡ false) camera_fault (λ i row f. fault_none _ _ f) 0 cs p4.1) (each_of (λ row. length row ≡ 12) (row_of 12) (λ e. row_len 12 e) (entries 48 n.frames c));
-        } in
+      } in
       let f : Fits h p = fits_from h n p a s.counts refl refl refl (winding_is (slice_index h 12) a.winding) (table_count 48 n.frames (row_of 12) c cs tc) (table_count 12 n.vertices (row_of 3) v vs tv) (table_count 12 n.occluders tri_of o os to) (table_count 12 n.object_tris tri_of t ts tt')
-          (sym (length-map objects.0 stored) ∙ ap length objects.1 ∙ table_count 25 n.objects raw_of j raws tj) in
+      (sym (length-map objects.0 stored) ∙ ap length objects.1 ∙ table_count 25 n.objects raw_of j raws tj) in
       let scene : IsScene p = scene_from h p f tables (All-from_recursion (IsObject (length ts)) objects.0 objects.2) in
       let whole : joined h v o t j c ≡ layout p = joined_layout n h v o t j c p raws s fits fine f.says tv to tt' tj tc objects.1 in
       (p, record { scene = scene; whole = whole; only = λ q sq is. layout_one q p sq scene (sym is ∙ whole) })
@@ -187,11 +187,11 @@ cut b long size fits fine e =
     let j = take (25 * n.objects) r4 in
     let c = drop (25 * n.objects) r4 in
     let whole : joined h v o t j c ≡ b =
-        ap (λ (x : List ℕ). h ++ (v ++ (o ++ (t ++ x)))) (take-append-drop (25 * n.objects) r4)
-        ∙ ap (λ (x : List ℕ). h ++ (v ++ (o ++ x))) (take-append-drop (12 * n.object_tris) r3)
-        ∙ ap (λ (x : List ℕ). h ++ (v ++ x)) (take-append-drop (12 * n.occluders) r2)
-        ∙ ap (λ (x : List ℕ). h ++ x) (take-append-drop (12 * n.vertices) r1)
-        ∙ take-append-drop 32 b in
+    ap (λ (x : List ℕ). h ++ (v ++ (o ++ (t ++ x)))) (take-append-drop (25 * n.objects) r4)
+    ∙ ap (λ (x : List ℕ). h ++ (v ++ (o ++ x))) (take-append-drop (12 * n.object_tris) r3)
+    ∙ ap (λ (x : List ℕ). h ++ (v ++ x)) (take-append-drop (12 * n.occluders) r2)
+    ∙ ap (λ (x : List ℕ). h ++ x) (take-append-drop (12 * n.vertices) r1)
+    ∙ take-append-drop 32 b in
     let lh : length h ≡ 32 = omega (arith, length-take 32 b, long) in
     let l1 = length-drop 32 b in
     let l2 = length-drop (12 * n.vertices) r1 in
@@ -206,7 +206,7 @@ cut b long size fits fine e =
       object_tris = omega (arith, length-take (12 * n.object_tris) r3, l1, l2, l3, size);
       objects = omega (arith, length-take (25 * n.objects) r4, l1, l2, l3, l4, size);
       cameras = omega (arith, length-drop (25 * n.objects) r4, l1, l2, l3, l4, size);
-      } in
+    } in
     let x = exists_joined n h v o t j c s (subst (λ (y : List ℕ). All IsByte y) (sym whole) fits) (sym (header_front h r1 lh) ∙ ap header_fault front ∙ fine) (ap first_fault whole ∙ e) in
     (x.0, subst (λ (y : List ℕ). IsLayoutOf y x.0) whole x.1)
 

@@ -63,11 +63,7 @@ fn write_tris<W: Sink>(sink: &mut W, triangles: &[Tri]) -> Result<(), SinkError>
     Ok(())
 }
 
-fn write_corners<W: Sink>(
-    sink: &mut W,
-    low: &[i32; 3],
-    high: &[i32; 3],
-) -> Result<(), SinkError>
+fn write_corners<W: Sink>(sink: &mut W, low: &[i32; 3], high: &[i32; 3]) -> Result<(), SinkError>
     ensures ok { OnOk result (Appends (W.holding sink.old) (W.holding sink.new) (row_bytes (numbers_of (Object.Block low.now high.now)))) }
     ensures err { OnErr result (AppendsPrefix (W.holding sink.old) (W.holding sink.new) (row_bytes (numbers_of (Object.Block low.now high.now)))) }
     ensures failed { IsErrOf result SinkError.Failed → Rose (W.faults sink.old) (W.faults sink.new) }
@@ -141,10 +137,38 @@ fn header_of(scene: &Scene) -> [u8; 32]
     let object_tris = (scene.object_tris().len() as u32).to_le_bytes();
     let objects = (scene.objects().len() as u32).to_le_bytes();
     [
-        b'M', b'S', b'O', b'C', 1, 0, width[0], width[1], height[0], height[1], near[0], near[1],
-        winding, 0, frames[0], frames[1], vertices[0], vertices[1], vertices[2], vertices[3],
-        occluders[0], occluders[1], occluders[2], occluders[3], object_tris[0], object_tris[1],
-        object_tris[2], object_tris[3], objects[0], objects[1], objects[2], objects[3],
+        b'M',
+        b'S',
+        b'O',
+        b'C',
+        1,
+        0,
+        width[0],
+        width[1],
+        height[0],
+        height[1],
+        near[0],
+        near[1],
+        winding,
+        0,
+        frames[0],
+        frames[1],
+        vertices[0],
+        vertices[1],
+        vertices[2],
+        vertices[3],
+        occluders[0],
+        occluders[1],
+        occluders[2],
+        occluders[3],
+        object_tris[0],
+        object_tris[1],
+        object_tris[2],
+        object_tris[3],
+        objects[0],
+        objects[1],
+        objects[2],
+        objects[3],
     ]
 }
 

@@ -1,4 +1,4 @@
-use Rattle.std.proofs.Common.{◌≡◌, ◌∙◌, sym, refl, arith, pos, length, get_or, drop, map, ℕ, List, All}
+use Rattle.std.proofs.Common.{◌∙◌, sym, refl, arith, pos, get_or, map, List}
 use Rattle.std.proofs.lemmas.List.{take_all, at_drop_more}
 use Rattle.std.proofs.lemmas.List.Elements.{All-more, All-same}
 use Rattle.cull_base.specs.declared.scene_types.Object.{Object}

@@ -1,4 +1,4 @@
-use Rattle.std.proofs.Common.{◌≡◌, ◌+◌, ◌≤◌, length, drop, take, map}
+use Rattle.std.proofs.Common.{◌≡◌, drop, take, map}
 use Rattle.std.specs.List.{All}
 use Rattle.scene_reader.specs.Layout.{IsObject, stored}
 use Rattle.scene_reader.specs.Fault.{first_among, object_fault}

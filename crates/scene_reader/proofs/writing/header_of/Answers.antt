@@ -1,4 +1,4 @@
-use Rattle.std.proofs.Common.{◌≡◌, ◌∙◌, ap, ℕ, List, ℤ, length}
+use Rattle.std.proofs.Common.{◌∙◌, ap, List, ℤ, length}
 use Rattle.cull_base.specs.Screen.{Dimensions}
 use Rattle.cull_base.specs.declared.scene_types.Tri.{Tri}
 use Rattle.cull_base.specs.declared.scene_types.Object.{Object}

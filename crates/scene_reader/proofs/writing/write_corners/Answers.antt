@@ -1,4 +1,4 @@
-use Rattle.std.proofs.Common.{◌≡◌, ◌++◌, subst, List, ℕ}
+use Rattle.std.proofs.Common.{subst, List, ℕ}
 use Rattle.std.proofs.lemmas.Result.{err_from_is_err_and}
 use Rattle.std.specs.Prelude.{OnOk, OnErr}
 use Rattle.cull_base.specs.Stream.{Appends, AppendsPrefix}
@@ -12,7 +12,7 @@ returns-in_err-write_row-clause-err g c =
     let low = c.args.low.now in
     let high = c.args.high.now in
     rw p.1 (subst (λ (t : List ℕ). AppendsPrefix (g.W.Sink.holding c.args.sink.now) (g.W.Sink.holding c.write_row.new.sink) t) (block_bytes low high c.told-low c.told-high)
-        (prefix_wider (g.W.Sink.holding c.args.sink.now) (g.W.Sink.holding c.write_row.new.sink) (row_bytes low) (row_bytes high) c.in_err-write_row.ensures.err))
+    (prefix_wider (g.W.Sink.holding c.args.sink.now) (g.W.Sink.holding c.write_row.new.sink) (row_bytes low) (row_bytes high) c.in_err-write_row.ensures.err))
 
 pub returns-clause-ok : goal.returns-clause-ok
 returns-clause-ok g c =

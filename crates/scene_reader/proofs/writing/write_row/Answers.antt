@@ -1,10 +1,9 @@
-use Rattle.std.proofs.Common.{◌≡◌, get_or, pos, ℤ, w32, rules}
+use Rattle.std.proofs.Common.{get_or, pos, ℤ, w32, rules}
 use Rattle.std.proofs.lemmas.Int.{to_z-of_z}
 use mir.Val.{SFits}
 use Rattle.std.specs.Int.{cast_unsigned}
 use Rattle.std.proofs.lemmas.Result.{err_from_is_err_and}
 use Rattle.scene_reader.specs.Layout.{word_bytes}
-use Rattle.cull_base.specs.Stream.{AppendsPrefix}
 use Rattle.scene_reader.proofs.Appending.{stops_at, from_proper}
 use Rattle.scene_reader.proofs.writing.write_row.Goals as goal
 

@@ -1,4 +1,4 @@
-use Rattle.std.proofs.Common.{◌≡◌, ◌≤◌, take}
+use Rattle.std.proofs.Common.{◌≤◌, take}
 use Rattle.cull_base.specs.Stream.{Appends}
 use Rattle.scene_reader.specs.Layout.{row_bytes}
 use Rattle.scene_reader.proofs.writing.write_row.Given as goal

@@ -1,5 +1,4 @@
-use Rattle.std.proofs.Common.{◌≡◌, ◌+◌, get_or, [], List, ℤ, arith, subst}
-use Rattle.std.specs.List.{flat_map}
+use Rattle.std.proofs.Common.{List, ℤ, arith, subst}
 use Rattle.std.proofs.lemmas.Result.{err_from_is_err_and}
 use Rattle.cull_base.specs.Stream.{Appends, AppendsPrefix}
 use Rattle.scene_reader.specs.Layout.{row_bytes}
@@ -17,4 +16,4 @@ loop-row-preserved g c = let i = c.loop-row.invariant in record {
   written = goes_on row_bytes c.args.rows.now c.loop-row.row-index c.row-item.result (g.W.Sink.holding c.args.sink.now) (g.W.Sink.holding c.loop-row.sink) (g.W.Sink.holding c.write_row.new.sink) c.loop-row-test.true i.written (subst (λ (x : List ℤ). Appends (g.W.Sink.holding c.loop-row.sink) (g.W.Sink.holding c.write_row.new.sink) (row_bytes x)) c.row-item.is c.in_ok-write_row.ensures.ok);
   faults = omega (arith, i.faults, c.in_ok-write_row.ensures.faults_stay);
   refusals = omega (arith, i.refusals, c.in_ok-write_row.ensures.refusals_stay);
-  }
+}

@@ -1,8 +1,6 @@
-use Rattle.std.proofs.Common.{◌≡◌, ◌++◌, List, ℕ, ap, subst, ℤ}
+use Rattle.std.proofs.Common.{◌++◌}
 use Rattle.std.specs.List.{flat_map}
 use Rattle.std.proofs.lemmas.Result.{err_from_is_err_and}
-use Rattle.cull_base.specs.declared.scene_types.Tri.{Tri}
-use Rattle.cull_base.specs.declared.scene_types.Object.{Object}
 use Rattle.scene_reader.specs.Layout.{layout, header_bytes, row_bytes, tri_bytes, object_bytes}
 use Rattle.scene_reader.proofs.Appending.{prefix_wider, prefix_later, from_proper, ok_then, err_then}
 use Rattle.scene_reader.proofs.writing.write_scene.Goals as goal

@@ -1,10 +1,7 @@
-use Rattle.std.proofs.Common.{◌≡◌, get_or, pos, [], List, ℤ}
+use Rattle.std.proofs.Common.{[]}
 use Rattle.std.proofs.lemmas.Result.{err_from_is_err_and}
-use Rattle.cull_base.specs.declared.scene_types.Tri.{Tri}
-use Rattle.cull_base.specs.declared.scene_types.Object.{Object}
-use Rattle.cull_base.specs.declared.scene_types.Object.TheVariants.{Area}
 use Rattle.scene_reader.specs.Layout.{tri_bytes}
-use Rattle.scene_reader.proofs.Appending.{stops_at, goes_on}
+use Rattle.scene_reader.proofs.Appending.{stops_at}
 use Rattle.scene_reader.proofs.writing.write_tris.Goals as goal
 
 pub returns-in_err-write_words-clause-err : goal.returns-in_err-write_words-clause-err

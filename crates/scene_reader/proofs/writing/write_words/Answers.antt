@@ -1,7 +1,5 @@
-use Rattle.std.proofs.Common.{◌≡◌, get_or}
 use Rattle.std.proofs.lemmas.Result.{err_from_is_err_and}
 use Rattle.scene_reader.specs.Layout.{word_bytes}
-use Rattle.cull_base.specs.Stream.{AppendsPrefix}
 use Rattle.scene_reader.proofs.Appending.{stops_at, from_proper}
 use Rattle.scene_reader.proofs.writing.write_words.Goals as goal
 
