@@ -1,14 +1,14 @@
 -- Numbers and entries as bytes, and back.
-use Rattle.std.proofs.Common.{◌≡◌, ℕ, ℤ, pos, negsuc, suc, zero, ◌+◌, ◌-◌, ◌*◌, ◌^◌, ◌<◌, ◌≤◌, ◌++◌, ◌∷◌, List, [], length, get_or, take, drop, map, arith, refl, sym, ap, ◌∙◌, subst, All, w16, w32, inl, inr}
+use Rattle.std.proofs.Common.{◌≡◌, ℕ, ℤ, pos, negsuc, suc, zero, ◌+◌, ◌*◌, ◌^◌, ◌<◌, ◌≤◌, ◌++◌, ◌∷◌, List, [], length, get_or, take, drop, map, arith, refl, sym, ap, ◌∙◌, All, w16, w32, inl, inr}
 use Rattle.std.proofs.lemmas.Bool.{cases_lt}
-use Rattle.std.specs.List.{AllByRecursion, flat_map, range_with_len}
-use Rattle.std.specs.Int.{to_le_bytes, from_le_bytes, cast_signed, cast_unsigned}
+use Rattle.std.specs.List.{flat_map, range_with_len}
+use Rattle.std.specs.Int.{from_le_bytes, cast_signed, cast_unsigned}
 use Rattle.std.proofs.Math.Seq.{take-add}
 use Rattle.std.proofs.lemmas.Int.{ints, to_z-of_z, of_z-to_z}
 use Rattle.std.proofs.lemmas.Nat.{le_bytes_2, le_bytes_4, from_le_bytes-to_le_bytes_2, from_le_bytes-to_le_bytes_4}
-use Rattle.std.proofs.lemmas.List.{length-drop, length-take, drop-drop, get_or-take, get_or-drop, get_or_past, take_at, drop_at, drop-append-le, length-append, take_all}
+use Rattle.std.proofs.lemmas.List.{length-drop, length-take, drop-drop, get_or_past, take_at, drop_at, take_all}
 use Rattle.std.proofs.lemmas.List.FromFn.{fill_by_all}
-use Rattle.std.proofs.lemmas.List.Elements.{All-take, All-drop, All-get_or, recursion_from_All, All-from_recursion}
+use Rattle.std.proofs.lemmas.List.Elements.{All-take, All-drop}
 use mir.Val.{SFits}
 use Rattle.cull_base.specs.declared.scene_types.Tri.{Tri}
 use Rattle.scene_reader.specs.Layout.{InLimits, IsRow, IsTri, short_bytes, word_bytes, row_bytes, tri_bytes}
@@ -18,9 +18,9 @@ use Rattle.scene_reader.proofs.Takes.{IsByte}
 -- ---- bytes of a list, also past its end
 pub byte_at : (bytes : List ℕ) → All IsByte bytes → (i : ℕ) → get_or bytes i 0 < 256
 byte_at bytes fits i = elim (cases_lt i (length bytes)) [
-    | inl lt ↦ fits i 0 lt
-    | inr le ↦ rw (get_or_past bytes i 0 le) (omega arith)
-  ]
+  | inl lt ↦ fits i 0 lt
+  | inr le ↦ rw (get_or_past bytes i 0 le) (omega arith)
+]
 
 pub part_fits : (place n : ℕ) (bytes : List ℕ) → All IsByte bytes → All IsByte (take n (drop place bytes))
 part_fits place n bytes fits = All-take IsByte n (drop place bytes) (All-drop IsByte place bytes fits)

@@ -1,7 +1,7 @@
 -- Tables, entry after entry.
-use Rattle.std.proofs.Common.{◌≡◌, ℕ, zero, suc, ◌+◌, ◌-◌, ◌*◌, ◌^◌, ◌<◌, ◌≤◌, ◌++◌, ◌∷◌, List, [], length, take, drop, map, arith, refl, sym, ap, ◌∙◌, Option, append_assoc, subst, add-one}
+use Rattle.std.proofs.Common.{◌≡◌, ℕ, zero, suc, ◌+◌, ◌*◌, ◌<◌, ◌≤◌, ◌++◌, ◌∷◌, List, [], length, take, drop, map, arith, refl, ap, ◌∙◌, Option, add-one}
 use Rattle.std.proofs.Math.Nat.{mul-le-mul_left}
-use Rattle.std.proofs.lemmas.List.{length-drop, length-take, length-append, take_all, take-append-le, drop-append-le, nil_from_length, map-append}
+use Rattle.std.proofs.lemmas.List.{length-drop, length-append, take_all, take-append-le, drop-append-le, nil_from_length, map-append}
 use Rattle.scene_reader.specs.declared.error.SceneError.{SceneError}
 use Rattle.scene_reader.specs.declared.error.SceneError.TheVariants.{Truncated}
 use Rattle.scene_reader.specs.Fault.{entries}
@@ -30,7 +30,7 @@ table_more {X} size i read a b c items piece item one is t p = record {
   takes = takes_then a b c t.bytes piece t.takes p;
   whole = omega (arith, length-append t.bytes piece, t.whole, one);
   each = joined;
-  }
+}
   where
     joined : items ++ item ∷ [] ≡ map read (entries size (i + 1) (t.bytes ++ piece))
     joined = rw (add-one, entries_suc size i t.bytes piece t.whole one, map-append read (entries size i t.bytes) (piece ∷ []), ← t.each, is) refl
@@ -43,7 +43,7 @@ table_ends size wanted i count need taken read a b c items e one lt t s = record
   few = omega (arith, length-append t.bytes s.bytes, t.whole, s.few, one, mul-le-mul_left size up);
   ended = s.ended;
   told = s.told ∙ ap (Truncated need) (omega (arith, length-append t.bytes s.bytes, t.whole));
-  }
+}
   where
     up : i + 1 ≤ count
     up = omega arith

@@ -1,11 +1,11 @@
 -- The first fault among the members of a list.
-use Rattle.std.proofs.Common.{◌≡◌, ℕ, suc, zero, ◌+◌, ◌<◌, ◌≤◌, ◌∷◌, ◌++◌, List, [], length, drop, get_or, arith, refl, sym, ap, ◌∙◌, Bool, true, false, Option, Some, None}
+use Rattle.std.proofs.Common.{◌≡◌, ℕ, ◌+◌, ◌<◌, ◌≤◌, List, length, drop, get_or, refl, sym, ap, ◌∙◌, Option, Some, None}
 use Rattle.std.specs.Option.{option_or}
 use Rattle.std.proofs.lemmas.List.{drop_more, drop_all}
 use Rattle.scene_reader.specs.declared.error.SceneError.{SceneError}
 use Rattle.scene_reader.specs.Fault.{first_among}
 
-or_none : {X : Type 0} (o p : Option X) → o ≡ None → option_or o p ≡ p
+pub or_none : {X : Type 0} (o p : Option X) → o ≡ None → option_or o p ≡ p
 or_none o p e = rw e refl
 
 -- a member without a fault is passed

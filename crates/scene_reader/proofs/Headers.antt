@@ -1,17 +1,17 @@
 -- Headers: their faults by their fields, and what an accepted one says.
-use Rattle.std.proofs.Common.{◌≡◌, ℕ, suc, zero, ◌+◌, ◌-◌, ◌*◌, ◌^◌, ◌%◌, ◌<◌, ◌≤◌, ◌++◌, ◌∷◌, List, [], length, get_or, take, drop, arith, refl, sym, ap, ◌∙◌, subst, Bool, true, false, Option, Some, None, w16, w32, All, rules}
-use Rattle.std.specs.Prelude.{not, ◌||◌, ◌==◌, nat_lt, nat_eq, slice_index, IfSome, length}
+use Rattle.std.proofs.Common.{◌≡◌, ℕ, ◌+◌, ◌≤◌, ◌++◌, List, length, take, drop, arith, refl, sym, ap, ◌∙◌, Bool, true, false, Option, Some, None, w16, w32, rules}
+use Rattle.std.specs.Prelude.{not, ◌==◌, nat_eq, slice_index, IfSome, length}
 use Rattle.std.specs.List.{starts_with}
 use Rattle.std.specs.Option.{option_or}
 use Rattle.std.specs.Int.{from_le_bytes}
-use Rattle.std.proofs.lemmas.Bool.{or_from, or_parts, le-ltb, lt-ltb, ltb-false, ltb-true, eqb-true, eq-eqb, not-false, not_from_true}
+use Rattle.std.proofs.lemmas.Bool.{or_from, or_parts, le-ltb, ltb-false, eqb-true, eq-eqb, not-false, not_from_true}
 use Rattle.std.proofs.lemmas.List.{drop-append-le, take-append-le, length-append, length-drop, get_or_append_left}
 use Rattle.cull_base.specs.Screen.{IsSize}
 use Rattle.scene_reader.specs.declared.error.SceneError.{SceneError}
-use Rattle.scene_reader.specs.declared.error.SceneError.TheVariants.{Truncated, BadMagic, BadVersion, BadSize, BadNear, BadWinding, BadReserved, BadCount}
+use Rattle.scene_reader.specs.declared.error.SceneError.TheVariants.{BadMagic, BadVersion}
 use Rattle.scene_reader.specs.declared.header.Counts.{Counts}
 use Rattle.scene_reader.specs.Layout.{magic}
-use Rattle.scene_reader.specs.Fault.{fault_if, short_at, word_at, counts_at, start_fault, screen_fault, flags_fault, count_fault, header_fault, is_bad_size, IsRefusal}
+use Rattle.scene_reader.specs.Fault.{fault_if, short_at, word_at, counts_at, screen_fault, flags_fault, count_fault, header_fault, IsRefusal}
 use Rattle.scene_reader.specs.Header.{AreCounts}
 use Rattle.scene_reader.proofs.Valid.{size_valid, size_good}
 

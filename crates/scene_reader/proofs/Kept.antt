@@ -1,15 +1,14 @@
 -- Objects read from their entries, and the first fault among them.
-use Rattle.std.proofs.Common.{◌≡◌, ℕ, ℤ, suc, zero, ◌+◌, ◌*◌, ◌<◌, ◌≤◌, ◌∷◌, ◌++◌, List, [], length, drop, map, arith, refl, sym, ap, ◌∙◌, subst, Bool, true, false, Option, Some, None, All}
+use Rattle.std.proofs.Common.{◌≡◌, ℕ, ℤ, suc, zero, ◌+◌, ◌≤◌, ◌∷◌, ◌++◌, List, [], length, drop, map, arith, refl, sym, ap, ◌∙◌, subst, Bool, true, false, Option, Some, None, All}
 use Rattle.std.specs.Option.{option_or}
-use Rattle.std.specs.Prelude.{nat_lt}
 use Rattle.std.proofs.lemmas.Bool.{le-ltb}
 use Rattle.std.proofs.lemmas.List.{length-map}
 use Rattle.cull_base.specs.declared.scene_types.Object.{Object}
 use Rattle.scene_reader.specs.declared.error.SceneError.{SceneError}
-use Rattle.scene_reader.specs.declared.error.SceneError.TheVariants.{BadObject, BadKind}
+use Rattle.scene_reader.specs.declared.error.SceneError.TheVariants.{BadObject}
 use Rattle.scene_reader.specs.Layout.{IsObject, kind_of, numbers_of, stored}
 use Rattle.scene_reader.specs.Fault.{entries, first_among, object_fault, is_bad_object, raw_of, fault_if}
-use Rattle.scene_reader.specs.Reading.{Takes, TakesTable, TakesObjects}
+use Rattle.scene_reader.specs.Reading.{Takes, TakesObjects}
 use Rattle.scene_reader.proofs.Entries.{table_none, table_more}
 
 fault_of : (m i kind : ℕ) (numbers : List ℤ) (b : Bool) → kind ≤ 2 → is_bad_object m kind numbers ≡ b → object_fault m i (kind, numbers) ≡ fault_if b (BadObject i)
@@ -61,7 +60,7 @@ objects_none m a items e = record {
   first = refl;
   whole = λ _. ap (map stored) e;
   valid = subst (λ (xs : List Object). All (IsObject m) xs) (sym e) (λ k d lt. absurd (omega (arith, lt)));
-  }
+}
 
 pub objects_more : (m i : ℕ) (a b c : Option (List ℕ)) (items after : List Object) (fault fault_after : Option SceneError) (piece : List ℕ)
     → length piece ≡ 25 → TakesObjects i m a b items fault → Takes b c piece
@@ -75,10 +74,11 @@ objects_more m i a b c items after fault fault_after piece one t p first whole v
   first = first ∙ ap (λ (o : Option SceneError). option_or o (object_fault m i (raw_of piece))) t.first ∙ sym (first_append (object_fault m) 0 i t.raws (raw_of piece) count);
   whole = λ e. whole e ∙ ap (λ (r : List (ℕ × List ℤ)). r ++ raw_of piece ∷ []) (t.whole (clear fault (object_fault m i (raw_of piece)) (sym first ∙ e)));
   valid = valid t.valid;
-  }
+}
   where
     clear : (o p : Option SceneError) → option_or o p ≡ None → o ≡ None
     clear None p e = refl
     clear (Some x) p e = absurd cc
+
     count : 0 + length t.raws ≡ i
     count = omega (arith, ap length t.table.each, length-map (entries 25 i t.table.bytes) raw_of, length_entries 25 i t.table.bytes)

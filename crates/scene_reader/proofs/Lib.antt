@@ -9,3 +9,5 @@ pub mod Headers
 pub mod Pieces
 pub mod Wholes
 pub mod Refusals
+pub mod OneLayout
+pub mod Appending

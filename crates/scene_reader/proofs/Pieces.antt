@@ -1,26 +1,19 @@
 -- Headers and tables as bytes, and back.
-use Rattle.std.proofs.Common.{◌≡◌, ℕ, ℤ, pos, suc, zero, ◌+◌, ◌-◌, ◌*◌, ◌^◌, ◌<◌, ◌≤◌, ◌++◌, ◌∷◌, List, [], length, get_or, take, drop, map, arith, refl, sym, ap, ◌∙◌, subst, Bool, true, false, All, w16, w32, append_assoc, take-append-drop}
-use Rattle.std.specs.Prelude.{slice_index, nat_eq}
-use Rattle.std.specs.List.{AllByRecursion, flat_map, starts_with}
+use Rattle.std.proofs.Common.{◌≡◌, ℕ, ℤ, pos, suc, zero, ◌+◌, ◌*◌, ◌<◌, ◌≤◌, ◌++◌, ◌∷◌, List, [], length, take, drop, map, arith, refl, sym, ap, ◌∙◌, All, w32, take-append-drop}
+use Rattle.std.specs.List.{AllByRecursion, flat_map}
 use Rattle.std.specs.Int.{cast_unsigned}
 use Rattle.std.proofs.lemmas.Int.{ints}
-use Rattle.std.specs.Cmp.Lexicographic.{same_text}
-use Rattle.std.proofs.Math.Seq.{take-add}
-use Rattle.std.proofs.lemmas.List.{length-drop, length-take, length-append, drop-drop, take_at, drop_at, take_all, take-append-le, drop-append-le, drop_more, nil_from_length, drop_all}
-use Rattle.std.proofs.lemmas.List.Elements.{All-take, All-drop, recursion_from_All, All-from_recursion}
+use Rattle.std.proofs.lemmas.List.{length-drop, length-take, length-append, take_at, drop_at, take-append-le, drop-append-le, nil_from_length}
+use Rattle.std.proofs.lemmas.List.Elements.{All-take, All-drop, All-from_recursion}
 use Rattle.std.proofs.lemmas.List.Folds.{flat_map-map}
-use Rattle.cull_base.specs.declared.clip.Winding.{Winding}
-use Rattle.cull_base.specs.declared.clip.Winding.TheVariants.{Both, DropClockwise, DropCounter}
 use Rattle.cull_base.specs.declared.scene_types.Tri.{Tri}
 use Rattle.cull_base.specs.declared.scene_types.Object.{Object}
 use Rattle.cull_base.specs.declared.scene_types.Object.TheVariants.{Area, Block, Mesh}
-use Rattle.scene_reader.specs.declared.header.Counts.{Counts}
-use Rattle.scene_reader.specs.Layout.{Parts, IsScene, IsRow, IsTri, IsObject, InLimits, magic, short_bytes, word_bytes, row_bytes, tri_bytes, object_bytes, kind_of, numbers_of, stored, winding_code, header_bytes, axis}
-use Rattle.scene_reader.specs.Fault.{short_at, word_at, counts_at, entries, row_of, tri_of, raw_of}
+use Rattle.scene_reader.specs.Layout.{IsRow, IsTri, IsObject, InLimits, word_bytes, row_bytes, tri_bytes, object_bytes, kind_of, numbers_of, stored, axis}
+use Rattle.scene_reader.specs.Fault.{entries, raw_of}
 use Rattle.scene_reader.specs.Reading.{IsTable}
 use Rattle.scene_reader.proofs.Takes.{IsByte}
-use Rattle.scene_reader.proofs.Codes.{short_again, word_again, short_back, word_back, row_back, tri_back, row_again, tri_again}
-use Rattle.scene_reader.proofs.Headers.{Accepted}
+use Rattle.scene_reader.proofs.Codes.{row_back, row_again}
 
 -- ---- tables: from bytes to entries and back to the bytes
 
@@ -63,7 +56,7 @@ pub table_flat : {X Y : Type 0} (P : X → Type 0) (size count : ℕ) (enc : X �
 table_flat P size count enc read view len again xs n h = record {
   whole = length_flat_of P size enc len xs h ∙ ap (λ (k : ℕ). size * k) n;
   each = sym (entries_flat P size enc read view len again xs h) ∙ ap (λ (k : ℕ). map read (entries size k (flat_map enc xs))) n;
-  }
+}
 
 -- entries are read within the front of bytes
 pub entries_front : (size n : ℕ) (front rest : List ℕ) → length front ≡ size * n → entries size n (front ++ rest) ≡ entries size n front

@@ -1,24 +1,23 @@
 -- What reading answers, from what was taken.
-use Rattle.std.proofs.Common.{◌≡◌, ℕ, ℤ, ◌+◌, ◌-◌, ◌*◌, ◌<◌, ◌≤◌, ◌++◌, ◌∷◌, List, [], length, take, drop, map, arith, refl, sym, ap, ◌∙◌, subst, Bool, true, false, All, append_assoc, Option, Some, None, Result, Ok, Err, rules}
-use Rattle.std.specs.Prelude.{IfSome, IfOk, IfErr, nat_lt, slice_index}
+use Rattle.std.proofs.Common.{◌≡◌, ℕ, ℤ, ◌+◌, ◌-◌, ◌<◌, ◌++◌, ◌∷◌, List, [], length, drop, arith, refl, sym, ap, ◌∙◌, subst, All, append_assoc, Option, Some, None, Result, Ok, Err, rules}
+use Rattle.std.specs.Prelude.{IfSome, IfOk, IfErr, nat_lt}
 use Rattle.std.specs.Option.{option_or, option_map}
 use Rattle.std.proofs.lemmas.Bool.{le-ltb, lt-ltb}
 use Rattle.std.proofs.lemmas.List.{length-append, append-nil, drop_at, drop_all, length-map}
-use Rattle.std.proofs.lemmas.List.Elements.{All-append}
 use Rattle.std.proofs.lemmas.Option.{same_Some}
 use Rattle.cull_base.specs.declared.scene_types.Tri.{Tri}
 use Rattle.scene_reader.specs.declared.error.SceneError.{SceneError}
-use Rattle.scene_reader.specs.declared.error.SceneError.TheVariants.{Truncated, Trailing, Read, BadVertex, BadIndex, BadKind, BadObject, BadCamera}
+use Rattle.scene_reader.specs.declared.error.SceneError.TheVariants.{Truncated, Trailing, Read, BadVertex, BadIndex, BadCamera}
 use Rattle.scene_reader.specs.declared.header.Header.{Header}
 use Rattle.scene_reader.specs.declared.header.Counts.{Counts}
 use Rattle.scene_reader.specs.Layout.{Parts, IsScene, IsObject, stored, layout, winding_code}
-use Rattle.scene_reader.specs.Fault.{IsRefusal, fault_if, first_among, short_at, counts_at, scene_length, header_fault, length_fault, tables_fault, first_fault, vertex_fault, index_fault, object_fault, camera_fault}
-use Rattle.scene_reader.specs.Header.{IsHeaderOf, AreCounts}
+use Rattle.scene_reader.specs.Fault.{IsRefusal, fault_if, first_among, counts_at, scene_length, header_fault, length_fault, tables_fault, first_fault, vertex_fault, index_fault, object_fault, camera_fault}
+use Rattle.scene_reader.specs.Header.{IsHeaderOf}
 use Rattle.scene_reader.specs.PartsFault.{AreTables}
 use Rattle.scene_reader.specs.Reading.{Takes, IsAtEnd, EndsWithin, TakesParts, Refuses, ReadsScene}
-use Rattle.scene_reader.proofs.Takes.{IsByte, takes_then}
-use Rattle.scene_reader.proofs.Headers.{or_first, or_second, or_refusal, fault_refusal, header_front, header_accepted, counts_front, fault_none_from, header_refusal}
-use Rattle.scene_reader.proofs.Wholes.{Sized, joined, joined_first, joined_length, joined_layout, table_count, Fits, fits_from, scene_from, scene_first, layout_one}
+use Rattle.scene_reader.proofs.Takes.{takes_then}
+use Rattle.scene_reader.proofs.Headers.{or_first, or_second, or_refusal, fault_refusal, header_front, header_accepted, counts_front, fault_none_from}
+use Rattle.scene_reader.proofs.Wholes.{Sized, joined_first, joined_length, joined_layout, table_count, Fits, fits_from, scene_from, scene_first, layout_one}
 
 -- ---- refusals aren't faults of the source
 
@@ -116,20 +115,20 @@ pub refuses_body : (before mid after : Option (List ℕ)) (h : List ℕ) (n : Co
 refuses_body before mid after h n e len fine counts t s =
     let both = takes_then before mid after h s.bytes t s.takes in
     refuse_told before after (h ++ s.bytes) e both.front (λ rest told.
-        let none = at_end after rest s.ended told in
-        let whole : (h ++ s.bytes) ++ rest ≡ h ++ s.bytes = ap (λ (r : List ℕ). (h ++ s.bytes) ++ r) none ∙ append-nil (h ++ s.bytes) in
-        let few : length (h ++ s.bytes) < scene_length n = omega (arith, s.few, length-append h s.bytes, len) in
-        let is : e ≡ Truncated (scene_length n) (length (h ++ s.bytes)) = s.told ∙ ap (Truncated (scene_length n)) (omega (arith, length-append h s.bytes, len)) in
-        (rw (whole, is) (first_of_length h s.bytes n _ len fine counts (too_short h s.bytes n len counts few)), λ f. no_header_fault h (s.bytes ++ rest) e len fine (subst (λ (b : List ℕ). header_fault b ≡ Some e) (append_assoc h s.bytes rest) f)))
+    let none = at_end after rest s.ended told in
+    let whole : (h ++ s.bytes) ++ rest ≡ h ++ s.bytes = ap (λ (r : List ℕ). (h ++ s.bytes) ++ r) none ∙ append-nil (h ++ s.bytes) in
+    let few : length (h ++ s.bytes) < scene_length n = omega (arith, s.few, length-append h s.bytes, len) in
+    let is : e ≡ Truncated (scene_length n) (length (h ++ s.bytes)) = s.told ∙ ap (Truncated (scene_length n)) (omega (arith, length-append h s.bytes, len)) in
+    (rw (whole, is) (first_of_length h s.bytes n _ len fine counts (too_short h s.bytes n len counts few)), λ f. no_header_fault h (s.bytes ++ rest) e len fine (subst (λ (b : List ℕ). header_fault b ≡ Some e) (append_assoc h s.bytes rest) f)))
 
 pub refuses_trailing : (before mid last after : Option (List ℕ)) (h body more : List ℕ) (n : Counts) → length h ≡ 32 → header_fault h ≡ None → counts_at h ≡ n → length (h ++ body) ≡ scene_length n
     → Takes before mid h → Takes mid last body → Takes last after more → 0 < length more → Refuses before after Trailing
 refuses_trailing before mid last after h body more n len fine counts size th tb tm some =
     let all = takes_then before mid after h (body ++ more) th (takes_then mid last after body more tb tm) in
     refuse_told before after (h ++ (body ++ more)) Trailing all.front (λ rest told.
-        let whole : (h ++ (body ++ more)) ++ rest ≡ h ++ ((body ++ more) ++ rest) = append_assoc h (body ++ more) rest in
-        let long : scene_length n < length (h ++ ((body ++ more) ++ rest)) = omega (arith, length-append h ((body ++ more) ++ rest), length-append (body ++ more) rest, length-append body more, length-append h body, size, some) in
-        (rw whole (first_of_length h ((body ++ more) ++ rest) n Trailing len fine counts (too_long h ((body ++ more) ++ rest) n len counts long)), λ f. no_header_fault h ((body ++ more) ++ rest) Trailing len fine (subst (λ (b : List ℕ). header_fault b ≡ Some Trailing) whole f)))
+    let whole : (h ++ (body ++ more)) ++ rest ≡ h ++ ((body ++ more) ++ rest) = append_assoc h (body ++ more) rest in
+    let long : scene_length n < length (h ++ ((body ++ more) ++ rest)) = omega (arith, length-append h ((body ++ more) ++ rest), length-append (body ++ more) rest, length-append body more, length-append h body, size, some) in
+    (rw whole (first_of_length h ((body ++ more) ++ rest) n Trailing len fine counts (too_long h ((body ++ more) ++ rest) n len counts long)), λ f. no_header_fault h ((body ++ more) ++ rest) Trailing len fine (subst (λ (b : List ℕ). header_fault b ≡ Some Trailing) whole f)))
 
 -- ---- a whole body
 
@@ -146,7 +145,7 @@ module _ (before mid last : Option (List ℕ)) (h : List ℕ) (hd : Header) (p :
     object_tris = t.object_tris.whole;
     objects = t.objects.whole;
     cameras = t.cameras.whole;
-    }
+  }
 
   pub whole_length : length (h ++ (t.vertex_bytes ++ (t.occluder_bytes ++ (t.object_tri_bytes ++ (t.object_bytes ++ t.camera_bytes))))) ≡ scene_length hd.counts
   whole_length = joined_length hd.counts h t.vertex_bytes t.occluder_bytes t.object_tri_bytes t.object_bytes t.camera_bytes sized
@@ -161,10 +160,10 @@ module _ (before mid last : Option (List ℕ)) (h : List ℕ) (hd : Header) (p :
   refuses_tables after e te ended f =
       let all = takes_then before mid after h _ th (takes_then mid last after _ [] t.takes te) in
       refuse_told before after _ e all.front (λ rest told.
-          let none = at_end after rest ended told in
-          let bare = t.vertex_bytes ++ (t.occluder_bytes ++ (t.object_tri_bytes ++ (t.object_bytes ++ t.camera_bytes))) in
-          let whole : (h ++ (bare ++ [])) ++ rest ≡ h ++ bare = ap (λ (r : List ℕ). (h ++ (bare ++ [])) ++ r) none ∙ append-nil (h ++ (bare ++ [])) ∙ ap (λ (r : List ℕ). h ++ r) (append-nil bare) in
-          (rw whole (whole_first ∙ f), λ g. no_header_fault h bare e len is.accepted (subst (λ (b : List ℕ). header_fault b ≡ Some e) whole g)))
+      let none = at_end after rest ended told in
+      let bare = t.vertex_bytes ++ (t.occluder_bytes ++ (t.object_tri_bytes ++ (t.object_bytes ++ t.camera_bytes))) in
+      let whole : (h ++ (bare ++ [])) ++ rest ≡ h ++ bare = ap (λ (r : List ℕ). (h ++ (bare ++ [])) ++ r) none ∙ append-nil (h ++ (bare ++ [])) ∙ ap (λ (r : List ℕ). h ++ r) (append-nil bare) in
+      (rw whole (whole_first ∙ f), λ g. no_header_fault h bare e len is.accepted (subst (λ (b : List ℕ). header_fault b ≡ Some e) whole g)))
 
   parts_fit : fault ≡ None → Fits h p
   parts_fit clear =

@@ -1,15 +1,15 @@
 -- What the tests of objects say of each kind.
 use Rattle.std.proofs.Common.{◌≡◌, ℕ, ℤ, pos, negsuc, ◌+◌, ◌<◌, ◌^◌, ◌∷◌, List, [], length, get_or, drop, arith, refl, sym, ap, ◌∙◌, Bool, true, false, w32}
-use Rattle.std.specs.Prelude.{◌||◌, int_lt, slice_index_or, ◌++◌, not}
+use Rattle.std.specs.Prelude.{◌||◌, int_lt, ◌++◌}
 use Rattle.std.specs.List.{list_any}
-use Rattle.std.proofs.lemmas.Int.{to_z-of_z, ints}
+use Rattle.std.proofs.lemmas.Int.{ints}
 use Rattle.std.proofs.lemmas.Bool.{or_left, or_right, le-ltb, lt-ltb}
 use Rattle.std.proofs.lemmas.List.{length-drop, get_or-drop}
 use Rattle.std.proofs.lemmas.List.Recursion.{or_at}
 use mir.Val.{SFits, of_z}
 use Rattle.cull_base.specs.Guard.{is_beyond}
 use Rattle.cull_base.specs.declared.rect.Rect.{Rect}
-use Rattle.cull_base.specs.declared.scene_types.Object.TheVariants.{Area, Block, Mesh}
+use Rattle.cull_base.specs.declared.scene_types.Object.TheVariants.{Area, Block}
 use Rattle.scene_reader.specs.Layout.{numbers_of, axis}
 use Rattle.scene_reader.specs.Fault.{is_bad_row, is_bad_object, is_not_zero}
 
@@ -58,7 +58,7 @@ block_is object_tris low high l h =
     let y = int_lt (axis high 1) (axis low 1) in
     let z = int_lt (axis high 2) (axis low 2) in
     let rows : is_bad_row (numbers_of (Block low high)) ≡ (is_bad_row low || is_bad_row high) =
-        any_append (is_beyond (2 ^ 24)) (axis low 0 ∷ axis low 1 ∷ axis low 2 ∷ []) (axis high 0 ∷ axis high 1 ∷ axis high 2 ∷ []) ∙ ap (λ (t : List ℤ). is_bad_row t || is_bad_row (axis high 0 ∷ axis high 1 ∷ axis high 2 ∷ [])) (three low l) ∙ ap (λ (t : List ℤ). is_bad_row low || is_bad_row t) (three high h) in
+    any_append (is_beyond (2 ^ 24)) (axis low 0 ∷ axis low 1 ∷ axis low 2 ∷ []) (axis high 0 ∷ axis high 1 ∷ axis high 2 ∷ []) ∙ ap (λ (t : List ℤ). is_bad_row t || is_bad_row (axis high 0 ∷ axis high 1 ∷ axis high 2 ∷ [])) (three low l) ∙ ap (λ (t : List ℤ). is_bad_row low || is_bad_row t) (three high h) in
     ap (λ (b : Bool). b || ((x || y) || z)) rows ∙ or_assoc (is_bad_row low || is_bad_row high) (x || y) z ∙ ap (λ (b : Bool). b || z) (or_assoc (is_bad_row low || is_bad_row high) x y)
 
 -- six elements

@@ -1,17 +1,16 @@
 -- Bytes taken from a source, piece after piece.
-use Rattle.std.proofs.Common.{◌≡◌, ℕ, ◌+◌, ◌-◌, ◌^◌, ◌<◌, ◌≤◌, ◌++◌, List, [], length, take, drop, min, get_or, arith, refl, sym, ap, ◌∙◌, Option, Some, None, append_assoc, subst, take-append-drop}
-use Rattle.std.specs.Prelude.{IfSome}
+use Rattle.std.proofs.Common.{◌≡◌, ℕ, ◌+◌, ◌<◌, ◌≤◌, ◌++◌, List, [], length, take, drop, get_or, arith, refl, sym, ap, ◌∙◌, Option, Some, None, append_assoc, subst, take-append-drop}
 use Rattle.std.specs.Option.{option_map}
 use Rattle.std.specs.List.{All}
 use Rattle.std.proofs.Math.Seq.{take-add}
-use Rattle.std.proofs.lemmas.List.{length-drop, length-take, length-append, drop-drop, take-take, take_at, drop_at, get_or-append-add, get_or_append_left}
+use Rattle.std.proofs.lemmas.List.{length-take, length-append, take-take, take_at, drop_at, get_or-append-add, get_or_append_left}
 use Rattle.std.proofs.lemmas.List.Elements.{All-append, All-take, All-nil, All-from_get_or}
 use Rattle.std.proofs.lemmas.Slice.{take-put_mid}
 use borrow.Rule.Slice.PartMut.{put_mid, post_of}
-use Rattle.cull_base.specs.Stream.{TakesFront, Rose}
+use Rattle.cull_base.specs.Stream.{TakesFront}
 use Rattle.scene_reader.specs.declared.error.SceneError.{SceneError}
 use Rattle.scene_reader.specs.declared.error.SceneError.TheVariants.{Truncated}
-use Rattle.scene_reader.specs.Reading.{Takes, IsAtEnd, EndsWithin}
+use Rattle.scene_reader.specs.Reading.{Takes, EndsWithin}
 
 abbrev pub IsByte : ℕ → Type 0
 IsByte b = b < 256
@@ -27,7 +26,7 @@ pub takes_then : (a b c : Option (List ℕ)) (x y : List ℕ) → Takes a b x �
 takes_then a b c x y p q = record {
   front = p.front ∙ ap (option_map (λ (rest : List ℕ). x ++ rest)) q.front ∙ joined c;
   fits = All-append IsByte x y p.fits q.fits;
-  }
+}
   where
     joined : (o : Option (List ℕ)) → option_map (λ (rest : List ℕ). x ++ rest) (option_map (λ (rest : List ℕ). y ++ rest) o) ≡ option_map (λ (rest : List ℕ). (x ++ y) ++ rest) o
     joined None = refl
@@ -38,11 +37,11 @@ pub takes_front : (a b : Option (List ℕ)) (buffer : List ℕ) (n : ℕ) → Al
 takes_front None b buffer n fits h = record {
   front = sym (ap (option_map (λ (rest : List ℕ). take n buffer ++ rest)) h.0);
   fits = All-take IsByte n buffer fits;
-  }
+}
 takes_front (Some all) b buffer n fits h = record {
   front = ap Some (sym (take-append-drop n all) ∙ ap (λ (t : List ℕ). t ++ drop n all) (sym h.1.1)) ∙ sym (ap (option_map (λ (rest : List ℕ). take n buffer ++ rest)) h.0);
   fits = All-take IsByte n buffer fits;
-  }
+}
 
 -- the front of a buffer whose end was written behind k
 front_put : (k m n : ℕ) (buffer part : List ℕ) → k ≤ length buffer → n ≤ length part → take (k + n) (put_mid k m buffer part) ≡ take k buffer ++ take n part
@@ -77,7 +76,7 @@ ends_later a b c x n wanted need taken later e len is p s = record {
   few = omega (arith, length-append x s.bytes, len, s.few);
   ended = s.ended;
   told = s.told ∙ ap (Truncated need) (omega (arith, length-append x s.bytes, len, is));
-  }
+}
 
 pub ends_wider : (a c : Option (List ℕ)) (wanted more need taken : ℕ) (e : SceneError) → wanted ≤ more → EndsWithin wanted need taken a c e → EndsWithin more need taken a c e
 ends_wider a c wanted more need taken e le s = record {
@@ -86,4 +85,4 @@ ends_wider a c wanted more need taken e le s = record {
   few = omega (arith, s.few, le);
   ended = s.ended;
   told = s.told;
-  }
+}

@@ -1,18 +1,15 @@
 -- The tests and the facts that they stand for.
-use Rattle.std.proofs.Common.{◌≡◌, ℕ, ℤ, pos, negsuc, ◌+◌, ◌<◌, ◌≤◌, ◌^◌, ◌%◌, ◌∷◌, List, [], length, arith, refl, sym, ap, ◌∙◌, Bool, true, false, All}
-use Rattle.std.specs.Prelude.{◌||◌, ◌≤ℤ◌, ◌<ℤ◌, ◌+ℤ◌, int_lt, nat_lt, not, neg_ℤ}
+use Rattle.std.proofs.Common.{◌≡◌, ℕ, ℤ, pos, ◌+◌, ◌<◌, ◌≤◌, ◌^◌, ◌%◌, ◌∷◌, List, [], length, arith, refl, sym, ◌∙◌, false, All}
+use Rattle.std.specs.Prelude.{◌≤ℤ◌, int_lt, nat_lt, not, neg_ℤ}
 use Rattle.std.specs.List.{AllByRecursion, list_any}
 use Rattle.std.proofs.lemmas.Int.{ints}
 use Rattle.std.proofs.lemmas.Bool.{or_from, or_parts, le-ltb, lt-ltb, ltb-false, ltb-true, eqb-true, eq-eqb, not-false, not_from_true}
 use Rattle.std.proofs.lemmas.List.Elements.{All-from_recursion, recursion_from_All}
-use Rattle.cull_base.specs.Bounds.{Near}
 use Rattle.cull_base.specs.Guard.{is_beyond}
 use Rattle.cull_base.specs.Screen.{IsSize}
 use Rattle.cull_base.specs.declared.rect.Rect.{Rect}
-use Rattle.cull_base.specs.declared.scene_types.Tri.{Tri}
-use Rattle.cull_base.specs.declared.scene_types.Object.{Object}
 use Rattle.cull_base.specs.declared.scene_types.Object.TheVariants.{Area, Block, Mesh}
-use Rattle.scene_reader.specs.Layout.{InLimits, IsRow, IsTri, IsObject, numbers_of, kind_of, axis}
+use Rattle.scene_reader.specs.Layout.{InLimits, IsObject, numbers_of, axis}
 use Rattle.scene_reader.specs.Fault.{is_bad_row, is_bad_object, is_bad_size}
 use Rattle.scene_reader.proofs.Shapes.{area_is, block_is}
 
@@ -82,6 +79,7 @@ mesh_good m first count small h =
   where
     in_limits : (n : ℕ) → n ≤ 262144 → InLimits (pos n)
     in_limits n h = (omega (arith, ints, h), omega (arith, ints, h))
+
     zero_in : InLimits (pos 0)
     zero_in = in_limits 0 (omega arith)
 

@@ -1,13 +1,12 @@
 -- A whole scene as bytes, and back.
-use Rattle.std.proofs.Common.{◌≡◌, ℕ, ℤ, pos, negsuc, suc, zero, ◌+◌, ◌-◌, ◌*◌, ◌^◌, ◌<◌, ◌≤◌, ◌++◌, ◌∷◌, List, [], length, get_or, take, drop, map, arith, refl, sym, ap, ◌∙◌, subst, Bool, true, false, All, w16, w32, append_assoc, take-append-drop, Option, Some, None}
-use Rattle.std.specs.Prelude.{slice_index, nat_eq, nat_lt, IfSome}
+use Rattle.std.proofs.Common.{◌≡◌, ℕ, ℤ, pos, negsuc, ◌+◌, ◌*◌, ◌≤◌, ◌++◌, ◌∷◌, List, [], length, get_or, take, drop, map, arith, refl, sym, ap, ◌∙◌, subst, true, false, All, append_assoc, Option, None}
+use Rattle.std.specs.Prelude.{slice_index, nat_eq}
 use Rattle.std.specs.List.{AllByRecursion, flat_map, starts_with}
-use Rattle.std.specs.Option.{option_or}
 use Rattle.std.specs.Cmp.Lexicographic.{same_text}
 use Rattle.std.proofs.Math.Seq.{take-add}
-use Rattle.std.proofs.lemmas.Bool.{le-ltb, lt-ltb}
-use Rattle.std.proofs.lemmas.List.{length-drop, length-take, length-append, length-map, map-id, take_at, drop_at, take_all, drop_more, get_or_append_left}
-use Rattle.std.proofs.lemmas.List.Elements.{All-from_recursion, recursion_from_All, All-take, All-drop}
+use Rattle.std.proofs.lemmas.Bool.{le-ltb}
+use Rattle.std.proofs.lemmas.List.{length-append, length-map, map-id, take_at, drop_at, take_all, drop_more}
+use Rattle.std.proofs.lemmas.List.Elements.{recursion_from_All, All-take, All-drop}
 use Rattle.cull_base.specs.Screen.{IsSize}
 use Rattle.cull_base.specs.declared.rect.Rect.{Rect}
 use Rattle.cull_base.specs.declared.clip.Winding.{Winding}
@@ -16,19 +15,19 @@ use Rattle.cull_base.specs.declared.scene_types.Tri.{Tri}
 use Rattle.cull_base.specs.declared.scene_types.Object.{Object}
 use Rattle.cull_base.specs.declared.scene_types.Object.TheVariants.{Area, Block, Mesh}
 use Rattle.scene_reader.specs.declared.error.SceneError.{SceneError}
-use Rattle.scene_reader.specs.declared.error.SceneError.TheVariants.{Truncated, Trailing, BadVertex, BadIndex, BadKind, BadObject, BadCamera}
+use Rattle.scene_reader.specs.declared.error.SceneError.TheVariants.{BadVertex, BadIndex, BadKind, BadObject, BadCamera}
 use Rattle.scene_reader.specs.declared.header.Counts.{Counts}
 use Rattle.scene_reader.specs.Layout.{Parts, IsScene, IsRow, IsTri, IsObject, magic, short_bytes, word_bytes, row_bytes, tri_bytes, object_bytes, kind_of, numbers_of, stored, winding_code, header_bytes, layout, axis}
-use Rattle.scene_reader.specs.Fault.{fault_if, first_among, short_at, word_at, counts_at, entries, row_of, tri_of, raw_of, header_fault, length_fault, tables_fault, first_fault, scene_length, vertices_in, occluders_in, object_tris_in, objects_in, cameras_in, vertex_fault, index_fault, object_fault, camera_fault, is_bad_row, is_bad_object}
+use Rattle.scene_reader.specs.Fault.{first_among, short_at, word_at, counts_at, entries, row_of, tri_of, raw_of, header_fault, length_fault, tables_fault, first_fault, scene_length, vertices_in, occluders_in, object_tris_in, objects_in, cameras_in, vertex_fault, index_fault, object_fault, camera_fault, is_bad_object}
 use Rattle.scene_reader.specs.Header.{AreCounts}
-use Rattle.scene_reader.specs.PartsFault.{AreTables}
+use Rattle.scene_reader.specs.PartsFault.{AreTables, told, counts_of_parts, first_fault_of_parts}
 use Rattle.scene_reader.proofs.Kept.{length_entries}
 use Rattle.scene_reader.specs.Reading.{IsTable}
 use Rattle.scene_reader.proofs.Takes.{IsByte}
 use Rattle.scene_reader.proofs.Valid.{row_good, indices_good, area_good, block_good, mesh_good}
 use Rattle.scene_reader.proofs.Shapes.{three}
 use Rattle.scene_reader.proofs.Codes.{short_again, word_again, short_back, word_back, row_back, tri_back, row_again, tri_again}
-use Rattle.scene_reader.proofs.Headers.{Accepted, header_front, header_fine, header_accepted, counts_front, short_front, or_second, or_none_from, fault_none_from}
+use Rattle.scene_reader.proofs.Headers.{Accepted, header_front, header_fine, header_accepted, counts_front, or_second, or_none_from, fault_none_from, screen_good, counts_good}
 use Rattle.scene_reader.proofs.Pieces.{table_back, table_flat, entries_front, raw_bytes, objects_raw, raw_back, raw_again, row_length, tri_length, object_length}
 
 -- ---- headers
@@ -95,7 +94,7 @@ header_says p s = record {
   occluders = word_again (length p.occluders) (omega (arith, s.few_occluders));
   object_tris = word_again (length p.object_tris) (omega (arith, s.few_object_tris));
   objects = word_again (length p.objects) (omega (arith, s.few_objects));
-  }
+}
 
 pub says_counts : (h : List ℕ) (p : Parts) → HeaderSays h p → counts_at h ≡ counts_of p
 unfolding counts_of
@@ -110,7 +109,7 @@ scene_counts p s = record {
   few_occluders = s.few_occluders;
   few_object_tris = s.few_object_tris;
   few_objects = s.few_objects;
-  }
+}
 
 header_begins : (p : Parts) → (starts_with nat_eq (header_bytes p) magic ≡ true) × (short_at 4 (header_bytes p) ≡ 1) × (slice_index (header_bytes p) 13 ≡ 0)
 unfolding header_bytes
@@ -250,6 +249,10 @@ object_good m (Mesh first count) few h = mesh_good m first count few h
 object_fine : (m i : ℕ) (o : Object) → m ≤ 262144 → IsObject m o → object_fault m i (stored o) ≡ None
 object_fine m i o few h = or_none_from _ _ (fault_none_from _ (BadKind i) (le-ltb 2 (kind_of o) (kind_small o))) (fault_none_from _ (BadObject i) (object_good m o few h))
 
+-- an object that isn't bad has no fault
+pub fine_object : (m i : ℕ) (o : Object) → is_bad_object m (kind_of o) (numbers_of o) ≡ false → object_fault m i (stored o) ≡ None
+fine_object m i o good = or_none_from _ _ (fault_none_from _ (BadKind i) (le-ltb 2 (kind_of o) (kind_small o))) (fault_none_from _ (BadObject i) good)
+
 pub scene_tables : (p : Parts) → IsScene p → tables_fault p.vertices p.occluders p.object_tris (map stored p.objects) p.cameras ≡ None
 unfolding tables_fault
 scene_tables p s =
@@ -287,7 +290,7 @@ module _ (p : Parts) (s : IsScene p) where
     object_tris = (layout_tris p.object_tris s.object_tris).whole;
     objects = layout_objects.whole;
     cameras = layout_cameras.whole;
-    }
+  }
 
   pub scene_first : first_fault (layout p) ≡ None
   unfolding layout counts_of
@@ -475,7 +478,7 @@ scene_from h p f t objects = record {
   object_tris = t.object_tris;
   objects = objects;
   cameras = t.cameras;
-  }
+}
 
 pub fits_from : (h : List ℕ) (n : Counts) (p : Parts) → Accepted h → counts_at h ≡ n → short_at 6 h ≡ p.width → short_at 8 h ≡ p.height → short_at 10 h ≡ p.near → slice_index h 12 ≡ winding_code p.winding
     → length p.cameras ≡ n.frames → length p.vertices ≡ n.vertices → length p.occluders ≡ n.occluders → length p.object_tris ≡ n.object_tris → length p.objects ≡ n.objects → Fits h p
@@ -491,5 +494,23 @@ fits_from h n p a e w y z k cf cv co ct cj =
       occluders = ap (λ (m : Counts). m.occluders) e ∙ sym co;
       object_tris = ap (λ (m : Counts). m.object_tris) e ∙ sym ct;
       objects = ap (λ (m : Counts). m.objects) e ∙ sym cj;
-      } in
+    } in
     record { says = says; accepted = a; counts = subst AreCounts (says_counts h p says) a.counts }
+
+-- ---- parts that are a scene have no fault
+
+told_is : (n limit : ℕ) → n ≤ limit → limit ≤ 262144 → told n ≡ n
+told_is n limit h few = omega (arith, h, few)
+
+pub parts_fine : (p : Parts) → IsScene p → first_fault_of_parts p ≡ None
+unfolding first_fault_of_parts
+parts_fine p s =
+    let counts : AreCounts (counts_of_parts p) = record {
+      some_frames = omega (arith, told_is (length p.cameras) 256 s.few_frames (omega arith), s.some_frames);
+      few_frames = omega (arith, told_is (length p.cameras) 256 s.few_frames (omega arith), s.few_frames);
+      few_vertices = omega (arith, told_is (length p.vertices) 262144 s.few_vertices (omega arith), s.few_vertices);
+      few_occluders = omega (arith, told_is (length p.occluders) 65536 s.few_occluders (omega arith), s.few_occluders);
+      few_object_tris = omega (arith, told_is (length p.object_tris) 262144 s.few_object_tris (omega arith), s.few_object_tris);
+      few_objects = omega (arith, told_is (length p.objects) 65536 s.few_objects (omega arith), s.few_objects);
+    } in
+    or_none_from _ _ (screen_good p.width p.height p.near s.size s.near_some s.near_within) (or_none_from _ _ (counts_good (counts_of_parts p) counts) (scene_tables p s))

@@ -1,5 +1,5 @@
 -- The first fault of bytes that aren't the layout of a scene. Each step is tested over the whole before the next step.
-use Rattle.std.specs.Prelude.{ℕ, zero, suc, ℤ, pos, ◌+◌, ◌*◌, ◌%◌, ◌^◌, ◌+ℤ◌, List, [], ◌∷◌, length, take, drop, map, slice_index, slice_index_or, Bool, true, false, not, ◌&&◌, ◌||◌, ◌==◌, nat_lt, int_lt, if◌then◌else◌, Option, Some, None}
+use Rattle.std.specs.Prelude.{ℕ, zero, suc, ℤ, pos, ◌+◌, ◌*◌, ◌%◌, ◌^◌, ◌+ℤ◌, List, [], ◌∷◌, length, take, drop, map, slice_index, slice_index_or, Bool, not, ◌||◌, ◌==◌, nat_lt, int_lt, if◌then◌else◌, Option, Some, None}
 use Rattle.std.specs.List.{list_any, starts_with, range_with_len}
 use Rattle.std.specs.Option.{option_or}
 use Rattle.std.specs.Prelude.{nat_eq}

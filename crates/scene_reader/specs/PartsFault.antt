@@ -1,5 +1,5 @@
 -- The first fault of parts that aren't a scene: the steps of `first_fault` that speak of parts.
-use Rattle.std.specs.Prelude.{ℕ, ◌-◌, ◌^◌, min, List, length, map, Option}
+use Rattle.std.specs.Prelude.{ℕ, ◌-◌, ◌^◌, min, length, map, Option}
 use Rattle.std.specs.Option.{option_or}
 use Rattle.std.specs.List.{All}
 use Rattle.scene_reader.specs.declared.error.SceneError.{SceneError}

@@ -1,15 +1,16 @@
 //! The first fault of a scene's parts, step by step. Each step goes over a whole table.
-ghost use Rattle.std.specs.Prelude.{◌≡◌, ℕ, ◌≤◌, ◌^◌, ◌<◌, ℤ, List, None, Some, length, not, nat_lt, IsNone};
+ghost use Rattle.std.specs.Prelude.{◌≡◌, ℕ, ◌≤◌, ◌^◌, ◌<◌, ℤ, List, None, Some, length, map, not, nat_lt, IsNone};
 ghost use Rattle.std.specs.List.{All, list_any};
 ghost use Rattle.cull_base.specs.Screen.{IsSize};
-ghost use Rattle.scene_reader.specs.Layout.{IsRow, IsTri};
+ghost use Rattle.scene_reader.specs.Layout.{IsScene, IsRow, IsTri, IsObject, stored};
 ghost use Rattle.scene_reader.specs.Fault.{first_among, vertex_fault, index_fault, object_fault, camera_fault, screen_fault, tables_fault};
-ghost use Rattle.scene_reader.specs.PartsFault.{AreTables};
+ghost use Rattle.scene_reader.specs.PartsFault.{AreTables, told, counts_of_parts, first_fault_of_parts};
 
 use crate::error::SceneError;
-use crate::objects::is_bad_row;
+use crate::header::{Counts, count_fault};
+use crate::objects::{is_bad_object, is_bad_row};
 use crate::scene::SceneParts;
-use cull_base::{Size, Tri};
+use cull_base::{Object, Size, Tri};
 
 /// The first vertex with a coordinate outside the limits.
 pub fn vertex_fault(vertices: &[[i32; 3]]) -> Option<SceneError>
@@ -99,4 +100,55 @@ pub fn tables_fault(parts: &SceneParts, objects: Option<SceneError>) -> Option<S
         return objects;
     }
     camera_fault(&parts.cameras)
+}
+
+/// The first object whose numbers its kind doesn't allow, beside so many object triangles.
+fn objects_fault(objects: &[Object], object_tris: u32) -> Option<SceneError>
+    requires some { length objects.now < 2 ^ 32 }
+    requires few { object_tris ≤ 262144 }
+    ensures value { result ≡ first_among (object_fault object_tris) 0 (map stored objects.now) }
+    ensures valid { IsNone result → All (IsObject object_tris) objects.now }
+{
+    for (i, object) in objects.iter().enumerate() {
+        if is_bad_object(object, object_tris) {
+            return Some(SceneError::BadObject(i as u32));
+        }
+    }
+    None
+}
+
+// A count that is too large for 32 bits is told as the greatest number of 32 bits.
+fn told(len: usize) -> u32
+    ensures { result ≡ told len }
+{
+    len.min(u32::MAX as usize) as u32
+}
+
+/// How many entries each table has.
+fn counts_of(parts: &SceneParts) -> Counts
+    ensures { result ≡ counts_of_parts parts.now }
+{
+    Counts {
+        frames: told(parts.cameras.len()),
+        vertices: told(parts.vertices.len()),
+        occluders: told(parts.occluders.len()),
+        object_tris: told(parts.object_tris.len()),
+        objects: told(parts.objects.len()),
+    }
+}
+
+/// The first fault of parts, which are a scene where there is none.
+#[tactic(auto, unfolding(crate::specs::PartsFault::first_fault_of_parts))]
+pub fn parts_fault(parts: &SceneParts) -> Option<SceneError>
+    ensures value { result ≡ first_fault_of_parts parts.now }
+    ensures valid { IsNone result → IsScene parts.now }
+{
+    if let Some(fault) = screen_fault(parts.width, parts.height, parts.near) {
+        return Some(fault);
+    }
+    if let Some(fault) = count_fault(&counts_of(parts)) {
+        return Some(fault);
+    }
+    let object_tris = parts.object_tris.len() as u32;
+    tables_fault(parts, objects_fault(&parts.objects, object_tris))
 }

@@ -4,5 +4,4 @@ ghost use Rattle.scene_reader.specs.Law.{OneLayout};
 /// Bytes have no first fault exactly where they are the layout of a scene, and then of only one.
 pub fn one_layout()
     ensures { OneLayout }
-{
-}
+{}

@@ -76,9 +76,7 @@ pub fn object_of(kind: u8, numbers: &[i32; 6]) -> Option<Object>
 fn is_bad_area(rect: &Rect, w: i32) -> bool
     ensures { result ≡ is_bad_object 0 0 (numbers_of (Object.Area rect.now w)) }
 {
-    is_bad_row(&[rect.x0, rect.y0, rect.x1, rect.y1, w])
-        || rect.x1 < rect.x0
-        || rect.y1 < rect.y0
+    is_bad_row(&[rect.x0, rect.y0, rect.x1, rect.y1, w]) || rect.x1 < rect.x0 || rect.y1 < rect.y0
 }
 
 fn runs_back(low: &[i32; 3], high: &[i32; 3]) -> bool

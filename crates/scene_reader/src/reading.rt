@@ -24,11 +24,7 @@ struct Draft {
 }
 
 /// Reads the five tables that a header announces.
-fn read_parts<S: Source>(
-    alloc: Global,
-    source: &mut S,
-    header: Header,
-) -> Result<Draft, SceneError>
+fn read_parts<S: Source>(alloc: Global, source: &mut S, header: Header) -> Result<Draft, SceneError>
     requires { AreCounts header.counts }
     ensures taken { IfOk result (λ d. TakesParts header (S.left source.old) (S.left source.new) d.parts d.objects_fault) }
     ensures short { IfErr result (λ e. IsRefusal e → EndsWithin (scene_length header.counts - 32) (scene_length header.counts) 32 (S.left source.old) (S.left source.new) e) }
@@ -51,7 +47,14 @@ fn read_parts<S: Source>(
     let vertices = read_vertices(alloc, source, counts.vertices, need, HEADER)?;
     let occluders = read_triangles(alloc, source, counts.occluders, need, occluders_at)?;
     let object_tris = read_triangles(alloc, source, counts.object_tris, need, object_tris_at)?;
-    let objects = read_objects(alloc, source, counts.objects, counts.object_tris, need, objects_at)?;
+    let objects = read_objects(
+        alloc,
+        source,
+        counts.objects,
+        counts.object_tris,
+        need,
+        objects_at,
+    )?;
     let cameras = read_cameras(alloc, source, counts.frames, need, cameras_at)?;
     let parts = SceneParts {
         width,

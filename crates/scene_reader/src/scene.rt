@@ -1,6 +1,7 @@
 //! A scene: its parts, tested once, so that whoever holds one need not test them again.
 ghost use Rattle.std.specs.Prelude.{◌≡◌, MatchResult, IsOk};
 
+use crate::checks::parts_fault;
 use crate::error::SceneError;
 use cull_base::{Object, Size, Tri, Winding};
 use std::marker::Model;
@@ -54,7 +55,10 @@ impl Scene {
         ensures given { IsScene parts → IsOk result }
         ensures valid { IsOk result → IsScene parts }
     {
-        Ok(Scene { parts })
+        match parts_fault(&parts) {
+            Some(fault) => Err(fault),
+            None => Ok(Scene::sealed(parts)),
+        }
     }
 
     /// A scene of parts that are known to be valid.

@@ -12,7 +12,9 @@ use std::alloc::Global;
 
 /// Bytes of a vertex, of a triangle and of a camera.
 pub const VERTEX: u32 = 12;
+
 pub const TRIANGLE: u32 = 12;
+
 pub const CAMERA: u32 = 48;
 
 /// The next table of vertices.

@@ -1,4 +1,4 @@
-use Rattle.std.proofs.Common.{◌≡◌, ◌∙◌, sym, ap, List, ℕ, Bool, false, length, get_or, [], arith, All}
+use Rattle.std.proofs.Common.{◌≡◌, ◌∙◌, sym, ap, Bool, false, get_or, [], arith}
 use Rattle.std.specs.Prelude.{not, nat_lt}
 use Rattle.std.specs.List.{list_any}
 use Rattle.std.proofs.lemmas.List.{take_all}

@@ -1,4 +1,4 @@
-use Rattle.std.proofs.Common.{◌≡◌, ◌+◌, ◌≤◌, length, drop, take}
+use Rattle.std.proofs.Common.{◌≡◌, drop, take}
 use Rattle.std.specs.List.{All}
 use Rattle.scene_reader.specs.Layout.{IsTri}
 use Rattle.scene_reader.specs.Fault.{first_among, index_fault}

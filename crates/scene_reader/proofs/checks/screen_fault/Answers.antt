@@ -1,4 +1,4 @@
-use Rattle.std.proofs.Common.{◌≡◌, ◌∙◌, sym, ap, ℕ, ◌<◌, ◌≤◌, Bool, false, true, arith, refl, inl, inr, ◌⊎◌}
+use Rattle.std.proofs.Common.{◌≡◌, ℕ, ◌<◌, ◌≤◌, false, true, arith, refl, inl, inr, ◌⊎◌}
 use Rattle.std.specs.Prelude.{◌||◌, nat_lt}
 use Rattle.std.proofs.lemmas.Bool.{true_from_ne_false, both_ways, or_left, or_right, or_from, lt-ltb, le-ltb}
 use Rattle.scene_reader.specs.Fault.{screen_fault, is_bad_size}

@@ -1,4 +1,4 @@
-use Rattle.std.proofs.Common.{◌≡◌, ◌∙◌, sym, ap, List, ℤ, Bool, false, length, get_or, [], arith, All}
+use Rattle.std.proofs.Common.{◌≡◌, ◌∙◌, sym, ap, Bool, false, get_or, [], arith}
 use Rattle.std.proofs.lemmas.List.{take_all}
 use Rattle.std.proofs.lemmas.List.Elements.{All-more, All-same}
 use Rattle.scene_reader.specs.declared.error.SceneError.TheVariants.{BadVertex}

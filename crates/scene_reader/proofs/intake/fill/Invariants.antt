@@ -1,4 +1,4 @@
-use Rattle.std.proofs.Common.{◌≡◌, ℕ, ◌+◌, ◌≤◌, ◌-◌, length, take}
+use Rattle.std.proofs.Common.{◌+◌, ◌≤◌, ◌-◌, length, take}
 use Rattle.scene_reader.specs.Reading.{Takes}
 use Rattle.scene_reader.proofs.intake.fill.Given as goal
 

@@ -1,4 +1,4 @@
-use Rattle.std.proofs.Common.{◌≡◌, ◌≢◌, ◌+◌, ◌*◌, ◌<◌, ℕ, ℤ, List, get_or, set, pos, length, arith, rules, below_more, get_or-set_other, get_or-set_same, ◌∙◌, ap, sym, to_z, of_z, w32, subst}
+use Rattle.std.proofs.Common.{◌≡◌, ◌≢◌, ◌+◌, ◌*◌, ◌<◌, ℕ, ℤ, List, get_or, set, pos, length, arith, rules, below_more, get_or-set_other, get_or-set_same, ◌∙◌, to_z, of_z, w32}
 use Rattle.std.proofs.lemmas.List.{length-set}
 use Rattle.std.proofs.lemmas.Int.{to_z-of_z}
 use mir.Val.{SFits}

@@ -1,4 +1,4 @@
-use Rattle.std.proofs.Common.{◌≡◌, ◌+◌, ◌*◌, ◌<◌, ℕ, get_or, pos, length}
+use Rattle.std.proofs.Common.{◌≡◌, ◌*◌, ◌<◌, ℕ, get_or, pos, length}
 use Rattle.scene_reader.specs.Fault.{signed_at}
 use Rattle.scene_reader.proofs.numbers.row_of.Given as goal
 

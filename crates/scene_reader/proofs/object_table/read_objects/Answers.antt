@@ -1,4 +1,4 @@
-use Rattle.std.proofs.Common.{◌≡◌, ◌+◌, ◌*◌, refl, arith, length}
+use Rattle.std.proofs.Common.{◌≡◌, refl, arith, length}
 use Rattle.std.proofs.lemmas.Result.{err_from_is_err_and}
 use Rattle.scene_reader.specs.Fault.{raw_of}
 use Rattle.scene_reader.proofs.Entries.{table_ends}
@@ -11,7 +11,7 @@ loop-i-init g c = record {
   taken = objects_none c.args.object_tris _ c.in_ok-with_capacity.field-0.items c.in_ok-with_capacity.ensures.items;
   faults = omega arith;
   turns = omega arith;
-  }
+}
 
 pub returns-in_err-fetch-clause-short : goal.returns-in_err-fetch-clause-short
 returns-in_err-fetch-clause-short g c =

@@ -1,4 +1,4 @@
-use Rattle.std.proofs.Common.{◌≡◌, true, false, w32, rules, ap, sym, refl, ◌∙◌, Bool, length, get_or, pos}
+use Rattle.std.proofs.Common.{w32, rules, refl, get_or, pos}
 use Rattle.std.proofs.lemmas.Int.{to_z-of_z}
 use mir.Val.{SFits}
 use Rattle.scene_reader.proofs.Shapes.{six, area_padded, not_zero, zero_is}

@@ -1,8 +1,7 @@
-use Rattle.std.proofs.Common.{◌≡◌, true, false, w32, rules, ap, sym, refl, ◌∙◌, Bool}
+use Rattle.std.proofs.Common.{◌≡◌, w32, rules, ap, sym, refl, ◌∙◌, Bool}
 use Rattle.std.specs.Prelude.{◌||◌, int_lt}
 use Rattle.std.proofs.lemmas.Int.{to_z-of_z}
 use mir.Val.{SFits}
-use Rattle.scene_reader.specs.Fault.{is_bad_row}
 use Rattle.scene_reader.proofs.Shapes.{area_is, or_then, or_else}
 use Rattle.scene_reader.proofs.objects.is_bad_area.Goals as goal
 use Rattle.scene_reader.proofs.objects.is_bad_area.Goals.{then-is_bad_row, else-is_bad_row}

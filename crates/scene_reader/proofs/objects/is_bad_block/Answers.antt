@@ -1,8 +1,7 @@
-use Rattle.std.proofs.Common.{◌≡◌, true, false, w32, rules, ap, sym, refl, ◌∙◌, Bool, length}
-use Rattle.std.specs.Prelude.{◌||◌, int_lt}
+use Rattle.std.proofs.Common.{◌≡◌, sym, refl, ◌∙◌}
+use Rattle.std.specs.Prelude.{◌||◌}
 use Rattle.scene_reader.specs.Fault.{is_bad_row}
-use Rattle.scene_reader.specs.Layout.{axis}
-use Rattle.scene_reader.proofs.Shapes.{block_is, or_then, or_else, block_parts}
+use Rattle.scene_reader.proofs.Shapes.{or_then, or_else, block_parts}
 use Rattle.scene_reader.proofs.objects.is_bad_block.Goals as goal
 use Rattle.scene_reader.proofs.objects.is_bad_block.Goals.{then-is_bad_row, else-is_bad_row}
 

@@ -1,4 +1,4 @@
-use Rattle.std.proofs.Common.{◌≡◌, false, sym, ap, ◌∙◌, refl, subst, length, ℤ, List, arith, Bool, w32, rules}
+use Rattle.std.proofs.Common.{sym, ap, ◌∙◌, subst, arith, w32, rules}
 use Rattle.std.proofs.lemmas.Int.{to_z-of_z}
 use mir.Val.{SFits}
 use Rattle.cull_base.specs.declared.scene_types.Object.{Object}

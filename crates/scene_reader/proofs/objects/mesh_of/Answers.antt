@@ -1,4 +1,4 @@
-use Rattle.std.proofs.Common.{◌≡◌, true, false, w32, rules, ap, sym, refl, ◌∙◌, Bool, length, get_or, pos, arith}
+use Rattle.std.proofs.Common.{◌≡◌, w32, rules, length, get_or, pos, arith}
 use Rattle.std.proofs.lemmas.Int.{to_z-of_z}
 use mir.Val.{SFits}
 use Rattle.scene_reader.proofs.Shapes.{mesh_first, mesh_second, mesh_padded, not_zero}

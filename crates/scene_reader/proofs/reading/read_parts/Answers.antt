@@ -1,6 +1,5 @@
-use Rattle.std.proofs.Common.{◌≡◌, ◌+◌, ◌*◌, ◌≤◌, refl, arith}
+use Rattle.std.proofs.Common.{refl, arith}
 use Rattle.std.proofs.lemmas.Result.{err_from_is_err_and}
-use Rattle.scene_reader.specs.Fault.{scene_length}
 use Rattle.scene_reader.proofs.Takes.{takes_then, ends_later, ends_wider}
 use Rattle.scene_reader.proofs.reading.read_parts.Goals as goal
 
@@ -14,8 +13,8 @@ returns-in_err-occluders-clause-short g c =
     let p = err_from_is_err_and c.from_residual-in_err-occluders.result c.from_residual-in_err-occluders.ensures.1 in
     let v = c.in_ok-vertices.ensures.taken in
     rw (p.1, p.2) (λ refusal.
-        ends_wider _ _ _ _ _ _ _ (omega arith) (ends_later _ _ _ v.bytes _ _ _ _ _ _ v.whole refl v.takes
-        (c.in_err-occluders.ensures.short refusal)))
+    ends_wider _ _ _ _ _ _ _ (omega arith) (ends_later _ _ _ v.bytes _ _ _ _ _ _ v.whole refl v.takes
+    (c.in_err-occluders.ensures.short refusal)))
 
 pub returns-in_err-object_tris-clause-short : goal.returns-in_err-object_tris-clause-short
 returns-in_err-object_tris-clause-short g c =
@@ -23,9 +22,9 @@ returns-in_err-object_tris-clause-short g c =
     let v = c.in_ok-vertices.ensures.taken in
     let o = c.in_ok-occluders.ensures.taken in
     rw (p.1, p.2) (λ refusal.
-        ends_wider _ _ _ _ _ _ _ (omega arith) (ends_later _ _ _ v.bytes _ _ _ _ _ _ v.whole refl v.takes
-        (ends_later _ _ _ o.bytes _ _ _ _ _ _ o.whole refl o.takes
-        (c.in_err-object_tris.ensures.short refusal))))
+    ends_wider _ _ _ _ _ _ _ (omega arith) (ends_later _ _ _ v.bytes _ _ _ _ _ _ v.whole refl v.takes
+    (ends_later _ _ _ o.bytes _ _ _ _ _ _ o.whole refl o.takes
+    (c.in_err-object_tris.ensures.short refusal))))
 
 pub returns-in_err-objects-clause-short : goal.returns-in_err-objects-clause-short
 returns-in_err-objects-clause-short g c =
@@ -34,10 +33,10 @@ returns-in_err-objects-clause-short g c =
     let o = c.in_ok-occluders.ensures.taken in
     let t = c.in_ok-object_tris.ensures.taken in
     rw (p.1, p.2) (λ refusal.
-        ends_wider _ _ _ _ _ _ _ (omega arith) (ends_later _ _ _ v.bytes _ _ _ _ _ _ v.whole refl v.takes
-        (ends_later _ _ _ o.bytes _ _ _ _ _ _ o.whole refl o.takes
-        (ends_later _ _ _ t.bytes _ _ _ _ _ _ t.whole refl t.takes
-        (c.in_err-objects.ensures.short refusal)))))
+    ends_wider _ _ _ _ _ _ _ (omega arith) (ends_later _ _ _ v.bytes _ _ _ _ _ _ v.whole refl v.takes
+    (ends_later _ _ _ o.bytes _ _ _ _ _ _ o.whole refl o.takes
+    (ends_later _ _ _ t.bytes _ _ _ _ _ _ t.whole refl t.takes
+    (c.in_err-objects.ensures.short refusal)))))
 
 pub returns-in_err-cameras-clause-short : goal.returns-in_err-cameras-clause-short
 returns-in_err-cameras-clause-short g c =
@@ -47,11 +46,11 @@ returns-in_err-cameras-clause-short g c =
     let t = c.in_ok-object_tris.ensures.taken in
     let j = c.in_ok-objects.ensures.taken.table in
     rw (p.1, p.2) (λ refusal.
-        ends_wider _ _ _ _ _ _ _ (omega arith) (ends_later _ _ _ v.bytes _ _ _ _ _ _ v.whole refl v.takes
-        (ends_later _ _ _ o.bytes _ _ _ _ _ _ o.whole refl o.takes
-        (ends_later _ _ _ t.bytes _ _ _ _ _ _ t.whole refl t.takes
-        (ends_later _ _ _ j.bytes _ _ _ _ _ _ j.whole refl j.takes
-        (c.in_err-cameras.ensures.short refusal))))))
+    ends_wider _ _ _ _ _ _ _ (omega arith) (ends_later _ _ _ v.bytes _ _ _ _ _ _ v.whole refl v.takes
+    (ends_later _ _ _ o.bytes _ _ _ _ _ _ o.whole refl o.takes
+    (ends_later _ _ _ t.bytes _ _ _ _ _ _ t.whole refl t.takes
+    (ends_later _ _ _ j.bytes _ _ _ _ _ _ j.whole refl j.takes
+    (c.in_err-cameras.ensures.short refusal))))))
 
 pub returns-clause-taken : goal.returns-clause-taken
 returns-clause-taken g c =

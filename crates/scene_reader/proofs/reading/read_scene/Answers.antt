@@ -1,4 +1,4 @@
-use Rattle.scene_reader.proofs.Refusals.{ok_scene, ok_layout, ok_only, ok_first, err_refused, err_header, err_never}
+use Rattle.scene_reader.proofs.Refusals.{ok_layout, ok_only, ok_first, err_refused, err_header, err_never}
 use Rattle.scene_reader.proofs.reading.read_scene.Goals as goal
 
 pub returns-clause-layout : goal.returns-clause-layout

@@ -1,4 +1,4 @@
-use Rattle.std.proofs.Common.{◌≡◌, ◌∙◌, sym, ap, refl, arith, length, ◌≤◌, ℕ}
+use Rattle.std.proofs.Common.{◌∙◌, sym, ap, refl, arith, ℕ}
 use Rattle.std.proofs.lemmas.Result.{err_from_is_err_and}
 use Rattle.scene_reader.proofs.Refusals.{refuses_short, refuses_header, refuses_body, refuses_trailing, refuses_tables, reads, parts_scene, tris_count, whole_length, not_read, tables_refusal, err_is, refuses_same}
 use Rattle.scene_reader.specs.Fault.{first_among, object_fault}
@@ -32,10 +32,10 @@ returns-in_err-read_end-clause-refused g c =
     let p = err_from_is_err_and c.from_residual-in_err-read_end.result c.from_residual-in_err-read_end.ensures.1 in
     let h = c.in_ok-header.ensures.value in
     let t = c.in_ok-draft.ensures.taken in
-    rw (p.1, p.2) (λ refusal. 
-        let x = c.in_err-read_end.ensures.trailing refusal in
-        refuses_same (g.S.Source.left c.args.source.now) (g.S.Source.left c.read_end.new.source) _ _ x.0
-        (refuses_trailing _ _ _ _ c.fetch.new.buffer _ x.1 c.in_ok-header.header.counts c.fetch.auto.buffer h.accepted (sym h.counts) (whole_length _ _ _ c.fetch.new.buffer c.in_ok-header.header c.in_ok-draft.draft.parts c.in_ok-draft.draft.objects_fault c.fetch.auto.buffer c.in_ok-fetch.ensures.taken h t) c.in_ok-fetch.ensures.taken t.takes x.2 x.3))
+    rw (p.1, p.2) (λ refusal.
+    let x = c.in_err-read_end.ensures.trailing refusal in
+    refuses_same (g.S.Source.left c.args.source.now) (g.S.Source.left c.read_end.new.source) _ _ x.0
+    (refuses_trailing _ _ _ _ c.fetch.new.buffer _ x.1 c.in_ok-header.header.counts c.fetch.auto.buffer h.accepted (sym h.counts) (whole_length _ _ _ c.fetch.new.buffer c.in_ok-header.header c.in_ok-draft.draft.parts c.in_ok-draft.draft.objects_fault c.fetch.auto.buffer c.in_ok-fetch.ensures.taken h t) c.in_ok-fetch.ensures.taken t.takes x.2 x.3))
 
 pub tables_fault-requires : goal.tables_fault-requires
 tables_fault-requires g c =

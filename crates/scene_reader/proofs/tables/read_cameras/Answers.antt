@@ -1,4 +1,4 @@
-use Rattle.std.proofs.Common.{◌≡◌, ◌+◌, ◌*◌, ◌++◌, ◌∷◌, [], refl, arith, length}
+use Rattle.std.proofs.Common.{◌≡◌, refl, arith, length}
 use Rattle.std.proofs.lemmas.Result.{err_from_is_err_and}
 use Rattle.scene_reader.specs.Fault.{row_of}
 use Rattle.scene_reader.proofs.Entries.{table_none, table_more, table_ends}
@@ -10,7 +10,7 @@ loop-i-init g c = record {
   taken = table_none 48 (row_of 12) _ c.in_ok-cameras.cameras.items c.in_ok-cameras.ensures.items;
   faults = omega arith;
   turns = omega arith;
-  }
+}
 
 pub returns-in_err-fetch-clause-short : goal.returns-in_err-fetch-clause-short
 returns-in_err-fetch-clause-short g c =

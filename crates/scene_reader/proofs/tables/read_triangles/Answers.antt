@@ -1,4 +1,4 @@
-use Rattle.std.proofs.Common.{◌≡◌, ◌+◌, ◌*◌, ◌++◌, ◌∷◌, [], refl, arith, length, ap, List, ℕ}
+use Rattle.std.proofs.Common.{◌≡◌, refl, arith, length, ap, List, ℕ}
 use Rattle.std.proofs.lemmas.Result.{err_from_is_err_and}
 use Rattle.scene_reader.specs.Fault.{tri_of}
 use Rattle.scene_reader.proofs.Entries.{table_none, table_more, table_ends}
@@ -10,7 +10,7 @@ loop-i-init g c = record {
   taken = table_none 12 tri_of _ c.in_ok-triangles.triangles.items c.in_ok-triangles.ensures.items;
   faults = omega arith;
   turns = omega arith;
-  }
+}
 
 pub returns-in_err-fetch-clause-short : goal.returns-in_err-fetch-clause-short
 returns-in_err-fetch-clause-short g c =

@@ -1,4 +1,4 @@
-use Rattle.std.proofs.Common.{◌≡◌, ◌+◌, ◌*◌, ◌≤◌, length, ap, List, ℕ}
+use Rattle.std.proofs.Common.{◌≡◌, ◌+◌, ◌*◌, ◌≤◌, length}
 use Rattle.scene_reader.specs.Fault.{tri_of}
 use Rattle.scene_reader.specs.Reading.{TakesTable}
 use Rattle.scene_reader.proofs.tables.read_triangles.Given as goal

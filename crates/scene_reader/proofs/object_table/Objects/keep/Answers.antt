@@ -1,4 +1,3 @@
-use Rattle.std.proofs.Common.{◌≡◌}
 use Rattle.std.proofs.lemmas.List.Elements.{All-push}
 use Rattle.scene_reader.specs.Layout.{IsObject}
 use Rattle.scene_reader.proofs.object_table.Objects.keep.Goals as goal
