@@ -51,7 +51,7 @@ own_list_of size tile j [] sized all h on = refl
 own_list_of size tile j (x ∷ xs) sized all h on = after-tile_list size tile j (x ∷ xs) (sized (omega arith)) all h on
 
 -- what the loop over the pieces of a list has made of a tile
-pub drawn_is : (list : Listed) (tile : ℕ) (t : TileOf) → length t.subs ≡ 8 → t.count ≡ length list.members
+pub drawn_is : (list : Listed) (tile : ℕ) (t : TileOf) → length t.subs ≡ 8 → t.count ≡ length (tile_list list.size tile list.members)
     → ((j : ℕ) → j < 8 → is_on_screen list.size (tile_sub list.size tile j) ≡ true → sub_at t j ≡ after (tile_sub list.size tile j) list.members)
     → ((j : ℕ) → j < 8 → is_on_screen list.size (tile_sub list.size tile j) ≡ false → sub_at t j ≡ empty_state)
     → ((k : ℕ) → k < length list.members → IsPiece (slice_index_or list.members k no_piece)) → (0 < length list.members → IsSize list.size.width list.size.height) → IsDrawn list tile t

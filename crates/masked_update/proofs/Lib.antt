@@ -9,3 +9,6 @@ pub mod Best
 pub mod MergeSound
 pub mod Boxes
 pub mod Lists
+pub mod Spans
+pub mod Taking
+pub mod TileLists

@@ -4,3 +4,4 @@ pub mod Fields
 pub mod TileOf
 pub mod Merged
 pub mod Drawn
+pub mod Taken

@@ -3,6 +3,7 @@
 
 mod draw;
 mod merging;
+mod span;
 mod sub_tile;
 #[cfg(test)]
 mod tests;
