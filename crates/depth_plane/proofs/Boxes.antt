@@ -1,11 +1,11 @@
 -- A sample that a piece covers or touches lies in the piece's box.
-use Rattle.std.proofs.Common.{◌≡◌, ℕ, ℤ, pos, negsuc, ◌+◌, ◌*◌, ◌≤◌, ◌/◌, ◌+ℤ◌, ◌*ℤ◌, ◌≤ℤ◌, ◌<ℤ◌, arith, true}
-use Rattle.std.specs.Int.{int_min, int_max, int_div_euclid}
+use Rattle.std.proofs.Common.{◌≡◌, ℕ, ℤ, pos, negsuc, ◌+◌, ◌*◌, ◌≤◌, ◌+ℤ◌, ◌*ℤ◌, ◌≤ℤ◌, ◌<ℤ◌, arith, true}
+use Rattle.std.specs.Int.{int_min, int_max}
 use Rattle.std.proofs.lemmas.Int.{ints, clamps}
-use Rattle.cull_base.specs.Piece.{Piece, Point, IsPiece, vertex, edge_value, doubled_area, covers, touches, middle, box_of, least_of_three, greatest_of_three, first_pixel, pixel_behind}
+use Rattle.cull_base.specs.Piece.{Piece, IsPiece, vertex, edge_value, doubled_area, covers, touches, middle, box_of, least_of_three, greatest_of_three, first_pixel, pixel_behind}
 use Rattle.cull_base.specs.Rectangle.{HasPixel}
 use Rattle.depth_plane.proofs.Products.{mul_comm, le_from_times}
-use Rattle.depth_plane.proofs.Mean.{Weights, weights_of, touches_covered, mean_above, mean_below, mean_x, mean_y, total_of}
+use Rattle.depth_plane.proofs.Mean.{weights_of, touches_covered, mean_above, mean_below, mean_x, mean_y, total_of}
 
 -- a mean of three numbers lies between the least and the greatest
 between : (a b c w x y d p : ℤ) → pos 0 <ℤ d → pos 0 ≤ℤ w → pos 0 ≤ℤ x → pos 0 ≤ℤ y → d ≡ (w +ℤ x) +ℤ y → d *ℤ p ≡ ((w *ℤ a) +ℤ (x *ℤ b)) +ℤ (y *ℤ c) →

@@ -1,5 +1,5 @@
 -- A plane is least and greatest over the samples of a subtile at a corner.
-use Rattle.std.proofs.Common.{◌≡◌, ℕ, ℤ, pos, negsuc, suc, zero, ◌+◌, ◌*◌, ◌/◌, ◌%◌, ◌<◌, ◌≤◌, ◌+ℤ◌, ◌*ℤ◌, ◌≤ℤ◌, arith, refl, List, [], ◌∷◌, map, length, get_or, ◌⊎◌, inl, inr}
+use Rattle.std.proofs.Common.{◌≡◌, ℕ, ℤ, pos, negsuc, suc, zero, ◌+◌, ◌*◌, ◌/◌, ◌%◌, ◌<◌, ◌≤◌, ◌*ℤ◌, ◌≤ℤ◌, arith, refl, List, map, length, get_or, ◌⊎◌, inl, inr}
 use Rattle.std.specs.Int.{int_min, int_max}
 use Rattle.std.specs.List.{fold, range_with_len, All, Contains}
 use Rattle.std.proofs.Math.Nat.{mul-le-mul_left}

@@ -1,7 +1,6 @@
 -- The bounds of a subtile hold at each sample that the piece touches.
-use Rattle.std.proofs.Common.{◌≡◌, ℕ, ℤ, pos, negsuc, ◌≤◌, ◌<◌, ◌*ℤ◌, ◌≤ℤ◌, ◌<ℤ◌, arith, refl, Bool, true, false, cond, min, max, length, List, slice_index, int_lt, ap, ◌∙◌, sym}
+use Rattle.std.proofs.Common.{◌≡◌, ℕ, ℤ, pos, negsuc, ◌≤◌, ◌<◌, ◌*ℤ◌, ◌≤ℤ◌, ◌<ℤ◌, arith, refl, true, false, cond, min, max, List, slice_index, int_lt}
 use Rattle.std.specs.Int.{int_min, int_max}
-use Rattle.std.specs.List.{All}
 use Rattle.std.proofs.lemmas.Int.{ints, clamps}
 use Rattle.std.proofs.lemmas.List.Elements.{All-get_or}
 use Rattle.cull_base.specs.Piece.{Piece, IsPiece, touches, sample, each_sample, nearness}
@@ -12,7 +11,7 @@ use Rattle.depth_plane.proofs.Products.{le_times}
 use Rattle.depth_plane.proofs.Floors.{floor_of-le, ceiling_of-ge}
 use Rattle.depth_plane.proofs.Corners.{least_of-le, greatest_of-ge}
 use Rattle.depth_plane.proofs.Mean.{weights_of, numerator_above, numerator_below}
-use Rattle.depth_plane.proofs.Planes.{numerator_at-plane_of, area-plane_of, each_sample-plane_of}
+use Rattle.depth_plane.proofs.Planes.{area-plane_of, each_sample-plane_of}
 
 in_range-le : (z : ℤ) → pos 0 ≤ℤ z → pos (in_range z) ≤ℤ z
 in_range-le (pos n) h = omega (arith, ints)

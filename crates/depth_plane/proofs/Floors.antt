@@ -1,6 +1,5 @@
 -- Whole quotients by a positive divisor.
-use Rattle.std.proofs.Common.{◌≡◌, ℕ, ℤ, pos, negsuc, suc, zero, ◌+◌, ◌*◌, ◌/◌, ◌%◌, ◌≤◌, ◌<◌, ◌+ℤ◌, ◌-ℤ◌, ◌*ℤ◌, ◌≤ℤ◌, ◌<ℤ◌, neg_ℤ, arith, refl}
-use Rattle.std.specs.Int.{int_div_euclid}
+use Rattle.std.proofs.Common.{ℤ, pos, negsuc, ◌<◌, ◌+ℤ◌, ◌*ℤ◌, ◌≤ℤ◌, ◌<ℤ◌, neg_ℤ, arith}
 use Rattle.std.proofs.lemmas.Int.{ints}
 use Rattle.cull_base.specs.Depth.{floor_of, ceiling_of}
 use Rattle.depth_plane.proofs.Products.{neg-mul}

@@ -1,7 +1,7 @@
 -- Two fractions are compared by whole quotients first, and by remainders where these agree.
-use Rattle.std.proofs.Common.{◌≡◌, ◌≢◌, ℕ, ℤ, pos, negsuc, ◌+ℤ◌, ◌*ℤ◌, ◌≤ℤ◌, ◌<ℤ◌, arith, refl}
+use Rattle.std.proofs.Common.{◌≡◌, ◌≢◌, ℤ, pos, negsuc, ◌+ℤ◌, ◌*ℤ◌, ◌≤ℤ◌, ◌<ℤ◌, arith}
 use Rattle.std.proofs.lemmas.Int.{ints, by_lt_z}
-use Rattle.cull_base.proofs.Ring.{diff, diff-add, diff-mul, diff-same, over3, over4}
+use Rattle.cull_base.proofs.Ring.{diff-add, diff-mul, diff-same, over3, over4}
 use Rattle.depth_plane.proofs.Products.{le_times, mul_comm, mul-add}
 
 split_times : (w d r e : ℤ) → ((w *ℤ d) +ℤ r) *ℤ e ≡ (w *ℤ (d *ℤ e)) +ℤ (r *ℤ e)

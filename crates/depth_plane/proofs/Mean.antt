@@ -1,12 +1,12 @@
 -- Inside a piece, depth and place are means of the vertices', weighted by the values of the opposite edges.
-use Rattle.std.proofs.Common.{◌≡◌, ℕ, ℤ, pos, negsuc, suc, ◌+◌, ◌*◌, ◌≤◌, ◌+ℤ◌, ◌-ℤ◌, ◌*ℤ◌, ◌≤ℤ◌, ◌<ℤ◌, arith, refl, Bool, true, false, ◌&&◌, ◌||◌, int_lt, int_le, min, max}
+use Rattle.std.proofs.Common.{◌≡◌, ℕ, ℤ, pos, negsuc, ◌≤◌, ◌+ℤ◌, ◌-ℤ◌, ◌*ℤ◌, ◌≤ℤ◌, arith, refl, Bool, true, false, ◌&&◌, ◌||◌, int_lt, int_le}
 use Rattle.std.specs.Ordering.{int_eq}
 use Rattle.std.proofs.lemmas.Int.{ints}
 use Rattle.std.proofs.lemmas.Bool.Decides.{nat_tests}
-use Rattle.cull_base.specs.Piece.{Piece, Point, vertex, nearness, edge_value, doubled_area, edge_covers, edge_touches, covers, touches, is_top_or_left}
+use Rattle.cull_base.specs.Piece.{Piece, Point, vertex, nearness, edge_value, doubled_area, covers, touches, is_top_or_left}
 use Rattle.cull_base.specs.Depth.{numerator, denominator}
-use Rattle.cull_base.proofs.Ring.{diff, diff-add, diff-sub, diff-mul, diff-same, over1, over2, over3, over4}
-use Rattle.depth_plane.proofs.Products.{mul_comm, mul-add_three, le_times}
+use Rattle.cull_base.proofs.Ring.{diff, diff-add, diff-sub, diff-mul, diff-same, over4}
+use Rattle.depth_plane.proofs.Products.{mul-add_three, le_times}
 
 abbrev pub edge : ℤ → ℤ → ℤ → ℤ → ℤ → ℤ → ℤ
 edge ax ay bx by px py = ((bx -ℤ ax) *ℤ (py -ℤ ay)) -ℤ ((by -ℤ ay) *ℤ (px -ℤ ax))

@@ -1,13 +1,13 @@
 -- The plane of a piece has the piece's depth at each point.
-use Rattle.std.proofs.Common.{◌≡◌, ℕ, ℤ, pos, ◌+◌, ◌*◌, ◌+ℤ◌, ◌-ℤ◌, ◌*ℤ◌, ◌<ℤ◌, arith, refl, ap, ap₂, List, [], ◌∷◌, map}
-use Rattle.cull_base.specs.Piece.{Piece, Point, vertex, nearness, edge_value, sample, each_sample}
-use Rattle.cull_base.specs.Depth.{numerator, denominator, DepthLess}
-use Rattle.cull_base.proofs.Ring.{diff, diff-add, diff-sub, diff-mul, diff-same, pos_is, over1, over2, over3, over4}
+use Rattle.std.proofs.Common.{◌≡◌, ℕ, ℤ, pos, ◌+ℤ◌, ◌-ℤ◌, ◌*ℤ◌, arith, refl, ap₂, List, [], ◌∷◌, map}
+use Rattle.cull_base.specs.Piece.{Piece, Point, vertex, nearness, sample, each_sample}
+use Rattle.cull_base.specs.Depth.{numerator, denominator}
+use Rattle.cull_base.proofs.Ring.{diff, diff-add, diff-sub, diff-mul, diff-same, pos_is, over4}
 use Rattle.std.specs.List.{range_with_len}
 use Rattle.cull_base.specs.declared.place.Sub.{Sub}
 use Rattle.depth_plane.specs.Vertices.{IsVertex, across_of, down_of, level_of, area_of}
 use Rattle.depth_plane.specs.declared.vertices.Vertices.{Vertices}
-use Rattle.depth_plane.specs.Plane.{Coefficients, plane_of, numerator_at}
+use Rattle.depth_plane.specs.Plane.{plane_of, numerator_at}
 
 abbrev edge : ℤ → ℤ → ℤ → ℤ → ℤ → ℤ → ℤ
 edge ax ay bx by px py = ((bx -ℤ ax) *ℤ (py -ℤ ay)) -ℤ ((by -ℤ ay) *ℤ (px -ℤ ax))

@@ -1,5 +1,5 @@
 -- The depth of a piece as a plane over the screen.
-use Rattle.std.specs.Prelude.{ℕ, ℤ, pos, ◌≡◌, ◌+◌, ◌*◌, ◌^◌, ◌+ℤ◌, ◌-ℤ◌, ◌*ℤ◌, ◌≤ℤ◌, ◌<ℤ◌}
+use Rattle.std.specs.Prelude.{ℕ, ℤ, pos, ◌^◌, ◌+ℤ◌, ◌-ℤ◌, ◌*ℤ◌, ◌≤ℤ◌, ◌<ℤ◌}
 use Rattle.cull_base.specs.Bounds.{Near}
 use Rattle.cull_base.specs.Piece.{Piece, Point, vertex, nearness, middle}
 use Rattle.cull_base.specs.Depth.{numerator, denominator}

@@ -9,8 +9,8 @@ use Rattle.cull_base.specs.Piece.{Piece, Point, Within, edge_value, middle, is_t
 use Rattle.cull_base.specs.declared.clip.Side.{Side}
 use Rattle.cull_base.specs.declared.clip.Side.TheVariants.{Occluder, Object}
 use Rattle.cull_base.specs.declared.place.Sub.{Sub}
-use Rattle.edge_lanes.specs.Lanes.{is_not_negative, bias_of}
-use Rattle.edge_lanes.specs.Inside.{value_at, is_inside, inside_of}
+use Rattle.edge_lanes.specs.Lanes.{is_not_negative}
+use Rattle.edge_lanes.specs.Inside.{value_at, is_inside, inside_of, IsEdge}
 use Rattle.edge_lanes.specs.declared.edge.Edge.{Edge}
 use Rattle.edge_lanes.specs.declared.edges.Edges.{Edges}
 use Rattle.edge_lanes.proofs.Masks.{each_sample-same}
@@ -46,10 +46,6 @@ within_read xs k h l lt f = simp to_z-of_z (All-get_or Within xs k (pos 0) (omeg
 
 abbrev pub corner : List ℤ → List ℤ → ℕ → Point
 corner xs ys k = record { x = slice_index_or xs k (pos 0); y = slice_index_or ys k (pos 0) }
-
--- what an edge's contract says of the edge from a to b
-abbrev pub IsEdge : Edge → Side → Point → Point → Type 0
-IsEdge e side a b = (x y : ℕ) → value_at e x y ≡ edge_value a b (middle x y) +ℤ bias_of side (is_top_or_left a b)
 
 edge_of_occluder : (e : Edge) (a b : Point) → IsEdge e Occluder a b → (x y : ℕ) → is_not_negative (value_at e x y) ≡ edge_covers a b (middle x y)
 edge_of_occluder e a b h x y = ap is_not_negative (h x y) ∙ is_not_negative-biased (edge_value a b (middle x y)) (is_top_or_left a b)

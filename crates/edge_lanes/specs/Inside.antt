@@ -1,9 +1,10 @@
 -- Which samples lie inside the three edges of a piece.
-use Rattle.std.specs.Prelude.{ℕ, ℤ, pos, ◌+◌, ◌*◌, ◌/◌, ◌%◌, ◌+ℤ◌, ◌*ℤ◌, List, Bool, ◌&&◌}
-use Rattle.cull_base.specs.Piece.{each_sample}
+use Rattle.std.specs.Prelude.{ℕ, ℤ, pos, ◌≡◌, ◌+◌, ◌*◌, ◌/◌, ◌%◌, ◌+ℤ◌, ◌*ℤ◌, List, Bool, ◌&&◌}
+use Rattle.cull_base.specs.Piece.{Point, edge_value, middle, is_top_or_left, each_sample}
+use Rattle.cull_base.specs.declared.clip.Side.{Side}
 use Rattle.cull_base.specs.declared.place.Sub.{Sub}
 use Rattle.cull_base.specs.declared.place.Tile.{Tile}
-use Rattle.edge_lanes.specs.Lanes.{is_not_negative}
+use Rattle.edge_lanes.specs.Lanes.{is_not_negative, bias_of}
 use Rattle.edge_lanes.specs.declared.edge.Edge.{Edge}
 use Rattle.edge_lanes.specs.declared.edges.Edges.{Edges}
 
@@ -11,6 +12,11 @@ use Rattle.edge_lanes.specs.declared.edges.Edges.{Edges}
 abbrev pub value_at : Edge → ℕ → ℕ → ℤ
 value_at e x y = (e.start +ℤ (e.column *ℤ pos x)) +ℤ (e.row *ℤ pos y)
 
+-- the edge from a to b, for one side: its values are the edge's, with the side's bias
+abbrev pub IsEdge : Edge → Side → Point → Point → Type 0
+IsEdge e side a b = (x y : ℕ) → value_at e x y ≡ edge_value a b (middle x y) +ℤ bias_of side (is_top_or_left a b)
+
+-- a pixel's sample is inside all three edges
 abbrev pub is_inside : Edges → ℕ → ℕ → Bool
 is_inside e x y = is_not_negative (value_at e.first x y) && (is_not_negative (value_at e.second x y) && is_not_negative (value_at e.third x y))
 

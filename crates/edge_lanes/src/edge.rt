@@ -39,7 +39,8 @@ fn is_top_or_left(ax: i32, ay: i32, bx: i32, by: i32) -> bool
     by < ay || (by == ay && ax < bx)
 }
 
-// What turns the test against 0 into the side's test: an occluder's sample on an edge counts on a top or left edge only.
+// What turns the test against 0 into the side's test: on an edge, an occluder's sample counts where the edge is a top
+// or left one, an object's always.
 #[inline(always)]
 fn bias(side: Side, top_or_left: bool) -> i64
     ensures value { result ≡ bias_of side top_or_left }
@@ -137,7 +138,7 @@ fn lowered(start: i64, by: i64) -> i64
 }
 
 impl Edge {
-    ghost use Rattle.edge_lanes.specs.Inside.{value_at, inside_from};
+    ghost use Rattle.edge_lanes.specs.Inside.{IsEdge, value_at, inside_from};
 
     /// The edge from a to b, in sixteenths of a pixel.
     pub fn of(ax: i32, ay: i32, bx: i32, by: i32, side: Side) -> Edge
@@ -145,7 +146,7 @@ impl Edge {
         requires ay { Within ay }
         requires bx { Within bx }
         requires by { Within by }
-        ensures { let a : Point = record { x = ax; y = ay } in let b : Point = record { x = bx; y = by } in (x y : ℕ) → value_at result x y ≡ edge_value a b (middle x y) +ℤ bias_of side (is_top_or_left a b) }
+        ensures { IsEdge result side (record { x = ax; y = ay }) (record { x = bx; y = by }) }
     {
         let across = difference(bx, ax);
         let down = difference(by, ay);

@@ -1,7 +1,7 @@
-use Rattle.std.proofs.Common.{◌≡◌, ℕ, ℤ, pos, ◌∙◌, ap, sym, rules, FitsSigned, refl}
+use Rattle.std.proofs.Common.{ap, rules, FitsSigned}
 use Rattle.std.specs.Int.{w128}
 use Rattle.std.proofs.lemmas.Int.{to_z-of_z}
-use Rattle.depth_plane.specs.Plane.{Coefficients, DepthAtMost}
+use Rattle.depth_plane.specs.Plane.{Coefficients}
 use Rattle.depth_plane.proofs.Depths.{high_of-above, high_of-computed}
 use Rattle.depth_plane.proofs.plane.Plane.high.Goals as goal
 

@@ -1,8 +1,7 @@
-use Rattle.std.proofs.Common.{◌≡◌, ℕ, ℤ, pos, ◌∙◌, ap, sym, rules, FitsSigned, refl}
+use Rattle.std.proofs.Common.{ap, rules, FitsSigned}
 use Rattle.std.specs.Int.{w128}
 use Rattle.std.proofs.lemmas.Int.{to_z-of_z}
 use Rattle.cull_base.specs.Piece.{sample}
-use Rattle.cull_base.specs.Depth.{DepthAtLeast}
 use Rattle.depth_plane.specs.Plane.{Coefficients}
 use Rattle.depth_plane.proofs.Mean.{touches_covered}
 use Rattle.depth_plane.proofs.Depths.{low_of-below, low_of-computed}

@@ -1,4 +1,4 @@
-use Rattle.std.proofs.Common.{◌≡◌, ℤ, ◌*ℤ◌, ◌<ℤ◌, ap, sym, ◌∙◌, rules, FitsSigned, Bool, IsTrue}
+use Rattle.std.proofs.Common.{◌≡◌, ℤ, ◌*ℤ◌, ◌<ℤ◌, ap, rules, FitsSigned, Bool, IsTrue}
 use Rattle.std.specs.Int.{w128}
 use Rattle.std.proofs.lemmas.Int.{to_z-of_z}
 use Rattle.cull_base.specs.Piece.{Piece, Point}

@@ -1,9 +1,8 @@
-use Rattle.std.proofs.Common.{◌≡◌, ℕ, ℤ, pos, ◌+ℤ◌, ◌-ℤ◌, ◌*ℤ◌, ◌<ℤ◌, ◌≤ℤ◌, ◌^◌, ◌∙◌, ap, arith, FitsSigned, rules, w64, refl}
+use Rattle.std.proofs.Common.{◌≡◌, ℤ, pos, ◌<ℤ◌, ◌≤ℤ◌, ◌^◌, ◌∙◌, ap, arith, FitsSigned, rules, w64, refl}
 use Rattle.std.specs.Int.{w128}
 use Rattle.std.proofs.lemmas.Int.{ints, to_z-of_z}
 use Rattle.cull_base.specs.Bounds.{Near}
-use Rattle.cull_base.specs.Piece.{Piece, Point, vertex, nearness, doubled_area}
-use Rattle.cull_base.specs.Depth.{numerator, denominator}
+use Rattle.cull_base.specs.Piece.{Piece, doubled_area}
 use Rattle.depth_plane.specs.Plane.{Coefficients, plane_of, numerator_at}
 use Rattle.depth_plane.proofs.Planes.{numerator_at-plane_of, area-plane_of, plane_of-computed}
 use Rattle.depth_plane.proofs.plane.Plane.of.Goals as goal

@@ -1,4 +1,4 @@
-use Rattle.std.proofs.Common.{FitsSigned, w64, rules, ◌≡◌, ◌∙◌, ℕ, ℤ, pos, ◌+ℤ◌, ◌*ℤ◌, map}
+use Rattle.std.proofs.Common.{FitsSigned, w64, rules, ◌≡◌, ℕ, ℤ, pos, ◌+ℤ◌, ◌*ℤ◌, map}
 use Rattle.std.specs.Simd.Lanes.{mask_l}
 use Rattle.std.proofs.lemmas.Int.{to_z-of_z}
 use Rattle.edge_lanes.specs.Lanes.{columns, row_of, is_not_negative}
