@@ -37,12 +37,16 @@ along u done (x ∷ rest) s all r =
     let begun : AllPieces (done ++ x ∷ []) = λ t m. all' t (Contains-append_left (done ++ x ∷ []) rest t m) in
     subst (λ ts. IsReached u ts (fold (step u) (step u s x) rest)) e (along u (done ++ x ∷ []) rest (step u s x) all' (step_is_reached u done s x begun piece r))
 
-all_of : (pieces : List Piece) → ((k : ℕ) → k < length pieces → IsPiece (slice_index_or pieces k no_piece)) → AllPieces pieces
+pub all_of : (pieces : List Piece) → ((k : ℕ) → k < length pieces → IsPiece (slice_index_or pieces k no_piece)) → AllPieces pieces
 all_of pieces all t (k, lt, e) = subst IsPiece (get_or_default pieces k no_piece t lt ∙ e) (all k lt)
 
-after_is_reached : (u : Sub) (pieces : List Piece) → AllPieces pieces → IsReached u pieces (after u pieces)
+pub after_is_reached : (u : Sub) (pieces : List Piece) → AllPieces pieces → IsReached u pieces (after u pieces)
 unfolding after
 after_is_reached u pieces all = along u [] pieces empty_state all (none_reached u)
+
+-- the state after a list of pieces is sound for it
+pub after_is_sound : (u : Sub) (pieces : List Piece) → AllPieces pieces → IsSound u pieces (after u pieces)
+after_is_sound u pieces all = reached_is_sound u pieces (after u pieces) all (after_is_reached u pieces all)
 
 own_list_of : (size : Dimensions) (tile j : ℕ) (pieces : List Piece) → (0 < length pieces → IsSize size.width size.height) → AllPieces pieces → j < 8 → is_on_screen size (tile_sub size tile j) ≡ true
     → after (tile_sub size tile j) (tile_list size tile pieces) ≡ after (tile_sub size tile j) pieces

@@ -10,4 +10,4 @@ returns-clause-sound c t j h =
     let new = c.take_list.new.states in
     let len : length new ≡ c.in_ok-states.states.len = grind (arith, common_steps) in
     let is : take c.in_ok-states.states.len (new ++ drop (length new) c.in_ok-states.states.items) ≡ new = ap (λ n. take n (new ++ drop (length new) c.in_ok-states.states.items)) (sym len) ∙ take-append_seam new (drop (length new) c.in_ok-states.states.items) in
-    (subst (λ (xs : List TileOf). IsDrawn c.args.list.now t (tile_at xs t)) (sym is) (c.take_list.ensures t h)).sound j
+    (subst (λ (xs : List TileOf). IsDrawn c.args.list.now t (tile_at xs t)) (sym is) (c.take_list.ensures.drawn t h)).sound j

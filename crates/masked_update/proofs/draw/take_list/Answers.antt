@@ -6,7 +6,7 @@ use Rattle.cull_base.specs.Rectangle.{meets}
 use Rattle.cull_base.specs.Screen.{Dimensions, tile_count_of, tile_rect_of}
 use Rattle.masked_update.specs.TileOf.{TileOf, tile_at}
 use Rattle.masked_update.specs.Taken.{taken_where, tile_of_list}
-use Rattle.masked_update.proofs.Drawing.{no_piece}
+use Rattle.masked_update.proofs.Drawing.{no_piece, all_of}
 use Rattle.masked_update.proofs.TileLists.{none_taken, few, list_more, drawn_of}
 use Rattle.masked_update.proofs.draw.take_list.Goals as goal
 
@@ -40,10 +40,15 @@ loop-i-preserved c =
       sized = λ _. valid;
     }
 
-pub returns : goal.returns
-returns c t h =
+pub returns-clause-drawn : goal.returns-clause-drawn
+returns-clause-drawn c t h =
     let i : c.loop-i.i ≡ length c.args.list.now.members = omega (arith, c.len-i-end.ensures.value, c.loop-i-test.false) in
     let whole : take c.loop-i.i c.args.list.now.members ≡ c.args.list.now.members = rw i (take-length c.args.list.now.members) in
     drawn_of c.args.list.now t _ (c.loop-i.invariant.taken t h ∙ ap (tile_of_list c.args.list.now.size t) whole)
     (λ k lt. c.loop-i.invariant.pieces k (omega (arith, i, lt)))
     (λ some. c.loop-i.invariant.sized (omega (arith, i, some)))
+
+pub returns-clause-pieces : goal.returns-clause-pieces
+returns-clause-pieces c =
+    let i : c.loop-i.i ≡ length c.args.list.now.members = omega (arith, c.len-i-end.ensures.value, c.loop-i-test.false) in
+    all_of c.args.list.now.members (λ k lt. c.loop-i.invariant.pieces k (omega (arith, i, lt)))
