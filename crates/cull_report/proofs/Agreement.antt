@@ -1,5 +1,5 @@
 -- A verdict asks only for the states of subtiles on the screen.
-use Rattle.std.proofs.Common.{◌≡◌, ℕ, ℤ, pos, ◌≤◌, ◌<◌, ◌≤ℤ◌, Bool, true, false, cond, arith, refl, sym, ap, ◌∙◌, List, [], ◌∷◌, map, int_lt, subst}
+use Rattle.std.proofs.Common.{◌≡◌, ℕ, ℤ, pos, ◌≤◌, ◌<◌, Bool, true, false, cond, arith, refl, sym, ap, List, [], ◌∷◌, map, int_lt}
 use Rattle.cull_base.specs.declared.rect.Rect.{Rect}
 use Rattle.cull_base.specs.declared.place.Sub.{Sub}
 use Rattle.cull_base.specs.declared.scene_types.Object.{Object}
@@ -7,8 +7,8 @@ use Rattle.cull_base.specs.declared.scene_types.Object.TheVariants.{Area, Block,
 use Rattle.cull_base.specs.declared.scene_types.Verdict.TheVariants.{Visible, Occluded, Outside}
 use Rattle.cull_base.specs.Screen.{Dimensions, screen_of}
 use Rattle.cull_base.specs.Rectangle.{meets, cut_of}
-use Rattle.cull_base.specs.State.{State, hides}
-use Rattle.cull_report.specs.Rectangle.{natural, sub_of_pixel, sample_of_pixel, is_hidden, asked_nearness, rectangle_verdict}
+use Rattle.cull_base.specs.State.{State}
+use Rattle.cull_report.specs.Rectangle.{natural, sub_of_pixel, is_hidden, asked_nearness, rectangle_verdict}
 use Rattle.cull_report.specs.Scene.{object_verdict}
 use Rattle.cull_report.proofs.Hiding.{hidden_each, hidden_if_each, same_test, cut_on_screen}
 

@@ -1,5 +1,5 @@
 -- What it means that a rectangle is hidden.
-use Rattle.std.proofs.Common.{◌≡◌, ℕ, ℤ, pos, negsuc, zero, suc, ◌+◌, ◌-◌, ◌≤◌, ◌<◌, ◌≤ℤ◌, ◌<ℤ◌, Bool, true, false, ◌&&◌, cond, not, nat_eq, arith, refl, sym, ap, ◌∙◌, ◌↔◌, List, int_lt, ◌⊎◌, inl, inr, IsTrue}
+use Rattle.std.proofs.Common.{◌≡◌, ℕ, ℤ, pos, negsuc, zero, suc, ◌+◌, ◌-◌, ◌≤◌, ◌<◌, ◌≤ℤ◌, ◌<ℤ◌, Bool, true, false, ◌&&◌, cond, arith, refl, sym, int_lt, inl, inr, IsTrue}
 use Rattle.std.specs.Int.{int_min, int_max}
 use Rattle.std.specs.List.{list_all, range_with_len}
 use Rattle.std.proofs.lemmas.Bool.{cases_lt}
@@ -7,7 +7,7 @@ use Rattle.std.proofs.lemmas.Int.{ints}
 use Rattle.cull_base.specs.declared.rect.Rect.{Rect}
 use Rattle.cull_base.specs.declared.place.Sub.{Sub}
 use Rattle.cull_base.specs.Screen.{Dimensions, screen_of}
-use Rattle.cull_base.specs.Rectangle.{meets, cut_of, common}
+use Rattle.cull_base.specs.Rectangle.{meets, cut_of}
 use Rattle.cull_base.specs.State.{State, hides}
 use Rattle.cull_base.specs.declared.scene_types.Verdict.TheVariants.{Visible, Occluded, Outside}
 use Rattle.cull_report.specs.declared.rectangle.Area.{Area}

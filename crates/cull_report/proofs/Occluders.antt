@@ -1,5 +1,5 @@
 -- An occluded rectangle has a piece strictly in front of it at each of its pixels.
-use Rattle.std.proofs.Common.{◌≡◌, ℕ, ℤ, pos, negsuc, zero, suc, ◌+◌, ◌*◌, ◌/◌, ◌%◌, ◌≤◌, ◌<◌, ◌*ℤ◌, ◌≤ℤ◌, ◌<ℤ◌, Bool, true, false, cond, arith, refl, sym, ap, ◌∙◌, subst, List, [], ◌∷◌, map, int_lt, ◌⊎◌, inl, inr, Option, Some, None, nat_lt, length}
+use Rattle.std.proofs.Common.{◌≡◌, ℕ, ℤ, pos, negsuc, zero, suc, ◌+◌, ◌*◌, ◌/◌, ◌%◌, ◌≤◌, ◌<◌, ◌*ℤ◌, ◌≤ℤ◌, ◌<ℤ◌, Bool, true, false, cond, arith, refl, List, [], ◌∷◌, map, int_lt, inl, inr, Some, nat_lt}
 use Rattle.std.specs.Prelude.{slice_get}
 use Rattle.std.specs.List.{Contains}
 use Rattle.std.proofs.lemmas.Bool.Decides.{nat_tests}
@@ -8,19 +8,19 @@ use Rattle.std.proofs.Math.Nat.{mul-le-mul_right}
 use Rattle.cull_base.specs.declared.rect.Rect.{Rect}
 use Rattle.cull_base.specs.declared.place.Sub.{Sub}
 use Rattle.cull_base.specs.declared.scene_types.Object.{Object}
-use Rattle.cull_base.specs.declared.scene_types.Object.TheVariants.{Area, Block, Mesh}
+use Rattle.cull_base.specs.declared.scene_types.Object.TheVariants.{Area}
 use Rattle.cull_base.specs.declared.scene_types.Verdict.{Verdict}
 use Rattle.cull_base.specs.declared.scene_types.Verdict.TheVariants.{Visible, Occluded, Outside}
 use Rattle.cull_base.specs.Screen.{Dimensions, screen_of}
-use Rattle.cull_base.specs.Rectangle.{HasPixel, meets, cut_of}
-use Rattle.cull_base.specs.Piece.{Piece, Point, IsPiece, middle, sample, covers, doubled_area}
-use Rattle.cull_base.specs.Depth.{numerator, denominator, DepthAtLeast, DepthAbove}
+use Rattle.cull_base.specs.Rectangle.{meets, cut_of}
+use Rattle.cull_base.specs.Piece.{Piece, Point, IsPiece, middle, sample, covers}
+use Rattle.cull_base.specs.Depth.{numerator, denominator, DepthAbove}
 use Rattle.cull_base.specs.State.{State, bound_at, hides}
-use Rattle.cull_base.specs.Fold.{after, HasBestDepth, BestAtLeast, IsSound}
+use Rattle.cull_base.specs.Fold.{after, IsSound}
 use Rattle.scene_reader.specs.Layout.{Parts}
 use Rattle.cull_report.specs.Rectangle.{natural, sub_of_pixel, sample_of_pixel, is_hidden, asked_nearness, rectangle_verdict}
 use Rattle.cull_report.specs.Scene.{frame_pieces, scene_verdicts, size_of, object_verdict}
-use Rattle.cull_report.specs.Behind.{IsBehind, HidesTruly}
+use Rattle.cull_report.specs.Behind.{HidesTruly}
 use Rattle.cull_report.proofs.Hiding.{hidden_each}
 
 -- the sample of a pixel stands in its middle

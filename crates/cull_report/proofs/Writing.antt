@@ -1,11 +1,9 @@
 -- Texts written one after the other.
-use Rattle.std.proofs.Common.{◌≡◌, ℕ, ◌+◌, ◌≤◌, ◌<◌, ◌^◌, ◌++◌, List, length, take, min, arith, refl, sym, ap, ◌∙◌, Option, Some, None, append_assoc, Result, Ok, Err}
-use Rattle.std.specs.Prelude.{OnOk, OnErr, IsErrOf}
+use Rattle.std.proofs.Common.{ℕ, ◌+◌, ◌≤◌, ◌++◌, List, length, take, arith, Option, Result, Ok, Err}
 use Rattle.std.proofs.lemmas.List.{length-append, take-append-le}
 use Rattle.std.proofs.Math.Seq.{take-append-add}
 use Rattle.cull_base.specs.Stream.{Rose, Appends, AppendsProperPrefix}
 use Rattle.cull_base.specs.declared.memory.SinkError.{SinkError}
-use Rattle.cull_base.specs.declared.memory.SinkError.TheVariants.{Failed, Memory}
 use Rattle.cull_base.proofs.Streams.{appends_then}
 use Rattle.cull_report.specs.Writing.{Seen, Writes}
 

@@ -1,6 +1,5 @@
 -- The states of the tiles of a frame, at each pixel of the screen.
-use Rattle.std.proofs.Common.{◌≡◌, ℕ, ◌+◌, ◌*◌, ◌/◌, ◌%◌, ◌≤◌, ◌<◌, Bool, true, cond, nat_lt, ◌&&◌, arith, refl, sym, ap, ◌∙◌, List, map, get_or}
-use Rattle.std.specs.List.{range_with_len}
+use Rattle.std.proofs.Common.{◌≡◌, ℕ, ◌+◌, ◌*◌, ◌/◌, ◌%◌, ◌<◌, Bool, true, cond, nat_lt, arith, refl, ap, ◌∙◌, List, get_or}
 use Rattle.std.proofs.lemmas.Bool.Decides.{nat_tests}
 use Rattle.std.proofs.lemmas.Nat.{div-mul-add}
 use Rattle.std.proofs.Math.Nat.{mul-add-mod_self_right, mod-eq_of_lt}
@@ -11,7 +10,7 @@ use Rattle.cull_base.specs.Piece.{Piece}
 use Rattle.cull_base.specs.State.{State, empty_state}
 use Rattle.cull_base.specs.Fold.{after}
 use Rattle.cull_base.specs.Tiles.{tile_after}
-use Rattle.masked_update.specs.TileOf.{TileOf, sub_at, tile_at}
+use Rattle.masked_update.specs.TileOf.{TileOf, tile_at}
 use Rattle.cull_report.specs.Rectangle.{state_in, sub_of_pixel}
 use Rattle.cull_report.proofs.Agreement.{Agrees}
 use Rattle.cull_report.proofs.Pixels.{tile_below}

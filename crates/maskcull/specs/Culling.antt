@@ -1,13 +1,12 @@
 -- What a run owes over the bytes that were left in its source.
-use Rattle.std.specs.Prelude.{ℕ, ◌≡◌, List, [], Option, Some, Result, Ok, Err, ◌⊎◌}
+use Rattle.std.specs.Prelude.{ℕ, ◌≡◌, List, Result, Err, ◌⊎◌}
 use Rattle.scene_reader.specs.Layout.{Parts, IsScene, layout}
-use Rattle.scene_reader.specs.Fault.{IsRefusal}
 use Rattle.scene_reader.specs.declared.error.SceneError.{SceneError}
 use Rattle.cull_report.specs.Scene.{IsBuilt}
 use Rattle.maskcull.specs.declared.failure.Failure.{Failure}
 use Rattle.maskcull.specs.declared.failure.Status.{Status}
 use Rattle.maskcull.specs.declared.failure.Status.TheVariants as statuses
-use Rattle.maskcull.specs.declared.failure.Failure.TheVariants.{Usage, Scene, NotBuilt, ReadFault, ReportFault, Memory}
+use Rattle.maskcull.specs.declared.failure.Failure.TheVariants.{Scene, ReadFault, Memory}
 
 -- the bytes are the layout of the scene s
 pub record IsSceneOf (bytes : List ℕ) (s : Parts) : Type 0 where

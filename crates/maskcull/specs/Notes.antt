@@ -1,5 +1,5 @@
 -- What is noted of a run that isn't done.
-use Rattle.std.specs.Prelude.{ℕ, ◌≡◌, List, [], ◌∷◌, ◌++◌, map, codes, ◌⊎◌, Option}
+use Rattle.std.specs.Prelude.{ℕ, List, [], ◌∷◌, ◌++◌, map, codes, ◌⊎◌, Option}
 use Rattle.std.specs.Fmt.{decimal}
 use Rattle.cull_base.specs.Stream.{Rose, Appends, AppendsPrefix}
 use Rattle.scene_reader.specs.declared.error.SceneError.{SceneError}

@@ -1,5 +1,5 @@
 -- How a run ends, and the causes of its ends.
-use Rattle.std.specs.Prelude.{ℕ, ◌≡◌}
+use Rattle.std.specs.Prelude.{ℕ}
 use Rattle.scene_reader.specs.declared.error.SceneError.{SceneError}
 use Rattle.scene_reader.specs.declared.error.SceneError.TheVariants as errors
 use Rattle.cull_base.specs.declared.memory.SinkError.{SinkError}

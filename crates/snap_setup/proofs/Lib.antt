@@ -4,3 +4,4 @@ pub mod Areas
 pub mod KeptPieces
 pub mod FrameLists
 pub mod BoxSteps
+pub mod Rows

@@ -1,4 +1,4 @@
-use Rattle.std.proofs.Common.{◌≡◌, Bool, true, ◌∙◌, sym, IsTrue}
+use Rattle.std.proofs.Common.{◌≡◌, Bool, ◌∙◌, sym, IsTrue}
 use Rattle.std.specs.Bool.{Decides}
 use Rattle.std.specs.Cmp.Rules.{signed_items}
 use Rattle.cull_report.specs.Scene.{identity_camera}

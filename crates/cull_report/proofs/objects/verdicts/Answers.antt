@@ -1,6 +1,5 @@
-use Rattle.std.proofs.Common.{◌≡◌, ℕ, ◌+◌, ◌≤◌, ◌<◌, ◌++◌, List, [], ◌∷◌, length, map, take, get_or, arith, sym, ap, ◌∙◌, pos}
+use Rattle.std.proofs.Common.{◌≡◌, ℕ, ◌+◌, ◌<◌, ◌++◌, List, [], ◌∷◌, length, map, take, get_or, arith, sym, ap, ◌∙◌, pos}
 use Rattle.std.proofs.lemmas.List.{take_more, map_push}
-use Rattle.cull_base.specs.declared.rect.Rect.{Rect}
 use Rattle.cull_base.specs.declared.scene_types.Object.{Object}
 use Rattle.cull_base.specs.declared.scene_types.Object.TheVariants.{Area}
 use Rattle.cull_base.specs.declared.scene_types.Verdict.{Verdict}

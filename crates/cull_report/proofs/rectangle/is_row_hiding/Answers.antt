@@ -1,9 +1,6 @@
-use Rattle.std.proofs.Common.{◌≡◌, ℕ, ◌+◌, ◌*◌, ◌/◌, ◌%◌, ◌<◌, ◌≤◌, true, false, arith, ap, sym, ◌∙◌, subst}
+use Rattle.std.proofs.Common.{◌≡◌, ℕ, ◌+◌, ◌*◌, ◌<◌, ◌≤◌, arith}
 use Rattle.std.specs.Int.{div_ceil}
-use Rattle.cull_base.specs.State.{State, hides}
 use Rattle.cull_base.specs.Screen.{Dimensions, tile_columns_of, tile_rows_of}
-use Rattle.masked_update.specs.TileOf.{TileOf, sub_at}
-use Rattle.cull_report.specs.Rectangle.{sample_of_pixel}
 use Rattle.cull_report.proofs.Pixels.{tile_of_pixel, tile_below}
 use Rattle.cull_report.proofs.rectangle.is_row_hiding.Goals as goal
 

@@ -1,7 +1,5 @@
-use Rattle.std.proofs.Common.{◌≡◌, ℕ, ◌+◌, ◌*◌, ◌/◌, ◌%◌, ◌<◌, ◌≤◌, Bool, true, false, ◌&&◌, arith, sym, ◌∙◌, ap, nat_le, nat_lt}
+use Rattle.std.proofs.Common.{◌≡◌, ℕ, ◌+◌, ◌*◌, ◌/◌, ◌%◌, true, arith, sym, ◌∙◌}
 use Rattle.std.proofs.lemmas.Bool.Decides.{nat_tests}
-use Rattle.cull_base.specs.State.{State, hides}
-use Rattle.masked_update.specs.TileOf.{TileOf, sub_at}
 use Rattle.cull_report.specs.declared.rectangle.Area.{Area}
 use Rattle.cull_report.specs.Area.{IsIn, is_sample_in}
 use Rattle.cull_report.proofs.Pixels.{tile_column, tile_row, subtile, sample}

@@ -1,11 +1,9 @@
-use Rattle.std.proofs.Common.{rules, ◌≡◌, ℕ, ℤ, pos, ◌≤ℤ◌, ◌<ℤ◌, ◌<◌, ◌≤◌, true, false, arith, sym, ap, ◌∙◌, FitsSigned, w32, Bool}
+use Rattle.std.proofs.Common.{◌≡◌, pos, ◌≤ℤ◌, ◌<ℤ◌, true, false, arith, sym, ap, ◌∙◌, FitsSigned, w32, Bool}
 use Rattle.std.proofs.lemmas.Int.{ints, to_z-of_z}
 use Rattle.cull_base.specs.declared.rect.Rect.{Rect}
-use Rattle.cull_base.specs.declared.place.Sub.{Sub}
 use Rattle.cull_base.specs.Screen.{Dimensions, screen_of}
 use Rattle.cull_base.specs.Rectangle.{meets, cut_of}
-use Rattle.cull_base.specs.State.{State}
-use Rattle.cull_report.specs.Rectangle.{natural, state_in, is_hidden, asked_nearness}
+use Rattle.cull_report.specs.Rectangle.{state_in, asked_nearness}
 use Rattle.cull_report.proofs.Hiding.{IsOnScreen, cut_on_screen, area_hidden, outside_verdict, front_verdict, tested_verdict}
 use Rattle.cull_report.proofs.rectangle.rectangle_verdict.Goals as goal
 

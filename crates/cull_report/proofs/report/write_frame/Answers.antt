@@ -1,7 +1,6 @@
-use Rattle.std.proofs.Common.{◌≡◌, ℕ, ◌+◌, ◌≤◌, ◌++◌, List, Option, arith, sym, subst, Err, refl}
+use Rattle.std.proofs.Common.{◌≡◌, ℕ, ◌++◌, List, Option, Err, refl}
 use Rattle.std.specs.Prelude.{count_by}
 use Rattle.std.proofs.lemmas.Result.{err_from_is_err_and}
-use Rattle.cull_base.proofs.Streams.{appends_then}
 use Rattle.cull_report.specs.Text.{frame_line, verdict_lines, end_line, frame_text, is_visible, is_occluded, is_outside}
 use Rattle.cull_report.specs.Writing.{Seen, Writes}
 use Rattle.cull_report.proofs.Writing.{writes_then, writes_no_more}

@@ -1,4 +1,4 @@
-use Rattle.std.proofs.Common.{◌≡◌, ℕ, ◌+◌, ◌≤◌, ◌++◌, List, drop, take, get_or, arith, sym, subst, Err, Option}
+use Rattle.std.proofs.Common.{ℕ, ◌+◌, ◌++◌, List, drop, take, get_or, arith, sym, subst, Err, Option}
 use Rattle.std.proofs.lemmas.Result.{err_from_is_err_and}
 use Rattle.cull_base.specs.declared.scene_types.Verdict.TheVariants.{Visible}
 use Rattle.cull_base.proofs.Streams.{appends_then}

@@ -1,4 +1,4 @@
-use Rattle.std.proofs.Common.{◌≡◌, ℕ, ◌≤◌, take}
+use Rattle.std.proofs.Common.{◌≤◌, take}
 use Rattle.cull_base.specs.Stream.{Appends}
 use Rattle.cull_report.specs.Text.{verdict_lines}
 use Rattle.cull_report.proofs.report.write_verdicts.Given as goal

@@ -1,4 +1,4 @@
-use Rattle.std.proofs.Common.{◌≡◌, map, refl, subst, List}
+use Rattle.std.proofs.Common.{◌≡◌, refl, subst, List}
 use Rattle.std.specs.Prelude.{IfOk}
 use Rattle.cull_base.specs.Piece.{Piece}
 use Rattle.cull_report.specs.Scene.{frame_pieces}

@@ -1,4 +1,4 @@
-use Rattle.std.proofs.Common.{◌≡◌, ℕ, ◌<◌, map, sym, subst, List, ◌∙◌}
+use Rattle.std.proofs.Common.{◌≡◌, ℕ, ◌<◌, map, subst, List}
 use Rattle.std.specs.Prelude.{IfOk}
 use Rattle.cull_base.specs.declared.place.Sub.{Sub}
 use Rattle.cull_base.specs.declared.scene_types.Verdict.{Verdict}
@@ -6,7 +6,7 @@ use Rattle.cull_base.specs.Screen.{tile_count_of}
 use Rattle.cull_base.specs.State.{State}
 use Rattle.cull_base.specs.Fold.{after}
 use Rattle.cull_base.specs.Tiles.{tile_after}
-use Rattle.masked_update.specs.TileOf.{tile_at, TileOf}
+use Rattle.masked_update.specs.TileOf.{tile_at}
 use Rattle.cull_report.specs.Rectangle.{state_in}
 use Rattle.cull_report.specs.Scene.{scene_verdicts, frame_pieces, size_of, object_verdict}
 use Rattle.cull_report.proofs.Agreement.{objects_alike}

@@ -1,4 +1,4 @@
-use Rattle.std.proofs.Common.{◌≡◌, ℕ, List, sym, ◌∙◌}
+use Rattle.std.proofs.Common.{◌≡◌, ℕ, List}
 use Rattle.std.specs.Prelude.{IfSome, Some}
 use Rattle.scene_reader.specs.Fault.{IsRefusal, first_fault}
 use Rattle.scene_reader.specs.declared.error.SceneError.{SceneError}

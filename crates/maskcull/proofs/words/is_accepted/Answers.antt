@@ -1,4 +1,4 @@
-use Rattle.std.proofs.Common.{◌≡◌, ℕ, List, [], ◌∷◌, length, map, get_or, Bool, true, false, ◌∙◌, sym, ap, IsTrue, arith, refl, codes, Global, ◌≤◌, ◌<◌, nat_eq, subst}
+use Rattle.std.proofs.Common.{◌≡◌, ℕ, List, [], ◌∷◌, length, map, get_or, Bool, true, false, sym, ap, IsTrue, arith, refl, codes, Global, ◌≤◌, ◌<◌, nat_eq}
 use Rattle.std.specs.Prelude.{string_bytes}
 use Rattle.std.specs.Cmp.Lexicographic.{same_text, other_text}
 use Rattle.std.specs.declared.string.String.{String}
