@@ -19,3 +19,6 @@ pub use laws::one_layout;
 pub use reading::read_scene;
 pub use scene::{Scene, SceneParts};
 pub use writing::write_scene;
+
+#[cfg(test)]
+mod tests;
