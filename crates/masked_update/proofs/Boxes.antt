@@ -5,12 +5,14 @@ use Rattle.std.proofs.lemmas.Bool.Decides.{nat_tests}
 use Rattle.cull_base.specs.Piece.{Piece, IsPiece, covered, box_of}
 use Rattle.cull_base.specs.Rectangle.{HasPixel, meets}
 use Rattle.cull_base.specs.Screen.{Dimensions, IsSize, tile_place, tile_rect_of, tile_sub, is_on_screen}
-use Rattle.cull_base.specs.State.{State, is_none}
+use Rattle.cull_base.specs.State.{State, is_none, has, samples_of}
+use Rattle.masked_update.specs.Merged.{sub_rect_of}
+use Rattle.std.proofs.lemmas.List.{ext_get_or}
 use Rattle.cull_base.specs.Fold.{step}
 use Rattle.cull_base.specs.declared.place.Sub.{Sub}
 use Rattle.cull_base.proofs.Rectangles.{meets_pixel}
 use Rattle.depth_plane.proofs.Boxes.{covers-in_box}
-use Rattle.masked_update.proofs.Bits.{one_of}
+use Rattle.masked_update.proofs.Bits.{one_of, length-samples_of, zero_has}
 use Rattle.masked_update.proofs.Unchanged.{step_none, length-covered, has-covered}
 
 -- a sample of a subtile on the screen lies in the tile's rectangle
@@ -58,3 +60,23 @@ step_outside size tile j s t valid piece off hj on = by (is_none (covered t (til
       where
         two : (b : Bool) → b ≡ false → b ≡ true → ⊥
         two b f g = cc
+
+-- a piece whose box has no pixel in a subtile covers none of its samples
+pub none_covered : (t : Piece) (u : Sub) → IsPiece t → meets (box_of t) (sub_rect_of u) ≡ false → samples_of 0 ≡ covered t u
+none_covered t u piece off =
+    ext_get_or false (samples_of 0) (covered t u) (length-samples_of 0 ∙ sym (length-covered t u))
+    (λ k h. let below : k < 32 = omega (arith, h, length-samples_of 0) in zero_has 0 k refl ∙ sym (by (has (covered t u) k) k below refl))
+  where
+    in_sub : (k : ℕ) → k < 32 → HasPixel (sub_rect_of u) (pos (8 * u.column + k % 8)) (pos (4 * u.row + k / 8))
+    in_sub k h = (omega (arith, ints), omega (arith, ints), omega (arith, ints), omega (arith, ints))
+
+    two : (b : Bool) → b ≡ false → b ≡ true → ⊥
+    two b f g = cc
+
+    by : (b : Bool) (k : ℕ) → k < 32 → has (covered t u) k ≡ b → has (covered t u) k ≡ false
+    by false k h e = e
+    by true k h e =
+        let c = sym (has-covered t u k h) ∙ e in
+        let x = 8 * u.column + k % 8 in
+        let y = 4 * u.row + k / 8 in
+        absurd (two (meets (box_of t) (sub_rect_of u)) off ((meets_pixel (box_of t) (sub_rect_of u)).1 (pos x, pos y, covers-in_box t x y piece c, in_sub k h)))

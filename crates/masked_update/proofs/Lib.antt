@@ -12,3 +12,4 @@ pub mod Lists
 pub mod Spans
 pub mod Taking
 pub mod TileLists
+pub mod SubTiles

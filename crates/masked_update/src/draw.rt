@@ -10,23 +10,24 @@ ghost use Rattle.masked_update.specs.Drawn.{IsDrawn, ArePieces};
 ghost use Rattle.masked_update.specs.TileOf.{sub_at, tile_at};
 ghost use Rattle.masked_update.specs.Taken.{IsSpan, has_column, taken_where};
 
+use crate::merging::Prepared;
 use crate::span::TileSpan;
 use crate::tile_state::TileState;
 use cull_base::{FrameList, Memory, ScreenTri, Size};
 use std::alloc::Global;
 
 // Lets the tiles of one row take a piece, in the columns of a span.
-fn take_in_row(states: &mut [TileState], tri: &ScreenTri, size: Size, span: TileSpan, row: u32)
+fn take_in_row(states: &mut [TileState], piece: &Prepared, size: Size, span: TileSpan, row: u32)
     requires tiles { length states.old ≡ tile_count_of size }
     requires span { IsSpan size span }
     requires row { row < tile_rows_of size }
     requires counts { (t : ℕ) → t < tile_count_of size → t / tile_columns_of size ≡ row → (tile_at states.old t).count < 131072 }
-    ensures { (t : ℕ) → t < tile_count_of size → tile_at states.new t ≡ taken_where (nat_eq (t / tile_columns_of size) row && has_column span (t % tile_columns_of size)) size t tri.now (tile_at states.old t) }
+    ensures { (t : ℕ) → t < tile_count_of size → tile_at states.new t ≡ taken_where (nat_eq (t / tile_columns_of size) row && has_column span (t % tile_columns_of size)) size t piece.now.tri (tile_at states.old t) }
 {
     let first = row * size.tile_columns();
     for column in span.first_column..span.behind_column {
         let tile = first + column;
-        states[tile as usize].take(tri, size, tile);
+        states[tile as usize].take_prepared(piece, size, tile);
     }
 }
 
@@ -39,8 +40,9 @@ fn take_reached(states: &mut [TileState], tri: &ScreenTri, size: Size)
     ensures sized { IsSize size.width size.height }
 {
     let span = TileSpan::of(tri, size);
+    let piece = Prepared::of(tri);
     for row in span.first_row..span.behind_row {
-        take_in_row(states, tri, size, span, row);
+        take_in_row(states, &piece, size, span, row);
     }
 }
 

@@ -5,7 +5,7 @@ ghost use Rattle.cull_base.specs.Fold.{step};
 ghost use Rattle.cull_base.specs.Piece.{IsPiece};
 ghost use Rattle.cull_base.specs.Screen.{IsSize, tile_count_of, tile_sub, is_on_screen};
 
-use crate::merging::merge_into_tile;
+use crate::merging::{Prepared, merge_into_tile};
 use crate::sub_tile::SubTile;
 use cull_base::{ScreenTri, Size};
 use std::marker::Model;
@@ -76,7 +76,21 @@ impl TileState {
         ensures valid { IsPiece tri.now }
         ensures sized { IsSize size.width size.height }
     {
-        merge_into_tile(&mut self.subs, tri, size, tile);
+        let _width = size.width();
+        let _x = tri.x();
+        self.take_prepared(&Prepared::of(tri), size, tile);
+    }
+
+    /// As `take`, of a piece that is set up already.
+    pub(crate) fn take_prepared(&mut self, piece: &Prepared, size: Size, tile: u32)
+        requires count { self.old.count < 131072 }
+        requires tile { tile < tile_count_of size }
+        ensures merged { (j : ℕ) → j < 8 → is_on_screen size (tile_sub size tile j) ≡ true → sub_at self.new j ≡ step (tile_sub size tile j) (sub_at self.old j) piece.now.tri }
+        ensures others { (j : ℕ) → j < 8 → is_on_screen size (tile_sub size tile j) ≡ false → sub_at self.new j ≡ sub_at self.old j }
+        ensures eight { length self.new.subs ≡ 8 }
+        ensures counted { self.new.count ≡ self.old.count + 1 }
+    {
+        merge_into_tile(&mut self.subs, piece, size, tile);
         self.count += 1;
     }
 }

@@ -5,4 +5,4 @@ use Rattle.masked_update.specs.Taken.{is_between, taken_where}
 use Rattle.masked_update.proofs.draw.take_in_row.Given as goal
 
 abbrev pub invariant-loop-column : goal.invariant-loop-column
-invariant-loop-column l = (t : ℕ) → t < tile_count_of l.size → tile_at l.states t ≡ taken_where (nat_eq (t / tile_columns_of l.size) l.row && is_between l.fn.span.first_column l.column (t % tile_columns_of l.size)) l.size t l.tri (tile_at l.initial.states t)
+invariant-loop-column l = (t : ℕ) → t < tile_count_of l.size → tile_at l.states t ≡ taken_where (nat_eq (t / tile_columns_of l.size) l.row && is_between l.fn.span.first_column l.column (t % tile_columns_of l.size)) l.size t l.piece.tri (tile_at l.initial.states t)

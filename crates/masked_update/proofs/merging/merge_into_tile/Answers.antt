@@ -1,19 +1,32 @@
-use Rattle.std.proofs.Common.{arith, sym, ◌∙◌}
-use Rattle.cull_base.specs.Screen.{tile_sub}
-use Rattle.masked_update.proofs.Unchanged.{step_behind, all_stay}
-use Rattle.masked_update.proofs.Boxes.{step_outside}
+use Rattle.std.proofs.Common.{arith, ◌∙◌, ◌+◌, ◌<◌, sym, ap, subst, length, get_or}
+use Rattle.std.proofs.lemmas.List.{get_or_default}
+use Rattle.cull_base.specs.State.{State, empty_state}
+use Rattle.cull_base.specs.Fold.{step}
+use Rattle.cull_base.specs.Screen.{tile_sub, is_on_screen}
+use Rattle.cull_base.specs.declared.place.Sub.{Sub}
+use Rattle.masked_update.proofs.SubTiles.{MergedBefore, none_merged, one_merged, one_skipped, all_merged}
 use Rattle.masked_update.proofs.merging.merge_into_tile.Goals as goal
-use Rattle.masked_update.proofs.merging.merge_into_tile.Goals.{else-meets_tile-via-then-meets_tile+else-is_some_behind, else-meets_tile-via-else-meets_tile}
+use Rattle.masked_update.proofs.merging.merge_into_tile.Goals.{then-on_screen, else-on_screen}
 
-pub returns-else-meets_tile-clause-merged : goal.returns-else-meets_tile-clause-merged
-returns-else-meets_tile-clause-merged c =
-    let piece = c.greatest_nearness-top.ensures.valid in
-    all_stay c.args.size c.args.tile c.args.tri.now c.args.subs.now
-    (λ j h on. elim c.else-meets_tile.branch [
-      | else-meets_tile-via-then-meets_tile+else-is_some_behind w ↦
-          let top = c.greatest_nearness-top.ensures.value in
-          let le = w.is_some_behind.ensures w.if-is_some_behind.false j h in
-          step_behind (tile_sub c.args.size c.args.tile j) _ c.args.tri.now piece (omega (arith, top, le))
-      | else-meets_tile-via-else-meets_tile w ↦
-          step_outside c.args.size c.args.tile j _ c.args.tri.now c.meets_tile.ensures.sized piece (sym c.meets_tile.ensures.value ∙ w.if-meets_tile.false) h on
-    ])
+pub loop-j-init : goal.loop-j-init
+loop-j-init c = none_merged c.args.size c.args.tile c.args.piece.now.tri c.args.subs.now
+
+pub loop-j-preserved : goal.loop-j-preserved
+loop-j-preserved c =
+    let x = c.args.piece.now.tri in
+    let sub = tile_sub c.args.size c.args.tile c.loop-j.j in
+    let screen = ap (is_on_screen c.args.size) (sym c.sub_of-sub.ensures.value) ∙ sym c.on_screen.ensures in
+    elim c.if-on_screen.branch [
+      | then-on_screen w ↦
+          let lt : c.loop-j.j < length c.loop-j.subs = omega (arith, c.loop-j-test.true, c.loop-j.invariant.whole, c.told-subs) in
+          let is = w.merge.ensures ∙ ap (λ (u : Sub). step u (get_or c.loop-j.subs c.loop-j.j w.index-subs-j.result) x) c.sub_of-sub.ensures.value
+          ∙ ap (λ (s : State). step sub s x) (get_or_default c.loop-j.subs c.loop-j.j w.index-subs-j.result empty_state lt) in
+          subst (MergedBefore c.args.size c.args.tile x (c.loop-j.j + 1) c.args.subs.now) (sym w.subs-is)
+          (one_merged c.args.size c.args.tile x c.loop-j.j c.args.subs.now c.loop-j.subs w.merge.new.sub_tile lt (screen ∙ w.if-on_screen.true) is c.loop-j.invariant)
+      | else-on_screen w ↦
+          subst (MergedBefore c.args.size c.args.tile x (c.loop-j.j + 1) c.args.subs.now) (sym w.subs-is)
+          (one_skipped c.args.size c.args.tile x c.loop-j.j c.args.subs.now c.loop-j.subs (screen ∙ w.if-on_screen.false) c.loop-j.invariant)
+    ]
+
+pub returns-clause-merged : goal.returns-clause-merged
+returns-clause-merged c = all_merged c.args.size c.args.tile c.args.piece.now.tri c.loop-j.j c.args.subs.now c.loop-j.subs c.loop-j-test.false c.loop-j.invariant
