@@ -1,9 +1,8 @@
 -- The states of a tile after a list, and what is sound of them.
-use Rattle.std.proofs.Common.{◌≡◌, ℕ, ◌+◌, ◌<◌, List, [], ◌∷◌, ◌++◌, Bool, true, false, cond, length, take, get_or, slice_index_or, arith, refl, ap, ◌∙◌, sym, subst, append_assoc, replicate, below_more}
+use Rattle.std.proofs.Common.{◌≡◌, ℕ, ◌+◌, ◌<◌, List, [], ◌∷◌, ◌++◌, Bool, true, false, cond, length, take, get_or, slice_index_or, arith, refl, ◌∙◌, sym, subst, append_assoc}
 use Rattle.std.specs.List.{fold}
-use Rattle.std.proofs.lemmas.List.{ext_get_or, get_or_append_left, get_or_default, get_or-replicate, get_or_push, append-nil}
+use Rattle.std.proofs.lemmas.List.{ext_get_or, get_or_default, append-nil}
 use Rattle.std.proofs.lemmas.List.Elements.{Contains-append_left, Contains-append_right}
-use Rattle.std.proofs.Math.Seq.{take-length}
 use Rattle.std.proofs.lemmas.List.Sums.{fold_more}
 use Rattle.std.proofs.lemmas.List.FromFn.{length-map-range_with_len, get_or-map-range_with_len}
 use Rattle.cull_base.specs.Piece.{Piece, IsPiece}
@@ -12,7 +11,7 @@ use Rattle.cull_base.specs.Fold.{step, after, IsSound, IsLayered}
 use Rattle.cull_base.specs.Screen.{Dimensions, IsSize, tile_sub, is_on_screen}
 use Rattle.cull_base.specs.Tiles.{Listed, tile_list, tile_after}
 use Rattle.cull_base.specs.declared.place.Sub.{Sub}
-use Rattle.masked_update.specs.TileOf.{TileOf, sub_at, tile_at, no_tile}
+use Rattle.masked_update.specs.TileOf.{TileOf, sub_at}
 use Rattle.masked_update.specs.Drawn.{IsDrawn}
 use Rattle.masked_update.proofs.Lists.{after-tile_list}
 use Rattle.masked_update.proofs.Best.{AllPieces, IsReached, none_reached, step_is_reached, reached_is_sound, reached_is_layered}
@@ -75,20 +74,3 @@ drawn_is list tile t eight count merged others pieces sized =
     state_is : (b : Bool) (j : ℕ) → is_on_screen list.size (tile_sub list.size tile j) ≡ b → j < 8 → sub_at t j ≡ states j
     state_is true j e h = rw e (merged j h e)
     state_is false j e h = rw e (others j h e)
-
-pub empty_at : (j : ℕ) → j < 8 → slice_index_or (replicate 8 empty_state) j empty_state ≡ empty_state
-empty_at j h = get_or-replicate 8 j empty_state empty_state h
-
--- a state after i pieces, and after one more
-pub taken : (u : Sub) (pieces : List Piece) (i : ℕ) (x : Piece) (old new : State) → i < length pieces → get_or pieces i x ≡ x → old ≡ after u (take i pieces) → new ≡ step u old x → new ≡ after u (take (i + 1) pieces)
-taken u pieces i x old new lt is before now = now ∙ ap (λ s. step u s x) before ∙ ap (λ y. step u (after u (take i pieces)) y) (sym is) ∙ sym (after-more u pieces i x lt)
-
-pub whole_list : (u : Sub) (pieces : List Piece) (i : ℕ) → i ≡ length pieces → after u (take i pieces) ≡ after u pieces
-whole_list u pieces i e = ap (after u) (rw e (take-length pieces))
-
--- one more tile of those that are drawn
-pub drawn_more : (list : Listed) (tiles : List TileOf) (i : ℕ) (t : TileOf) → length tiles ≡ i → ((k : ℕ) → k < i → IsDrawn list k (tile_at tiles k)) → IsDrawn list i t → (k : ℕ) → k < i + 1 → IsDrawn list k (tile_at (tiles ++ t ∷ []) k)
-drawn_more list tiles i t len before now =
-    below_more (λ k. IsDrawn list k (tile_at (tiles ++ t ∷ []) k)) i
-    (λ k h. subst (IsDrawn list k) (sym (get_or_append_left tiles (t ∷ []) no_tile k (omega arith))) (before k h))
-    (subst (IsDrawn list i) (sym (get_or_push tiles t no_tile i len)) now)

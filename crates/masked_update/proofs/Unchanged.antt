@@ -1,15 +1,13 @@
 -- Pieces that change nothing in a subtile.
-use Rattle.std.proofs.Common.{◌≡◌, ℕ, ◌<◌, ◌≤◌, List, Bool, true, false, ◌||◌, cond, arith, refl, ap, ◌∙◌, sym, length, nat_le, max, pos, slice_index_or}
+use Rattle.std.proofs.Common.{◌≡◌, ℕ, ◌<◌, ◌≤◌, Bool, true, false, ◌||◌, cond, arith, refl, ap, ◌∙◌, sym, length, nat_le, max, pos}
 use Rattle.std.proofs.lemmas.Bool.Decides.{nat_tests}
 use Rattle.std.proofs.lemmas.Int.{ints}
 use Rattle.std.proofs.lemmas.List.FromFn.{get_or-map-range_with_len}
-use Rattle.cull_base.specs.State.{State, step_with, is_none, has, samples_of, empty_state}
+use Rattle.cull_base.specs.State.{State, step_with, is_none, has, samples_of}
 use Rattle.cull_base.specs.Fold.{step}
 use Rattle.cull_base.specs.Piece.{Piece, IsPiece, covered, covers, sample, each_sample, nearness}
 use Rattle.cull_base.specs.Depth.{low_of, greatest_nearness, denominator, DepthAtLeast}
-use Rattle.cull_base.specs.Screen.{Dimensions, tile_sub, is_on_screen}
 use Rattle.cull_base.specs.declared.place.Sub.{Sub}
-use Rattle.masked_update.specs.Merged.{IsMerged}
 use Rattle.depth_plane.proofs.Products.{le_from_times}
 use Rattle.depth_plane.proofs.Mean.{weights_of, touches_covered, numerator_below}
 use Rattle.depth_plane.proofs.Depths.{low_of-below}
@@ -78,7 +76,3 @@ step_empty u s t mask is e = step_none u s t (ap is_none (sym is) ∙ none_of ma
   where
     none_of : (m : ℕ) → m ≡ 0 → is_none (samples_of m) ≡ true
     none_of m e = let n = none-samples_of 0 (omega arith) in rw e n
-
--- a whole tile in which no subtile changes
-pub all_stay : (size : Dimensions) (tile : ℕ) (t : Piece) (old : List State) → ((j : ℕ) → j < 8 → is_on_screen size (tile_sub size tile j) ≡ true → step (tile_sub size tile j) (slice_index_or old j empty_state) t ≡ slice_index_or old j empty_state) → IsMerged size tile t old old
-all_stay size tile t old stays = record { merged = λ j h on. sym (stays j h on); others = λ j h off. refl; whole = refl }
