@@ -1,6 +1,6 @@
 -- Bounds on products of integers.
-use Rattle.std.proofs.Common.{◌≡◌, ℕ, ℤ, pos, negsuc, suc, zero, ◌+◌, ◌*◌, ◌<◌, ◌≤◌, ◌+ℤ◌, ◌*ℤ◌, ◌-ℤ◌, ◌≤ℤ◌, arith, refl, w64, to_z, of_z, FitsSigned, ◌^◌}
-use Rattle.std.proofs.lemmas.Int.{ints, to_z-of_z}
+use Rattle.std.proofs.Common.{ℕ, ℤ, pos, negsuc, suc, ◌*◌, ◌≤◌, ◌*ℤ◌, arith}
+use Rattle.std.proofs.lemmas.Int.{ints}
 use Rattle.std.proofs.Math.Nat.{mul-le-mul}
 use Rattle.cull_base.specs.Bounds.{Near}
 

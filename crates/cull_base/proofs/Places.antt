@@ -1,5 +1,5 @@
 -- Rows and columns of numbered things.
-use Rattle.std.proofs.Common.{◌≡◌, ℕ, ◌<◌, ◌≤◌, ◌*◌, ◌/◌, arith, ◌↔◌}
+use Rattle.std.proofs.Common.{ℕ, ◌<◌, ◌*◌, ◌/◌, arith}
 use Rattle.std.proofs.Math.Nat.{div-lt_iff_lt-mul}
 
 pub row_below : (t columns rows : ℕ) → 0 < columns → t < columns * rows → t / columns < rows

@@ -1,5 +1,5 @@
 -- Rectangles that share a pixel.
-use Rattle.std.proofs.Common.{◌≡◌, ℕ, ℤ, ◌≤ℤ◌, ◌<ℤ◌, Bool, true, false, ◌&&◌, cond, IsTrue, arith, refl, ap, ◌∙◌, sym, int_lt}
+use Rattle.std.proofs.Common.{◌≡◌, ℤ, ◌≤ℤ◌, ◌<ℤ◌, Bool, true, false, ◌&&◌, cond, IsTrue, arith, refl, int_lt}
 use Rattle.std.specs.Prelude.{◌↔◌}
 use Rattle.std.specs.Int.{int_min, int_max}
 use Rattle.std.proofs.lemmas.Int.{ints}

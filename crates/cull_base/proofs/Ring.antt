@@ -1,5 +1,5 @@
 -- Identities of integers by `omega`: an integer is written as a difference of two naturals, and `omega` multiplies products of naturals out.
-use Rattle.std.proofs.Common.{◌≡◌, ℕ, ℤ, pos, negsuc, suc, zero, ◌+◌, ◌*◌, ◌-◌, ◌+ℤ◌, ◌*ℤ◌, ◌-ℤ◌, arith, refl, subst, sym, ap, ◌∙◌}
+use Rattle.std.proofs.Common.{◌≡◌, ℕ, ℤ, pos, negsuc, ◌+◌, ◌*◌, ◌+ℤ◌, ◌*ℤ◌, ◌-ℤ◌, arith, refl, subst, ap}
 use Rattle.std.proofs.lemmas.Int.{ints}
 use borrow.Author.Differences.{up, down}
 

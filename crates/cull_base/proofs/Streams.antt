@@ -1,8 +1,7 @@
 -- Appending piece by piece.
-use Rattle.std.proofs.Common.{◌≡◌, ℕ, ◌+◌, ◌≤◌, ◌++◌, List, length, take, drop, arith, refl, sym, ap, ◌∙◌, Option, Some, None, append_assoc, subst}
+use Rattle.std.proofs.Common.{◌≡◌, ℕ, ◌+◌, ◌++◌, List, take, drop, refl, sym, ap, ◌∙◌, Option, Some, None, append_assoc}
 use Rattle.std.specs.Option.{option_map}
 use Rattle.std.proofs.Math.Seq.{take-add}
-use Rattle.std.proofs.lemmas.List.{length-drop, drop-drop}
 use Rattle.cull_base.specs.Stream.{Appends}
 
 pub appends_then : (before between after : Option (List ℕ)) (a b : List ℕ) → Appends before between a → Appends between after b → Appends before after (a ++ b)

@@ -1,5 +1,5 @@
 -- The states of a subtile under a list of pieces, and what makes them sound.
-use Rattle.std.specs.Prelude.{ℕ, ◌≡◌, ◌<◌, List, true, false, ◌⊎◌, length}
+use Rattle.std.specs.Prelude.{ℕ, ◌≡◌, ◌<◌, List, true, false, ◌⊎◌}
 use Rattle.std.specs.List.{fold, Contains}
 use Rattle.cull_base.specs.State.{State, step_with, empty_state, is_none, bound_at}
 use Rattle.cull_base.specs.Piece.{Piece, Point, covered, covers, sample}

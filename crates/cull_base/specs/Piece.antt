@@ -1,5 +1,5 @@
 -- Pieces: triangles on the screen, which samples they cover or touch, and which pixels they reach.
-use Rattle.std.specs.Prelude.{ℕ, ℤ, pos, neg_ℤ, ◌≡◌, ◌+◌, ◌*◌, ◌/◌, ◌%◌, ◌^◌, ◌≤◌, ◌+ℤ◌, ◌-ℤ◌, ◌*ℤ◌, ◌<ℤ◌, List, [], ◌∷◌, map, length, Bool, int_lt, int_le, ◌&&◌, ◌||◌, slice_index, slice_index_or}
+use Rattle.std.specs.Prelude.{ℕ, ℤ, pos, neg_ℤ, ◌≡◌, ◌+◌, ◌*◌, ◌/◌, ◌%◌, ◌^◌, ◌≤◌, ◌+ℤ◌, ◌-ℤ◌, ◌*ℤ◌, ◌<ℤ◌, List, map, length, Bool, int_lt, int_le, ◌&&◌, ◌||◌, slice_index, slice_index_or}
 use Rattle.std.specs.List.{range_with_len, All}
 use Rattle.std.specs.Int.{int_min, int_max, int_div_euclid}
 use Rattle.std.specs.Ordering.{int_eq}

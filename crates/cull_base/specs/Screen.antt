@@ -1,5 +1,5 @@
 -- The screen: its size in pixels, its tiles of 32 by 8 pixels and their subtiles of 8 by 4.
-use Rattle.std.specs.Prelude.{ℕ, pos, ◌≡◌, ◌+◌, ◌*◌, ◌/◌, ◌%◌, ◌<◌, ◌≤◌, min, Bool, nat_lt, ◌&&◌}
+use Rattle.std.specs.Prelude.{ℕ, pos, ◌≡◌, ◌+◌, ◌*◌, ◌/◌, ◌%◌, ◌≤◌, min, Bool, nat_lt, ◌&&◌}
 use Rattle.std.specs.Int.{div_ceil}
 use Rattle.cull_base.specs.declared.rect.Rect.{Rect}
 use Rattle.cull_base.specs.declared.place.Tile.{Tile}

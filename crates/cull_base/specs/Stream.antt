@@ -1,5 +1,5 @@
 -- What sources and sinks say of their bytes and their counts.
-use Rattle.std.specs.Prelude.{ℕ, ◌≡◌, ◌+◌, ◌-◌, ◌^◌, ◌<◌, ◌≤◌, min, List, [], ◌++◌, length, take, drop, Option, Some, None, option_map, IfSome}
+use Rattle.std.specs.Prelude.{ℕ, ◌≡◌, ◌+◌, ◌-◌, ◌^◌, ◌<◌, ◌≤◌, min, List, ◌++◌, length, take, drop, Option, option_map, IfSome}
 
 -- a count rose in a call, or stands at its type's end as the call ends
 abbrev pub Rose : ℕ → ℕ → Type 0

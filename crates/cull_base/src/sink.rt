@@ -123,6 +123,8 @@ impl Sink for BytesSink {
         ensures numbered { IsErrOf result SinkError.Failed ↔ Contains self.old.fails self.new.calls }
         ensures call { self.new.calls ≡ next_count self.old.calls }
         ensures amount { IfOk result (λ n. n ≡ min self.old.most (length piece.now)) }
+        ensures unfailed { OnOk result (self.new.faults ≡ self.old.faults) }
+        ensures unrefused { OnOk result (self.new.refusals ≡ self.old.refusals) }
         ensures same { (self.new.most ≡ self.old.most) × (self.new.fails ≡ self.old.fails) }
     {
         self.calls = self.calls.saturating_add(1);
@@ -184,6 +186,7 @@ impl Sink for SureSink {
         ensures kept { OnErr result (self.new.held ≡ self.old.held) }
         ensures memory { OnErr result (result ≡ Err SinkError.Memory) }
         ensures refused { OnErr result (Rose self.old.refusals self.new.refusals) }
+        ensures unrefused { OnOk result (self.new.refusals ≡ self.old.refusals) }
         ensures refusals_stay { self.old.refusals ≤ self.new.refusals }
     {
         if self.bytes.extend_from_slice(piece).is_err() {

@@ -1,6 +1,5 @@
-use Rattle.std.proofs.Common.{◌≡◌, ◌*ℤ◌, ◌^◌, FitsSigned, w64, arith, rules}
+use Rattle.std.proofs.Common.{◌*ℤ◌, ◌^◌, FitsSigned, w64, arith}
 use Rattle.std.proofs.lemmas.Int.{ints, to_z-of_z}
-use Rattle.cull_base.specs.Bounds.{Near}
 use Rattle.cull_base.proofs.Bounds.{near-mul}
 use Rattle.cull_base.proofs.screen_tri.product.Goals as goal
 

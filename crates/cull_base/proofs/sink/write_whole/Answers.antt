@@ -1,4 +1,4 @@
-use Rattle.std.proofs.Common.{◌≡◌, ℕ, ◌+◌, ◌≤◌, ◌++◌, List, length, take, drop, arith, refl, sym, ap, ◌∙◌}
+use Rattle.std.proofs.Common.{◌≡◌, ◌+◌, ◌≤◌, length, drop, arith, ap, ◌∙◌}
 use Rattle.std.proofs.lemmas.List.{length-drop, drop-drop}
 use Rattle.cull_base.proofs.Streams.{appends_more}
 use Rattle.cull_base.proofs.sink.write_whole.Goals as goal

@@ -1,4 +1,4 @@
-use Rattle.std.proofs.Common.{◌≡◌, ℕ, ◌≤◌, ◌-◌, length, take, drop}
+use Rattle.std.proofs.Common.{◌≡◌, ℕ, ◌≤◌, length, take, drop}
 use Rattle.cull_base.specs.Stream.{Appends}
 use Rattle.cull_base.proofs.sink.write_whole.Given as goal
 

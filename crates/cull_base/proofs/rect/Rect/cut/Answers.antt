@@ -2,7 +2,7 @@ use Rattle.std.proofs.Common.{rules, ◌≡◌, ℤ, true, FitsSigned, w32, sym,
 use Rattle.std.proofs.lemmas.Int.{to_z-of_z}
 use Rattle.std.specs.Int.{int_min, int_max}
 use Rattle.cull_base.specs.declared.rect.Rect.{Rect}
-use Rattle.cull_base.specs.Rectangle.{HasPixel, meets, cut_of, common}
+use Rattle.cull_base.specs.Rectangle.{HasPixel, meets, cut_of}
 use Rattle.cull_base.proofs.Rectangles.{cut_pixels}
 use Rattle.cull_base.proofs.rect.Rect.cut.Goals as goal
 

@@ -1,4 +1,4 @@
-use Rattle.std.proofs.Common.{rules, ◌≡◌, ℤ, FitsSigned, w32, refl, List, ◌∙◌, ap}
+use Rattle.std.proofs.Common.{rules, ◌≡◌, ℤ, FitsSigned, w32, refl, ◌∙◌, ap}
 use Rattle.std.proofs.lemmas.Int.{to_z-of_z}
 use Rattle.cull_base.specs.declared.rect.Rect.{Rect}
 use Rattle.cull_base.specs.Piece.{Piece, box_of, first_pixel, pixel_behind, least_of_three, greatest_of_three}

@@ -1,6 +1,6 @@
-use Rattle.std.proofs.Common.{◌≡◌, ℤ, pos, ◌<ℤ◌, ◌≤ℤ◌, FitsSigned, w32, w64, arith, rules, slice_index_or, refl, length}
+use Rattle.std.proofs.Common.{◌≡◌, ℤ, pos, ◌<ℤ◌, ◌≤ℤ◌, FitsSigned, w32, arith, rules, slice_index_or}
 use Rattle.std.proofs.lemmas.Int.{ints, to_z-of_z}
-use Rattle.cull_base.specs.Piece.{Piece, IsPiece, doubled_area}
+use Rattle.cull_base.specs.Piece.{Piece, doubled_area}
 use Rattle.cull_base.proofs.screen_tri.ScreenTri.new.Goals as goal
 
 not_positive : (z a : ℤ) → z ≡ a → z ≤ℤ pos 0 → pos 0 <ℤ a → ⊥

@@ -1,5 +1,5 @@
-use Rattle.std.proofs.Common.{◌≡◌, ◌<◌, ◌≤◌, ◌+◌, ◌-◌, ◌/◌, ◌%◌, ◌*◌, ◌^◌, ℕ, arith, sym, ap}
-use Rattle.cull_base.specs.Screen.{Dimensions, IsSize, tile_rows_of, tile_columns_of, tile_count_of}
+use Rattle.std.proofs.Common.{◌≡◌, ◌<◌, ◌≤◌, ◌/◌, ◌*◌, ℕ, arith}
+use Rattle.cull_base.specs.Screen.{Dimensions, tile_rows_of, tile_columns_of, tile_count_of}
 use Rattle.cull_base.proofs.size.Size.tile_at.Goals as goal
 use Rattle.cull_base.proofs.Places.{row_below}
 

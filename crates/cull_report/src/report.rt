@@ -1,0 +1,133 @@
+//! The texts of the report.
+ghost use Rattle.std.specs.Prelude.{◌≡◌, ℕ, List, [], ◌∷◌, ◌++◌, ◌<◌, ◌≤◌, ◌^◌, length, count_by};
+ghost use Rattle.cull_report.specs.Text.{header_text, frame_line, verdict_line, verdict_lines, end_line, frame_text, verdict_word, is_visible, is_occluded, is_outside};
+ghost use Rattle.cull_report.specs.Writing.{Seen, Writes};
+
+use crate::line::Line;
+use cull_base::{Sink, SinkError, Verdict, write_whole};
+use scene_reader::Scene;
+
+const REPORT_VERSION: u64 = 1;
+
+#[tactic(auto, unfolding(crate::specs::Text::header_text))]
+fn header_line(width: u16, height: u16, frames: usize, objects: usize) -> Line
+    ensures { result ≡ header_text width height frames objects }
+{
+    let mut line = Line::begin(b"msoc-report");
+    line.number(REPORT_VERSION);
+    line.number(u64::from(width));
+    line.number(u64::from(height));
+    line.number(frames as u64);
+    line.number(objects as u64);
+    line.end();
+    line
+}
+
+#[tactic(auto, unfolding(crate::specs::Text::frame_line))]
+fn frame_line(frame: u32, pieces: u32) -> Line
+    ensures { result ≡ frame_line frame pieces }
+{
+    let mut line = Line::begin(b"frame");
+    line.number(u64::from(frame));
+    line.word(b"pieces");
+    line.number(u64::from(pieces));
+    line.end();
+    line
+}
+
+fn word_of(verdict: Verdict) -> &'static [u8]
+    ensures value { result.now ≡ verdict_word verdict }
+    ensures short { length result.now ≤ 8 }
+{
+    match verdict {
+        Verdict::Visible => b"visible",
+        Verdict::Occluded => b"occluded",
+        Verdict::Outside => b"outside",
+    }
+}
+
+#[tactic(auto, unfolding(crate::specs::Text::verdict_line))]
+fn verdict_line(object: usize, verdict: Verdict) -> Line
+    ensures { result ≡ verdict_line object verdict }
+{
+    let mut line = Line::begin(b"");
+    line.push_number(object as u64);
+    line.word(word_of(verdict));
+    line.end();
+    line
+}
+
+#[tactic(auto, unfolding(crate::specs::Text::end_line))]
+fn end_line(frame: u32, visible: usize, occluded: usize, outside: usize) -> Line
+    ensures { result ≡ end_line frame visible occluded outside }
+{
+    let mut line = Line::begin(b"end");
+    line.number(u64::from(frame));
+    line.word(b"visible");
+    line.number(visible as u64);
+    line.word(b"occluded");
+    line.number(occluded as u64);
+    line.word(b"outside");
+    line.number(outside as u64);
+    line.end();
+    line
+}
+
+fn write_line<W: Sink>(sink: &mut W, line: &Line) -> Result<(), SinkError>
+    ensures { Writes (record { holding = W.holding sink.old; faults = W.faults sink.old; refusals = W.refusals sink.old }) (record { holding = W.holding sink.new; faults = W.faults sink.new; refusals = W.refusals sink.new }) result line.now }
+{
+    write_whole(sink, line.as_slice())
+}
+
+fn write_verdicts<W: Sink>(sink: &mut W, verdicts: &[Verdict]) -> Result<(), SinkError>
+    ensures { Writes (record { holding = W.holding sink.old; faults = W.faults sink.old; refusals = W.refusals sink.old }) (record { holding = W.holding sink.new; faults = W.faults sink.new; refusals = W.refusals sink.new }) result (verdict_lines 0 verdicts.now) }
+{
+    for (object, verdict) in verdicts.iter().enumerate() {
+        write_line(sink, &verdict_line(object, *verdict))?;
+    }
+    Ok(())
+}
+
+fn count_of(verdicts: &[Verdict], wanted: Verdict) -> usize
+    ensures visible { wanted ≡ Verdict.Visible → result ≡ count_by is_visible verdicts.now }
+    ensures occluded { wanted ≡ Verdict.Occluded → result ≡ count_by is_occluded verdicts.now }
+    ensures outside { wanted ≡ Verdict.Outside → result ≡ count_by is_outside verdicts.now }
+{
+    verdicts
+        .iter()
+        .filter(|verdict| **verdict == wanted)
+        .count()
+}
+
+/// Writes a frame's lines: the number of its pieces, each object's verdict, and how many there are of each.
+/// Failed only where the sink's count of faults rose, Memory only where that of refused growths did; after an error
+/// a front of the text that isn't the whole was appended.
+pub fn write_frame<W: Sink>(
+    sink: &mut W,
+    frame: u32,
+    pieces: u32,
+    verdicts: &[Verdict],
+) -> Result<(), SinkError>
+    ensures { Writes (record { holding = W.holding sink.old; faults = W.faults sink.old; refusals = W.refusals sink.old }) (record { holding = W.holding sink.new; faults = W.faults sink.new; refusals = W.refusals sink.new }) result (frame_text frame pieces verdicts.now) }
+{
+    write_line(sink, &frame_line(frame, pieces))?;
+    write_verdicts(sink, verdicts)?;
+    let visible = count_of(verdicts, Verdict::Visible);
+    let occluded = count_of(verdicts, Verdict::Occluded);
+    let outside = count_of(verdicts, Verdict::Outside);
+    write_line(sink, &end_line(frame, visible, occluded, outside))
+}
+
+/// Writes the report's first line. Failed and Memory are the sink's, as for a frame.
+pub fn write_header<W: Sink>(sink: &mut W, scene: &Scene) -> Result<(), SinkError>
+    ensures { Writes (record { holding = W.holding sink.old; faults = W.faults sink.old; refusals = W.refusals sink.old }) (record { holding = W.holding sink.new; faults = W.faults sink.new; refusals = W.refusals sink.new }) result (header_text scene.now.width scene.now.height (length scene.now.cameras) (length scene.now.objects)) }
+{
+    let size = scene.size();
+    let line = header_line(
+        size.width(),
+        size.height(),
+        scene.cameras().len(),
+        scene.objects().len(),
+    );
+    write_line(sink, &line)
+}

@@ -1,0 +1,128 @@
+-- A plane is least and greatest over the samples of a subtile at a corner.
+use Rattle.std.proofs.Common.{◌≡◌, ℕ, ℤ, pos, negsuc, suc, zero, ◌+◌, ◌*◌, ◌/◌, ◌%◌, ◌<◌, ◌≤◌, ◌*ℤ◌, ◌≤ℤ◌, arith, refl, List, map, length, get_or, ◌⊎◌, inl, inr}
+use Rattle.std.specs.Int.{int_min, int_max}
+use Rattle.std.specs.List.{fold, range_with_len, All, Contains}
+use Rattle.std.proofs.Math.Nat.{mul-le-mul_left}
+use Rattle.std.proofs.lemmas.Int.{ints, fold-int_min_bounds, fold-int_min_reached, fold-int_max_bounds, fold-int_max_reached}
+use Rattle.std.proofs.lemmas.List.FromFn.{length-map-range_with_len, get_or-map-range_with_len}
+use Rattle.std.proofs.lemmas.List.Elements.{All-get_or}
+use Rattle.cull_base.specs.Piece.{Point, sample, each_sample}
+use Rattle.cull_base.specs.Depth.{least_of, greatest_of}
+use Rattle.cull_base.specs.declared.place.Sub.{Sub}
+use Rattle.depth_plane.specs.Plane.{Coefficients, numerator_at}
+use Rattle.depth_plane.specs.Corner.{least_place, greatest_place}
+
+abbrev rest : (ℕ → ℤ) → List ℤ
+rest f = map f (range_with_len 1 31)
+
+-- an element behind the first
+at_rest : (f : ℕ → ℤ) (P : ℤ → Type 0) (i : ℕ) → i < 31 → All P (rest f) → P (f (suc i))
+at_rest f P i lt h =
+    let len : length (rest f) ≡ 31 = length-map-range_with_len f 1 31 in
+    let at : P (get_or (rest f) i (f 0)) = All-get_or P (rest f) i (f 0) (omega arith) h in
+    let is : get_or (rest f) i (f 0) ≡ f (suc i) = get_or-map-range_with_len f 1 31 i (suc i) (f 0) lt (omega arith) in
+    rw (← is) at
+
+-- what holds of each value holds of each element behind the first
+from_rest : (f : ℕ → ℤ) (P : ℤ → Type 0) (v : ℤ) → ((i : ℕ) → i < 32 → P (f i)) → Contains (rest f) v → P v
+from_rest f P v h (k, lt, e) =
+    let len : length (rest f) ≡ 31 = length-map-range_with_len f 1 31 in
+    let lt' : k < 31 = omega (arith, lt, len) in
+    let is : get_or (rest f) k v ≡ f (suc k) = get_or-map-range_with_len f 1 31 k (suc k) v lt' (omega arith) in
+    rw (← e, is) (h (suc k) (omega arith))
+
+-- the least value is no greater than any, and is one of them
+pub least_of-le : (f : ℕ → ℤ) (i : ℕ) → i < 32 → least_of (each_sample f) ≤ℤ f i
+unfolding each_sample
+least_of-le f zero lt = (fold-int_min_bounds (f 0) (rest f) (fold int_min (f 0) (rest f)) refl).0
+least_of-le f (suc i) lt = at_rest f (λ x. fold int_min (f 0) (rest f) ≤ℤ x) i (omega arith) (fold-int_min_bounds (f 0) (rest f) (fold int_min (f 0) (rest f)) refl).1
+
+least_of-from : (f : ℕ → ℤ) (P : ℤ → Type 0) → ((i : ℕ) → i < 32 → P (f i)) → P (least_of (each_sample f))
+unfolding each_sample
+least_of-from f P h = elim (fold-int_min_reached (f 0) (rest f) (fold int_min (f 0) (rest f)) refl) [
+  | inl e ↦ rw e (h 0 (omega arith))
+  | inr e ↦ from_rest f P (fold int_min (f 0) (rest f)) h e
+]
+
+pub greatest_of-ge : (f : ℕ → ℤ) (i : ℕ) → i < 32 → f i ≤ℤ greatest_of (each_sample f)
+unfolding each_sample
+greatest_of-ge f zero lt = (fold-int_max_bounds (f 0) (rest f) (fold int_max (f 0) (rest f)) refl).0
+greatest_of-ge f (suc i) lt = at_rest f (λ x. x ≤ℤ fold int_max (f 0) (rest f)) i (omega arith) (fold-int_max_bounds (f 0) (rest f) (fold int_max (f 0) (rest f)) refl).1
+
+greatest_of-from : (f : ℕ → ℤ) (P : ℤ → Type 0) → ((i : ℕ) → i < 32 → P (f i)) → P (greatest_of (each_sample f))
+unfolding each_sample
+greatest_of-from f P h = elim (fold-int_max_reached (f 0) (rest f) (fold int_max (f 0) (rest f)) refl) [
+  | inl e ↦ rw e (h 0 (omega arith))
+  | inr e ↦ from_rest f P (fold int_max (f 0) (rest f)) h e
+]
+
+least_is : (f : ℕ → ℤ) (m : ℤ) (k : ℕ) → k < 32 → f k ≡ m → ((i : ℕ) → i < 32 → m ≤ℤ f i) → m ≡ least_of (each_sample f)
+least_is f m k lt e below =
+    let up = least_of-le f k lt in
+    let down = least_of-from f (λ v. m ≤ℤ v) below in
+    omega (arith, ints)
+
+greatest_is : (f : ℕ → ℤ) (m : ℤ) (k : ℕ) → k < 32 → f k ≡ m → ((i : ℕ) → i < 32 → f i ≤ℤ m) → m ≡ greatest_of (each_sample f)
+greatest_is f m k lt e above =
+    let down = greatest_of-ge f k lt in
+    let up = greatest_of-from f (λ v. v ≤ℤ m) above in
+    omega (arith, ints)
+
+-- along one axis, whose last place is h from the first
+least_axis : (n : ℤ) (x h i : ℕ) → i ≤ h → (n *ℤ pos (x + least_place n h)) ≤ℤ (n *ℤ pos (x + i))
+least_axis (pos n) x h i le = let l : x + 0 ≤ x + i = omega arith in omega (arith, ints, mul-le-mul_left n l)
+least_axis (negsuc n) x h i le = let l : x + i ≤ x + h = omega arith in omega (arith, ints, mul-le-mul_left (suc n) l)
+
+greatest_axis : (n : ℤ) (x h i : ℕ) → i ≤ h → (n *ℤ pos (x + i)) ≤ℤ (n *ℤ pos (x + greatest_place n h))
+greatest_axis (pos n) x h i le = let l : x + i ≤ x + h = omega arith in omega (arith, ints, mul-le-mul_left n l)
+greatest_axis (negsuc n) x h i le = let l : x + 0 ≤ x + i = omega arith in omega (arith, ints, mul-le-mul_left (suc n) l)
+
+least_place_is : (n : ℤ) (h : ℕ) → (least_place n h ≡ 0) ⊎ (least_place n h ≡ h)
+least_place_is (pos n) h = inl refl
+least_place_is (negsuc n) h = inr refl
+
+greatest_place_is : (n : ℤ) (h : ℕ) → (greatest_place n h ≡ 0) ⊎ (greatest_place n h ≡ h)
+greatest_place_is (pos n) h = inr refl
+greatest_place_is (negsuc n) h = inl refl
+
+-- the sample of a corner
+corner : (i j : ℕ) → (i ≡ 0) ⊎ (i ≡ 112) → (j ≡ 0) ⊎ (j ≡ 48) → (k : ℕ) × (k < 32) × (16 * (k % 8) ≡ i) × (16 * (k / 8) ≡ j)
+corner i j (inl a) (inl b) = (0, omega arith, omega arith, omega arith)
+corner i j (inr a) (inl b) = (7, omega arith, omega arith, omega arith)
+corner i j (inl a) (inr b) = (24, omega arith, omega arith, omega arith)
+corner i j (inr a) (inr b) = (31, omega arith, omega arith, omega arith)
+
+abbrev at : ℕ → ℕ → Point
+at x y = record { x = pos x; y = pos y }
+
+-- a sample by its place from the first sample
+sample_at : (c : Coefficients) (u : Sub) (k : ℕ) → numerator_at c (sample u k) ≡ numerator_at c (at ((16 * (8 * u.column) + 8) + 16 * (k % 8)) ((16 * (4 * u.row) + 8) + 16 * (k / 8)))
+sample_at c u k =
+    let ex : 16 * (8 * u.column + k % 8) + 8 ≡ (16 * (8 * u.column) + 8) + 16 * (k % 8) = omega arith in
+    let ey : 16 * (4 * u.row + k / 8) + 8 ≡ (16 * (4 * u.row) + 8) + 16 * (k / 8) = omega arith in
+    rw (ex, ey) refl
+
+sample_is : (c : Coefficients) (u : Sub) (k i j x y : ℕ) → 16 * (k % 8) ≡ i → 16 * (k / 8) ≡ j → x ≡ (16 * (8 * u.column) + 8) + i → y ≡ (16 * (4 * u.row) + 8) + j → numerator_at c (sample u k) ≡ numerator_at c (at x y)
+sample_is c u k i j x y ei ej ex ey = rw (ex, ey, ← ei, ← ej) (sample_at c u k)
+
+pub corner_least : (c : Coefficients) (u : Sub) (x y : ℕ) → x ≡ (16 * (8 * u.column) + 8) + least_place c.across 112 → y ≡ (16 * (4 * u.row) + 8) + least_place c.down 48 →
+    numerator_at c (at x y) ≡ least_of (each_sample (λ k. numerator_at c (sample u k)))
+corner_least c u x y ex ey =
+    let (k, lt, i, j) = corner (least_place c.across 112) (least_place c.down 48) (least_place_is c.across 112) (least_place_is c.down 48) in
+    least_is (λ k. numerator_at c (sample u k)) (numerator_at c (at x y)) k lt (sample_is c u k (least_place c.across 112) (least_place c.down 48) x y i j ex ey)
+    (λ m l.
+    let s = sample_at c u m in
+    let a = least_axis c.across (16 * (8 * u.column) + 8) 112 (16 * (m % 8)) (omega arith) in
+    let b = least_axis c.down (16 * (4 * u.row) + 8) 48 (16 * (m / 8)) (omega arith) in
+    rw (s, ex, ey) (omega (arith, ints, a, b)))
+
+pub corner_greatest : (c : Coefficients) (u : Sub) (x y : ℕ) → x ≡ (16 * (8 * u.column) + 8) + greatest_place c.across 112 → y ≡ (16 * (4 * u.row) + 8) + greatest_place c.down 48 →
+    numerator_at c (at x y) ≡ greatest_of (each_sample (λ k. numerator_at c (sample u k)))
+corner_greatest c u x y ex ey =
+    let (k, lt, i, j) = corner (greatest_place c.across 112) (greatest_place c.down 48) (greatest_place_is c.across 112) (greatest_place_is c.down 48) in
+    greatest_is (λ k. numerator_at c (sample u k)) (numerator_at c (at x y)) k lt (sample_is c u k (greatest_place c.across 112) (greatest_place c.down 48) x y i j ex ey)
+    (λ m l.
+    let s = sample_at c u m in
+    let a = greatest_axis c.across (16 * (8 * u.column) + 8) 112 (16 * (m % 8)) (omega arith) in
+    let b = greatest_axis c.down (16 * (4 * u.row) + 8) 48 (16 * (m / 8)) (omega arith) in
+    rw (s, ex, ey) (omega (arith, ints, a, b)))

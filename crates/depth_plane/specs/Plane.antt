@@ -1,0 +1,53 @@
+-- The depth of a piece as a plane over the screen.
+use Rattle.std.specs.Prelude.{ℕ, ℤ, pos, ◌^◌, ◌+ℤ◌, ◌-ℤ◌, ◌*ℤ◌, ◌≤ℤ◌, ◌<ℤ◌}
+use Rattle.cull_base.specs.Bounds.{Near}
+use Rattle.cull_base.specs.Piece.{Piece, Point, vertex, nearness, middle}
+use Rattle.cull_base.specs.Depth.{numerator, denominator}
+use Rattle.cull_base.specs.declared.place.Sample.{Sample}
+
+-- the depth at (x, y) is (across * x + down * y + level) / area
+pub record Coefficients : Type 0 where
+  pub across : ℤ
+  pub down : ℤ
+  pub level : ℤ
+  pub area : ℤ
+
+-- the area is positive, and the sizes keep products inside 128 bits
+pub record IsPlane (c : Coefficients) : Type 0 where
+  pub across : Near (2 ^ 48) c.across
+  pub down : Near (2 ^ 48) c.down
+  pub level : Near (2 ^ 79) c.level
+  pub positive_area : pos 0 <ℤ c.area
+  pub area_within : c.area ≤ℤ pos (2 ^ 61)
+
+-- the sum of three terms, each weighted by the nearness of its vertex
+abbrev pub weighted : Piece → ℤ → ℤ → ℤ → ℤ
+weighted t a b c = ((pos (nearness t 0) *ℤ a) +ℤ (pos (nearness t 1) *ℤ b)) +ℤ (pos (nearness t 2) *ℤ c)
+
+-- the value at the origin of the edge from a to b
+abbrev pub from_origin : Point → Point → ℤ
+from_origin a b = (a.x *ℤ b.y) -ℤ (b.x *ℤ a.y)
+
+unfoldable pub plane_of : Piece → Coefficients
+plane_of t =
+    let a = vertex t 0 in let b = vertex t 1 in let c = vertex t 2 in
+    record {
+      across = weighted t (b.y -ℤ c.y) (c.y -ℤ a.y) (a.y -ℤ b.y);
+      down = weighted t (c.x -ℤ b.x) (a.x -ℤ c.x) (b.x -ℤ a.x);
+      level = weighted t (from_origin b c) (from_origin c a) (from_origin a b);
+      area = denominator t;
+    }
+
+abbrev pub numerator_at : Coefficients → Point → ℤ
+numerator_at c p = ((c.across *ℤ p.x) +ℤ (c.down *ℤ p.y)) +ℤ c.level
+
+-- the depth of the first at p is strictly greater than that of the second
+abbrev pub IsNearer : Coefficients → Coefficients → Point → Type 0
+IsNearer c other p = (numerator_at other p *ℤ c.area) <ℤ (numerator_at c p *ℤ other.area)
+
+abbrev pub point_of : Sample → Point
+point_of s = middle s.px s.py
+
+-- the depth of a piece at p is at most v
+abbrev pub DepthAtMost : Piece → Point → ℕ → Type 0
+DepthAtMost t p v = numerator t p ≤ℤ (pos v *ℤ denominator t)

@@ -1,0 +1,12 @@
+//! Depth: the plane of a piece's depth over the screen, and its bounds over a subtile.
+#![tactic(auto)]
+
+mod arithmetic;
+mod corner;
+mod plane;
+mod quotient;
+#[cfg(test)]
+mod tests;
+mod vertices;
+
+pub use plane::Plane;

@@ -1,0 +1,144 @@
+//! The plane of a piece's depth.
+ghost use Rattle.std.specs.Prelude.{◌≡◌, ℕ, ℤ, pos, true, ◌<◌, ◌≤◌, ◌^◌, ◌<ℤ◌, IsTrue, ◌↔◌, ◌+◌, ◌*◌};
+ghost use Rattle.cull_base.specs.Piece.{Piece, Point, covers, touches, sample, each_sample};
+ghost use Rattle.cull_base.specs.Depth.{numerator, denominator, low_of, high_of, least_of, greatest_of, DepthAtLeast, DepthLess};
+ghost use Rattle.cull_base.specs.Bounds.{Near};
+ghost use Rattle.depth_plane.specs.Plane.{plane_of, numerator_at, IsNearer, point_of, DepthAtMost};
+
+use crate::corner::{greatest_along, least_along, numerator_at};
+use crate::quotient::{ceiling, cut_to_range, floor, is_greater};
+use crate::vertices::Vertices;
+use cull_base::{Sample, ScreenTri, Sub};
+use std::marker::Model;
+
+/// From the first sample of a subtile to the last in its row, in sixteenths of a pixel.
+const SPAN_ACROSS: u32 = 112;
+
+/// From the first sample of a subtile to the last in its column.
+const SPAN_DOWN: u32 = 48;
+
+/// The depth of a piece at (x, y), in sixteenths of a pixel: `(across * x + down * y + level) / area`.
+#[derive(Clone, Copy)]
+pub struct Plane {
+    across: i128,
+    down: i128,
+    level: i128,
+    area: i128,
+}
+
+impl Model for Plane {
+    ghost use Rattle.depth_plane.specs.Plane.{Coefficients, IsPlane};
+
+    ghost Value = { Coefficients };
+
+    ghost view = { λ p. record { across = p.across; down = p.down; level = p.level; area = p.area } };
+
+    ghost invariant = { λ p. IsPlane (record { across = p.across; down = p.down; level = p.level; area = p.area }) };
+
+    ghost inverse = { λ c. record { across = c.across; down = c.down; level = c.level; area = c.area } };
+}
+
+// Where the sample of a pixel stands, in sixteenths of a pixel.
+#[inline(always)]
+fn place(pixel: u16) -> u32
+    ensures value { result ≡ 16 * pixel + 8 }
+    ensures small { result < 2 ^ 21 }
+{
+    16 * u32::from(pixel) + 8
+}
+
+impl Plane {
+    /// At each point the plane's fraction is the piece's depth.
+    pub fn of(tri: &ScreenTri) -> Plane
+        ensures value { result ≡ plane_of tri.now }
+        ensures numerator { (p : Point) → numerator_at result p ≡ numerator tri.now p }
+        ensures denominator { result.area ≡ denominator tri.now }
+        ensures positive { pos 0 <ℤ result.area }
+    {
+        let vertices = Vertices::of(tri);
+        Plane {
+            across: vertices.across(),
+            down: vertices.down(),
+            level: vertices.level(),
+            area: i128::from(vertices.area()),
+        }
+    }
+
+    /// A bound that no covered sample of the subtile is below, from 0 to 65535. Conditions: the plane is the piece's,
+    /// and the subtile lies within 2048 by 2048 pixels.
+    pub fn low(&self, tri: &ScreenTri, sub: Sub) -> u32
+        requires plane { self.now ≡ plane_of tri.now }
+        requires column { sub.column < 256 }
+        requires row { sub.row < 512 }
+        ensures value { result ≡ low_of tri.now sub }
+        ensures within { result ≤ 65535 }
+        ensures below { (k : ℕ) → k < 32 → covers tri.now (sample sub k) ≡ true → DepthAtLeast tri.now (sample sub k) result }
+    {
+        let [q0, q1, q2] = tri.q();
+        let least_nearness = q0.min(q1.min(q2));
+        cut_to_range(i128::from(least_nearness).max(floor(self.least(sub), self.area)))
+    }
+
+    /// A bound that no touched sample of the subtile is above, from 0 to 65535. Conditions as for `low`.
+    pub fn high(&self, tri: &ScreenTri, sub: Sub) -> u32
+        requires plane { self.now ≡ plane_of tri.now }
+        requires column { sub.column < 256 }
+        requires row { sub.row < 512 }
+        ensures value { result ≡ high_of tri.now sub }
+        ensures within { result ≤ 65535 }
+        ensures above { (k : ℕ) → k < 32 → touches tri.now (sample sub k) ≡ true → DepthAtMost tri.now (sample sub k) result }
+    {
+        let [q0, q1, q2] = tri.q();
+        let greatest_nearness = q0.max(q1.max(q2));
+        cut_to_range(i128::from(greatest_nearness).min(ceiling(self.greatest(sub), self.area)))
+    }
+
+    // The numerator at a sample.
+    #[inline(always)]
+    fn at(&self, sample: Sample) -> i128
+        ensures value { result ≡ numerator_at self.now (point_of sample) }
+        ensures near { Near (2 ^ 80) result }
+    {
+        numerator_at(
+            self.across,
+            self.down,
+            self.level,
+            place(sample.px),
+            place(sample.py),
+        )
+    }
+
+    // The least numerator over the 32 samples of a subtile.
+    #[inline(always)]
+    fn least(&self, sub: Sub) -> i128
+        requires column { sub.column < 256 }
+        requires row { sub.row < 512 }
+        ensures value { result ≡ least_of (each_sample (λ k. numerator_at self.now (sample sub k))) }
+        ensures near { Near (2 ^ 80) result }
+    {
+        let x = least_along(self.across, place(8 * sub.column), SPAN_ACROSS);
+        let y = least_along(self.down, place(4 * sub.row), SPAN_DOWN);
+        numerator_at(self.across, self.down, self.level, x, y)
+    }
+
+    // The greatest numerator over the 32 samples of a subtile.
+    #[inline(always)]
+    fn greatest(&self, sub: Sub) -> i128
+        requires column { sub.column < 256 }
+        requires row { sub.row < 512 }
+        ensures value { result ≡ greatest_of (each_sample (λ k. numerator_at self.now (sample sub k))) }
+        ensures near { Near (2 ^ 80) result }
+    {
+        let x = greatest_along(self.across, place(8 * sub.column), SPAN_ACROSS);
+        let y = greatest_along(self.down, place(4 * sub.row), SPAN_DOWN);
+        numerator_at(self.across, self.down, self.level, x, y)
+    }
+
+    /// Whether this depth at the sample is strictly greater than the other's.
+    pub fn nearer(&self, other: &Plane, sample: Sample) -> bool
+        ensures value { IsTrue result ↔ IsNearer self.now other.now (point_of sample) }
+        ensures pieces { (s t : Piece) → self.now ≡ plane_of s → other.now ≡ plane_of t → (IsTrue result ↔ DepthLess t s (point_of sample)) }
+    {
+        is_greater(self.at(sample), self.area, other.at(sample), other.area)
+    }
+}

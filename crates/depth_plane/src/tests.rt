@@ -1,0 +1,147 @@
+//! Bounds with their numbers written out, and a plain loop over the samples beside the corner.
+ghost use Rattle.std.specs.Prelude.{◌<◌};
+
+use crate::plane::Plane;
+use cull_base::{Sample, ScreenTri, Sub};
+use std::process::Abort;
+
+fn piece_of(rt: &impl Abort, x: [i32; 3], y: [i32; 3], q: [u32; 3]) -> ScreenTri {
+    ScreenTri::new(x, y, q).expect(rt, "a piece")
+}
+
+#[test]
+fn a_sloping_piece_is_bounded_by_its_plane_and_its_vertices(rt: HostRuntime) {
+    let tri = piece_of(&rt, [0, 512, 0], [0, 0, 512], [1000, 200, 1000]);
+    let plane = Plane::of(&tri);
+    assert_eq!(rt; plane.low(&tri, Sub { column: 0, row: 0 }), 812);
+    assert_eq!(rt; plane.high(&tri, Sub { column: 0, row: 0 }), 988);
+    assert_eq!(rt; plane.low(&tri, Sub { column: 3, row: 0 }), 212);
+    assert_eq!(rt; plane.low(&tri, Sub { column: 4, row: 0 }), 200);
+}
+
+// The depth goes from 0 at x = -400,000,000 to 65535 at 400,000,000, so it is 32767.5 at x = 0 and rises to the right.
+#[test]
+fn numerators_beyond_64_bits_are_divided_too(rt: HostRuntime) {
+    let far = 400_000_000;
+    let tri = piece_of(&rt, [-far, far, far], [-far, -far, far], [0, 65535, 65535]);
+    let plane = Plane::of(&tri);
+    let sub = Sub { column: 0, row: 0 };
+    assert_eq!(rt; plane.low(&tri, sub), 32767);
+    assert_eq!(rt; plane.high(&tri, sub), 32768);
+}
+
+// The sloping piece has 987.5 at the first sample: its whole quotient is that of 987, and the remainder decides.
+#[test]
+fn nearer_is_strict_and_sees_remainders(rt: HostRuntime) {
+    let x = [0, 512, 0];
+    let y = [0, 0, 512];
+    let sloping = Plane::of(&piece_of(&rt, x, y, [1000, 200, 1000]));
+    let below = Plane::of(&piece_of(&rt, x, y, [987; 3]));
+    let above = Plane::of(&piece_of(&rt, x, y, [988; 3]));
+    let sample = Sample { px: 0, py: 0 };
+    assert!(rt; sloping.nearer(&below, sample));
+    assert!(rt; !below.nearer(&sloping, sample));
+    assert!(rt; above.nearer(&sloping, sample));
+    assert!(rt; !sloping.nearer(&above, sample));
+    assert!(rt; !sloping.nearer(&sloping, sample));
+}
+
+fn number(state: u64, below: u64) -> u64
+    requires { 0 < below }
+    ensures { result < below }
+{
+    state / 0x1_0000_0000 % below
+}
+
+fn after(state: u64) -> u64 {
+    state
+        .wrapping_mul(6364136223846793005)
+        .wrapping_add(1442695040888963407)
+}
+
+// Three coordinates from -4,000 on.
+fn coordinates(state: u64) -> [i32; 3] {
+    let second = after(state);
+    [
+        number(state, 40_000) as i32 - 4000,
+        number(second, 40_000) as i32 - 4000,
+        number(after(second), 40_000) as i32 - 4000,
+    ]
+}
+
+fn edge_value(ax: i32, ay: i32, bx: i32, by: i32, x: i64, y: i64) -> i64 {
+    let across = i64::from(bx).wrapping_sub(i64::from(ax));
+    let down = i64::from(by).wrapping_sub(i64::from(ay));
+    let right = across.wrapping_mul(y.wrapping_sub(i64::from(ay)));
+    right.wrapping_sub(down.wrapping_mul(x.wrapping_sub(i64::from(ax))))
+}
+
+fn numerator(x: &[i32; 3], y: &[i32; 3], q: &[u32; 3], px: i64, py: i64) -> i64 {
+    let a = i64::from(q[0]).wrapping_mul(edge_value(x[1], y[1], x[2], y[2], px, py));
+    let b = i64::from(q[1]).wrapping_mul(edge_value(x[2], y[2], x[0], y[0], px, py));
+    let c = i64::from(q[2]).wrapping_mul(edge_value(x[0], y[0], x[1], y[1], px, py));
+    a.wrapping_add(b).wrapping_add(c)
+}
+
+// The least and the greatest numerator, sample by sample.
+fn extremes(x: &[i32; 3], y: &[i32; 3], q: &[u32; 3], sub: Sub) -> (i64, i64) {
+    let mut least = i64::MAX;
+    let mut greatest = i64::MIN;
+    for k in 0..32u32 {
+        let px = 16 * (8 * i64::from(sub.column) + i64::from(k % 8)) + 8;
+        let py = 16 * (4 * i64::from(sub.row) + i64::from(k / 8)) + 8;
+        let n = numerator(x, y, q, px, py);
+        least = least.min(n);
+        greatest = greatest.max(n);
+    }
+    (least, greatest)
+}
+
+fn plain_bounds(x: &[i32; 3], y: &[i32; 3], q: &[u32; 3], sub: Sub) -> (i64, i64) {
+    let area = edge_value(x[0], y[0], x[1], y[1], i64::from(x[2]), i64::from(y[2]));
+    let (least, greatest) = extremes(x, y, q, sub);
+    if area <= 0 {
+        return (0, 0);
+    }
+    let floor = least.div_euclid(area);
+    let whole = greatest.div_euclid(area);
+    let ceiling = if greatest.rem_euclid(area) == 0 {
+        whole
+    } else {
+        whole.saturating_add(1)
+    };
+    let least_nearness = i64::from(q[0].min(q[1]).min(q[2]));
+    let greatest_nearness = i64::from(q[0].max(q[1]).max(q[2]));
+    (
+        floor.max(least_nearness).clamp(0, 65535),
+        ceiling.min(greatest_nearness).clamp(0, 65535),
+    )
+}
+
+#[test]
+fn the_corner_agrees_with_all_samples(rt: HostRuntime) {
+    let mut state = 7u64;
+    let mut pieces = 0u32;
+    for i in 0..800u32 {
+        state = after(after(state));
+        let x = coordinates(state);
+        let y = coordinates(after(after(after(state))));
+        let q = [
+            number(after(state), 65536) as u32,
+            number(state, 65536) as u32,
+            number(after(after(state)), 65536) as u32,
+        ];
+        if let Some(tri) = ScreenTri::new(x, y, q) {
+            pieces = pieces.wrapping_add(1);
+            let plane = Plane::of(&tri);
+            let sub = Sub {
+                column: number(state, 256) as u16,
+                row: number(after(state), 512) as u16,
+            };
+            let (low, high) = plain_bounds(&x, &y, &q, sub);
+            assert_eq!(rt; i64::from(plane.low(&tri, sub)), low, "low at {i}");
+            assert_eq!(rt; i64::from(plane.high(&tri, sub)), high, "high at {i}");
+        }
+    }
+    assert!(rt; pieces > 300, "{pieces} pieces");
+}

@@ -1,0 +1,175 @@
+//! The vertices of a piece, and the coefficients of its plane.
+ghost use Rattle.std.specs.Prelude.{◌≡◌, ℕ, ℤ, pos, ◌*◌, ◌<◌, ◌≤◌, ◌^◌, ◌+ℤ◌, ◌-ℤ◌, ◌*ℤ◌};
+ghost use Rattle.cull_base.specs.Piece.{IsPiece, Within};
+ghost use Rattle.cull_base.specs.Bounds.{Near};
+
+use crate::arithmetic::{difference, minus, product, widened};
+use cull_base::ScreenTri;
+
+/// A vertex of a piece.
+#[derive(Clone, Copy)]
+pub struct Vertex {
+    x: i32,
+    y: i32,
+    q: u32,
+    ghost x_within: { Within x },
+    ghost y_within: { Within y },
+    ghost q_within: { q ≤ 65535 },
+}
+
+impl Vertex {
+    ghost use Rattle.depth_plane.specs.Vertices.{IsVertex};
+
+    /// Condition: k is below 3.
+    fn of(tri: &ScreenTri, k: usize) -> Vertex
+        requires { k < 3 }
+        ensures value { IsVertex result tri.now k }
+        ensures valid { IsPiece tri.now }
+    {
+        Vertex {
+            x: tri.x()[k],
+            y: tri.y()[k],
+            q: tri.q()[k],
+        }
+    }
+}
+
+#[inline(always)]
+fn x_difference(a: &Vertex, b: &Vertex) -> i64
+    ensures value { result ≡ a.now.x -ℤ b.now.x }
+    ensures near { Near (2 ^ 30) result }
+{
+    difference(a.x, b.x)
+}
+
+#[inline(always)]
+fn y_difference(a: &Vertex, b: &Vertex) -> i64
+    ensures value { result ≡ a.now.y -ℤ b.now.y }
+    ensures near { Near (2 ^ 30) result }
+{
+    difference(a.y, b.y)
+}
+
+// The value at the origin of the edge from a to b.
+#[inline(always)]
+fn origin_value(a: &Vertex, b: &Vertex) -> i64
+    ensures value { result ≡ (a.now.x *ℤ b.now.y) -ℤ (b.now.x *ℤ a.now.y) }
+    ensures near { Near (2 ^ 61) result }
+{
+    minus(
+        product(widened(a.x), widened(b.y)),
+        product(widened(b.x), widened(a.y)),
+    )
+}
+
+#[inline(always)]
+fn scaled(a: &Vertex, value: i64) -> i128
+    requires { Near (2 ^ 61) value }
+    ensures value { result ≡ pos a.now.q *ℤ value }
+    ensures near { Near (65535 * 2 ^ 61) result }
+    ensures within { a.now.q ≤ 65535 }
+{
+    i128::from(a.q) * i128::from(value)
+}
+
+#[inline(always)]
+fn sum(a: i128, b: i128, c: i128) -> i128
+    requires a { Near (65535 * 2 ^ 61) a }
+    requires b { Near (65535 * 2 ^ 61) b }
+    requires c { Near (65535 * 2 ^ 61) c }
+    ensures value { result ≡ (a +ℤ b) +ℤ c }
+    ensures near { Near (2 ^ 79) result }
+{
+    a + b + c
+}
+
+/// The three vertices of a piece.
+#[derive(Clone, Copy)]
+pub struct Vertices {
+    pub a: Vertex,
+    pub b: Vertex,
+    pub c: Vertex,
+}
+
+impl Vertices {
+    ghost use Rattle.depth_plane.specs.Vertices.{IsVertex, weighted_of, across_of, down_of, level_of, area_of};
+
+    pub fn of(tri: &ScreenTri) -> Vertices
+        ensures a { IsVertex result.a tri.now 0 }
+        ensures b { IsVertex result.b tri.now 1 }
+        ensures c { IsVertex result.c tri.now 2 }
+        ensures valid { IsPiece tri.now }
+    {
+        Vertices {
+            a: Vertex::of(tri, 0),
+            b: Vertex::of(tri, 1),
+            c: Vertex::of(tri, 2),
+        }
+    }
+
+    // The sum of three values, each weighted by the nearness of its vertex.
+    #[inline(always)]
+    fn weighted(&self, a: i64, b: i64, c: i64) -> i128
+        requires a { Near (2 ^ 61) a }
+        requires b { Near (2 ^ 61) b }
+        requires c { Near (2 ^ 61) c }
+        ensures value { result ≡ weighted_of self.now a b c }
+        ensures near { Near (2 ^ 79) result }
+        ensures nearer { Near (2 ^ 30) a → Near (2 ^ 30) b → Near (2 ^ 30) c → Near (2 ^ 48) result }
+    {
+        sum(scaled(&self.a, a), scaled(&self.b, b), scaled(&self.c, c))
+    }
+
+    /// What the depth's numerator rises by for each sixteenth of a pixel to the right.
+    pub fn across(&self) -> i128
+        ensures value { result ≡ across_of self.now }
+        ensures near { Near (2 ^ 48) result }
+    {
+        self.weighted(
+            y_difference(&self.b, &self.c),
+            y_difference(&self.c, &self.a),
+            y_difference(&self.a, &self.b),
+        )
+    }
+
+    /// What it rises by for each sixteenth of a pixel down.
+    pub fn down(&self) -> i128
+        ensures value { result ≡ down_of self.now }
+        ensures near { Near (2 ^ 48) result }
+    {
+        self.weighted(
+            x_difference(&self.c, &self.b),
+            x_difference(&self.a, &self.c),
+            x_difference(&self.b, &self.a),
+        )
+    }
+
+    /// The depth's numerator at the origin.
+    pub fn level(&self) -> i128
+        ensures value { result ≡ level_of self.now }
+        ensures near { Near (2 ^ 79) result }
+    {
+        self.weighted(
+            origin_value(&self.b, &self.c),
+            origin_value(&self.c, &self.a),
+            origin_value(&self.a, &self.b),
+        )
+    }
+
+    /// The doubled area.
+    pub fn area(&self) -> i64
+        ensures value { result ≡ area_of self.now }
+        ensures near { Near (2 ^ 61) result }
+    {
+        minus(
+            product(
+                x_difference(&self.b, &self.a),
+                y_difference(&self.c, &self.a),
+            ),
+            product(
+                y_difference(&self.b, &self.a),
+                x_difference(&self.c, &self.a),
+            ),
+        )
+    }
+}

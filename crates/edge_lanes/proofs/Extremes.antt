@@ -1,0 +1,80 @@
+-- A subtile that an edge rejects or accepts whole.
+use Rattle.std.proofs.Common.{◌≡◌, ℕ, ℤ, pos, negsuc, suc, zero, ◌+◌, ◌/◌, ◌%◌, ◌-◌, ◌^◌, ◌<◌, ◌≤◌, ◌+ℤ◌, ◌*ℤ◌, ◌≤ℤ◌, ◌<ℤ◌, arith, refl, ap, ap₂, Bool, true, false, ◌&&◌, List, ◌∷◌, map, ◌⊎◌, inl, inr}
+use Rattle.std.specs.Int.{int_min, int_max}
+use Rattle.std.specs.List.{range_with_len}
+use Rattle.std.specs.Simd.Lanes.{mask_l}
+use Rattle.std.proofs.Math.Nat.{mul-le-mul_left}
+use Rattle.std.proofs.lemmas.Int.{ints, clamps}
+use Rattle.std.proofs.lemmas.Bool.Decides.{nat_tests}
+use Rattle.cull_base.specs.Piece.{each_sample}
+use Rattle.edge_lanes.specs.Lanes.{is_not_negative, highest_of, lowest_of}
+use Rattle.edge_lanes.specs.Inside.{inside_from, inside_all}
+use Rattle.edge_lanes.specs.declared.edge.Edge.{Edge}
+use Rattle.edge_lanes.specs.declared.edges.Edges.{Edges}
+
+-- a step taken up to n times
+step_most : (s : ℤ) (n k : ℕ) → k ≤ n → (s *ℤ pos k) ≤ℤ int_max (s *ℤ pos n) (pos 0)
+step_most (pos s) n k l = let p = mul-le-mul_left s l in omega (arith, ints, clamps, p)
+step_most (negsuc s) n k l = omega (arith, ints, clamps)
+
+step_least : (s : ℤ) (n k : ℕ) → k ≤ n → int_min (s *ℤ pos n) (pos 0) ≤ℤ (s *ℤ pos k)
+step_least (pos s) n k l = omega (arith, ints, clamps)
+step_least (negsuc s) n k l = let p = mul-le-mul_left (suc s) l in omega (arith, ints, clamps, p)
+
+negative : (v : ℤ) → v <ℤ pos 0 → is_not_negative v ≡ false
+negative (pos n) h = absurd (omega (arith, ints, h))
+negative (negsuc n) h = refl
+
+not_negative : (v : ℤ) → pos 0 ≤ℤ v → is_not_negative v ≡ true
+not_negative (pos n) h = grind (arith, nat_tests)
+not_negative (negsuc n) h = absurd (omega (arith, ints, h))
+
+rejects : (e : Edge) (s : ℤ) (k : ℕ) → k < 32 → (s +ℤ highest_of e.column e.row) <ℤ pos 0 → inside_from e s k ≡ false
+rejects e s k l h =
+    let p = step_most e.column 7 (k % 8) (omega arith) in let q = step_most e.row 3 (k / 8) (omega arith) in
+    negative _ (below s (e.row *ℤ pos (k / 8)) (e.column *ℤ pos (k % 8)) _ _ q p h)
+  where
+    below : (s a b x y : ℤ) → a ≤ℤ x → b ≤ℤ y → (s +ℤ (y +ℤ x)) <ℤ pos 0 → ((s +ℤ a) +ℤ b) <ℤ pos 0
+    below s a b x y p q h = omega (arith, ints)
+
+accepts : (e : Edge) (s : ℤ) (k : ℕ) → k < 32 → pos 0 ≤ℤ (s +ℤ lowest_of e.column e.row) → inside_from e s k ≡ true
+accepts e s k l h =
+    let p = step_least e.column 7 (k % 8) (omega arith) in let q = step_least e.row 3 (k / 8) (omega arith) in
+    not_negative _ (above s (e.row *ℤ pos (k / 8)) (e.column *ℤ pos (k % 8)) _ _ q p h)
+  where
+    above : (s a b x y : ℤ) → x ≤ℤ a → y ≤ℤ b → pos 0 ≤ℤ (s +ℤ (y +ℤ x)) → pos 0 ≤ℤ ((s +ℤ a) +ℤ b)
+    above s a b x y p q h = omega (arith, ints)
+
+map-range : {X : Type 0} (f g : ℕ → X) (a n : ℕ) → ((k : ℕ) → k < a + n → f k ≡ g k) → map f (range_with_len a n) ≡ map g (range_with_len a n)
+map-range f g a zero h = refl
+map-range {X} f g a (suc n) h = ap₂ (λ x (xs : List X). x ∷ xs) (h a (omega arith)) (map-range f g (a + 1) n (λ k l. h k (omega arith)))
+
+-- one answer at each sample
+mask_l-none : (p : ℕ → Bool) → ((k : ℕ) → k < 32 → p k ≡ false) → mask_l (each_sample p) ≡ 0
+unfolding each_sample
+mask_l-none p h = ap mask_l (map-range p (λ k. false) 0 32 (λ k l. h k (omega arith)))
+
+mask_l-all : (p : ℕ → Bool) → ((k : ℕ) → k < 32 → p k ≡ true) → mask_l (each_sample p) ≡ 2 ^ 32 - 1
+unfolding each_sample
+mask_l-all p h = ap mask_l (map-range p (λ k. true) 0 32 (λ k l. h k (omega arith)))
+
+any_false : (a b c : Bool) → (a ≡ false) ⊎ ((b ≡ false) ⊎ (c ≡ false)) → (a && (b && c)) ≡ false
+any_false false b c h = refl
+any_false true false c h = refl
+any_false true true c (inl e) = cc
+any_false true true c (inr (inl e)) = cc
+any_false true true c (inr (inr e)) = e
+
+abbrev Rejects : Edge → ℤ → Type 0
+Rejects e s = (s +ℤ highest_of e.column e.row) <ℤ pos 0
+
+pub rejected : (e : Edges) (s t u : ℤ) → Rejects e.first s ⊎ (Rejects e.second t ⊎ Rejects e.third u) → mask_l (each_sample (inside_all e s t u)) ≡ 0
+rejected e s t u h = mask_l-none (inside_all e s t u) (λ k l. any_false _ _ _ (at k l h))
+  where
+    at : (k : ℕ) → k < 32 → Rejects e.first s ⊎ (Rejects e.second t ⊎ Rejects e.third u) → (inside_from e.first s k ≡ false) ⊎ ((inside_from e.second t k ≡ false) ⊎ (inside_from e.third u k ≡ false))
+    at k l (inl x) = inl (rejects e.first s k l x)
+    at k l (inr (inl x)) = inr (inl (rejects e.second t k l x))
+    at k l (inr (inr x)) = inr (inr (rejects e.third u k l x))
+
+pub accepted : (e : Edge) (s : ℤ) → pos 0 ≤ℤ (s +ℤ lowest_of e.column e.row) → mask_l (each_sample (inside_from e s)) ≡ 2 ^ 32 - 1
+accepted e s h = mask_l-all (inside_from e s) (λ k l. accepts e s k l h)

@@ -1,0 +1,94 @@
+-- One test for both sides: the bias of an edge's value.
+use Rattle.std.proofs.Common.{List, length, slice_index_or, ◌<◌, ◌+◌, ◌*◌, ◌/◌, ◌%◌, w32, FitsSigned, to_z, of_z, ◌≡◌, ℕ, ℤ, pos, negsuc, zero, suc, ◌+ℤ◌, arith, refl, Bool, true, false, cond, ◌&&◌, ◌||◌, int_lt, int_le, ap, ◌∙◌}
+use Rattle.std.specs.Ordering.{int_eq}
+use Rattle.std.specs.List.{All}
+use Rattle.std.proofs.lemmas.Int.{ints, to_z-of_z}
+use Rattle.std.proofs.lemmas.Bool.Decides.{nat_tests}
+use Rattle.std.proofs.lemmas.List.Elements.{All-get_or}
+use Rattle.cull_base.specs.Piece.{Piece, Point, Within, edge_value, middle, is_top_or_left, edge_covers, edge_touches, covers, touches, covered, touched, sample, each_sample}
+use Rattle.cull_base.specs.declared.clip.Side.{Side}
+use Rattle.cull_base.specs.declared.clip.Side.TheVariants.{Occluder, Object}
+use Rattle.cull_base.specs.declared.place.Sub.{Sub}
+use Rattle.edge_lanes.specs.Lanes.{is_not_negative}
+use Rattle.edge_lanes.specs.Inside.{value_at, is_inside, inside_of, IsEdge}
+use Rattle.edge_lanes.specs.declared.edge.Edge.{Edge}
+use Rattle.edge_lanes.specs.declared.edges.Edges.{Edges}
+use Rattle.edge_lanes.proofs.Masks.{each_sample-same}
+
+not_negative : (n : ℕ) → int_le (pos 0) (pos n) ≡ true
+not_negative n = grind (arith, nat_tests)
+
+is_positive : (n : ℕ) → int_lt (pos 0) (pos (suc n)) ≡ true
+is_positive n = grind (arith, nat_tests)
+
+unlowered : (v w : ℤ) → w ≡ v +ℤ pos 0 → is_not_negative w ≡ (int_lt (pos 0) v || (int_eq v (pos 0) && true))
+unlowered (pos zero) w e = let f : w ≡ pos 0 = omega (arith, ints) in rw f refl
+unlowered (pos (suc n)) w e = let f : w ≡ pos (suc n) = omega (arith, ints) in let p = not_negative (suc n) in let q = is_positive n in rw (f, p, q) refl
+unlowered (negsuc n) w e = let f : w ≡ negsuc n = omega (arith, ints) in rw f refl
+
+lowered : (v w : ℤ) → w ≡ v +ℤ negsuc 0 → is_not_negative w ≡ (int_lt (pos 0) v || (int_eq v (pos 0) && false))
+lowered (pos zero) w e = let f : w ≡ negsuc 0 = omega (arith, ints) in rw f refl
+lowered (pos (suc n)) w e = let f : w ≡ pos n = omega (arith, ints) in let p = not_negative n in let q = is_positive n in rw (f, p, q) refl
+lowered (negsuc n) w e = let f : w ≡ negsuc (suc n) = omega (arith, ints) in rw f refl
+
+-- an occluder's edge
+pub is_not_negative-biased : (v : ℤ) (b : Bool) → is_not_negative (v +ℤ cond b (pos 0) (negsuc 0)) ≡ (int_lt (pos 0) v || (int_eq v (pos 0) && b))
+is_not_negative-biased v true = unlowered v (v +ℤ pos 0) refl
+is_not_negative-biased v false = lowered v (v +ℤ negsuc 0) refl
+
+-- an object's edge
+pub is_not_negative-plain : (v : ℤ) → is_not_negative (v +ℤ pos 0) ≡ int_le (pos 0) v
+is_not_negative-plain v = let e : v +ℤ pos 0 ≡ v = omega (arith, ints) in rw e refl
+
+-- a coordinate of a piece, as the code reads it
+pub within_read : (xs : List ℤ) (k : ℕ) → All Within xs → length xs ≡ 3 → k < 3 → FitsSigned w32 (slice_index_or xs k (pos 0)) → Within (to_z w32 (of_z w32 (slice_index_or xs k (pos 0))))
+within_read xs k h l lt f = simp to_z-of_z (All-get_or Within xs k (pos 0) (omega arith) h)
+
+abbrev pub corner : List ℤ → List ℤ → ℕ → Point
+corner xs ys k = record { x = slice_index_or xs k (pos 0); y = slice_index_or ys k (pos 0) }
+
+edge_of_occluder : (e : Edge) (a b : Point) → IsEdge e Occluder a b → (x y : ℕ) → is_not_negative (value_at e x y) ≡ edge_covers a b (middle x y)
+edge_of_occluder e a b h x y = ap is_not_negative (h x y) ∙ is_not_negative-biased (edge_value a b (middle x y)) (is_top_or_left a b)
+
+edge_of_object : (e : Edge) (a b : Point) → IsEdge e Object a b → (x y : ℕ) → is_not_negative (value_at e x y) ≡ edge_touches a b (middle x y)
+edge_of_object e a b h x y = ap is_not_negative (h x y) ∙ is_not_negative-plain (edge_value a b (middle x y))
+
+occluder_at : (e : Edges) (t : Piece) → IsEdge e.first Occluder (corner t.xs t.ys 0) (corner t.xs t.ys 1) → IsEdge e.second Occluder (corner t.xs t.ys 1) (corner t.xs t.ys 2) → IsEdge e.third Occluder (corner t.xs t.ys 2) (corner t.xs t.ys 0)
+    → (x y : ℕ) → is_inside e x y ≡ covers t (middle x y)
+unfolding covers
+occluder_at e t f s d x y =
+    let a = edge_of_occluder e.first (corner t.xs t.ys 0) (corner t.xs t.ys 1) f x y in let b = edge_of_occluder e.second (corner t.xs t.ys 1) (corner t.xs t.ys 2) s x y in let c = edge_of_occluder e.third (corner t.xs t.ys 2) (corner t.xs t.ys 0) d x y in
+    rw (a, b, c) refl
+
+object_at : (e : Edges) (t : Piece) → IsEdge e.first Object (corner t.xs t.ys 0) (corner t.xs t.ys 1) → IsEdge e.second Object (corner t.xs t.ys 1) (corner t.xs t.ys 2) → IsEdge e.third Object (corner t.xs t.ys 2) (corner t.xs t.ys 0)
+    → (x y : ℕ) → is_inside e x y ≡ touches t (middle x y)
+unfolding touches
+object_at e t f s d x y =
+    let a = edge_of_object e.first (corner t.xs t.ys 0) (corner t.xs t.ys 1) f x y in let b = edge_of_object e.second (corner t.xs t.ys 1) (corner t.xs t.ys 2) s x y in let c = edge_of_object e.third (corner t.xs t.ys 2) (corner t.xs t.ys 0) d x y in
+    rw (a, b, c) refl
+
+abbrev same_piece : (t : Piece) (xs ys : List ℤ) → Piece
+same_piece t xs ys = record { xs = xs; ys = ys; qs = t.qs }
+
+is_same_piece : (t : Piece) (xs ys : List ℤ) → xs ≡ t.xs → ys ≡ t.ys → same_piece t xs ys ≡ t
+is_same_piece t xs ys ex ey = rw (ex, ey) refl
+
+pub inside_of-covered : (e : Edges) (side : Side) (t : Piece) (xs ys : List ℤ) → xs ≡ t.xs → ys ≡ t.ys →
+    IsEdge e.first side (corner xs ys 0) (corner xs ys 1) → IsEdge e.second side (corner xs ys 1) (corner xs ys 2) → IsEdge e.third side (corner xs ys 2) (corner xs ys 0) →
+    side ≡ Occluder → (u : Sub) → inside_of e u ≡ covered t u
+unfolding inside_of covered
+inside_of-covered e side t xs ys ex ey f s d is u =
+    let p = same_piece t xs ys in
+    let f' = rw is at f in let s' = rw is at s in let d' = rw is at d in
+    each_sample-same (λ k. is_inside e (8 * u.column + k % 8) (4 * u.row + k / 8)) (λ k. covers p (sample u k)) (λ k. occluder_at e p f' s' d' (8 * u.column + k % 8) (4 * u.row + k / 8))
+    ∙ ap (λ v. each_sample (λ k. covers v (sample u k))) (is_same_piece t xs ys ex ey)
+
+pub inside_of-touched : (e : Edges) (side : Side) (t : Piece) (xs ys : List ℤ) → xs ≡ t.xs → ys ≡ t.ys →
+    IsEdge e.first side (corner xs ys 0) (corner xs ys 1) → IsEdge e.second side (corner xs ys 1) (corner xs ys 2) → IsEdge e.third side (corner xs ys 2) (corner xs ys 0) →
+    side ≡ Object → (u : Sub) → inside_of e u ≡ touched t u
+unfolding inside_of touched
+inside_of-touched e side t xs ys ex ey f s d is u =
+    let p = same_piece t xs ys in
+    let f' = rw is at f in let s' = rw is at s in let d' = rw is at d in
+    each_sample-same (λ k. is_inside e (8 * u.column + k % 8) (4 * u.row + k / 8)) (λ k. touches p (sample u k)) (λ k. object_at e p f' s' d' (8 * u.column + k % 8) (4 * u.row + k / 8))
+    ∙ ap (λ v. each_sample (λ k. touches v (sample u k))) (is_same_piece t xs ys ex ey)

@@ -1,0 +1,12 @@
+//! Coverage: which of a subtile's 32 samples lie inside the three edges of a piece, eight columns at a time.
+#![tactic(auto)]
+
+mod arithmetic;
+mod edge;
+mod edges;
+mod shared;
+#[cfg(test)]
+mod tests;
+
+pub use edges::Edges;
+pub use shared::shared_edge;

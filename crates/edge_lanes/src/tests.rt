@@ -1,0 +1,173 @@
+//! Masks with their numbers written out, and a plain loop over the samples beside the lanes.
+ghost use Rattle.std.specs.Prelude.{◌<◌, ◌^◌, ◌≤ℤ◌, pos, negsuc};
+
+use crate::edges::Edges;
+use crate::shared::shared_edge;
+use cull_base::{ScreenTri, Side, Sub, Tile};
+use std::process::Abort;
+
+fn number(state: u64, below: u64) -> u64
+    requires { 0 < below }
+    ensures { result < below }
+{
+    state / 0x1_0000_0000 % below
+}
+
+fn after(state: u64) -> u64 {
+    state
+        .wrapping_mul(6364136223846793005)
+        .wrapping_add(1442695040888963407)
+}
+
+// Three coordinates from `low` on, within a span.
+fn coordinates(state: u64, low: i32, span: u64) -> [i32; 3]
+    requires span { 0 < span }
+    requires small { span < 2 ^ 20 }
+    requires low_from { negsuc (2 ^ 20) ≤ℤ low }
+    requires low_to { low ≤ℤ pos (2 ^ 20) }
+{
+    let second = after(state);
+    [
+        low + number(state, span) as i32,
+        low + number(second, span) as i32,
+        low + number(after(second), span) as i32,
+    ]
+}
+
+fn value(ax: i64, ay: i64, bx: i64, by: i64, x: i64, y: i64) -> i64 {
+    let right = bx.wrapping_sub(ax).wrapping_mul(y.wrapping_sub(ay));
+    let down = by.wrapping_sub(ay).wrapping_mul(x.wrapping_sub(ax));
+    right.wrapping_sub(down)
+}
+
+fn is_inside(ax: i32, ay: i32, bx: i32, by: i32, side: Side, x: i64, y: i64) -> bool {
+    let v = value(
+        i64::from(ax),
+        i64::from(ay),
+        i64::from(bx),
+        i64::from(by),
+        x,
+        y,
+    );
+    v > 0 || (v == 0 && (side == Side::Object || by < ay || (by == ay && ax < bx)))
+}
+
+// Sample by sample.
+fn plain_mask(x: &[i32; 3], y: &[i32; 3], side: Side, sub: Sub) -> u32 {
+    let mut mask = 0u32;
+    for k in 0..32u32 {
+        let px = 16 * (8 * i64::from(sub.column) + i64::from(k % 8)) + 8;
+        let py = 16 * (4 * i64::from(sub.row) + i64::from(k / 8)) + 8;
+        if is_inside(x[0], y[0], x[1], y[1], side, px, py)
+            && is_inside(x[1], y[1], x[2], y[2], side, px, py)
+            && is_inside(x[2], y[2], x[0], y[0], side, px, py)
+        {
+            mask |= 1 << k;
+        }
+    }
+    mask
+}
+
+// The subtile, among those of the screen, that lies nearest to a place.
+fn sub_near(x: i32, y: i32) -> Sub
+    ensures column { result.column < 256 }
+    ensures row { result.row < 512 }
+{
+    Sub {
+        column: x.clamp(0, 32767) as u16 / 128,
+        row: y.clamp(0, 32767) as u16 / 64,
+    }
+}
+
+fn edges_at(rt: &impl Abort, x: [i32; 3], y: [i32; 3], side: Side) -> Edges {
+    Edges::of(&ScreenTri::new(x, y, [0; 3]).expect(rt, "a piece"), side)
+}
+
+#[test]
+fn a_sample_on_a_shared_diagonal_belongs_to_one_piece(rt: HostRuntime) {
+    let first = edges_at(&rt, [0, 32, 32], [0, 0, 32], Side::Occluder);
+    let second = edges_at(&rt, [0, 32, 0], [0, 32, 32], Side::Occluder);
+    let sub = Sub { column: 0, row: 0 };
+    assert_eq!(rt; first.mask(sub), 0x203);
+    assert_eq!(rt; second.mask(sub), 0x100);
+    shared_edge();
+}
+
+#[test]
+fn an_object_touches_both_sides_of_a_diagonal(rt: HostRuntime) {
+    let first = edges_at(&rt, [0, 32, 32], [0, 0, 32], Side::Object);
+    let second = edges_at(&rt, [0, 32, 0], [0, 32, 32], Side::Object);
+    let sub = Sub { column: 0, row: 0 };
+    assert_eq!(rt; first.mask(sub), 0x203);
+    assert_eq!(rt; second.mask(sub), 0x301);
+}
+
+#[test]
+fn a_tile_inside_is_whole_and_one_beside_is_empty(rt: HostRuntime) {
+    let edges = edges_at(
+        &rt,
+        [-400_000_000, 400_000_000, 400_000_000],
+        [-400_000_000, -400_000_000, 400_000_000],
+        Side::Occluder,
+    );
+    assert_eq!(rt;
+        edges.tile_masks(Tile { column: 63, row: 0 }),
+        [u32::MAX; 8]
+    );
+    assert_eq!(rt;
+        edges.tile_masks(Tile {
+            column: 0,
+            row: 255
+        }),
+        [0; 8]
+    );
+}
+
+// Whether lanes and samples agree at a piece, in the subtile nearest to a place and in its tile.
+fn agree(tri: &ScreenTri, x: &[i32; 3], y: &[i32; 3], side: Side, sub: Sub) -> bool
+    requires column { sub.column < 256 }
+    requires row { sub.row < 512 }
+{
+    let edges = Edges::of(tri, side);
+    let plain = plain_mask(x, y, side, sub);
+    let masks = edges.tile_masks(Tile {
+        column: sub.column / 4,
+        row: sub.row / 2,
+    });
+    edges.mask(sub) == plain && masks[(sub.row % 2 * 4 + sub.column % 4) as usize] == plain
+}
+
+#[test]
+fn lanes_agree_with_single_samples(rt: HostRuntime) {
+    let mut state = 1u64;
+    let mut pieces = 0u32;
+    for i in 0..1200u32 {
+        state = after(after(state));
+        let (low, span) = match i % 4 {
+            0 => (-20_000, 60_000),
+            1 => (-500, 1000),
+            2 => (1600, 17),
+            _ => (0, 2000),
+        };
+        let x = coordinates(state, low, span);
+        let y = coordinates(after(after(after(state))), low, span);
+        if let Some(tri) = ScreenTri::new(x, y, [0; 3]) {
+            pieces = pieces.wrapping_add(1);
+            for k in 0..3 {
+                let sub = sub_near(x[k], y[k]);
+                let beside = sub_near(x[k], y[(k + 1) % 3]);
+                assert!(rt; agree(&tri, &x, &y, Side::Occluder, sub), "covered at {i}");
+                assert!(rt; agree(&tri, &x, &y, Side::Object, sub), "touched at {i}");
+                assert!(rt;
+                    agree(&tri, &x, &y, Side::Occluder, beside),
+                    "covered beside {i}"
+                );
+                assert!(rt;
+                    agree(&tri, &x, &y, Side::Object, beside),
+                    "touched beside {i}"
+                );
+            }
+        }
+    }
+    assert!(rt; pieces > 300, "{pieces} pieces");
+}

@@ -1,0 +1,4 @@
+pub mod Words
+pub mod Notes
+pub mod Outcome
+pub mod Culling

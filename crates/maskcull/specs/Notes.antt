@@ -1,0 +1,57 @@
+-- What is noted of a run that isn't done.
+use Rattle.std.specs.Prelude.{ℕ, List, [], ◌∷◌, ◌++◌, map, codes, ◌⊎◌, Option}
+use Rattle.std.specs.Fmt.{decimal}
+use Rattle.cull_base.specs.Stream.{Rose, Appends, AppendsPrefix}
+use Rattle.scene_reader.specs.declared.error.SceneError.{SceneError}
+use Rattle.scene_reader.specs.declared.error.SceneError.TheVariants.{Truncated, BadMagic, BadVersion, BadSize, BadNear, BadWinding, BadReserved, BadCount, Trailing, BadVertex, BadIndex, BadKind, BadObject, BadCamera}
+use Rattle.scene_reader.specs.declared.error.SceneError.TheVariants as errors
+use Rattle.cull_report.specs.Lines.{line}
+use Rattle.maskcull.specs.declared.failure.Failure.{Failure}
+use Rattle.maskcull.specs.declared.failure.Status.{Status}
+use Rattle.maskcull.specs.declared.failure.Status.TheVariants as statuses
+use Rattle.maskcull.specs.declared.failure.Failure.TheVariants.{Usage, Scene, NotBuilt, ReadFault, ReportFault, Memory}
+
+-- a refusal's number, and the numbers that tell where the fault is
+abbrev pub refusal_numbers : SceneError → List ℕ
+refusal_numbers (Truncated need have) = 1 ∷ need ∷ have ∷ []
+refusal_numbers BadMagic = 2 ∷ []
+refusal_numbers (BadVersion version) = 3 ∷ version ∷ []
+refusal_numbers (BadSize width height) = 4 ∷ width ∷ height ∷ []
+refusal_numbers (BadNear near) = 5 ∷ near ∷ []
+refusal_numbers (BadWinding winding) = 6 ∷ winding ∷ []
+refusal_numbers (BadReserved reserved) = 7 ∷ reserved ∷ []
+refusal_numbers (BadCount field value) = 8 ∷ field ∷ value ∷ []
+refusal_numbers Trailing = 9 ∷ []
+refusal_numbers (BadVertex i) = 10 ∷ i ∷ []
+refusal_numbers (BadIndex table i) = 11 ∷ table ∷ i ∷ []
+refusal_numbers (BadKind i) = 12 ∷ i ∷ []
+refusal_numbers (BadObject i) = 13 ∷ i ∷ []
+refusal_numbers (BadCamera i) = 14 ∷ i ∷ []
+refusal_numbers errors.Read = []
+refusal_numbers errors.Memory = []
+
+unfoldable pub refusal_text : SceneError → List ℕ
+refusal_text e = line (codes "scene" ∷ codes "refused" ∷ map decimal (refusal_numbers e))
+
+abbrev pub note_text : Failure → List ℕ
+note_text Usage = codes "usage refused" ++ 10 ∷ []
+note_text (Scene e) = refusal_text e
+note_text NotBuilt = codes "not built" ++ 10 ∷ []
+note_text ReadFault = codes "read fault" ++ 10 ∷ []
+note_text ReportFault = codes "report fault" ++ 10 ∷ []
+note_text Memory = codes "out of memory" ++ 10 ∷ []
+
+-- the text was appended, or a front of it where one of the sink's counts rose
+abbrev pub IsNoted : Option (List ℕ) → Option (List ℕ) → ℕ → ℕ → ℕ → ℕ → List ℕ → Type 0
+IsNoted before after faults_before faults_after refusals_before refusals_after text =
+    Appends before after text ⊎ (AppendsPrefix before after text × (Rose faults_before faults_after ⊎ Rose refusals_before refusals_after))
+
+-- what is noted of a status that needs no numbers
+abbrev pub status_text : Status → List ℕ
+status_text statuses.Done = []
+status_text statuses.Usage = note_text Usage
+status_text statuses.Scene = []
+status_text statuses.ReadFault = note_text ReadFault
+status_text statuses.ReportFault = note_text ReportFault
+status_text statuses.Memory = note_text Memory
+status_text statuses.NotBuilt = note_text NotBuilt

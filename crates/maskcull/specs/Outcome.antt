@@ -1,0 +1,39 @@
+-- How a run ends, and the causes of its ends.
+use Rattle.std.specs.Prelude.{ℕ}
+use Rattle.scene_reader.specs.declared.error.SceneError.{SceneError}
+use Rattle.scene_reader.specs.declared.error.SceneError.TheVariants as errors
+use Rattle.cull_base.specs.declared.memory.SinkError.{SinkError}
+use Rattle.cull_base.specs.declared.memory.SinkError.TheVariants as sink
+use Rattle.maskcull.specs.declared.failure.Failure.{Failure}
+use Rattle.maskcull.specs.declared.failure.Failure.TheVariants as failures
+use Rattle.maskcull.specs.declared.failure.Status.{Status}
+use Rattle.maskcull.specs.declared.failure.Status.TheVariants as statuses
+
+-- what becomes of a scene that couldn't be read
+abbrev pub failure_of : SceneError → Failure
+failure_of errors.Read = failures.ReadFault
+failure_of errors.Memory = failures.Memory
+failure_of e = failures.Scene e
+
+-- what becomes of a report that couldn't be written
+abbrev pub sink_failure : SinkError → Failure
+sink_failure sink.Failed = failures.ReportFault
+sink_failure sink.Memory = failures.Memory
+
+abbrev pub status_of : Failure → Status
+status_of failures.Usage = statuses.Usage
+status_of (failures.Scene e) = statuses.Scene
+status_of failures.NotBuilt = statuses.NotBuilt
+status_of failures.ReadFault = statuses.ReadFault
+status_of failures.ReportFault = statuses.ReportFault
+status_of failures.Memory = statuses.Memory
+
+-- the process's exit status
+abbrev pub code_of : Status → ℕ
+code_of statuses.Done = 0
+code_of statuses.Usage = 2
+code_of statuses.Scene = 3
+code_of statuses.ReadFault = 4
+code_of statuses.ReportFault = 5
+code_of statuses.Memory = 7
+code_of statuses.NotBuilt = 8

@@ -1,0 +1,210 @@
+//! How a run ends: its status, and what is noted of a run that isn't done.
+ghost use Rattle.std.specs.Prelude.{◌≡◌, [], ◌∷◌, ◌++◌, ◌≤◌, length, codes};
+
+use cull_base::{Memory, Sink, SinkError, write_whole};
+use cull_report::Line;
+use scene_reader::SceneError;
+
+/// How a run ended.
+#[derive(Clone, Copy, Debug, PartialEq, Eq)]
+pub enum Status {
+    /// The whole input was read and the whole report written.
+    Done,
+    /// The words aren't a command.
+    Usage,
+    /// The input isn't a scene.
+    Scene,
+    /// The input couldn't be read.
+    ReadFault,
+    /// The report couldn't be written.
+    ReportFault,
+    /// Memory was wanted.
+    Memory,
+    /// The scene has what the program can't draw yet.
+    NotBuilt,
+}
+
+/// Why a run isn't done.
+#[derive(Clone, Copy, Debug, PartialEq, Eq)]
+pub enum Failure {
+    Usage,
+    Scene(SceneError),
+    NotBuilt,
+    ReadFault,
+    ReportFault,
+    Memory,
+}
+
+impl From<SceneError> for Failure {
+    ghost use Rattle.maskcull.specs.Outcome.{failure_of};
+
+    ghost from_gives = { λ e f. f ≡ failure_of e };
+
+    fn from(error: SceneError) -> Failure {
+        match error {
+            SceneError::Read => Failure::ReadFault,
+            SceneError::Memory => Failure::Memory,
+            refusal => Failure::Scene(refusal),
+        }
+    }
+}
+
+impl From<SinkError> for Failure {
+    ghost use Rattle.maskcull.specs.Outcome.{sink_failure};
+
+    ghost from_gives = { λ e f. f ≡ sink_failure e };
+
+    fn from(error: SinkError) -> Failure {
+        match error {
+            SinkError::Failed => Failure::ReportFault,
+            SinkError::Memory => Failure::Memory,
+        }
+    }
+}
+
+impl From<Memory> for Failure {
+    ghost use Rattle.maskcull.specs.declared.failure.Failure.TheVariants as failures;
+
+    ghost from_gives = { λ _ f. f ≡ failures.Memory };
+
+    fn from(_: Memory) -> Failure {
+        Failure::Memory
+    }
+}
+
+impl Status {
+    ghost use Rattle.maskcull.specs.Outcome.{code_of};
+
+    /// The process's exit status.
+    pub fn code(&self) -> u8
+        ensures { result ≡ code_of self.now }
+    {
+        match self {
+            Status::Done => 0,
+            Status::Usage => 2,
+            Status::Scene => 3,
+            Status::ReadFault => 4,
+            Status::ReportFault => 5,
+            Status::Memory => 7,
+            Status::NotBuilt => 8,
+        }
+    }
+}
+
+// A line of one text and its newline. Condition: there is room.
+fn line_of(text: &[u8]) -> Line
+    requires { length text.now ≤ 100 }
+    ensures { result ≡ text.now ++ 10 ∷ [] }
+{
+    let mut line = Line::begin(text);
+    line.end();
+    line
+}
+
+impl Failure {
+    ghost use Rattle.maskcull.specs.Outcome.{status_of};
+    ghost use Rattle.maskcull.specs.Notes.{refusal_text, note_text, IsNoted};
+
+    pub fn status(&self) -> Status
+        ensures { result ≡ status_of self.now }
+    {
+        match self {
+            Failure::Usage => Status::Usage,
+            Failure::Scene(_) => Status::Scene,
+            Failure::NotBuilt => Status::NotBuilt,
+            Failure::ReadFault => Status::ReadFault,
+            Failure::ReportFault => Status::ReportFault,
+            Failure::Memory => Status::Memory,
+        }
+    }
+
+    fn line(&self) -> Line
+        ensures { result ≡ note_text self.now }
+    {
+        match self {
+            Failure::Usage => line_of(b"usage refused"),
+            Failure::Scene(error) => refusal_line(error),
+            Failure::NotBuilt => line_of(b"not built"),
+            Failure::ReadFault => line_of(b"read fault"),
+            Failure::ReportFault => line_of(b"report fault"),
+            Failure::Memory => line_of(b"out of memory"),
+        }
+    }
+
+    /// Notes the failure, as far as the sink takes it. It takes no memory of its own.
+    pub fn note<E: Sink>(&self, notes: &mut E)
+        ensures noted { IsNoted (E.holding notes.old) (E.holding notes.new) (E.faults notes.old) (E.faults notes.new) (E.refusals notes.old) (E.refusals notes.new) (note_text self.now) }
+    {
+        // What can't be noted is lost: the status tells it still.
+        let _ = write_whole(notes, self.line().as_slice());
+    }
+}
+
+ghost use Rattle.maskcull.specs.Notes.{refusal_text};
+
+#[tactic(auto, unfolding(crate::specs::Notes::refusal_text))]
+fn refusal_line(error: &SceneError) -> Line
+    ensures { result ≡ refusal_text error.now }
+{
+    let mut line = Line::begin(b"scene");
+    line.word(b"refused");
+    match *error {
+        SceneError::Truncated { need, have } => {
+            line.number(1);
+            line.number(u64::from(need));
+            line.number(u64::from(have));
+        }
+        SceneError::BadMagic => line.number(2),
+        SceneError::BadVersion(version) => {
+            line.number(3);
+            line.number(u64::from(version));
+        }
+        SceneError::BadSize(width, height) => {
+            line.number(4);
+            line.number(u64::from(width));
+            line.number(u64::from(height));
+        }
+        SceneError::BadNear(near) => {
+            line.number(5);
+            line.number(u64::from(near));
+        }
+        SceneError::BadWinding(winding) => {
+            line.number(6);
+            line.number(u64::from(winding));
+        }
+        SceneError::BadReserved(reserved) => {
+            line.number(7);
+            line.number(u64::from(reserved));
+        }
+        SceneError::BadCount { field, value } => {
+            line.number(8);
+            line.number(u64::from(field));
+            line.number(u64::from(value));
+        }
+        SceneError::Trailing => line.number(9),
+        SceneError::BadVertex(i) => {
+            line.number(10);
+            line.number(u64::from(i));
+        }
+        SceneError::BadIndex { table, i } => {
+            line.number(11);
+            line.number(u64::from(table));
+            line.number(u64::from(i));
+        }
+        SceneError::BadKind(i) => {
+            line.number(12);
+            line.number(u64::from(i));
+        }
+        SceneError::BadObject(i) => {
+            line.number(13);
+            line.number(u64::from(i));
+        }
+        SceneError::BadCamera(i) => {
+            line.number(14);
+            line.number(u64::from(i));
+        }
+        SceneError::Read | SceneError::Memory => {}
+    }
+    line.end();
+    line
+}

@@ -1,0 +1,370 @@
+use super::*;
+use crate::failure::Status;
+use cull_base::{BytesSink, BytesSource, SureSink};
+use std::process::Abort;
+use std::sync::Wait;
+use std::test::*;
+use std::thread::Threads;
+
+/// The first scene: a screen of 32 by 8, a quad at distance 2 and the rectangle of the whole screen at distance 3.
+const FIRST: [u8; 177] = [
+    0x4d, 0x53, 0x4f, 0x43, 1, 0, 0x20, 0, 8, 0, 1, 0, 0, 0, 1, 0, //
+    4, 0, 0, 0, 2, 0, 0, 0, 0, 0, 0, 0, 1, 0, 0, 0, //
+    0xfe, 0xff, 0xff, 0xff, 2, 0, 0, 0, 2, 0, 0, 0, //
+    2, 0, 0, 0, 2, 0, 0, 0, 2, 0, 0, 0, //
+    2, 0, 0, 0, 0xfe, 0xff, 0xff, 0xff, 2, 0, 0, 0, //
+    0xfe, 0xff, 0xff, 0xff, 0xfe, 0xff, 0xff, 0xff, 2, 0, 0, 0, //
+    0, 0, 0, 0, 1, 0, 0, 0, 2, 0, 0, 0, //
+    0, 0, 0, 0, 2, 0, 0, 0, 3, 0, 0, 0, //
+    0, 0, 0, 0, 0, 0, 0, 0, 0, 0x20, 0, 0, 0, 8, 0, 0, 0, 3, 0, 0, 0, 0, 0, 0, 0, //
+    0, 0, 1, 0, 0, 0, 0, 0, 0, 0, 0, 0, 0, 0, 0, 0, //
+    0, 0, 0, 0, 0, 0, 1, 0, 0, 0, 0, 0, 0, 0, 0, 0, //
+    0, 0, 0, 0, 0, 0, 0, 0, 0, 0, 1, 0, 0, 0, 0, 0, //
+];
+
+const OCCLUDED: &str =
+    "msoc-report 1 32 8 1 1\nframe 0 pieces 2\n0 occluded\nend 0 visible 0 occluded 1 outside 0\n";
+
+const VISIBLE: &str =
+    "msoc-report 1 32 8 1 1\nframe 0 pieces 2\n0 visible\nend 0 visible 1 occluded 0 outside 0\n";
+
+const UNDRAWN: &str =
+    "msoc-report 1 32 8 1 1\nframe 0 pieces 0\n0 visible\nend 0 visible 1 occluded 0 outside 0\n";
+
+const QUAD: [[i32; 3]; 4] = [[-2, 2, 2], [2, 2, 2], [2, -2, 2], [-2, -2, 2]];
+
+const TWO: [[u32; 3]; 2] = [[0, 1, 2], [0, 2, 3]];
+
+const TWO_TURNED: [[u32; 3]; 2] = [[0, 2, 1], [0, 3, 2]];
+
+const WHOLE: [i32; 5] = [0, 0, 32, 8, 3];
+
+#[derive(Drop)]
+struct Ended {
+    status: Status,
+    report: Vec<u8>,
+    notes: Vec<u8>,
+}
+
+// The bytes of a scene of one frame through the identity camera, on a screen of 32 by 8.
+fn scene(
+    alloc: Global,
+    winding: u8,
+    vertices: &[[i32; 3]],
+    triangles: &[[u32; 3]],
+    rectangles: &[[i32; 5]],
+) -> Result<Vec<u8>, AllocError> {
+    let mut bytes = Vec::from_slice(alloc, b"MSOC")?;
+    bytes.extend_from_slice(&[1, 0, 32, 0, 8, 0, 1, 0, winding, 0, 1, 0])?;
+    for count in [vertices.len(), triangles.len(), 0, rectangles.len()] {
+        bytes.extend_from_slice(&[(count % 256) as u8, 0, 0, 0])?;
+    }
+    for vertex in vertices {
+        for number in vertex {
+            bytes.extend_from_slice(&number.to_le_bytes())?;
+        }
+    }
+    for triangle in triangles {
+        for number in triangle {
+            bytes.extend_from_slice(&number.to_le_bytes())?;
+        }
+    }
+    for rectangle in rectangles {
+        bytes.push(0)?;
+        for number in rectangle {
+            bytes.extend_from_slice(&number.to_le_bytes())?;
+        }
+        bytes.extend_from_slice(&[0, 0, 0, 0])?;
+    }
+    bytes.extend_from_slice(&FIRST[129..])?;
+    Ok(bytes)
+}
+
+fn words(alloc: Global, words: &[&str]) -> Result<Vec<String>, AllocError> {
+    let mut all = Vec::new(alloc);
+    for word in words {
+        all.push(String::from_str(alloc, word)?)?;
+    }
+    Ok(all)
+}
+
+// What comes of the words `maskcull cull` with these bytes, in pieces of at most seven.
+fn culled<R: Threads + Wait + Sync>(
+    rt: &R,
+    alloc: Global,
+    bytes: Vec<u8>,
+) -> Result<Ended, AllocError> {
+    let mut input = BytesSource::new(bytes, 7, Vec::new(alloc));
+    let mut report = SureSink::new(alloc);
+    let mut notes = SureSink::new(alloc);
+    let words = words(alloc, &["maskcull", "cull"])?;
+    let status = run(rt, alloc, &words, &mut input, &mut report, &mut notes);
+    Ok(Ended {
+        status,
+        report: Vec::from_slice(alloc, report.held())?,
+        notes: Vec::from_slice(alloc, notes.held())?,
+    })
+}
+
+// The first scene with the byte at a place changed.
+fn changed(alloc: Global, changes: &[(usize, u8)]) -> Result<Vec<u8>, AllocError> {
+    let mut bytes = Vec::from_slice(alloc, &FIRST)?;
+    for (place, byte) in changes {
+        if *place < bytes.len() {
+            bytes[*place] = *byte;
+        }
+    }
+    Ok(bytes)
+}
+
+fn assert_reports<R: Threads + Wait + Sync + Abort>(
+    rt: &R,
+    alloc: Global,
+    bytes: Vec<u8>,
+    text: &str,
+) -> Result<(), Fail> {
+    let ended = culled(rt, alloc, bytes)?;
+    assert_eq!(rt; ended.report.as_slice(), text.as_bytes());
+    assert_eq!(rt; ended.status, Status::Done);
+    assert_eq!(rt; ended.notes.len(), 0);
+    Ok(())
+}
+
+fn assert_refused<R: Threads + Wait + Sync + Abort>(
+    rt: &R,
+    alloc: Global,
+    bytes: Vec<u8>,
+    note: &str,
+) -> Result<(), Fail> {
+    let ended = culled(rt, alloc, bytes)?;
+    assert_eq!(rt; ended.notes.as_slice(), note.as_bytes());
+    assert_eq!(rt; ended.status, Status::Scene);
+    assert_eq!(rt; ended.report.len(), 0);
+    Ok(())
+}
+
+#[test]
+fn quad_hides_rectangle_behind_it(rt: HostRuntime) -> Result<(), Fail> {
+    let alloc = rt.alloc();
+    let bytes = scene(alloc, 0, &QUAD, &TWO, &[WHOLE])?;
+    assert_eq!(rt; bytes.as_slice(), FIRST.as_slice());
+    assert_reports(&rt, alloc, bytes, OCCLUDED)
+}
+
+#[test]
+fn equal_nearness_is_visible(rt: HostRuntime) -> Result<(), Fail> {
+    let alloc = rt.alloc();
+    let before = scene(alloc, 0, &QUAD, &TWO, &[[0, 0, 32, 8, 2]])?;
+    assert_reports(&rt, alloc, before, VISIBLE)?;
+    let quad = [[-3, 3, 3], [3, 3, 3], [3, -3, 3], [-3, -3, 3]];
+    assert_reports(&rt, alloc, scene(alloc, 0, &quad, &TWO, &[WHOLE])?, VISIBLE)
+}
+
+#[test]
+fn nothing_is_hidden_by_no_triangles(rt: HostRuntime) -> Result<(), Fail> {
+    assert_reports(
+        &rt,
+        rt.alloc(),
+        scene(rt.alloc(), 0, &QUAD, &[], &[WHOLE])?,
+        UNDRAWN,
+    )
+}
+
+#[test]
+fn no_objects_have_no_lines(rt: HostRuntime) -> Result<(), Fail> {
+    let text = "msoc-report 1 32 8 1 0\nframe 0 pieces 2\nend 0 visible 0 occluded 0 outside 0\n";
+    assert_reports(
+        &rt,
+        rt.alloc(),
+        scene(rt.alloc(), 0, &QUAD, &TWO, &[])?,
+        text,
+    )
+}
+
+#[test]
+fn rectangles_without_a_pixel_in_the_screen_are_outside(rt: HostRuntime) -> Result<(), Fail> {
+    let rectangles = [[5, 0, 5, 8, 3], [32, 0, 40, 8, 3]];
+    let text =
+        "msoc-report 1 32 8 1 2\nframe 0 pieces 2\n0 outside\n1 outside\nend 0 visible 0 occluded 0 outside 2\n";
+    assert_reports(
+        &rt,
+        rt.alloc(),
+        scene(rt.alloc(), 0, &QUAD, &TWO, &rectangles)?,
+        text,
+    )
+}
+
+#[test]
+fn a_dropped_winding_draws_nothing(rt: HostRuntime) -> Result<(), Fail> {
+    let alloc = rt.alloc();
+    assert_reports(&rt, alloc, scene(alloc, 1, &QUAD, &TWO, &[WHOLE])?, UNDRAWN)?;
+    assert_reports(
+        &rt,
+        alloc,
+        scene(alloc, 2, &QUAD, &TWO, &[WHOLE])?,
+        OCCLUDED,
+    )?;
+    assert_reports(
+        &rt,
+        alloc,
+        scene(alloc, 0, &QUAD, &TWO_TURNED, &[WHOLE])?,
+        OCCLUDED,
+    )?;
+    assert_reports(
+        &rt,
+        alloc,
+        scene(alloc, 1, &QUAD, &TWO_TURNED, &[WHOLE])?,
+        OCCLUDED,
+    )?;
+    assert_reports(
+        &rt,
+        alloc,
+        scene(alloc, 2, &QUAD, &TWO_TURNED, &[WHOLE])?,
+        UNDRAWN,
+    )
+}
+
+#[test]
+fn a_triangle_at_the_guard_is_drawn_and_one_past_it_is_not(rt: HostRuntime) -> Result<(), Fail> {
+    let alloc = rt.alloc();
+    let at = [[-2, 2, 2], [16384, 2, 2], [-2, -16384, 2]];
+    let text =
+        "msoc-report 1 32 8 1 1\nframe 0 pieces 1\n0 occluded\nend 0 visible 0 occluded 1 outside 0\n";
+    assert_reports(
+        &rt,
+        alloc,
+        scene(alloc, 0, &at, &[[0, 1, 2]], &[WHOLE])?,
+        text,
+    )?;
+    let past = [[-2, 2, 2], [16385, 2, 2], [-2, -16384, 2]];
+    assert_reports(
+        &rt,
+        alloc,
+        scene(alloc, 0, &past, &[[0, 1, 2]], &[WHOLE])?,
+        UNDRAWN,
+    )
+}
+
+#[test]
+fn a_refused_scene_is_noted_with_its_numbers(rt: HostRuntime) -> Result<(), Fail> {
+    let alloc = rt.alloc();
+    assert_refused(
+        &rt,
+        alloc,
+        Vec::from_slice(alloc, &FIRST[..31])?,
+        "scene refused 1 32 31\n",
+    )?;
+    assert_refused(
+        &rt,
+        alloc,
+        Vec::from_slice(alloc, &FIRST[..176])?,
+        "scene refused 1 177 176\n",
+    )?;
+    let mut longer = Vec::from_slice(alloc, &FIRST)?;
+    longer.push(0)?;
+    assert_refused(&rt, alloc, longer, "scene refused 9\n")?;
+    assert_refused(
+        &rt,
+        alloc,
+        changed(alloc, &[(0, 0x4e)])?,
+        "scene refused 2\n",
+    )?;
+    assert_refused(
+        &rt,
+        alloc,
+        changed(alloc, &[(6, 33)])?,
+        "scene refused 4 33 8\n",
+    )?;
+    assert_refused(
+        &rt,
+        alloc,
+        changed(alloc, &[(4, 2)])?,
+        "scene refused 3 2\n",
+    )?;
+    assert_refused(
+        &rt,
+        alloc,
+        changed(alloc, &[(14, 1), (15, 1)])?,
+        "scene refused 8 0 257\n",
+    )?;
+    assert_refused(
+        &rt,
+        alloc,
+        changed(alloc, &[(100, 4)])?,
+        "scene refused 11 0 1\n",
+    )?;
+    assert_refused(
+        &rt,
+        alloc,
+        changed(alloc, &[(104, 3)])?,
+        "scene refused 12 0\n",
+    )?;
+    let vertex = [(104, 3), (68, 1), (69, 0), (70, 0), (71, 1)];
+    assert_refused(&rt, alloc, changed(alloc, &vertex)?, "scene refused 10 3\n")?;
+    assert_refused(
+        &rt,
+        alloc,
+        changed(alloc, &[(105, 33)])?,
+        "scene refused 13 0\n",
+    )
+}
+
+#[test]
+fn a_report_that_fails_stands_in_front(rt: HostRuntime) -> Result<(), Fail> {
+    let alloc = rt.alloc();
+    let mut input = BytesSource::new(Vec::from_slice(alloc, &FIRST)?, 64, Vec::new(alloc));
+    let mut report = BytesSink::new(alloc, 1000, Vec::from_slice(alloc, &[2])?);
+    let mut notes = SureSink::new(alloc);
+    let words = words(alloc, &["maskcull", "cull"])?;
+    let status = run(&rt, alloc, &words, &mut input, &mut report, &mut notes);
+    assert_eq!(rt; status.code(), 5);
+    assert_eq!(rt; report.held(), b"msoc-report 1 32 8 1 1\n".as_slice());
+    assert_eq!(rt; notes.held(), b"report fault\n".as_slice());
+    Ok(())
+}
+
+#[test]
+fn an_input_that_fails_is_noted(rt: HostRuntime) -> Result<(), Fail> {
+    let alloc = rt.alloc();
+    for call in [1, 3] {
+        let fails = Vec::from_slice(alloc, &[call])?;
+        let mut input = BytesSource::new(Vec::from_slice(alloc, &FIRST)?, 64, fails);
+        let mut report = SureSink::new(alloc);
+        let mut notes = SureSink::new(alloc);
+        let words = words(alloc, &["maskcull", "cull"])?;
+        let status = run(&rt, alloc, &words, &mut input, &mut report, &mut notes);
+        assert_eq!(rt; status.code(), 4);
+        assert_eq!(rt; report.held(), b"".as_slice());
+        assert_eq!(rt; notes.held(), b"read fault\n".as_slice());
+    }
+    Ok(())
+}
+
+#[test]
+fn words_that_are_no_command_are_refused(rt: HostRuntime) -> Result<(), Fail> {
+    let alloc = rt.alloc();
+    for refused in [
+        ["maskcull"].as_slice(),
+        &["maskcull", "draw"],
+        &["maskcull", "cull", "x"],
+        &[],
+    ] {
+        let mut input = BytesSource::new(Vec::from_slice(alloc, &FIRST)?, 64, Vec::new(alloc));
+        let mut report = SureSink::new(alloc);
+        let mut notes = SureSink::new(alloc);
+        let words = words(alloc, refused)?;
+        let status = run(&rt, alloc, &words, &mut input, &mut report, &mut notes);
+        assert_eq!(rt; status.code(), 2);
+        assert_eq!(rt; notes.held(), b"usage refused\n".as_slice());
+    }
+    Ok(())
+}
+
+#[test]
+fn a_scene_with_a_box_is_not_built(rt: HostRuntime) -> Result<(), Fail> {
+    let alloc = rt.alloc();
+    let ended = culled(&rt, alloc, changed(alloc, &[(104, 1), (113, 0)])?)?;
+    assert_eq!(rt; ended.notes.as_slice(), b"not built\n".as_slice());
+    assert_eq!(rt; ended.status.code(), 8);
+    Ok(())
+}

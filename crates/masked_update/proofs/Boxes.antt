@@ -1,0 +1,82 @@
+-- A piece whose box has no pixel in a tile changes nothing there.
+use Rattle.std.proofs.Common.{◌≡◌, ℕ, pos, ◌+◌, ◌*◌, ◌<◌, ◌≤◌, ◌/◌, ◌%◌, arith, refl, ◌∙◌, sym, Bool, true, false, ◌&&◌, min, nat_lt}
+use Rattle.std.proofs.lemmas.Int.{ints}
+use Rattle.std.proofs.lemmas.Bool.Decides.{nat_tests}
+use Rattle.cull_base.specs.Piece.{Piece, IsPiece, covered, box_of}
+use Rattle.cull_base.specs.Rectangle.{HasPixel, meets}
+use Rattle.cull_base.specs.Screen.{Dimensions, IsSize, tile_place, tile_rect_of, tile_sub, is_on_screen}
+use Rattle.cull_base.specs.State.{State, is_none, has, samples_of}
+use Rattle.masked_update.specs.Merged.{sub_rect_of}
+use Rattle.std.proofs.lemmas.List.{ext_get_or}
+use Rattle.cull_base.specs.Fold.{step}
+use Rattle.cull_base.specs.declared.place.Sub.{Sub}
+use Rattle.cull_base.proofs.Rectangles.{meets_pixel}
+use Rattle.depth_plane.proofs.Boxes.{covers-in_box}
+use Rattle.masked_update.proofs.Bits.{one_of, length-samples_of, zero_has}
+use Rattle.masked_update.proofs.Unchanged.{step_none, length-covered, has-covered}
+
+-- a sample of a subtile on the screen lies in the tile's rectangle
+in_tile : (size : Dimensions) (tile j k : ℕ) → IsSize size.width size.height → j < 8 → k < 32 → is_on_screen size (tile_sub size tile j) ≡ true
+    → let u = tile_sub size tile j in HasPixel (tile_rect_of size tile) (pos (8 * u.column + k % 8)) (pos (4 * u.row + k / 8))
+in_tile size tile j k valid hj hk on =
+    let place = tile_place size tile in
+    let lt = both (nat_lt (8 * (tile_sub size tile j).column) size.width) (nat_lt (4 * (tile_sub size tile j).row) size.height) on in
+    let x = across place.column size.width j k valid.whole_columns (below _ _ lt.0) in
+    let y = down place.row size.height j k hj hk valid.whole_rows (below _ _ lt.1) in
+    (omega (arith, ints, x.0), omega (arith, ints, x.1), omega (arith, ints, y.0), omega (arith, ints, y.1))
+  where
+    both : (x y : Bool) → (x && y) ≡ true → (x ≡ true) × (y ≡ true)
+    both true y e = (refl, e)
+    both false y e = cc
+
+    below : (m n : ℕ) → nat_lt m n ≡ true → m < n
+    below m n e = grind (arith, nat_tests)
+
+    across : (c w j k : ℕ) → w % 8 ≡ 0 → 8 * (4 * c + j % 4) < w → (32 * c ≤ 8 * (4 * c + j % 4) + k % 8) × (8 * (4 * c + j % 4) + k % 8 < min (32 * c + 32) w)
+    across c w j k e lt = (omega arith, omega arith)
+
+    down : (r h j k : ℕ) → j < 8 → k < 32 → h % 4 ≡ 0 → 4 * (2 * r + j / 4) < h → (8 * r ≤ 4 * (2 * r + j / 4) + k / 8) × (4 * (2 * r + j / 4) + k / 8 < min (8 * r + 8) h)
+    down r h j k hj hk e lt = (omega arith, omega arith)
+
+-- a piece whose box has no pixel in the tile changes none of its subtiles on the screen
+pub step_outside : (size : Dimensions) (tile j : ℕ) (s : State) (t : Piece) → IsSize size.width size.height → IsPiece t → meets (box_of t) (tile_rect_of size tile) ≡ false
+    → j < 8 → is_on_screen size (tile_sub size tile j) ≡ true → step (tile_sub size tile j) s t ≡ s
+step_outside size tile j s t valid piece off hj on = by (is_none (covered t (tile_sub size tile j))) refl
+  where
+    u : Sub
+    u = tile_sub size tile j
+
+    by : (b : Bool) → is_none (covered t u) ≡ b → step u s t ≡ s
+    by true e = step_none u s t e
+    by false e =
+        let o = one_of (covered t u) e in
+        let n = length-covered t u in
+        let below : o.0 < 32 = omega (arith, o.1) in
+        let c = sym (has-covered t u o.0 below) ∙ o.2 in
+        let x = 8 * u.column + o.0 % 8 in
+        let y = 4 * u.row + o.0 / 8 in
+        let m = (meets_pixel (box_of t) (tile_rect_of size tile)).1 (pos x, pos y, covers-in_box t x y piece c, in_tile size tile j o.0 valid hj below on) in
+        absurd (two (meets (box_of t) (tile_rect_of size tile)) off m)
+      where
+        two : (b : Bool) → b ≡ false → b ≡ true → ⊥
+        two b f g = cc
+
+-- a piece whose box has no pixel in a subtile covers none of its samples
+pub none_covered : (t : Piece) (u : Sub) → IsPiece t → meets (box_of t) (sub_rect_of u) ≡ false → samples_of 0 ≡ covered t u
+none_covered t u piece off =
+    ext_get_or false (samples_of 0) (covered t u) (length-samples_of 0 ∙ sym (length-covered t u))
+    (λ k h. let below : k < 32 = omega (arith, h, length-samples_of 0) in zero_has 0 k refl ∙ sym (by (has (covered t u) k) k below refl))
+  where
+    in_sub : (k : ℕ) → k < 32 → HasPixel (sub_rect_of u) (pos (8 * u.column + k % 8)) (pos (4 * u.row + k / 8))
+    in_sub k h = (omega (arith, ints), omega (arith, ints), omega (arith, ints), omega (arith, ints))
+
+    two : (b : Bool) → b ≡ false → b ≡ true → ⊥
+    two b f g = cc
+
+    by : (b : Bool) (k : ℕ) → k < 32 → has (covered t u) k ≡ b → has (covered t u) k ≡ false
+    by false k h e = e
+    by true k h e =
+        let c = sym (has-covered t u k h) ∙ e in
+        let x = 8 * u.column + k % 8 in
+        let y = 4 * u.row + k / 8 in
+        absurd (two (meets (box_of t) (sub_rect_of u)) off ((meets_pixel (box_of t) (sub_rect_of u)).1 (pos x, pos y, covers-in_box t x y piece c, in_sub k h)))

@@ -1,0 +1,15 @@
+pub mod Bits
+pub mod Steps
+pub mod Hiding
+pub mod Unchanged
+pub mod Drawing
+pub mod Sounds
+pub mod Fractions
+pub mod Best
+pub mod MergeSound
+pub mod Boxes
+pub mod Lists
+pub mod Spans
+pub mod Taking
+pub mod TileLists
+pub mod SubTiles

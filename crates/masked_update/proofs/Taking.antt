@@ -1,0 +1,79 @@
+-- Tiles that take a piece, row by row and column by column.
+use Rattle.std.proofs.Common.{◌≡◌, ◌≢◌, inl, inr, ℕ, suc, ◌+◌, ◌*◌, ◌/◌, ◌%◌, ◌<◌, ◌≤◌, List, length, set, Bool, true, false, ◌&&◌, cond, nat_eq, arith, ap, ◌∙◌, sym}
+use Rattle.std.proofs.lemmas.Bool.Decides.{nat_tests, eqb_tells}
+use Rattle.std.proofs.lemmas.Nat.{div-mul-add, div-add-mod'}
+use Rattle.std.proofs.lemmas.List.{get_or-set_other}
+use Rattle.std.proofs.lemmas.Grind.{get_or-set_at}
+use Rattle.std.proofs.Math.Nat.{mul-add-mod_self_right, mod-eq_of_lt, mul-le-mul_right}
+use Rattle.masked_update.specs.TileOf.{TileOf, tile_at, no_tile}
+use Rattle.masked_update.specs.Taken.{is_between}
+use Rattle.masked_update.proofs.Spans.{same}
+
+-- the place of a tile by its number
+pub place : (row columns column : ℕ) → column < columns → ((row * columns + column) / columns ≡ row) × ((row * columns + column) % columns ≡ column)
+place row columns column lt = (div-mul-add row columns column lt, mul-add-mod_self_right row columns column ∙ mod-eq_of_lt lt)
+
+pub tile_below : (row rows column columns : ℕ) → row < rows → column < columns → row * columns + column < columns * rows
+tile_below row rows column columns lt below =
+    let le : suc row * columns ≤ rows * columns = mul-le-mul_right columns (omega arith) in
+    omega arith
+
+-- a test that grows by one number keeps its answer elsewhere
+pub grows_elsewhere : (first n k : ℕ) → k ≢ n → is_between first n k ≡ is_between first (n + 1) k
+grows_elsewhere first n k ne = same _ _ (λ h. grind (arith, nat_tests)) (λ h. grind (arith, nat_tests))
+
+pub before : (first n k : ℕ) → k ≡ n → is_between first n k ≡ false
+before first n k e = grind (arith, nat_tests)
+
+pub joined : (first n k : ℕ) → first ≤ n → k ≡ n → is_between first (n + 1) k ≡ true
+joined first n k le e = grind (arith, nat_tests)
+
+-- f at each tile where the test holds
+abbrev pub Where : (ℕ → Bool) → (ℕ → TileOf → TileOf) → ℕ → List TileOf → List TileOf → Type 0
+Where test f count old new = (t : ℕ) → t < count → tile_at new t ≡ cond (test t) (f t (tile_at old t)) (tile_at old t)
+
+-- the tiles of a row in columns from a first to before another
+abbrev pub in_row : ℕ → ℕ → ℕ → ℕ → ℕ → Bool
+in_row columns row first column t = nat_eq (t / columns) row && is_between first column (t % columns)
+
+pub row_more : (columns rows row first column : ℕ) (f : ℕ → TileOf → TileOf) (old now : List TileOf) (new : TileOf) → first ≤ column → column < columns → row < rows → length now ≡ columns * rows
+    → Where (in_row columns row first column) f (columns * rows) old now → new ≡ f (row * columns + column) (tile_at now (row * columns + column))
+    → Where (in_row columns row first (column + 1)) f (columns * rows) old (set now (row * columns + column) new)
+row_more columns rows row first column f old now new le lt below len inv is t in_count =
+    elim (eqb_tells (t / columns) row) [
+      | inr off ↦ stays (λ e. off.1 (ap (λ n. n / columns) e ∙ at.0)) (ap (λ b. b && is_between first column (t % columns)) off.0 ∙ sym (ap (λ b. b && is_between first (column + 1) (t % columns)) off.0))
+      | inl on ↦ elim (eqb_tells (t % columns) column) [
+        | inr off ↦ stays (λ e. off.1 (ap (λ n. n % columns) e ∙ at.1)) (ap (λ b. nat_eq (t / columns) row && b) (grows_elsewhere first column (t % columns) off.1))
+        | inl here ↦
+            let e : t ≡ row * columns + column = sym (div-add-mod' t columns) ∙ ap (λ n. n * columns + t % columns) on.1 ∙ ap (λ n. row * columns + n) here.1 in
+            let was : tile_at now t ≡ tile_at old t = inv t in_count ∙ ap (λ b. cond b (f t (tile_at old t)) (tile_at old t)) (ap (λ b. b && is_between first column (t % columns)) on.0 ∙ before first column (t % columns) here.1) in
+            let now_on : in_row columns row first (column + 1) t ≡ true = ap (λ b. b && is_between first (column + 1) (t % columns)) on.0 ∙ joined first column (t % columns) le here.1 in
+            get_or-set_at now (row * columns + column) t new no_tile e inside ∙ is ∙ ap (λ n. f n (tile_at now n)) (sym e) ∙ ap (f t) was ∙ sym (ap (λ b. cond b (f t (tile_at old t)) (tile_at old t)) now_on)
+      ]
+    ]
+  where
+    at : ((row * columns + column) / columns ≡ row) × ((row * columns + column) % columns ≡ column)
+    at = place row columns column lt
+
+    inside : row * columns + column < length now
+    inside = let b = tile_below row rows column columns below lt in omega (arith, b, len)
+
+    stays : (t ≡ row * columns + column → ⊥) → in_row columns row first column t ≡ in_row columns row first (column + 1) t → tile_at (set now (row * columns + column) new) t ≡ cond (in_row columns row first (column + 1) t) (f t (tile_at old t)) (tile_at old t)
+    stays ne e = get_or-set_other now (row * columns + column) t new no_tile ne ∙ inv t in_count ∙ ap (λ b. cond b (f t (tile_at old t)) (tile_at old t)) e
+
+-- one more row of tiles
+pub rows_more : (columns count first row : ℕ) (across : ℕ → Bool) (f : ℕ → TileOf → TileOf) (old now new : List TileOf) → first ≤ row
+    → Where (λ t. is_between first row (t / columns) && across t) f count old now
+    → Where (λ t. nat_eq (t / columns) row && across t) f count now new
+    → Where (λ t. is_between first (row + 1) (t / columns) && across t) f count old new
+rows_more columns count first row across f old now new le inv step t lt =
+    elim (eqb_tells (t / columns) row) [
+      | inl on ↦
+          let off_now = ap (λ b. b && across t) (before first row (t / columns) on.1) in
+          let was : tile_at now t ≡ tile_at old t = inv t lt ∙ ap (λ b. cond b (f t (tile_at old t)) (tile_at old t)) off_now in
+          let test = ap (λ b. b && across t) on.0 ∙ sym (ap (λ b. b && across t) (joined first row (t / columns) le on.1)) in
+          step t lt ∙ ap (λ s. cond (nat_eq (t / columns) row && across t) (f t s) s) was ∙ ap (λ b. cond b (f t (tile_at old t)) (tile_at old t)) test
+      | inr off ↦
+          let stays : tile_at new t ≡ tile_at now t = step t lt ∙ ap (λ b. cond b (f t (tile_at now t)) (tile_at now t)) (ap (λ b. b && across t) off.0) in
+          stays ∙ inv t lt ∙ ap (λ b. cond (b && across t) (f t (tile_at old t)) (tile_at old t)) (grows_elsewhere first row (t / columns) off.1)
+    ]

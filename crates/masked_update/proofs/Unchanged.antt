@@ -1,0 +1,84 @@
+-- Pieces that change nothing in a subtile.
+use Rattle.std.proofs.Common.{◌≡◌, ℕ, ◌<◌, ◌≤◌, List, Bool, true, false, ◌||◌, cond, arith, refl, ap, ◌∙◌, sym, length, nat_le, max, pos, slice_index_or}
+use Rattle.std.proofs.lemmas.Bool.Decides.{nat_tests}
+use Rattle.std.proofs.lemmas.Int.{ints}
+use Rattle.std.proofs.lemmas.List.FromFn.{get_or-map-range_with_len}
+use Rattle.cull_base.specs.State.{State, step_with, is_none, has, samples_of, empty_state}
+use Rattle.cull_base.specs.Fold.{step}
+use Rattle.cull_base.specs.Piece.{Piece, IsPiece, covered, covers, sample, each_sample, nearness}
+use Rattle.cull_base.specs.Depth.{low_of, greatest_nearness, denominator, DepthAtLeast}
+use Rattle.cull_base.specs.Screen.{Dimensions, tile_sub, is_on_screen}
+use Rattle.cull_base.specs.declared.place.Sub.{Sub}
+use Rattle.masked_update.specs.Merged.{IsMerged}
+use Rattle.depth_plane.proofs.Products.{le_from_times}
+use Rattle.depth_plane.proofs.Mean.{weights_of, touches_covered, numerator_below}
+use Rattle.depth_plane.proofs.Depths.{low_of-below}
+use Rattle.masked_update.proofs.Bits.{one_of, none-samples_of}
+
+pub length-covered : (t : Piece) (u : Sub) → length (covered t u) ≡ 32
+unfolding covered each_sample
+length-covered t u = refl
+
+pub has-covered : (t : Piece) (u : Sub) (k : ℕ) → k < 32 → has (covered t u) k ≡ covers t (sample u k)
+unfolding covered each_sample
+has-covered t u k h = get_or-map-range_with_len (λ j. covers t (sample u j)) 0 32 k k false h (omega arith)
+
+pub step_none : (u : Sub) (s : State) (t : Piece) → is_none (covered t u) ≡ true → step u s t ≡ s
+unfolding step_with
+step_none u s t e = rw e refl
+
+step_not_nearer : (u : Sub) (s : State) (t : Piece) → low_of t u ≤ s.reference → step u s t ≡ s
+unfolding step_with
+step_not_nearer u s t h = rw (nearer _ _ h) (either (is_none (covered t u)) _ _)
+  where
+    nearer : (a b : ℕ) → a ≤ b → nat_le a b ≡ true
+    nearer a b h = grind (arith, nat_tests)
+
+    either : (b : Bool) (x y : State) → cond (b || true) x y ≡ x
+    either true x y = refl
+    either false x y = refl
+
+-- the least bound is no greater than the depth at a covered sample
+pub low_reached : (t : Piece) (u : Sub) (k : ℕ) → IsPiece t → k < 32 → covers t (sample u k) ≡ true → DepthAtLeast t (sample u k) (low_of t u)
+low_reached t u k piece h c = low_of-below t u k piece h (touches_covered t (sample u k) c)
+
+low_le_greatest : (t : Piece) (u : Sub) (k : ℕ) → IsPiece t → k < 32 → covers t (sample u k) ≡ true → low_of t u ≤ greatest_nearness t
+low_le_greatest t u k piece h c =
+    let a = nearness t 0 in let b = nearness t 1 in let d = nearness t 2 in
+    let x = low_reached t u k piece h c in
+    let y = numerator_below t (sample u k) (greatest_nearness t) (weights_of t (sample u k) (touches_covered t (sample u k) c)) (first a b d) (second a b d) (third a b d) in
+    let z = le_from_times (pos (low_of t u)) (pos (greatest_nearness t)) (denominator t) piece.positive_area (omega (arith, ints, x, y)) in
+    omega (arith, ints, z)
+  where
+    first : (a b c : ℕ) → a ≤ max a (max b c)
+    first a b c = omega arith
+
+    second : (a b c : ℕ) → b ≤ max a (max b c)
+    second a b c = omega arith
+
+    third : (a b c : ℕ) → c ≤ max a (max b c)
+    third a b c = omega arith
+
+-- a piece that is nowhere nearer than the reference
+pub step_behind : (u : Sub) (s : State) (t : Piece) → IsPiece t → greatest_nearness t ≤ s.reference → step u s t ≡ s
+step_behind u s t p le = by (is_none (covered t u)) refl
+  where
+    by : (b : Bool) → is_none (covered t u) ≡ b → step u s t ≡ s
+    by true e = step_none u s t e
+    by false e =
+        let o = one_of (covered t u) e in
+        let n = length-covered t u in
+        let below : o.0 < 32 = omega (arith, o.1) in
+        let c = sym (has-covered t u o.0 below) ∙ o.2 in
+        step_not_nearer u s t (omega (arith, low_le_greatest t u o.0 p below c))
+
+-- a piece that covers none of its samples
+pub step_empty : (u : Sub) (s : State) (t : Piece) (mask : ℕ) → samples_of mask ≡ covered t u → mask ≡ 0 → step u s t ≡ s
+step_empty u s t mask is e = step_none u s t (ap is_none (sym is) ∙ none_of mask e)
+  where
+    none_of : (m : ℕ) → m ≡ 0 → is_none (samples_of m) ≡ true
+    none_of m e = let n = none-samples_of 0 (omega arith) in rw e n
+
+-- a whole tile in which no subtile changes
+pub all_stay : (size : Dimensions) (tile : ℕ) (t : Piece) (old : List State) → ((j : ℕ) → j < 8 → is_on_screen size (tile_sub size tile j) ≡ true → step (tile_sub size tile j) (slice_index_or old j empty_state) t ≡ slice_index_or old j empty_state) → IsMerged size tile t old old
+all_stay size tile t old stays = record { merged = λ j h on. sym (stays j h on); others = λ j h off. refl; whole = refl }

@@ -1,0 +1,16 @@
+//! The masked update: subtiles of two depths and a mask, tiles of eight subtiles, and the plain drawing of a frame list.
+#![tactic(auto)]
+
+mod draw;
+mod merging;
+mod span;
+mod sub_tile;
+#[cfg(test)]
+mod tests;
+mod tile_state;
+mod tile_view;
+
+pub use draw::draw_plain;
+pub use sub_tile::SubTile;
+pub use tile_state::TileState;
+pub use tile_view::{PlainView, TileView};

@@ -1,0 +1,110 @@
+//! Worked values of the update, from outside.
+ghost use Rattle.std.specs.Prelude.{◌≤◌};
+
+use crate::{PlainView, SubTile, TileState, TileView, draw_plain};
+use cull_base::{FrameList, ScreenTri, Size};
+use std::test::Fail;
+
+const EVERY_SAMPLE: u32 = 0xFFFF_FFFF;
+
+// The reference depth, the working depth and the mask.
+fn layers(sub: &SubTile) -> (u32, u32, u32) {
+    (sub.reference(), sub.working(), sub.mask())
+}
+
+fn after_two(first: (u32, u32), second: (u32, u32)) -> (u32, u32, u32)
+    requires first { first.0 ≤ 65535 }
+    requires second { second.0 ≤ 65535 }
+{
+    let mut sub = SubTile::empty();
+    sub.merge(first.0, first.1);
+    sub.merge(second.0, second.1);
+    layers(&sub)
+}
+
+#[test]
+fn working_layer_is_dropped_at_201_and_kept_at_200(rt: HostRuntime) {
+    let left_half = (100, 0x0F0F_0F0F);
+    assert_eq!(rt; after_two(left_half, (201, 0x10)), (0, 201, 0x10));
+    assert_eq!(rt; after_two(left_half, (200, 0x10)), (0, 100, 0x0F0F_0F1F));
+}
+
+#[test]
+fn equal_bound_changes_nothing_and_101_fills_the_reference(rt: HostRuntime) {
+    let known = (100, EVERY_SAMPLE);
+    assert_eq!(rt; after_two(known, (100, EVERY_SAMPLE)), (100, 0, 0));
+    assert_eq!(rt; after_two(known, (101, EVERY_SAMPLE)), (101, 0, 0));
+}
+
+#[test]
+fn working_layer_falls_to_the_lesser_bound(rt: HostRuntime) {
+    assert_eq!(rt; after_two((100, 0xFF), (60, 0xFF00)), (0, 60, 0xFFFF));
+}
+
+#[test]
+fn equal_nearness_is_not_hidden(rt: HostRuntime) {
+    let mut sub = SubTile::empty();
+    sub.merge(100, EVERY_SAMPLE);
+    sub.merge(150, 0xFF);
+    assert!(rt; sub.hides(0xFF, 149));
+    assert!(rt; !sub.hides(0xFF, 150));
+    assert!(rt; sub.hides(EVERY_SAMPLE, 99));
+    assert!(rt; !sub.hides(0x1FF, 100));
+    assert!(rt; sub.hides(0, 65535));
+}
+
+// The two halves of a quad over the whole screen of 32 by 8 pixels.
+fn quad(rt: &HostRuntime) -> Result<FrameList, Fail> {
+    let size = Size::new(32, 8).ok_or("a size")?;
+    let mut list = FrameList::with_room(rt.alloc(), size, 2)?;
+    list.push(ScreenTri::new([0, 512, 512], [0, 0, 128], [32767; 3]).ok_or("a piece")?);
+    list.push(ScreenTri::new([0, 512, 0], [0, 128, 128], [32767; 3]).ok_or("a piece")?);
+    Ok(list)
+}
+
+#[test]
+fn two_halves_of_a_quad_fill_each_reference(rt: HostRuntime) -> Result<(), Fail> {
+    let states = draw_plain(rt.alloc(), &quad(&rt)?)?;
+    assert_eq!(rt; states.len(), 1);
+    let tile = states[0];
+    assert_eq!(rt; tile.count(), 2);
+    for j in 0..8 {
+        assert_eq!(rt; layers(&tile.sub(j)), (32767, 0, 0), "subtile {j}");
+    }
+    Ok(())
+}
+
+#[test]
+fn subtiles_off_the_screen_stay_empty(rt: HostRuntime) -> Result<(), Fail> {
+    let size = Size::new(8, 4).ok_or("a size")?;
+    let piece = ScreenTri::new([0, 4096, 0], [0, 0, 4096], [1000; 3]).ok_or("a piece")?;
+    let mut tile = TileState::empty();
+    tile.take(&piece, size, 0);
+    assert_eq!(rt; tile.count(), 1);
+    assert_eq!(rt; layers(&tile.sub(0)), (1000, 0, 0));
+    for j in 1..8 {
+        assert_eq!(rt; layers(&tile.sub(j)), (0, 0, 0), "subtile {j}");
+    }
+    Ok(())
+}
+
+// The count of a tile that the view holds.
+fn count_of<V: TileView>(view: &V, tile: u32) -> Option<u32> {
+    if view.holds(tile) {
+        Some(view.state(tile).count())
+    } else {
+        None
+    }
+}
+
+#[test]
+fn plain_view_holds_the_tiles_of_its_slice(rt: HostRuntime) {
+    let tiles = [
+        TileState::of([SubTile::empty(); 8], 3),
+        TileState::of([SubTile::empty(); 8], 5),
+    ];
+    let view = PlainView::new(&tiles);
+    assert_eq!(rt; count_of(&view, 0), Some(3));
+    assert_eq!(rt; count_of(&view, 1), Some(5));
+    assert_eq!(rt; count_of(&view, 2), None);
+}

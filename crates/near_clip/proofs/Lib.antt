@@ -1,0 +1,3 @@
+pub mod Guarded
+pub mod Reaches
+pub mod Rows

@@ -1,0 +1,2 @@
+pub mod NearPart
+pub mod Reach

@@ -1,0 +1,132 @@
+-- The pieces that a snapped polygon keeps.
+use Rattle.std.proofs.Common.{◌≡◌, ℕ, suc, List, [], ◌∷◌, ◌++◌, map, filter, length, get_or, Bool, true, false, not, cond, ◌||◌, Option, Some, None, inl, inr, ◌↔◌, append-nil, arith, refl, sym, ◌∙◌}
+use Rattle.std.specs.List.{All}
+use Rattle.std.proofs.lemmas.List.Elements.{All-nil, All-cons}
+use Rattle.cull_base.specs.declared.clip.ClipVertex.{ClipVertex}
+use Rattle.cull_base.specs.declared.clip.Side.{Side}
+use Rattle.cull_base.specs.declared.clip.Winding.{Winding}
+use Rattle.cull_base.specs.Screen.{Dimensions}
+use Rattle.cull_base.specs.Guard.{is_past_guard}
+use Rattle.cull_base.specs.Piece.{Piece}
+use Rattle.near_clip.specs.declared.hom_point.HomPoint.{HomPoint}
+use Rattle.near_clip.specs.NearPart.{near_part, corner}
+use Rattle.near_clip.proofs.Reaches.{all_corners, near_part-outside}
+use Rattle.snap_setup.specs.declared.snapping.Snapped.{Snapped}
+use Rattle.snap_setup.specs.Snapping.{snapped}
+use Rattle.snap_setup.specs.Pieces.{triangle, triangles_of, is_left_out, turned, kept_of, snapped_part, is_any_past_guard, pieces_of, GivesNone}
+use Rattle.snap_setup.specs.Judged.{piece_if, listed}
+
+abbrev kept_from : Winding → List Piece → List Piece
+kept_from winding ts = map turned (filter (λ t. not (is_left_out winding t)) ts)
+
+kept_cons : (winding : Winding) (t : Piece) (ts : List Piece) → kept_from winding (t ∷ ts) ≡ listed (piece_if winding t) ++ kept_from winding ts
+kept_cons winding t ts =
+    by_test (is_left_out winding t)
+  where
+    by_test : (b : Bool) → map turned (cond (not b) (t ∷ filter (λ t. not (is_left_out winding t)) ts) (filter (λ t. not (is_left_out winding t)) ts)) ≡ listed (cond b None (Some (turned t))) ++ kept_from winding ts
+    by_test true = refl
+    by_test false = refl
+
+-- lists by their length
+pub list_none : {X : Type 0} (xs : List X) → length xs ≡ 0 → xs ≡ []
+list_none [] e = refl
+list_none (x ∷ xs) e = absurd (omega arith)
+
+pub list_three : {X : Type 0} (xs : List X) (a b c : X) → length xs ≡ 3 → a ≡ get_or xs 0 a → b ≡ get_or xs 1 b → c ≡ get_or xs 2 c → xs ≡ a ∷ b ∷ c ∷ []
+list_three [] a b c e ea eb ec = absurd (omega arith)
+list_three (x ∷ []) a b c e ea eb ec = absurd (omega arith)
+list_three (x ∷ y ∷ []) a b c e ea eb ec = absurd (omega arith)
+list_three (x ∷ y ∷ z ∷ []) a b c e ea eb ec = cc
+list_three (x ∷ y ∷ z ∷ w ∷ xs) a b c e ea eb ec = absurd (omega arith)
+
+pub list_four : {X : Type 0} (xs : List X) (a b c d : X) → length xs ≡ 4 → a ≡ get_or xs 0 a → b ≡ get_or xs 1 b → c ≡ get_or xs 2 c → d ≡ get_or xs 3 d → xs ≡ a ∷ b ∷ c ∷ d ∷ []
+list_four [] a b c d e ea eb ec ed = absurd (omega arith)
+list_four (x ∷ []) a b c d e ea eb ec ed = absurd (omega arith)
+list_four (x ∷ y ∷ []) a b c d e ea eb ec ed = absurd (omega arith)
+list_four (x ∷ y ∷ z ∷ []) a b c d e ea eb ec ed = absurd (omega arith)
+list_four (x ∷ y ∷ z ∷ w ∷ []) a b c d e ea eb ec ed = cc
+list_four (x ∷ y ∷ z ∷ w ∷ v ∷ xs) a b c d e ea eb ec ed = absurd (omega arith)
+
+pub part_none : (v0 v1 v2 : ClipVertex) (near : ℕ) (size : Dimensions) (winding : Winding) (side : Side) (ps : List HomPoint) → ps ≡ near_part v0 v1 v2 near → length ps ≡ 0 →
+    [] ≡ kept_of (snapped_part v0 v1 v2 near size side) winding
+unfolding kept_of snapped_part
+part_none v0 v1 v2 near size winding side ps e h = let n : near_part v0 v1 v2 near ≡ [] = sym e ∙ list_none ps h in rw n refl
+
+pub part_three : (v0 v1 v2 : ClipVertex) (near : ℕ) (size : Dimensions) (winding : Winding) (side : Side) (ps : List HomPoint) (p0 p1 p2 : HomPoint) (s0 s1 s2 : Snapped) (first : Option Piece) (r : List Piece) →
+    ps ≡ near_part v0 v1 v2 near → length ps ≡ 3 → p0 ≡ get_or ps 0 p0 → p1 ≡ get_or ps 1 p1 → p2 ≡ get_or ps 2 p2 →
+    s0 ≡ snapped p0 near size side → s1 ≡ snapped p1 near size side → s2 ≡ snapped p2 near size side →
+    first ≡ piece_if winding (triangle s0 s1 s2) → r ≡ listed first ++ [] → r ≡ kept_of (snapped_part v0 v1 v2 near size side) winding
+unfolding kept_of snapped_part
+part_three v0 v1 v2 near size winding side ps p0 p1 p2 s0 s1 s2 first r e h e0 e1 e2 f0 f1 f2 ef er =
+    let n : near_part v0 v1 v2 near ≡ p0 ∷ p1 ∷ p2 ∷ [] = sym e ∙ list_three ps p0 p1 p2 h e0 e1 e2 in
+    let k = kept_cons winding (triangle s0 s1 s2) [] in
+    rw (n, ← f0, ← f1, ← f2, k, er, ef) refl
+
+pub part_four : (v0 v1 v2 : ClipVertex) (near : ℕ) (size : Dimensions) (winding : Winding) (side : Side) (ps : List HomPoint) (p0 p1 p2 p3 : HomPoint) (s0 s1 s2 s3 : Snapped) (first second : Option Piece) (r : List Piece) →
+    ps ≡ near_part v0 v1 v2 near → length ps ≡ 4 → p0 ≡ get_or ps 0 p0 → p1 ≡ get_or ps 1 p1 → p2 ≡ get_or ps 2 p2 → p3 ≡ get_or ps 3 p3 →
+    s0 ≡ snapped p0 near size side → s1 ≡ snapped p1 near size side → s2 ≡ snapped p2 near size side → s3 ≡ snapped p3 near size side →
+    first ≡ piece_if winding (triangle s0 s1 s2) → second ≡ piece_if winding (triangle s0 s2 s3) → r ≡ listed first ++ listed second → r ≡ kept_of (snapped_part v0 v1 v2 near size side) winding
+unfolding kept_of snapped_part
+part_four v0 v1 v2 near size winding side ps p0 p1 p2 p3 s0 s1 s2 s3 first second r e h e0 e1 e2 e3 f0 f1 f2 f3 ef es er =
+    let n : near_part v0 v1 v2 near ≡ p0 ∷ p1 ∷ p2 ∷ p3 ∷ [] = sym e ∙ list_four ps p0 p1 p2 p3 h e0 e1 e2 e3 in
+    let k = kept_cons winding (triangle s0 s1 s2) (triangle s0 s2 s3 ∷ []) in
+    let l = kept_cons winding (triangle s0 s2 s3) [] in
+    let z = append-nil (listed (piece_if winding (triangle s0 s2 s3))) in
+    rw (n, ← f0, ← f1, ← f2, ← f3, k, l, z, er, ef, es) refl
+
+-- nothing is kept exactly where each triangle is left out
+kept_nothing : (winding : Winding) (ts : List Piece) → kept_from winding ts ≡ [] → All (λ t. is_left_out winding t ≡ true) ts
+kept_nothing winding [] e = All-nil _
+kept_nothing winding (t ∷ ts) e = by_test (λ k. kept_nothing winding ts k) (is_left_out winding t) refl (sym (kept_cons winding t ts) ∙ e)
+  where
+    by_test : (kept_from winding ts ≡ [] → All (λ u. is_left_out winding u ≡ true) ts) → (b : Bool) → is_left_out winding t ≡ b → listed (cond b None (Some (turned t))) ++ kept_from winding ts ≡ [] →
+        All (λ u. is_left_out winding u ≡ true) (t ∷ ts)
+    by_test rest true h k = All-cons (λ u. is_left_out winding u ≡ true) t ts h (rest k)
+    by_test rest false h k = absurd (cc)
+
+none_kept : (winding : Winding) (ts : List Piece) → All (λ t. is_left_out winding t ≡ true) ts → kept_from winding ts ≡ []
+none_kept winding [] h = refl
+none_kept winding (t ∷ ts) h =
+    let l : is_left_out winding t ≡ true = h 0 t (omega arith) in
+    kept_cons winding t ts ∙ rw l (none_kept winding ts (λ k d lt. h (suc k) d (omega arith)))
+
+-- why a triangle gives no piece
+pub gives_none : (v0 v1 v2 : ClipVertex) (near : ℕ) (size : Dimensions) (winding : Winding) (side : Side) → (pieces_of v0 v1 v2 near size winding side ≡ []) ↔ GivesNone v0 v1 v2 near size winding side
+unfolding pieces_of kept_of snapped_part
+gives_none v0 v1 v2 near size winding side = (to (is_any_past_guard v0 v1 v2 near) refl, from)
+  where
+    points : List Snapped
+    points = map (λ p. snapped p near size side) (near_part v0 v1 v2 near)
+
+    to : (b : Bool) → is_any_past_guard v0 v1 v2 near ≡ b → cond b [] (kept_from winding (triangles_of points)) ≡ [] → GivesNone v0 v1 v2 near size winding side
+    to true h e = inl h
+    to false h e = inr (inr (kept_nothing winding (triangles_of points) e))
+
+    same : (b : Bool) (ts : List Piece) → ts ≡ [] → cond b [] ts ≡ []
+    same true ts e = refl
+    same false ts e = e
+
+    from : GivesNone v0 v1 v2 near size winding side → pieces_of v0 v1 v2 near size winding side ≡ []
+    from (inl h) = rw h refl
+    from (inr (inl h)) = let e = near_part-outside v0 v1 v2 near h.0 h.1 h.2 in let ts : kept_from winding (triangles_of points) ≡ [] = rw e refl in same (is_any_past_guard v0 v1 v2 near) (kept_from winding (triangles_of points)) ts
+    from (inr (inr h)) = same (is_any_past_guard v0 v1 v2 near) (kept_from winding (triangles_of points)) (none_kept winding (triangles_of points) h)
+
+-- what the two ways through `set_up` give
+pub past : (v0 v1 v2 : ClipVertex) (near : ℕ) (size : Dimensions) (winding : Winding) (side : Side) → is_any_past_guard v0 v1 v2 near ≡ true → [] ≡ pieces_of v0 v1 v2 near size winding side
+unfolding pieces_of
+past v0 v1 v2 near size winding side e = rw e refl
+
+pub held : (v0 v1 v2 : ClipVertex) (near : ℕ) (size : Dimensions) (winding : Winding) (side : Side) (r : List Piece) → is_any_past_guard v0 v1 v2 near ≡ false → r ≡ kept_of (snapped_part v0 v1 v2 near size side) winding → r ≡ pieces_of v0 v1 v2 near size winding side
+unfolding pieces_of
+held v0 v1 v2 near size winding side r e h = rw e h
+
+pub all_within_guard : (vs : List ClipVertex) (near : ℕ) → length vs ≡ 3 → is_any_past_guard (corner vs 0) (corner vs 1) (corner vs 2) near ≡ false → All (λ v. is_past_guard v near ≡ false) vs
+all_within_guard vs near e h =
+    let (a, b, c) = none_of (is_past_guard (corner vs 0) near) (is_past_guard (corner vs 1) near) (is_past_guard (corner vs 2) near) h in
+    all_corners (λ v. is_past_guard v near ≡ false) vs e a b c
+  where
+    none_of : (x y z : Bool) → (x || (y || z)) ≡ false → (x ≡ false) × (y ≡ false) × (z ≡ false)
+    none_of true y z e = absurd (cc)
+    none_of false true z e = absurd (cc)
+    none_of false false true e = absurd (cc)
+    none_of false false false e = (refl, refl, refl)

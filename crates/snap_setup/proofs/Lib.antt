@@ -1,0 +1,7 @@
+pub mod Floors
+pub mod Reached
+pub mod Areas
+pub mod KeptPieces
+pub mod FrameLists
+pub mod BoxSteps
+pub mod Rows

@@ -1,0 +1,27 @@
+use Rattle.std.proofs.Common.{[], arith, get_or, refl, length-append}
+use Rattle.cull_base.specs.declared.scene_types.Tri.{Tri}
+use Rattle.snap_setup.proofs.FrameLists.{list_none, list_more, by_corners}
+use Rattle.snap_setup.proofs.frame.frame_list.Goals as goal
+
+pub loop-tri-init : goal.loop-tri-init
+loop-tri-init c =
+    let e = c.in_ok-list.ensures in
+    record {
+      size = rw e refl;
+      room = rw e refl;
+      members = rw e (list_none c.args.clips.now c.args.near c.args.size c.args.winding);
+      short = rw e (omega arith);
+    }
+
+pub loop-tri-preserved : goal.loop-tri-preserved
+loop-tri-preserved c =
+    let e = c.push_onto.ensures in
+    let i = c.loop-tri.invariant in
+    let d : Tri = record { 0 = [] } in
+    let ps = by_corners c.args.clips.now c.corners-corners.result c.args.near c.args.size c.args.winding (get_or c.args.tris.now c.loop-tri.tri-index d) c.set_up.result c.set_up.ensures.value c.corners-corners.ensures.first c.corners-corners.ensures.second c.corners-corners.ensures.third in
+    record {
+      size = rw e i.size;
+      room = rw e i.room;
+      members = rw e (list_more c.args.clips.now c.args.tris.now c.args.near c.args.size c.args.winding c.loop-tri.tri-index d c.loop-tri.list.members c.set_up.result c.loop-tri-test.true i.members ps);
+      short = rw e (rw length-append (omega (arith, i.short, c.set_up.ensures.most)));
+    }

@@ -1,0 +1,10 @@
+-- Pieces as they are held.
+use Rattle.std.specs.Prelude.{List, [], ◌∷◌}
+use Rattle.cull_base.specs.Piece.{Piece}
+use Rattle.snap_setup.specs.declared.kept.Kept.{Kept}
+use Rattle.snap_setup.specs.declared.kept.Kept.TheVariants.{Nothing, One, Two}
+
+abbrev pub kept_in : Kept → List Piece
+kept_in Nothing = []
+kept_in (One a) = a ∷ []
+kept_in (Two a b) = a ∷ b ∷ []

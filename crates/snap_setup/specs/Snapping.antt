@@ -1,0 +1,51 @@
+-- From clip space to the screen: coordinates in sixteenths of a pixel, and nearness.
+use Rattle.std.specs.Prelude.{ℕ, ℤ, pos, ◌*◌, ◌^◌, ◌≤◌, ◌≤ℤ◌, ◌+ℤ◌, ◌-ℤ◌, ◌*ℤ◌}
+use Rattle.std.specs.Int.RustNames.{unsigned_abs}
+use Rattle.cull_base.specs.declared.clip.Side.{Side}
+use Rattle.cull_base.specs.declared.clip.Side.TheVariants.{Occluder, Object}
+use Rattle.cull_base.specs.Screen.{Dimensions}
+use Rattle.cull_base.specs.Bounds.{Near}
+use Rattle.cull_base.specs.Piece.{Within}
+use Rattle.cull_base.specs.Depth.{floor_of, ceiling_of}
+use Rattle.near_clip.specs.declared.hom_point.HomPoint.{HomPoint}
+use Rattle.near_clip.specs.Reach.{WithinScaled}
+use Rattle.snap_setup.specs.declared.snapping.Snapped.{Snapped}
+
+-- The floor of n/d + 1/2, where d is positive. It is that of (2n + d)/2d.
+abbrev pub round_half : ℤ → ℤ → ℤ
+round_half n d = floor_of ((pos 2 *ℤ n) +ℤ d) (pos 2 *ℤ d)
+
+-- A screen of so many pixels reaches from -w to w, in sixteenths of a pixel.
+abbrev pub screen_x : HomPoint → Dimensions → ℤ
+screen_x p size = round_half (pos (8 * size.width) *ℤ (p.x +ℤ p.w)) p.w
+
+-- y runs downwards on the screen
+abbrev pub screen_y : HomPoint → Dimensions → ℤ
+screen_y p size = round_half (pos (8 * size.height) *ℤ (p.w -ℤ p.y)) p.w
+
+-- an occluder is never held to be nearer than it is, an object never farther
+abbrev pub rounded_by : Side → ℤ → ℤ → ℤ
+rounded_by Occluder n d = floor_of n d
+rounded_by Object n d = ceiling_of n d
+
+-- 65535 * near * scale / w, in whole numbers
+abbrev pub nearness_of : HomPoint → ℕ → Side → ℕ
+nearness_of p near side = unsigned_abs (rounded_by side (pos (65535 * near) *ℤ p.scale) p.w)
+
+unfoldable pub snapped : HomPoint → ℕ → Dimensions → Side → Snapped
+snapped p near size side = record { x = screen_x p size; y = screen_y p size; q = nearness_of p near side }
+
+-- in front of the viewer, with w and the coordinates small enough for the sums of snapping
+pub record IsInSight (p : HomPoint) : Type 0 where
+  pub w_least : pos 1 ≤ℤ p.w
+  pub w_most : p.w ≤ℤ pos (2 ^ 49)
+  pub x_beside : WithinScaled 16384 p.w p.x
+  pub y_beside : WithinScaled 16384 p.w p.y
+  pub x_near : Near (2 ^ 49) p.x
+  pub y_near : Near (2 ^ 49) p.y
+
+-- what is true of each snapped point
+pub record IsSnapped (s : Snapped) : Type 0 where
+  pub x_within : Within s.x
+  pub y_within : Within s.y
+  pub nearness_within : s.q ≤ 65535

@@ -1,0 +1,44 @@
+//! The pieces of a frame.
+ghost use Rattle.std.specs.Prelude.{◌≡◌, ◌≤◌, length, IfOk};
+ghost use Rattle.std.specs.List.{All};
+ghost use Rattle.near_clip.specs.NearPart.{corner};
+ghost use Rattle.snap_setup.specs.Pieces.{list_of_clips, clip_at, HasClips};
+
+use crate::triangle::set_up;
+use cull_base::{ClipVertex, FrameList, Memory, Side, Size, Tri, Winding};
+use std::alloc::Global;
+
+/// The occluder pieces of the triangles, one triangle after another. All memory is taken first. Condition: `near`
+/// is 1 to 1024, there are at most 65,536 triangles, and each index is below the number of clips.
+pub fn frame_list(
+    alloc: Global,
+    clips: &[ClipVertex],
+    tris: &[Tri],
+    near: u16,
+    size: Size,
+    winding: Winding,
+) -> Result<FrameList, Memory>
+    requires near_least { 1 ≤ near }
+    requires near_most { near ≤ 1024 }
+    requires triangles { length tris.now ≤ 65536 }
+    requires indices { All (HasClips (length clips.now)) tris.now }
+    ensures members { IfOk result (λ f. f.members ≡ list_of_clips clips.now tris.now near size winding) }
+    ensures size { IfOk result (λ f. f.size ≡ size) }
+{
+    let mut list = FrameList::with_room(alloc, size, 2 * tris.len() as u32)?;
+    for tri in tris {
+        let corners = corners(clips, tri);
+        set_up(&corners, near, size, winding, Side::Occluder).push_onto(&mut list);
+    }
+    Ok(list)
+}
+
+fn corners(clips: &[ClipVertex], tri: &Tri) -> [ClipVertex; 3]
+    requires { HasClips (length clips.now) tri.now }
+    ensures first { corner result 0 ≡ clip_at clips.now tri.now 0 }
+    ensures second { corner result 1 ≡ clip_at clips.now tri.now 1 }
+    ensures third { corner result 2 ≡ clip_at clips.now tri.now 2 }
+{
+    let [a, b, c] = tri.0;
+    [clips[a as usize], clips[b as usize], clips[c as usize]]
+}

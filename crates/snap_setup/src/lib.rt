@@ -1,0 +1,19 @@
+//! From clip vertices to pieces: clipping, snapping to sixteenths of a pixel, and the choice of which triangles
+//! are kept. Every quotient is exact.
+#![tactic(auto)]
+
+mod boxes;
+mod frame;
+mod kept;
+mod quotient;
+mod snapping;
+mod triangle;
+
+pub use boxes::near_box;
+pub use frame::frame_list;
+pub use kept::Pieces;
+pub use snapping::{Snapped, snap};
+pub use triangle::set_up;
+
+#[cfg(test)]
+mod tests;

@@ -1,0 +1,111 @@
+//! Where a point stands on the screen, and how near it is.
+ghost use Rattle.std.specs.Prelude.{◌≡◌, ℤ, pos, neg_ℤ, ◌*◌, ◌^◌, ◌*ℤ◌, ◌+ℤ◌, ◌≤ℤ◌, ◌≤◌};
+ghost use Rattle.cull_base.specs.Bounds.{Near};
+ghost use Rattle.cull_base.specs.Piece.{Within};
+ghost use Rattle.near_clip.specs.Reach.{IsInReach};
+ghost use Rattle.snap_setup.specs.Snapping.{round_half, screen_x, screen_y, nearness_of, snapped, IsInSight, IsSnapped};
+
+use crate::quotient::floor_quotient;
+use cull_base::{Side, Size};
+use near_clip::HomPoint;
+
+/// A point on the screen: coordinates in sixteenths of a pixel, y downwards, and nearness from 0 to 65535.
+#[derive(Clone, Copy, Debug, PartialEq, Eq)]
+pub struct Snapped {
+    pub x: i32,
+    pub y: i32,
+    pub q: u32,
+}
+
+/// The nearness of a point on the near plane.
+const NEAREST: u64 = 65535;
+
+#[inline(always)]
+fn wide_product(a: u32, b: i64) -> i128
+    requires { a ≤ 2 ^ 15 }
+    ensures value { result ≡ pos a *ℤ b }
+    ensures near { Near (2 ^ 78) result }
+{
+    i128::from(a) * i128::from(b)
+}
+
+#[inline(always)]
+fn wide_sum(a: i128, b: i64) -> i128
+    requires { Near (2 ^ 78) a }
+    ensures { result ≡ a +ℤ b }
+{
+    a + i128::from(b)
+}
+
+// So many pixels are reached by offsets from 0 to twice w. The place of an offset in sixteenths of a pixel, rounded.
+fn rounded(pixels: u16, offset: i64, w: i64) -> i32
+    requires pixels { pixels ≤ 2048 }
+    requires low { neg_ℤ (pos 16385 *ℤ w) ≤ℤ offset }
+    requires high { offset ≤ℤ (pos 16385 *ℤ w) }
+    requires w_least { pos 1 ≤ℤ w }
+    requires w_most { w ≤ℤ pos (2 ^ 49) }
+    ensures value { result ≡ round_half (pos (8 * pixels) *ℤ offset) w }
+    ensures within { Within result }
+{
+    let doubled = wide_product(16 * u32::from(pixels), offset);
+    floor_quotient(wide_sum(doubled, w), 2 * w) as i32
+}
+
+#[inline(always)]
+pub(crate) fn place_x(point: &HomPoint, size: Size) -> i32
+    requires { IsInSight point.now }
+    ensures value { result ≡ screen_x point.now size }
+    ensures within { Within result }
+{
+    rounded(size.width(), point.x + point.w, point.w)
+}
+
+#[inline(always)]
+pub(crate) fn place_y(point: &HomPoint, size: Size) -> i32
+    requires { IsInSight point.now }
+    ensures value { result ≡ screen_y point.now size }
+    ensures within { Within result }
+{
+    rounded(size.height(), point.w - point.y, point.w)
+}
+
+#[inline(always)]
+fn nearness_numerator(near: u16, scale: u64) -> u64
+    requires near { near ≤ 1024 }
+    requires scale { scale ≤ 2 ^ 25 }
+    ensures { result ≡ 65535 * near * scale }
+{
+    NEAREST * u64::from(near) * scale
+}
+
+fn nearness(point: &HomPoint, near: u16, side: Side) -> u32
+    requires near_least { 1 ≤ near }
+    requires near_most { near ≤ 1024 }
+    requires reach { IsInReach near point.now }
+    ensures value { result ≡ nearness_of point.now near side }
+    ensures within { result ≤ 65535 }
+{
+    let numerator = nearness_numerator(near, point.scale.unsigned_abs());
+    let w = point.w.unsigned_abs();
+    match side {
+        Side::Occluder => (numerator / w) as u32,
+        Side::Object => numerator.div_ceil(w) as u32,
+    }
+}
+
+/// The point on the screen, its coordinates rounded to the nearest whole number and its nearness down for an
+/// occluder, up for an object. Condition: `near` is 1 to 1024; the scale is 1 to 2^25, w is `near` to 16384 `near`
+/// times the scale, x and y are at most 16384 `near` times the scale away from 0.
+pub fn snap(point: &HomPoint, near: u16, size: Size, side: Side) -> Snapped
+    requires near_least { 1 ≤ near }
+    requires near_most { near ≤ 1024 }
+    requires reach { IsInReach near point.now }
+    ensures value { result ≡ snapped point.now near size side }
+    ensures within { IsSnapped result }
+{
+    Snapped {
+        x: place_x(point, size),
+        y: place_y(point, size),
+        q: nearness(point, near, side),
+    }
+}

@@ -1,0 +1,212 @@
+//! Points, triangles and frames worked by hand.
+ghost use Rattle.std.specs.Prelude.{◌≡◌, false};
+ghost use Rattle.cull_base.specs.Guard.{is_past_guard};
+
+use super::*;
+use camera_path::past_guard;
+use cull_base::{ClipVertex, FrameList, Memory, Rect, Side, Size, Tri, Winding};
+use near_clip::HomPoint;
+use std::alloc::Global;
+use std::process::Abort;
+use std::test::Fail;
+
+fn vertex(x: i64, y: i64, w: i64) -> ClipVertex {
+    ClipVertex { x, y, w }
+}
+
+fn guarded(rt: &impl Abort, v: ClipVertex) -> ClipVertex
+    ensures { is_past_guard result 1 ≡ false }
+{
+    assert!(rt; !past_guard(&v, 1));
+    v
+}
+
+fn snapped(rt: &impl Abort, x: i64, y: i64, w: i64, size: Size, side: Side) -> Snapped {
+    assert!(rt; -16384 <= x && x <= 16384);
+    assert!(rt; -16384 <= y && y <= 16384);
+    assert!(rt; 1 <= w && w <= 16384);
+    let point = HomPoint { x, y, w, scale: 1 };
+    snap(&point, 1, size, side)
+}
+
+fn boxed(rt: &impl Abort, corners: [ClipVertex; 3], size: Size) -> Option<Rect> {
+    let [a, b, c] = corners;
+    near_box(&[guarded(rt, a), guarded(rt, b), guarded(rt, c)], 1, size)
+}
+
+#[test]
+fn halves_go_up_and_below_zero_too(rt: HostRuntime) -> Result<(), Fail> {
+    let size = Size::new(32, 8).ok_or("size")?;
+    for (x, y, at) in [(-511, 508, 1), (-513, 516, 0), (-515, 524, -1)] {
+        let point = snapped(&rt, x, y, 512, size, Side::Object);
+        assert_eq!(rt; (point.x, point.y), (at, at));
+    }
+    Ok(())
+}
+
+#[test]
+fn nearness_goes_down_for_occluders_and_up_for_objects(rt: HostRuntime) -> Result<(), Fail> {
+    let size = Size::new(32, 8).ok_or("size")?;
+    for (w, occluder, object) in [(1, 65535, 65535), (2, 32767, 32768), (16384, 3, 4)] {
+        assert_eq!(rt; snapped(&rt, 0, 0, w, size, Side::Occluder).q, occluder);
+        assert_eq!(rt; snapped(&rt, 0, 0, w, size, Side::Object).q, object);
+    }
+    Ok(())
+}
+
+#[test]
+fn cut_points_are_snapped_by_their_scale(rt: HostRuntime) -> Result<(), Fail> {
+    let size = Size::new(32, 8).ok_or("size")?;
+    let cut = HomPoint {
+        x: 16,
+        y: 0,
+        w: 12,
+        scale: 6,
+    };
+    let point = snap(&cut, 2, size, Side::Occluder);
+    assert_eq!(rt; point.x, 597);
+    assert_eq!(rt; point.q, 65535);
+    Ok(())
+}
+
+#[test]
+fn the_farthest_points_are_exact(rt: HostRuntime) -> Result<(), Fail> {
+    let size = Size::new(2048, 2048).ok_or("size")?;
+    let right_below = HomPoint {
+        x: 0x2_0000_0000_0000,
+        y: -0x2_0000_0000_0000,
+        w: 0x8_0000_0000,
+        scale: 0x200_0000,
+    };
+    let point = snap(&right_below, 1024, size, Side::Object);
+    assert_eq!(rt; (point.x, point.y, point.q), (268451840, 268451840, 65535));
+    let left_above = HomPoint {
+        x: -0x2_0000_0000_0000,
+        y: 0x2_0000_0000_0000,
+        w: 0x8_0000_0000,
+        scale: 0x200_0000,
+    };
+    let point = snap(&left_above, 1024, size, Side::Object);
+    assert_eq!(rt;
+        (point.x, point.y, point.q),
+        (-268419072, -268419072, 65535)
+    );
+    Ok(())
+}
+
+#[test]
+fn a_cut_triangle_has_two_pieces(rt: HostRuntime) -> Result<(), Fail> {
+    let size = Size::new(32, 8).ok_or("size")?;
+    let tri = [vertex(0, 0, 6), vertex(0, 4, 6), vertex(4, 0, 0)];
+    assert_eq!(rt;
+        set_up(&tri, 2, size, Winding::Both, Side::Occluder).len(),
+        2
+    );
+    assert_eq!(rt;
+        set_up(&tri, 2, size, Winding::DropClockwise, Side::Occluder).len(),
+        0
+    );
+    assert_eq!(rt;
+        set_up(&tri, 2, size, Winding::DropCounter, Side::Occluder).len(),
+        2
+    );
+    Ok(())
+}
+
+#[test]
+fn triangles_are_drawn_up_to_the_guard(rt: HostRuntime) -> Result<(), Fail> {
+    let size = Size::new(32, 8).ok_or("size")?;
+    let tri = [vertex(-2, 2, 2), vertex(16384, 2, 2), vertex(-2, -16384, 2)];
+    let pieces = set_up(&tri, 1, size, Winding::Both, Side::Occluder);
+    assert_eq!(rt; pieces.len(), 1);
+    assert_eq!(rt; pieces.get(0).x(), [0, 2097408, 0]);
+    assert_eq!(rt; pieces.get(0).y(), [0, 0, 524352]);
+    let past = [vertex(-2, 2, 2), vertex(16385, 2, 2), vertex(-2, -16384, 2)];
+    assert_eq!(rt;
+        set_up(&past, 1, size, Winding::Both, Side::Occluder).len(),
+        0
+    );
+    Ok(())
+}
+
+#[test]
+fn near_boxes_hold_what_has_no_area(rt: HostRuntime) -> Result<(), Fail> {
+    let size = Size::new(32, 8).ok_or("size")?;
+    let small = [
+        vertex(-246, 216, 256),
+        vertex(-242, 216, 256),
+        vertex(-242, 200, 256),
+    ];
+    let pixel = Rect {
+        x0: 0,
+        y0: 0,
+        x1: 1,
+        y1: 1,
+    };
+    assert_eq!(rt; boxed(&rt, small, size), Some(pixel));
+    let line = [vertex(-2, 2, 2), vertex(-2, 2, 2), vertex(2, 2, 2)];
+    let row = Rect {
+        x0: 0,
+        y0: 0,
+        x1: 33,
+        y1: 1,
+    };
+    assert_eq!(rt; boxed(&rt, line, size), Some(row));
+    let behind = [vertex(0, 0, 0), vertex(1, 1, 0), vertex(1, 0, -3)];
+    assert_eq!(rt; boxed(&rt, behind, size), None);
+    Ok(())
+}
+
+fn clockwise_quad(alloc: Global, size: Size, winding: Winding) -> Result<FrameList, Memory> {
+    let clips = [
+        vertex(-2, 2, 2),
+        vertex(2, 2, 2),
+        vertex(2, -2, 2),
+        vertex(-2, -2, 2),
+    ];
+    let tris = [Tri([0, 1, 2]), Tri([0, 2, 3])];
+    frame_list(alloc, &clips, &tris, 1, size, winding)
+}
+
+fn counter_quad(alloc: Global, size: Size, winding: Winding) -> Result<FrameList, Memory> {
+    let clips = [
+        vertex(-2, 2, 2),
+        vertex(2, 2, 2),
+        vertex(2, -2, 2),
+        vertex(-2, -2, 2),
+    ];
+    let tris = [Tri([0, 2, 1]), Tri([0, 3, 2])];
+    frame_list(alloc, &clips, &tris, 1, size, winding)
+}
+
+#[test]
+fn a_winding_drops_one_side(rt: HostRuntime) -> Result<(), Fail> {
+    let size = Size::new(32, 8).ok_or("size")?;
+    for (winding, clockwise, counter) in [
+        (Winding::Both, 2, 2),
+        (Winding::DropClockwise, 0, 2),
+        (Winding::DropCounter, 2, 0),
+    ] {
+        assert_eq!(rt; clockwise_quad(rt.alloc(), size, winding)?.len(), clockwise);
+        assert_eq!(rt; counter_quad(rt.alloc(), size, winding)?.len(), counter);
+    }
+    Ok(())
+}
+
+#[test]
+fn pieces_run_clockwise_in_submission_order(rt: HostRuntime) -> Result<(), Fail> {
+    let size = Size::new(32, 8).ok_or("size")?;
+    let list = counter_quad(rt.alloc(), size, Winding::Both)?;
+    assert_eq!(rt; list.len(), 2);
+    let first = list.get(0);
+    assert_eq!(rt;
+        (first.x(), first.y(), first.q()),
+        ([0, 512, 512], [0, 0, 128], [32767; 3])
+    );
+    let second = list.get(1);
+    assert_eq!(rt;
+        (second.x(), second.y(), second.q()),
+        ([0, 512, 0], [0, 128, 128], [32767; 3])
+    );
+    Ok(())
+}

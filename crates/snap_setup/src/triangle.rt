@@ -1,0 +1,141 @@
+//! The pieces of one triangle.
+ghost use Rattle.std.specs.Prelude.{◌≡◌, ℤ, pos, [], false, ◌≤◌, ◌^◌, ◌-ℤ◌, ◌*ℤ◌, ◌<ℤ◌, ◌↔◌, Some, length};
+ghost use Rattle.std.specs.List.{All};
+ghost use Rattle.cull_base.specs.Bounds.{Near};
+ghost use Rattle.cull_base.specs.Guard.{is_past_guard};
+ghost use Rattle.cull_base.specs.Piece.{Within, doubled_area};
+ghost use Rattle.near_clip.specs.NearPart.{corner};
+ghost use Rattle.snap_setup.specs.Pieces.{triangle, is_dropped, pieces_of, kept_of, snapped_part, is_any_past_guard, GivesNone};
+ghost use Rattle.snap_setup.specs.Judged.{piece_if};
+ghost use Rattle.snap_setup.specs.Snapping.{IsSnapped};
+
+use crate::kept::Pieces;
+use crate::snapping::{Snapped, snap};
+use camera_path::past_guard;
+use cull_base::{ClipVertex, ScreenTri, Side, Size, Winding};
+use near_clip::clip_near;
+
+#[inline(always)]
+fn difference(a: i32, b: i32) -> i64
+    requires a_within { Within a }
+    requires b_within { Within b }
+    ensures value { result ≡ a -ℤ b }
+    ensures near { Near (2 ^ 30) result }
+{
+    i64::from(a) - i64::from(b)
+}
+
+#[inline(always)]
+fn product(a: i64, b: i64) -> i64
+    requires a_near { Near (2 ^ 30) a }
+    requires b_near { Near (2 ^ 30) b }
+    ensures value { result ≡ a *ℤ b }
+    ensures near { Near (2 ^ 60) result }
+{
+    a * b
+}
+
+#[inline(always)]
+fn minus(a: i64, b: i64) -> i64
+    requires a_near { Near (2 ^ 60) a }
+    requires b_near { Near (2 ^ 60) b }
+    ensures { result ≡ a -ℤ b }
+{
+    a - b
+}
+
+// Positive where the points run clockwise on the screen.
+fn doubled_area(a: &Snapped, b: &Snapped, c: &Snapped) -> i64
+    requires a { IsSnapped a.now }
+    requires b { IsSnapped b.now }
+    requires c { IsSnapped c.now }
+    ensures { result ≡ doubled_area (triangle a.now b.now c.now) }
+{
+    minus(
+        product(difference(b.x, a.x), difference(c.y, a.y)),
+        product(difference(b.y, a.y), difference(c.x, a.x)),
+    )
+}
+
+fn is_dropped(winding: Winding, area: i64) -> bool
+    ensures { result ≡ is_dropped winding area }
+{
+    match winding {
+        Winding::Both => false,
+        Winding::DropClockwise => 0 < area,
+        Winding::DropCounter => area < 0,
+    }
+}
+
+fn screen_tri(a: &Snapped, b: &Snapped, c: &Snapped) -> Option<ScreenTri>
+    requires a { IsSnapped a.now }
+    requires b { IsSnapped b.now }
+    requires c { IsSnapped c.now }
+    requires area { pos 0 <ℤ doubled_area (triangle a.now b.now c.now) }
+    ensures { result ≡ Some (triangle a.now b.now c.now) }
+{
+    ScreenTri::new([a.x, b.x, c.x], [a.y, b.y, c.y], [a.q, b.q, c.q])
+}
+
+fn piece(a: &Snapped, b: &Snapped, c: &Snapped, winding: Winding) -> Option<ScreenTri>
+    requires a { IsSnapped a.now }
+    requires b { IsSnapped b.now }
+    requires c { IsSnapped c.now }
+    ensures { result ≡ piece_if winding (triangle a.now b.now c.now) }
+{
+    let area = doubled_area(a, b, c);
+    if area == 0 || is_dropped(winding, area) {
+        None
+    } else if area < 0 {
+        screen_tri(a, c, b)
+    } else {
+        screen_tri(a, b, c)
+    }
+}
+
+fn outline(tri: &[ClipVertex; 3], near: u16, size: Size, winding: Winding, side: Side) -> Pieces
+    requires near_least { 1 ≤ near }
+    requires near_most { near ≤ 1024 }
+    requires guarded { All (λ v. is_past_guard v near ≡ false) tri.now }
+    ensures { result ≡ kept_of (snapped_part (corner tri.now 0) (corner tri.now 1) (corner tri.now 2) near size side) winding }
+{
+    let polygon = clip_near(tri, near);
+    if polygon.len() == 0 {
+        return Pieces::none();
+    }
+    let p0 = snap(&polygon.get(0), near, size, side);
+    let p1 = snap(&polygon.get(1), near, size, side);
+    let p2 = snap(&polygon.get(2), near, size, side);
+    let first = piece(&p0, &p1, &p2, winding);
+    if polygon.len() == 3 {
+        return Pieces::of(first, None);
+    }
+    let p3 = snap(&polygon.get(3), near, size, side);
+    let second = piece(&p0, &p2, &p3, winding);
+    Pieces::of(first, second)
+}
+
+fn is_any_past_guard(tri: &[ClipVertex; 3], near: u16) -> bool
+    requires near_least { 1 ≤ near }
+    requires near_most { near ≤ 1024 }
+    ensures { result ≡ is_any_past_guard (corner tri.now 0) (corner tri.now 1) (corner tri.now 2) near }
+{
+    let [v0, v1, v2] = tri;
+    past_guard(v0, near) || past_guard(v1, near) || past_guard(v2, near)
+}
+
+/// The pieces of a triangle, each turned so that its doubled area is positive. There is none where a vertex is
+/// past the guard, and else none exactly where all of it is behind the near plane or each triangle of the clipped
+/// polygon has area 0 or a dropped winding. Condition: `near` is 1 to 1024.
+pub fn set_up(tri: &[ClipVertex; 3], near: u16, size: Size, winding: Winding, side: Side) -> Pieces
+    requires near_least { 1 ≤ near }
+    requires near_most { near ≤ 1024 }
+    ensures value { result ≡ pieces_of (corner tri.now 0) (corner tri.now 1) (corner tri.now 2) near size winding side }
+    ensures most { length result ≤ 2 }
+    ensures none { (result ≡ []) ↔ GivesNone (corner tri.now 0) (corner tri.now 1) (corner tri.now 2) near size winding side }
+{
+    if is_any_past_guard(tri, near) {
+        return Pieces::none();
+    }
+    outline(tri, near, size, winding, side)
+}
