@@ -1,5 +1,5 @@
 //! Standard input, output and error as sources and sinks. They tell no bytes; each failure raises their counts.
-ghost use Rattle.std.specs.Prelude.{None, IfSome, length, ◌<◌, ◌≤◌};
+ghost use Rattle.std.specs.Prelude.{◌≡◌, None, IfSome, length, ◌<◌, ◌≤◌};
 
 use cull_base::{Failed, Sink, SinkError, Source};
 use std::io::{Read, Write};
@@ -12,7 +12,9 @@ pub struct Input<R: Read> {
 }
 
 impl<R: Read> Input<R> {
-    pub fn new(reader: R) -> Input<R> {
+    pub fn new(reader: R) -> Input<R>
+        ensures { result ≡ record { reader = reader; faults = 0 } }
+    {
         Input { reader, faults: 0 }
     }
 }
@@ -57,7 +59,9 @@ pub struct Output<W: Write> {
 }
 
 impl<W: Write> Output<W> {
-    pub fn new(writer: W) -> Output<W> {
+    pub fn new(writer: W) -> Output<W>
+        ensures { result ≡ record { writer = writer; faults = 0 } }
+    {
         Output { writer, faults: 0 }
     }
 }
