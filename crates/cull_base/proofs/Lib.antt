@@ -2,6 +2,8 @@ pub mod Ring
 pub mod Bounds
 pub mod Rectangles
 pub mod Places
+pub mod Extents
+pub mod Spans
 pub mod Masks
 pub mod Streams
 pub mod Rows

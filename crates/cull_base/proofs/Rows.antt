@@ -8,7 +8,7 @@ use Rattle.cull_base.specs.State.{State, step_with, samples_of, no_samples, empt
 use Rattle.cull_base.specs.Fold.{after}
 use Rattle.cull_base.specs.Guard.{is_past_guard}
 use Rattle.cull_base.specs.Screen.{Dimensions, tile_columns_of, tile_rows_of, tile_count_of, tile_rect_of, tile_sub, is_on_screen}
-use Rattle.cull_base.specs.Tiles.{tile_list, prefixed}
+use Rattle.cull_base.specs.Tiles.{PieceList, tile_list, prefixed}
 use Rattle.cull_base.specs.declared.rect.Rect.{Rect}
 use Rattle.cull_base.specs.declared.place.Sub.{Sub}
 
@@ -204,12 +204,15 @@ in_second = flat 528 0 799 0 799 127 0
 abbrev three : List Piece
 three = in_first ∷ in_both ∷ in_second ∷ []
 
+abbrev over : Dimensions → List Piece → PieceList
+over size members = record { size = size; members = members }
+
 -- The middle piece is in the lists of both tiles.
-first_tile_list : tile_list (record { width = 64; height = 8 }) 0 three ≡ in_first ∷ in_both ∷ []
+first_tile_list : tile_list 0 (over (record { width = 64; height = 8 }) three) ≡ in_first ∷ in_both ∷ []
 unfolding tile_list
 first_tile_list = refl
 
-second_tile_list : tile_list (record { width = 64; height = 8 }) 1 three ≡ in_both ∷ in_second ∷ []
+second_tile_list : tile_list 1 (over (record { width = 64; height = 8 }) three) ≡ in_both ∷ in_second ∷ []
 unfolding tile_list
 second_tile_list = refl
 
@@ -234,16 +237,16 @@ abbrev small : Dimensions
 small = record { width = 32; height = 8 }
 
 -- Before any member of its list was taken a tile is empty; after both pieces of the quad each of its subtiles is full.
-tile_opening : prefixed small 0 0 (quad_above ∷ quad_below ∷ []) ≡ map (λ _. empty_state) (range_with_len 0 8)
+tile_opening : prefixed 0 0 (over small (quad_above ∷ quad_below ∷ [])) ≡ map (λ _. empty_state) (range_with_len 0 8)
 unfolding tile_list after
 tile_opening = refl
 
-tile_whole : prefixed small 0 2 (quad_above ∷ quad_below ∷ []) ≡ map (λ _. record { reference = 32767; working = 0; samples = no_samples }) (range_with_len 0 8)
+tile_whole : prefixed 0 2 (over small (quad_above ∷ quad_below ∷ [])) ≡ map (λ _. record { reference = 32767; working = 0; samples = no_samples }) (range_with_len 0 8)
 unfolding tile_list after low_of covered covers each_sample step_with samples_of
 tile_whole = refl
 
 -- Of the tile at the screen's corner a piece over all its pixels fills the one subtile on the screen; the others stay empty.
-corner_tile : prefixed cut 3 1 (flat 0 0 2000 0 0 2000 5 ∷ [])
+corner_tile : prefixed 3 1 (over cut (flat 0 0 2000 0 0 2000 5 ∷ []))
     ≡ record { reference = 5; working = 0; samples = no_samples } ∷ map (λ _. empty_state) (range_with_len 0 7)
 unfolding tile_list after low_of covered covers each_sample step_with samples_of
 corner_tile = refl

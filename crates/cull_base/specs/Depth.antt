@@ -1,8 +1,8 @@
 -- The depth of a piece at a sample as a fraction, and its bounds over a subtile.
-use Rattle.std.specs.Prelude.{ℕ, ℤ, pos, negsuc, ◌+ℤ◌, ◌*ℤ◌, ◌≤ℤ◌, ◌<ℤ◌, neg_ℤ, List, [], ◌∷◌, min, max}
+use Rattle.std.specs.Prelude.{ℕ, ℤ, pos, negsuc, ◌+ℤ◌, ◌*ℤ◌, ◌≤ℤ◌, ◌<ℤ◌, neg_ℤ, min, max}
 use Rattle.std.specs.Int.{int_min, int_max, int_div_euclid}
-use Rattle.std.specs.List.{fold}
-use Rattle.cull_base.specs.Piece.{Piece, Point, vertex, nearness, edge_value, doubled_area, sample, each_sample}
+use Rattle.cull_base.specs.Piece.{Piece, Point, vertex, nearness, edge_value, doubled_area, sample, each_sample, least_of, greatest_of}
+use Rattle.cull_base.specs.declared.nearness.TheConstants.{HELD_TOP}
 use Rattle.cull_base.specs.declared.place.Sub.{Sub}
 
 -- the sum over the vertices of nearness times the value of the opposite edge
@@ -30,22 +30,10 @@ DepthNoGreater s t p = (numerator s p *ℤ denominator t) ≤ℤ (numerator t p 
 abbrev pub DepthLess : Piece → Piece → Point → Type 0
 DepthLess s t p = (numerator s p *ℤ denominator t) <ℤ (numerator t p *ℤ denominator s)
 
-abbrev pub least_of : List ℤ → ℤ
-least_of [] = pos 0
-least_of (x ∷ xs) = fold int_min x xs
-
-abbrev pub greatest_of : List ℤ → ℤ
-greatest_of [] = pos 0
-greatest_of (x ∷ xs) = fold int_max x xs
-
--- the greatest nearness
-abbrev pub top : ℕ
-top = 65535
-
--- the number nearest to z from 0 to the greatest nearness
-abbrev pub in_range : ℤ → ℕ
-in_range (pos n) = min n top
-in_range (negsuc n) = 0
+-- the number from 0 to a top that is closest to z
+abbrev pub cut_to_range : ℕ → ℤ → ℕ
+cut_to_range top (pos n) = min n top
+cut_to_range top (negsuc n) = 0
 
 abbrev pub floor_of : ℤ → ℤ → ℤ
 floor_of n d = int_div_euclid n d
@@ -61,7 +49,7 @@ greatest_nearness t = max (nearness t 0) (max (nearness t 1) (nearness t 2))
 
 -- Over the 32 samples of the subtile, covered or not; the denominator is the same at each.
 unfoldable pub low_of : Piece → Sub → ℕ
-low_of t u = in_range (int_max (pos (least_nearness t)) (floor_of (least_of (each_sample (λ k. numerator t (sample u k)))) (denominator t)))
+low_of t u = cut_to_range HELD_TOP (int_max (pos (least_nearness t)) (floor_of (least_of (each_sample (λ k. numerator t (sample u k)))) (denominator t)))
 
 unfoldable pub high_of : Piece → Sub → ℕ
-high_of t u = in_range (int_min (pos (greatest_nearness t)) (ceiling_of (greatest_of (each_sample (λ k. numerator t (sample u k)))) (denominator t)))
+high_of t u = cut_to_range HELD_TOP (int_min (pos (greatest_nearness t)) (ceiling_of (greatest_of (each_sample (λ k. numerator t (sample u k)))) (denominator t)))

@@ -28,6 +28,7 @@ BestAtLeast pieces p v = (t : Piece) × HasBestDepth pieces p t × DepthAtLeast 
 abbrev pub IsSound : Sub → List Piece → State → Type 0
 IsSound u pieces s = (k : ℕ) → k < 32 → (bound_at s k ≡ 0) ⊎ BestAtLeast pieces (sample u k) (bound_at s k)
 
--- a set that isn't empty has a working depth above the reference
-abbrev pub IsLayered : State → Type 0
-IsLayered s = is_none s.samples ≡ false → s.reference < s.working
+-- a set that isn't empty has a working depth above the reference, an empty one has none
+pub record IsLayered (s : State) : Type 0 where
+  pub above : is_none s.samples ≡ false → s.reference < s.working
+  pub none : is_none s.samples ≡ true → s.working ≡ 0

@@ -6,5 +6,6 @@ pub mod Depth
 pub mod State
 pub mod Fold
 pub mod Tiles
+pub mod Span
 pub mod Guard
 pub mod Stream

@@ -1,8 +1,9 @@
 -- Pieces: triangles on the screen, which samples they cover or touch, and which pixels they reach.
-use Rattle.std.specs.Prelude.{ℕ, ℤ, pos, neg_ℤ, ◌≡◌, ◌+◌, ◌*◌, ◌/◌, ◌%◌, ◌^◌, ◌≤◌, ◌+ℤ◌, ◌-ℤ◌, ◌*ℤ◌, ◌<ℤ◌, List, map, length, Bool, int_lt, int_le, ◌&&◌, ◌||◌, slice_index, slice_index_or}
-use Rattle.std.specs.List.{range_with_len, All}
+use Rattle.std.specs.Prelude.{ℕ, ℤ, pos, neg_ℤ, ◌≡◌, ◌+◌, ◌*◌, ◌/◌, ◌%◌, ◌^◌, ◌≤◌, ◌+ℤ◌, ◌-ℤ◌, ◌*ℤ◌, ◌<ℤ◌, List, [], ◌∷◌, map, length, Bool, int_lt, int_le, ◌&&◌, ◌||◌, slice_index, slice_index_or}
+use Rattle.std.specs.List.{fold, range_with_len, All}
 use Rattle.std.specs.Int.{int_min, int_max, int_div_euclid}
 use Rattle.std.specs.Ordering.{int_eq}
+use Rattle.cull_base.specs.declared.nearness.TheConstants.{HELD_TOP}
 use Rattle.cull_base.specs.declared.rect.Rect.{Rect}
 use Rattle.cull_base.specs.declared.place.Sub.{Sub}
 
@@ -31,14 +32,14 @@ abbrev pub doubled_area : Piece → ℤ
 doubled_area t = edge_value (vertex t 0) (vertex t 1) (vertex t 2)
 
 -- strictly between -2^29 and 2^29
-abbrev pub Within : ℤ → Type 0
-Within v = (neg_ℤ (pos (2 ^ 29)) <ℤ v) × (v <ℤ pos (2 ^ 29))
+abbrev pub IsCoordinate : ℤ → Type 0
+IsCoordinate v = (neg_ℤ (pos (2 ^ 29)) <ℤ v) × (v <ℤ pos (2 ^ 29))
 
 pub record IsPiece (t : Piece) : Type 0 where
   pub positive_area : pos 0 <ℤ doubled_area t
-  pub x_within : All Within t.xs
-  pub y_within : All Within t.ys
-  pub nearness_within : All (λ q. q ≤ 65535) t.qs
+  pub x_within : All IsCoordinate t.xs
+  pub y_within : All IsCoordinate t.ys
+  pub nearness_within : All (λ q. q ≤ HELD_TOP) t.qs
   pub three_x : length t.xs ≡ 3
   pub three_y : length t.ys ≡ 3
   pub three_q : length t.qs ≡ 3
@@ -77,19 +78,25 @@ covered t u = each_sample (λ k. covers t (sample u k))
 unfoldable pub touched : Piece → Sub → List Bool
 touched t u = each_sample (λ k. touches t (sample u k))
 
-abbrev pub least_of_three : List ℤ → ℤ
-least_of_three vs = int_min (slice_index_or vs 0 (pos 0)) (int_min (slice_index_or vs 1 (pos 0)) (slice_index_or vs 2 (pos 0)))
+-- the least and the greatest of some numbers, 0 of none
+abbrev pub least_of : List ℤ → ℤ
+least_of [] = pos 0
+least_of (x ∷ xs) = fold int_min x xs
 
-abbrev pub greatest_of_three : List ℤ → ℤ
-greatest_of_three vs = int_max (slice_index_or vs 0 (pos 0)) (int_max (slice_index_or vs 1 (pos 0)) (slice_index_or vs 2 (pos 0)))
+abbrev pub greatest_of : List ℤ → ℤ
+greatest_of [] = pos 0
+greatest_of (x ∷ xs) = fold int_max x xs
 
--- the first pixel, and the one behind the last, of what lies between two coordinates
+-- the pixel of a least coordinate, and the one past that of a greatest
 abbrev pub first_pixel : ℤ → ℤ
 first_pixel v = int_div_euclid v (pos 16)
 
-abbrev pub pixel_behind : ℤ → ℤ
-pixel_behind v = int_div_euclid v (pos 16) +ℤ pos 1
+abbrev pub end_pixel : ℤ → ℤ
+end_pixel v = int_div_euclid v (pos 16) +ℤ pos 1
 
--- the box of a piece, not cut to the screen
+-- the pixels that points with these coordinates may reach, not cut to the screen
+abbrev pub box_around : List ℤ → List ℤ → Rect
+box_around xs ys = record { x0 = first_pixel (least_of xs); y0 = first_pixel (least_of ys); x1 = end_pixel (greatest_of xs); y1 = end_pixel (greatest_of ys) }
+
 abbrev pub box_of : Piece → Rect
-box_of t = record { x0 = first_pixel (least_of_three t.xs); y0 = first_pixel (least_of_three t.ys); x1 = pixel_behind (greatest_of_three t.xs); y1 = pixel_behind (greatest_of_three t.ys) }
+box_of t = box_around t.xs t.ys

@@ -39,19 +39,20 @@ abbrev pub empty_state : State
 empty_state = record { reference = 0; working = 0; samples = no_samples }
 
 -- The samples of the working layer that an incoming bound t leaves. It drops the layer where t - working > working - reference.
-abbrev pub kept : State → ℕ → List Bool
-kept s t = cond (not (is_none s.samples) && nat_lt (2 * s.working) (t + s.reference)) no_samples s.samples
+abbrev pub samples_left : State → ℕ → List Bool
+samples_left s t = cond (not (is_none s.samples) && nat_lt (2 * s.working) (t + s.reference)) no_samples s.samples
 
-abbrev pub lowered : State → ℕ → List Bool → ℕ
-lowered s t samples = cond (is_none samples) t (min s.working t)
+-- the depth of a working layer that takes a bound t
+abbrev pub lowered_depth : State → ℕ → List Bool → ℕ
+lowered_depth s t samples = cond (is_none samples) t (min s.working t)
 
 -- a working layer that has every sample becomes the reference
-abbrev pub settled : ℕ → ℕ → List Bool → State
-settled reference working samples = cond (is_all samples) (record { reference = working; working = 0; samples = no_samples }) (record { reference = reference; working = working; samples = samples })
+abbrev pub raised_if_full : ℕ → ℕ → List Bool → State
+raised_if_full reference working samples = cond (is_all samples) (record { reference = working; working = 0; samples = no_samples }) (record { reference = reference; working = working; samples = samples })
 
 -- a bound t merged at the samples c
 unfoldable pub step_with : State → ℕ → List Bool → State
-step_with s t c = cond (is_none c || nat_le t s.reference) s (settled s.reference (lowered s t (kept s t)) (union (kept s t) c))
+step_with s t c = cond (is_none c || nat_le t s.reference) s (raised_if_full s.reference (lowered_depth s t (samples_left s t)) (union (samples_left s t) c))
 
 -- the bound at sample k: what is drawn there is at least so near, or nothing is known
 abbrev pub bound_at : State → ℕ → ℕ

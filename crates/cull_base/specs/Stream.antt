@@ -1,5 +1,7 @@
 -- What sources and sinks say of their bytes and their counts.
-use Rattle.std.specs.Prelude.{ℕ, ◌≡◌, ◌+◌, ◌-◌, ◌^◌, ◌<◌, ◌≤◌, min, List, ◌++◌, length, take, drop, Option, option_map, IfSome}
+use Rattle.std.specs.Prelude.{ℕ, ◌≡◌, ◌+◌, ◌-◌, ◌^◌, ◌<◌, ◌≤◌, ◌⊎◌, min, List, ◌++◌, length, take, drop, Option, option_map, IfSome, Result, OnOk, OnErr, IsErrOf}
+use Rattle.cull_base.specs.declared.memory.SinkError.{SinkError}
+use Rattle.cull_base.specs.declared.memory.SinkError.TheVariants.{Failed, Memory}
 
 -- a count rose in a call, or stands at its type's end as the call ends
 abbrev pub Rose : ℕ → ℕ → Type 0
@@ -9,21 +11,46 @@ Rose before after = min (before + 1) (2 ^ 64 - 1) ≤ after
 abbrev pub next_count : ℕ → ℕ
 next_count n = min (n + 1) (2 ^ 64 - 1)
 
+-- what a source says of itself: the bytes that are left, where they are told, how often it failed, and a number of turns
+pub record SourceSays : Type 0 where
+  pub left : Option (List ℕ)
+  pub faults : ℕ
+  pub turns : ℕ
+
+-- what a sink says of itself: the bytes that it holds, where they are told, how often it failed, and how often it couldn't grow
+pub record SinkSays : Type 0 where
+  pub holding : Option (List ℕ)
+  pub faults : ℕ
+  pub refusals : ℕ
+
 -- n bytes were taken from the front of what was left, if that is told, and stand at the front of the buffer
 abbrev pub TakesFront : Option (List ℕ) → Option (List ℕ) → List ℕ → ℕ → Type 0
 TakesFront before after buffer n = (after ≡ option_map (drop n) before) × IfSome before (λ bytes. (n ≤ length bytes) × (take n buffer ≡ take n bytes))
 
 -- these bytes were appended, if the bytes are told
-abbrev pub Appends : Option (List ℕ) → Option (List ℕ) → List ℕ → Type 0
-Appends before after bytes = after ≡ option_map (λ held. held ++ bytes) before
+abbrev pub Appends : SinkSays → SinkSays → List ℕ → Type 0
+Appends before after bytes = after.holding ≡ option_map (λ held. held ++ bytes) before.holding
 
--- a prefix of these bytes was appended
-abbrev pub AppendsPrefix : Option (List ℕ) → Option (List ℕ) → List ℕ → Type 0
+-- a front of these bytes was appended
+abbrev pub AppendsPrefix : SinkSays → SinkSays → List ℕ → Type 0
 AppendsPrefix before after bytes = (n : ℕ) × (n ≤ length bytes) × Appends before after (take n bytes)
 
--- a prefix that isn't the whole
-abbrev pub AppendsProperPrefix : Option (List ℕ) → Option (List ℕ) → List ℕ → Type 0
+-- a front that isn't the whole
+abbrev pub AppendsProperPrefix : SinkSays → SinkSays → List ℕ → Type 0
 AppendsProperPrefix before after bytes = (n : ℕ) × (n < length bytes) × Appends before after (take n bytes)
+
+-- The text was appended, or after an error a front of it that isn't the whole; each error has its cause.
+pub record Writes (before after : SinkSays) (result : Result (Unit {0}) SinkError) (text : List ℕ) : Type 0 where
+  pub ok : OnOk result (Appends before after text)
+  pub err : OnErr result (AppendsProperPrefix before after text)
+  pub failed : IsErrOf result Failed → Rose before.faults after.faults
+  pub memory : IsErrOf result Memory → Rose before.refusals after.refusals
+  pub faults_stay : before.faults ≤ after.faults
+  pub refusals_stay : before.refusals ≤ after.refusals
+
+-- the text was appended, or a front of it where one of the sink's counts rose
+abbrev pub IsNoted : SinkSays → SinkSays → List ℕ → Type 0
+IsNoted before after text = Appends before after text ⊎ (AppendsPrefix before after text × (Rose before.faults after.faults ⊎ Rose before.refusals after.refusals))
 
 -- a source in memory
 pub record SourceBytes : Type 0 where

@@ -17,11 +17,11 @@ pub struct FrameList {
 
 impl Model for FrameList {
     ghost use Rattle.std.specs.Prelude.{◌≤◌, length, vec_capacity};
-    ghost use Rattle.cull_base.specs.Tiles.{Listed};
+    ghost use Rattle.cull_base.specs.Tiles.{FrameListOf};
 
-    ghost Value = { Listed };
+    ghost Value = { FrameListOf };
 
-    ghost view = { λ f. record { size = f.size; room = f.room; members = f.pieces.items } };
+    ghost view = { λ f. record { list = record { size = f.size; members = f.pieces.items }; room = f.room } };
 
     ghost invariant = { λ f. (length f.pieces.items ≤ f.room) × (f.room ≤ vec_capacity f.pieces) × (f.room ≤ 131072) };
 }
@@ -30,7 +30,7 @@ impl FrameList {
     /// An empty list. Condition: room is at most 131,072. Memory is taken here and nowhere later.
     pub fn with_room(alloc: Global, size: Size, room: u32) -> Result<FrameList, Memory>
         requires { room ≤ 131072 }
-        ensures { IfOk result (λ f. f ≡ record { size = size; room = room; members = [] }) }
+        ensures { IfOk result (λ f. f ≡ record { list = record { size = size; members = [] }; room = room }) }
     {
         match Vec::with_capacity(alloc, room as usize) {
             Ok(pieces) => Ok(FrameList { size, room, pieces }),
@@ -40,14 +40,14 @@ impl FrameList {
 
     /// Appends. Condition: the length is below the room.
     pub fn push(&mut self, tri: ScreenTri)
-        requires { length self.old.members < self.old.room }
-        ensures { self.new ≡ record self.old { members = self.old.members ++ tri ∷ [] } }
+        requires { length self.old.list.members < self.old.room }
+        ensures { self.new ≡ record { list = record { size = self.old.list.size; members = self.old.list.members ++ tri ∷ [] }; room = self.old.room } }
     {
         self.pieces.push_reserved(tri);
     }
 
     pub fn len(&self) -> u32
-        ensures value { result ≡ length self.now.members }
+        ensures value { result ≡ length self.now.list.members }
         ensures within { result ≤ self.now.room }
         ensures small { self.now.room ≤ 131072 }
     {
@@ -56,15 +56,15 @@ impl FrameList {
 
     /// The size of the screen that the pieces were made for.
     pub fn size(&self) -> Size
-        ensures { result ≡ self.now.size }
+        ensures { result ≡ self.now.list.size }
     {
         self.size
     }
 
     /// Condition: i is below the length.
     pub fn get(&self, i: u32) -> &ScreenTri
-        requires { i < length self.now.members }
-        ensures { result.now ≡ slice_index_or self.now.members i result.now }
+        requires { i < length self.now.list.members }
+        ensures { result.now ≡ slice_index_or self.now.list.members i result.now }
     {
         &self.pieces[i as usize]
     }

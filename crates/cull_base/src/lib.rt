@@ -2,9 +2,12 @@
 //! The definitions that several crates cite stand in this crate's specs.
 #![tactic(auto)]
 
+pub mod arithmetic;
 mod clip;
+mod extent;
 mod frame_list;
 mod memory;
+mod nearness;
 mod place;
 mod rect;
 mod scene_types;
@@ -12,10 +15,14 @@ mod screen_tri;
 mod sink;
 mod size;
 mod source;
+mod tile_span;
+mod triangle;
 
-pub use clip::{ClipVertex, Side, Winding};
+pub use clip::ClipVertex;
+pub use extent::Extent;
 pub use frame_list::FrameList;
 pub use memory::{Failed, Memory, SinkError};
+pub use nearness::{GRADE_TOP, HELD_TOP};
 pub use place::{Sample, Sub, Tile};
 pub use rect::Rect;
 pub use scene_types::{Object, Tri, Verdict};
@@ -23,3 +30,5 @@ pub use screen_tri::ScreenTri;
 pub use sink::{BytesSink, Sink, SureSink, write_whole};
 pub use size::Size;
 pub use source::{BytesSource, Source, SureSource};
+pub use tile_span::TileSpan;
+pub use triangle::{Side, Winding};

@@ -2,13 +2,17 @@
 ghost use Rattle.std.specs.Prelude.{◌≡◌, ℕ, ℤ, pos, ◌≤◌, ◌^◌, ◌-ℤ◌, ◌*ℤ◌, MatchOption, IsSome, IsTrue, ◌↔◌, length, slice_index_or, List, [], ◌∷◌, ◌<ℤ◌, ◌≤ℤ◌};
 ghost use Rattle.std.specs.List.{All};
 ghost use Rattle.std.specs.Int.{int_div_euclid};
-ghost use Rattle.cull_base.specs.Piece.{Within, edge_value, first_pixel, pixel_behind, least_of_three, greatest_of_three};
-ghost use Rattle.cull_base.specs.Bounds.{Near};
+ghost use Rattle.cull_base.specs.Piece.{IsCoordinate, least_of, greatest_of};
+ghost use Rattle.cull_base.specs.declared.nearness.TheConstants.{HELD_TOP};
 
+use crate::arithmetic::edge_value;
+use crate::extent::Extent;
+use crate::nearness::HELD_TOP;
 use crate::rect::Rect;
 use std::marker::Model;
 
-/// A triangle on the screen: coordinates in sixteenths of a pixel, nearness from 0 to 65535, and a positive area.
+/// A triangle on the screen: coordinates in sixteenths of a pixel, nearness from 0 to the top that pieces hold, and a positive
+/// area.
 #[derive(Clone, Copy)]
 pub struct ScreenTri {
     x: [i32; 3],
@@ -28,99 +32,38 @@ impl Model for ScreenTri {
     ghost inverse = { λ v. record { x = v.xs; y = v.ys; q = v.qs } };
 }
 
-#[inline(always)]
-fn difference(a: i32, b: i32) -> i64
-    requires a_within { Within a }
-    requires b_within { Within b }
-    ensures value { result ≡ a -ℤ b }
-    ensures near { Near (2 ^ 30) result }
-{
-    i64::from(a) - i64::from(b)
-}
-
-#[inline(always)]
-fn product(a: i64, b: i64) -> i64
-    requires a_near { Near (2 ^ 30) a }
-    requires b_near { Near (2 ^ 30) b }
-    ensures value { result ≡ a *ℤ b }
-    ensures near { Near (2 ^ 60) result }
-{
-    a * b
-}
-
-#[inline(always)]
-fn minus(a: i64, b: i64) -> i64
-    requires a_near { Near (2 ^ 60) a }
-    requires b_near { Near (2 ^ 60) b }
-    ensures value { result ≡ a -ℤ b }
-    ensures near { Near (2 ^ 61) result }
-{
-    a - b
-}
-
-// The doubled area of a triangle: positive where it runs clockwise on the screen.
-fn doubled_area(ax: i32, ay: i32, bx: i32, by: i32, cx: i32, cy: i32) -> i64
-    requires ax { Within ax }
-    requires ay { Within ay }
-    requires bx { Within bx }
-    requires by { Within by }
-    requires cx { Within cx }
-    requires cy { Within cy }
-    ensures { result ≡ edge_value (record { x = ax; y = ay }) (record { x = bx; y = by }) (record { x = cx; y = cy }) }
-{
-    minus(
-        product(difference(bx, ax), difference(cy, ay)),
-        product(difference(by, ay), difference(cx, ax)),
-    )
-}
-
 fn is_within(v: i32) -> bool
-    ensures { IsTrue result ↔ Within v }
+    ensures { IsTrue result ↔ IsCoordinate v }
 {
     -0x2000_0000 < v && v < 0x2000_0000
 }
 
 fn are_within(values: &[i32; 3]) -> bool
-    ensures { IsTrue result ↔ All Within values.now }
+    ensures { IsTrue result ↔ All IsCoordinate values.now }
 {
     values.iter().all(|v| is_within(*v))
 }
 
 fn are_nearness(values: &[u32; 3]) -> bool
-    ensures { IsTrue result ↔ All (λ q. q ≤ 65535) values.now }
+    ensures { IsTrue result ↔ All (λ q. q ≤ HELD_TOP) values.now }
 {
-    values.iter().all(|q| *q <= 65535)
+    values.iter().all(|q| *q <= HELD_TOP)
 }
 
-fn least(values: &[i32; 3]) -> i32
-    ensures { result ≡ least_of_three values.now }
+// How far three coordinates reach.
+#[inline(always)]
+fn extent(values: &[i32; 3]) -> Extent
+    ensures least { result.least ≡ least_of values.now }
+    ensures greatest { result.greatest ≡ greatest_of values.now }
 {
-    values[0].min(values[1].min(values[2]))
-}
-
-fn greatest(values: &[i32; 3]) -> i32
-    ensures { result ≡ greatest_of_three values.now }
-{
-    values[0].max(values[1].max(values[2]))
-}
-
-fn first_of(least: i32) -> i32
-    ensures { result ≡ first_pixel least }
-{
-    least.div_euclid(16)
-}
-
-fn behind(greatest: i32) -> i32
-    ensures { result ≡ pixel_behind greatest }
-{
-    greatest.div_euclid(16) + 1
+    Extent::of(values[0]).with(values[1]).with(values[2])
 }
 
 impl ScreenTri {
     ghost use Rattle.cull_base.specs.Piece.{Piece, IsPiece, box_of};
 
     /// None exactly where the doubled area isn't positive, a coordinate isn't strictly between -2^29 and 2^29,
-    /// or a nearness is above 65535.
+    /// or a nearness is above the top that pieces hold.
     pub fn new(x: [i32; 3], y: [i32; 3], q: [u32; 3]) -> Option<ScreenTri>
         ensures value { MatchOption result (IsPiece (record { xs = x; ys = y; qs = q }) → ⊥) (λ t. t ≡ record { xs = x; ys = y; qs = q }) }
         ensures given { IsPiece (record { xs = x; ys = y; qs = q }) → IsSome result }
@@ -128,10 +71,19 @@ impl ScreenTri {
         if !are_within(&x) || !are_within(&y) || !are_nearness(&q) {
             return None;
         }
-        if doubled_area(x[0], y[0], x[1], y[1], x[2], y[2]) <= 0 {
+        if edge_value(x[0], y[0], x[1], y[1], x[2], y[2]) <= 0 {
             return None;
         }
         Some(ScreenTri { x, y, q })
+    }
+
+    /// The piece of numbers that are known to make one.
+    #[inline(always)]
+    pub fn known(x: [i32; 3], y: [i32; 3], q: [u32; 3]) -> ScreenTri
+        requires { IsPiece (record { xs = x; ys = y; qs = q }) }
+        ensures { result ≡ record { xs = x; ys = y; qs = q } }
+    {
+        ScreenTri { x, y, q }
     }
 
     /// In sixteenths of a pixel, strictly between -2^29 and 2^29.
@@ -150,7 +102,7 @@ impl ScreenTri {
         self.y
     }
 
-    /// Nearness, from 0 to 65535.
+    /// Nearness, from 0 to the top that pieces hold.
     pub fn q(&self) -> [u32; 3]
         ensures value { result ≡ self.now.qs }
         ensures valid { IsPiece self.now }
@@ -162,11 +114,13 @@ impl ScreenTri {
     pub fn boxed(&self) -> Rect
         ensures { result ≡ box_of self.now }
     {
+        let across = extent(&self.x);
+        let down = extent(&self.y);
         Rect {
-            x0: first_of(least(&self.x)),
-            y0: first_of(least(&self.y)),
-            x1: behind(greatest(&self.x)),
-            y1: behind(greatest(&self.y)),
+            x0: across.first_pixel(),
+            y0: down.first_pixel(),
+            x1: across.end_pixel(),
+            y1: down.end_pixel(),
         }
     }
 }

@@ -1,7 +1,7 @@
 //! Where bytes go.
 ghost use Rattle.std.specs.Prelude.{◌≡◌, ℕ, List, [], ◌+◌, ◌++◌, ◌<◌, ◌≤◌, length, take, drop, min, IfOk, OnOk, OnErr, IsOk, IfSome, Option, Some, IsErr, IsErrOf, ◌↔◌, ◌^◌};
 ghost use Rattle.std.specs.List.{Contains};
-ghost use Rattle.cull_base.specs.Stream.{Rose, Appends, AppendsProperPrefix, next_count, SinkBytes, SureBytes};
+ghost use Rattle.cull_base.specs.Stream.{SinkSays, Rose, Appends, Writes, next_count, SinkBytes, SureBytes};
 
 use crate::memory::SinkError;
 use std::alloc::Global;
@@ -9,26 +9,20 @@ use std::marker::Model;
 
 /// A sink of bytes.
 pub trait Sink {
-    /// The bytes that it holds, where they are told.
-    ghost holding: { Self → Option (List ℕ) };
-
-    /// How often it has failed.
-    ghost faults: { Self → ℕ };
-
-    /// How often it could not grow.
-    ghost refusals: { Self → ℕ };
+    /// The bytes that it holds, where they are told, how often it has failed, and how often it could not grow.
+    ghost says: { Self → SinkSays };
 
     /// Appends a front of the piece, which is at least one byte of a piece that isn't empty. Failed comes only where
     /// the count of faults rose, Memory only where that of refused growths did; then nothing was appended.
     fn write(&mut self, piece: &[u8]) -> Result<usize, SinkError>
         ensures within { IfOk result (λ n. n ≤ length piece.now) }
         ensures some { IfOk result (λ n. 0 < length piece.now → 0 < n) }
-        ensures appended { IfOk result (λ n. Appends (holding self.old) (holding self.new) (take n piece.now)) }
-        ensures kept { OnErr result (holding self.new ≡ holding self.old) }
-        ensures failed { IsErrOf result SinkError.Failed → Rose (faults self.old) (faults self.new) }
-        ensures memory { IsErrOf result SinkError.Memory → Rose (refusals self.old) (refusals self.new) }
-        ensures faults_stay { faults self.old ≤ faults self.new }
-        ensures refusals_stay { refusals self.old ≤ refusals self.new };
+        ensures appended { IfOk result (λ n. Appends (says self.old) (says self.new) (take n piece.now)) }
+        ensures unchanged { OnErr result ((says self.new).holding ≡ (says self.old).holding) }
+        ensures failed { IsErrOf result SinkError.Failed → Rose (says self.old).faults (says self.new).faults }
+        ensures memory { IsErrOf result SinkError.Memory → Rose (says self.old).refusals (says self.new).refusals }
+        ensures faults_stay { (says self.old).faults ≤ (says self.new).faults }
+        ensures refusals_stay { (says self.old).refusals ≤ (says self.new).refusals };
 }
 
 // What of a piece is left behind its first n bytes.
@@ -42,12 +36,7 @@ fn behind(piece: &[u8], n: usize) -> &[u8]
 /// Appends the whole piece, offered again from its first byte not taken. After an error a front of it that isn't the
 /// whole was appended.
 pub fn write_whole<W: Sink>(sink: &mut W, piece: &[u8]) -> Result<(), SinkError>
-    ensures ok { OnOk result (Appends (W.holding sink.old) (W.holding sink.new) piece.now) }
-    ensures err { OnErr result (AppendsProperPrefix (W.holding sink.old) (W.holding sink.new) piece.now) }
-    ensures failed { IsErrOf result SinkError.Failed → Rose (W.faults sink.old) (W.faults sink.new) }
-    ensures memory { IsErrOf result SinkError.Memory → Rose (W.refusals sink.old) (W.refusals sink.new) }
-    ensures faults_stay { W.faults sink.old ≤ W.faults sink.new }
-    ensures refusals_stay { W.refusals sink.old ≤ W.refusals sink.new }
+    ensures { Writes (W.says sink.old) (W.says sink.new) result piece.now }
 {
     let mut rest = piece;
     while !rest.is_empty() {
@@ -104,17 +93,13 @@ impl BytesSink {
 }
 
 impl Sink for BytesSink {
-    ghost holding = { λ s. Some s.held };
-
-    ghost faults = { λ s. s.faults };
-
-    ghost refusals = { λ s. s.refusals };
+    ghost says = { λ s. record { holding = Some s.held; faults = s.faults; refusals = s.refusals } };
 
     fn write(&mut self, piece: &[u8]) -> Result<usize, SinkError>
         ensures within { IfOk result (λ n. n ≤ length piece.now) }
         ensures some { IfOk result (λ n. 0 < length piece.now → 0 < n) }
         ensures appended { IfOk result (λ n. self.new.held ≡ self.old.held ++ take n piece.now) }
-        ensures kept { OnErr result (self.new.held ≡ self.old.held) }
+        ensures unchanged { OnErr result (self.new.held ≡ self.old.held) }
         ensures failed { IsErrOf result SinkError.Failed → Rose self.old.faults self.new.faults }
         ensures memory { IsErrOf result SinkError.Memory → Rose self.old.refusals self.new.refusals }
         ensures faults_stay { self.old.faults ≤ self.new.faults }
@@ -123,9 +108,10 @@ impl Sink for BytesSink {
         ensures numbered { IsErrOf result SinkError.Failed ↔ Contains self.old.fails self.new.calls }
         ensures call { self.new.calls ≡ next_count self.old.calls }
         ensures amount { IfOk result (λ n. n ≡ min self.old.most (length piece.now)) }
-        ensures unfailed { OnOk result (self.new.faults ≡ self.old.faults) }
-        ensures unrefused { OnOk result (self.new.refusals ≡ self.old.refusals) }
-        ensures same { (self.new.most ≡ self.old.most) × (self.new.fails ≡ self.old.fails) }
+        ensures counts_ok { OnOk result ((self.new.faults ≡ self.old.faults) × (self.new.refusals ≡ self.old.refusals)) }
+        ensures counts_failed { IsErrOf result SinkError.Failed → (self.new.faults ≡ next_count self.old.faults) × (self.new.refusals ≡ self.old.refusals) }
+        ensures counts_memory { IsErrOf result SinkError.Memory → (self.new.faults ≡ self.old.faults) × (self.new.refusals ≡ next_count self.old.refusals) }
+        ensures settings { (self.new.most ≡ self.old.most) × (self.new.fails ≡ self.old.fails) }
     {
         self.calls = self.calls.saturating_add(1);
         if self.fails.contains(&self.calls) {
@@ -174,19 +160,15 @@ impl SureSink {
 }
 
 impl Sink for SureSink {
-    ghost holding = { λ s. Some s.held };
-
-    ghost faults = { λ _. 0 };
-
-    ghost refusals = { λ s. s.refusals };
+    ghost says = { λ s. record { holding = Some s.held; faults = 0; refusals = s.refusals } };
 
     fn write(&mut self, piece: &[u8]) -> Result<usize, SinkError>
         ensures within { IfOk result (λ n. n ≡ length piece.now) }
         ensures appended { OnOk result (self.new.held ≡ self.old.held ++ piece.now) }
-        ensures kept { OnErr result (self.new.held ≡ self.old.held) }
+        ensures unchanged { OnErr result (self.new.held ≡ self.old.held) }
         ensures memory { OnErr result (result ≡ Err SinkError.Memory) }
-        ensures refused { OnErr result (Rose self.old.refusals self.new.refusals) }
-        ensures unrefused { OnOk result (self.new.refusals ≡ self.old.refusals) }
+        ensures counts_memory { OnErr result (self.new.refusals ≡ next_count self.old.refusals) }
+        ensures counts_ok { OnOk result (self.new.refusals ≡ self.old.refusals) }
         ensures refusals_stay { self.old.refusals ≤ self.new.refusals }
     {
         if self.bytes.extend_from_slice(piece).is_err() {

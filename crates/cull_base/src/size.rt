@@ -6,9 +6,9 @@ use crate::rect::Rect;
 use std::marker::Model;
 
 /// The width of a tile in pixels, and its height.
-const TILE_WIDTH: u16 = 32;
+pub(crate) const TILE_WIDTH: u16 = 32;
 
-const TILE_HEIGHT: u16 = 8;
+pub(crate) const TILE_HEIGHT: u16 = 8;
 
 /// The size of a screen in pixels: whole subtiles, at most 2048 each way.
 #[derive(Clone, Copy, Debug, PartialEq, Eq)]

@@ -1,32 +1,27 @@
 //! Where bytes come from.
-ghost use Rattle.std.specs.Prelude.{◌≡◌, ℕ, List, [], ◌+◌, ◌<◌, ◌≤◌, length, drop, take, min, IfOk, IsOk, OnErr, IfSome, Option, Some, IsErr, ◌↔◌, ◌^◌};
+ghost use Rattle.std.specs.Prelude.{◌≡◌, ℕ, List, [], ◌+◌, ◌<◌, ◌≤◌, length, drop, take, min, IfOk, IsOk, OnOk, OnErr, IfSome, Option, Some, IsErr, ◌↔◌, ◌^◌};
 ghost use Rattle.std.specs.List.{Contains};
-ghost use Rattle.cull_base.specs.Stream.{Rose, TakesFront, next_count, SourceBytes};
+ghost use Rattle.cull_base.specs.Stream.{SourceSays, Rose, TakesFront, next_count, SourceBytes};
 
 use crate::memory::Failed;
 use std::marker::Model;
 
 /// A source of bytes.
 pub trait Source {
-    /// The bytes that are left, where they are told.
-    ghost left: { Self → Option (List ℕ) };
-
-    /// How often it has failed.
-    ghost faults: { Self → ℕ };
-
-    /// A number that a call raises by one at most.
-    ghost turns: { Self → ℕ };
+    /// The bytes that are left, where they are told, how often it has failed, and a number that a call raises by one at
+    /// most.
+    ghost says: { Self → SourceSays };
 
     /// Takes bytes from the front of what is left into the front of the buffer. Ok(0) on a buffer that isn't
     /// empty is the end. Failed comes only where the count of faults rose; it takes no byte.
     fn read(&mut self, buf: &mut [u8]) -> Result<usize, Failed>
         ensures within { IfOk result (λ n. n ≤ length buf.old) }
-        ensures taken { IfOk result (λ n. TakesFront (left self.old) (left self.new) buf.new n) }
-        ensures end { IfOk result (λ n. n ≡ 0 → 0 < length buf.old → IfSome (left self.old) (λ bytes. bytes ≡ [])) }
-        ensures failed { OnErr result (Rose (faults self.old) (faults self.new)) }
-        ensures kept { OnErr result (left self.new ≡ left self.old) }
-        ensures faults_stay { faults self.old ≤ faults self.new }
-        ensures turn { turns self.new ≤ turns self.old + 1 };
+        ensures taken { IfOk result (λ n. TakesFront (says self.old).left (says self.new).left buf.new n) }
+        ensures end { IfOk result (λ n. n ≡ 0 → 0 < length buf.old → IfSome (says self.old).left (λ bytes. bytes ≡ [])) }
+        ensures failed { OnErr result (Rose (says self.old).faults (says self.new).faults) }
+        ensures unchanged { OnErr result ((says self.new).left ≡ (says self.old).left) }
+        ensures faults_stay { (says self.old).faults ≤ (says self.new).faults }
+        ensures turn { (says self.new).turns ≤ (says self.old).turns + 1 };
 }
 
 // Copies the front of the bytes to the front of the buffer, at most so many.
@@ -80,26 +75,23 @@ impl BytesSource {
 }
 
 impl Source for BytesSource {
-    ghost left = { λ s. Some s.left };
-
-    ghost faults = { λ s. s.faults };
-
-    ghost turns = { λ s. s.calls };
+    ghost says = { λ s. record { left = Some s.left; faults = s.faults; turns = s.calls } };
 
     fn read(&mut self, buf: &mut [u8]) -> Result<usize, Failed>
         ensures within { IfOk result (λ n. n ≤ length buf.old) }
         ensures taken { IfOk result (λ n. TakesFront (Some self.old.left) (Some self.new.left) buf.new n) }
         ensures end { IfOk result (λ n. n ≡ 0 → 0 < length buf.old → self.old.left ≡ []) }
         ensures failed { OnErr result (Rose self.old.faults self.new.faults) }
-        ensures kept { OnErr result (self.new.left ≡ self.old.left) }
+        ensures unchanged { OnErr result (self.new.left ≡ self.old.left) }
         ensures faults_stay { self.old.faults ≤ self.new.faults }
         ensures turn { self.new.calls ≤ self.old.calls + 1 }
 
         ensures numbered { IsErr result ↔ Contains self.old.fails self.new.calls }
         ensures call { self.new.calls ≡ next_count self.old.calls }
         ensures amount { IfOk result (λ n. n ≡ min self.old.most (min (length buf.old) (length self.old.left))) }
-        ensures unfailed { IfOk result (λ n. self.new.faults ≡ self.old.faults) }
-        ensures same { (self.new.most ≡ self.old.most) × (self.new.fails ≡ self.old.fails) }
+        ensures counts_ok { OnOk result (self.new.faults ≡ self.old.faults) }
+        ensures counts_failed { OnErr result (self.new.faults ≡ next_count self.old.faults) }
+        ensures settings { (self.new.most ≡ self.old.most) × (self.new.fails ≡ self.old.fails) }
     {
         self.calls = self.calls.saturating_add(1);
         if self.fails.contains(&self.calls) {
@@ -138,11 +130,7 @@ impl SureSource {
 }
 
 impl Source for SureSource {
-    ghost left = { λ s. Some s };
-
-    ghost faults = { λ _. 0 };
-
-    ghost turns = { λ _. 0 };
+    ghost says = { λ s. record { left = Some s; faults = 0; turns = 0 } };
 
     fn read(&mut self, buf: &mut [u8]) -> Result<usize, Failed>
         ensures amount { IfOk result (λ n. n ≡ min (length buf.old) (length self.old)) }

@@ -2,7 +2,7 @@
 use Rattle.std.proofs.Common.{◌≡◌, ℕ, ℤ, pos, negsuc, ◌+◌, ◌*◌, ◌≤◌, ◌+ℤ◌, ◌*ℤ◌, ◌≤ℤ◌, ◌<ℤ◌, arith, true}
 use Rattle.std.specs.Int.{int_min, int_max}
 use Rattle.std.proofs.lemmas.Int.{ints, clamps}
-use Rattle.cull_base.specs.Piece.{Piece, IsPiece, vertex, edge_value, doubled_area, covers, touches, middle, box_of, least_of_three, greatest_of_three, first_pixel, pixel_behind}
+use Rattle.cull_base.specs.Piece.{Piece, IsPiece, vertex, edge_value, doubled_area, covers, touches, middle, box_of, least_of_three, greatest_of_three, first_pixel, end_pixel}
 use Rattle.cull_base.specs.Rectangle.{HasPixel}
 use Rattle.depth_plane.proofs.Products.{mul_comm, le_from_times}
 use Rattle.depth_plane.proofs.Mean.{weights_of, touches_covered, mean_above, mean_below, mean_x, mean_y, total_of}
@@ -20,14 +20,14 @@ between a b c w x y d p h hw hx hy ed ep =
     summed e f g i j = omega (arith, ints, e, f, g, i, j)
 
 -- the pixel whose sample lies between two coordinates
-pixel_between : (low high : ℤ) (px : ℕ) → low ≤ℤ pos (16 * px + 8) → pos (16 * px + 8) ≤ℤ high → (first_pixel low ≤ℤ pos px) × (pos px <ℤ pixel_behind high)
+pixel_between : (low high : ℤ) (px : ℕ) → low ≤ℤ pos (16 * px + 8) → pos (16 * px + 8) ≤ℤ high → (first_pixel low ≤ℤ pos px) × (pos px <ℤ end_pixel high)
 pixel_between low high px l h = (from low l, before high h)
   where
     from : (low : ℤ) → low ≤ℤ pos (16 * px + 8) → first_pixel low ≤ℤ pos px
     from (pos a) l = let k : a ≤ 16 * px + 8 = omega (arith, ints, l) in omega (arith, ints)
     from (negsuc a) l = omega (arith, ints)
 
-    before : (high : ℤ) → pos (16 * px + 8) ≤ℤ high → pos px <ℤ pixel_behind high
+    before : (high : ℤ) → pos (16 * px + 8) ≤ℤ high → pos px <ℤ end_pixel high
     before (pos a) l = let k : 16 * px + 8 ≤ a = omega (arith, ints, l) in omega (arith, ints)
     before (negsuc a) l = absurd (omega (arith, ints, l))
 

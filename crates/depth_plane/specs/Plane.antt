@@ -1,6 +1,6 @@
 -- The depth of a piece as a plane over the screen.
 use Rattle.std.specs.Prelude.{ℕ, ℤ, pos, ◌^◌, ◌+ℤ◌, ◌-ℤ◌, ◌*ℤ◌, ◌≤ℤ◌, ◌<ℤ◌}
-use Rattle.cull_base.specs.Bounds.{Near}
+use Rattle.cull_base.specs.Bounds.{Bounded}
 use Rattle.cull_base.specs.Piece.{Piece, Point, vertex, nearness, middle}
 use Rattle.cull_base.specs.Depth.{numerator, denominator}
 use Rattle.cull_base.specs.declared.place.Sample.{Sample}
@@ -14,9 +14,9 @@ pub record Coefficients : Type 0 where
 
 -- the area is positive, and the sizes keep products inside 128 bits
 pub record IsPlane (c : Coefficients) : Type 0 where
-  pub across : Near (2 ^ 48) c.across
-  pub down : Near (2 ^ 48) c.down
-  pub level : Near (2 ^ 79) c.level
+  pub across : Bounded (2 ^ 48) c.across
+  pub down : Bounded (2 ^ 48) c.down
+  pub level : Bounded (2 ^ 79) c.level
   pub positive_area : pos 0 <ℤ c.area
   pub area_within : c.area ≤ℤ pos (2 ^ 61)
 

@@ -2,7 +2,7 @@
 ghost use Rattle.std.specs.Prelude.{◌≡◌, ℕ, ℤ, pos, true, ◌<◌, ◌≤◌, ◌^◌, ◌<ℤ◌, IsTrue, ◌↔◌, ◌+◌, ◌*◌};
 ghost use Rattle.cull_base.specs.Piece.{Piece, Point, covers, touches, sample, each_sample};
 ghost use Rattle.cull_base.specs.Depth.{numerator, denominator, low_of, high_of, least_of, greatest_of, DepthAtLeast, DepthLess};
-ghost use Rattle.cull_base.specs.Bounds.{Near};
+ghost use Rattle.cull_base.specs.Bounds.{Bounded};
 ghost use Rattle.depth_plane.specs.Plane.{plane_of, numerator_at, IsNearer, point_of, DepthAtMost};
 
 use crate::corner::{greatest_along, least_along, numerator_at};
@@ -97,7 +97,7 @@ impl Plane {
     #[inline(always)]
     fn at(&self, sample: Sample) -> i128
         ensures value { result ≡ numerator_at self.now (point_of sample) }
-        ensures near { Near (2 ^ 80) result }
+        ensures bounded { Bounded (2 ^ 80) result }
     {
         numerator_at(
             self.across,
@@ -114,7 +114,7 @@ impl Plane {
         requires column { sub.column < 256 }
         requires row { sub.row < 512 }
         ensures value { result ≡ least_of (each_sample (λ k. numerator_at self.now (sample sub k))) }
-        ensures near { Near (2 ^ 80) result }
+        ensures bounded { Bounded (2 ^ 80) result }
     {
         let x = least_along(self.across, place(8 * sub.column), SPAN_ACROSS);
         let y = least_along(self.down, place(4 * sub.row), SPAN_DOWN);
@@ -127,7 +127,7 @@ impl Plane {
         requires column { sub.column < 256 }
         requires row { sub.row < 512 }
         ensures value { result ≡ greatest_of (each_sample (λ k. numerator_at self.now (sample sub k))) }
-        ensures near { Near (2 ^ 80) result }
+        ensures bounded { Bounded (2 ^ 80) result }
     {
         let x = greatest_along(self.across, place(8 * sub.column), SPAN_ACROSS);
         let y = greatest_along(self.down, place(4 * sub.row), SPAN_DOWN);

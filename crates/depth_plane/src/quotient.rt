@@ -1,15 +1,15 @@
 //! Whole quotients by a positive area, and their cut to the range of nearness.
 ghost use Rattle.std.specs.Prelude.{◌≡◌, ℕ, ℤ, pos, ◌≤◌, ◌^◌, ◌≤ℤ◌, ◌<ℤ◌, ◌+ℤ◌, ◌*ℤ◌, neg_ℤ, IsTrue, ◌↔◌};
-ghost use Rattle.cull_base.specs.Bounds.{Near};
+ghost use Rattle.cull_base.specs.Bounds.{Bounded};
 ghost use Rattle.cull_base.specs.Depth.{floor_of, ceiling_of, in_range};
 
 // A division of 64 bits takes a third of the time of one of 128.
 pub fn floor(numerator: i128, area: i128) -> i128
-    requires numerator { Near (2 ^ 80) numerator }
+    requires numerator { Bounded (2 ^ 80) numerator }
     requires area { pos 0 <ℤ area }
     requires area_within { area ≤ℤ pos (2 ^ 61) }
     ensures value { result ≡ floor_of numerator area }
-    ensures near { Near (2 ^ 80) result }
+    ensures bounded { Bounded (2 ^ 80) result }
 {
     if -0x4000_0000_0000_0000 < numerator && numerator < 0x4000_0000_0000_0000 {
         i128::from((numerator as i64).div_euclid(area as i64))
@@ -19,7 +19,7 @@ pub fn floor(numerator: i128, area: i128) -> i128
 }
 
 pub fn ceiling(numerator: i128, area: i128) -> i128
-    requires numerator { Near (2 ^ 80) numerator }
+    requires numerator { Bounded (2 ^ 80) numerator }
     requires area { pos 0 <ℤ area }
     requires area_within { area ≤ℤ pos (2 ^ 61) }
     ensures value { result ≡ ceiling_of numerator area }
@@ -37,7 +37,7 @@ pub fn cut_to_range(depth: i128) -> u32
 
 // What a whole quotient leaves of the numerator: from 0 to below the area.
 fn remainder(numerator: i128, area: i128, whole: i128) -> i128
-    requires numerator { Near (2 ^ 80) numerator }
+    requires numerator { Bounded (2 ^ 80) numerator }
     requires area { pos 0 <ℤ area }
     requires area_within { area ≤ℤ pos (2 ^ 61) }
     requires whole { whole ≡ floor_of numerator area }
@@ -61,10 +61,10 @@ fn crossed(remainder: i128, area: i128) -> i128
 /// Whether the first fraction is strictly greater. A bare cross product would leave 128 bits, so whole quotients come
 /// first, and remainders where these agree.
 pub fn is_greater(numerator: i128, area: i128, other: i128, other_area: i128) -> bool
-    requires numerator { Near (2 ^ 80) numerator }
+    requires numerator { Bounded (2 ^ 80) numerator }
     requires area { pos 0 <ℤ area }
     requires area_within { area ≤ℤ pos (2 ^ 61) }
-    requires other { Near (2 ^ 80) other }
+    requires other { Bounded (2 ^ 80) other }
     requires other_area { pos 0 <ℤ other_area }
     requires other_area_within { other_area ≤ℤ pos (2 ^ 61) }
     ensures { IsTrue result ↔ ((other *ℤ area) <ℤ (numerator *ℤ other_area)) }

@@ -1,7 +1,7 @@
 //! The vertices of a piece, and the coefficients of its plane.
 ghost use Rattle.std.specs.Prelude.{◌≡◌, ℕ, ℤ, pos, ◌*◌, ◌<◌, ◌≤◌, ◌^◌, ◌+ℤ◌, ◌-ℤ◌, ◌*ℤ◌};
-ghost use Rattle.cull_base.specs.Piece.{IsPiece, Within};
-ghost use Rattle.cull_base.specs.Bounds.{Near};
+ghost use Rattle.cull_base.specs.Piece.{IsPiece, IsCoordinate};
+ghost use Rattle.cull_base.specs.Bounds.{Bounded};
 
 use crate::arithmetic::{difference, minus, product, widened};
 use cull_base::ScreenTri;
@@ -12,8 +12,8 @@ pub struct Vertex {
     x: i32,
     y: i32,
     q: u32,
-    ghost x_within: { Within x },
-    ghost y_within: { Within y },
+    ghost x_within: { IsCoordinate x },
+    ghost y_within: { IsCoordinate y },
     ghost q_within: { q ≤ 65535 },
 }
 
@@ -37,7 +37,7 @@ impl Vertex {
 #[inline(always)]
 fn x_difference(a: &Vertex, b: &Vertex) -> i64
     ensures value { result ≡ a.now.x -ℤ b.now.x }
-    ensures near { Near (2 ^ 30) result }
+    ensures bounded { Bounded (2 ^ 30) result }
 {
     difference(a.x, b.x)
 }
@@ -45,7 +45,7 @@ fn x_difference(a: &Vertex, b: &Vertex) -> i64
 #[inline(always)]
 fn y_difference(a: &Vertex, b: &Vertex) -> i64
     ensures value { result ≡ a.now.y -ℤ b.now.y }
-    ensures near { Near (2 ^ 30) result }
+    ensures bounded { Bounded (2 ^ 30) result }
 {
     difference(a.y, b.y)
 }
@@ -54,7 +54,7 @@ fn y_difference(a: &Vertex, b: &Vertex) -> i64
 #[inline(always)]
 fn origin_value(a: &Vertex, b: &Vertex) -> i64
     ensures value { result ≡ (a.now.x *ℤ b.now.y) -ℤ (b.now.x *ℤ a.now.y) }
-    ensures near { Near (2 ^ 61) result }
+    ensures bounded { Bounded (2 ^ 61) result }
 {
     minus(
         product(widened(a.x), widened(b.y)),
@@ -64,9 +64,9 @@ fn origin_value(a: &Vertex, b: &Vertex) -> i64
 
 #[inline(always)]
 fn scaled(a: &Vertex, value: i64) -> i128
-    requires { Near (2 ^ 61) value }
+    requires { Bounded (2 ^ 61) value }
     ensures value { result ≡ pos a.now.q *ℤ value }
-    ensures near { Near (65535 * 2 ^ 61) result }
+    ensures bounded { Bounded (65535 * 2 ^ 61) result }
     ensures within { a.now.q ≤ 65535 }
 {
     i128::from(a.q) * i128::from(value)
@@ -74,11 +74,11 @@ fn scaled(a: &Vertex, value: i64) -> i128
 
 #[inline(always)]
 fn sum(a: i128, b: i128, c: i128) -> i128
-    requires a { Near (65535 * 2 ^ 61) a }
-    requires b { Near (65535 * 2 ^ 61) b }
-    requires c { Near (65535 * 2 ^ 61) c }
+    requires a { Bounded (65535 * 2 ^ 61) a }
+    requires b { Bounded (65535 * 2 ^ 61) b }
+    requires c { Bounded (65535 * 2 ^ 61) c }
     ensures value { result ≡ (a +ℤ b) +ℤ c }
-    ensures near { Near (2 ^ 79) result }
+    ensures bounded { Bounded (2 ^ 79) result }
 {
     a + b + c
 }
@@ -110,12 +110,12 @@ impl Vertices {
     // The sum of three values, each weighted by the nearness of its vertex.
     #[inline(always)]
     fn weighted(&self, a: i64, b: i64, c: i64) -> i128
-        requires a { Near (2 ^ 61) a }
-        requires b { Near (2 ^ 61) b }
-        requires c { Near (2 ^ 61) c }
+        requires a { Bounded (2 ^ 61) a }
+        requires b { Bounded (2 ^ 61) b }
+        requires c { Bounded (2 ^ 61) c }
         ensures value { result ≡ weighted_of self.now a b c }
-        ensures near { Near (2 ^ 79) result }
-        ensures nearer { Near (2 ^ 30) a → Near (2 ^ 30) b → Near (2 ^ 30) c → Near (2 ^ 48) result }
+        ensures bounded { Bounded (2 ^ 79) result }
+        ensures nearer { Bounded (2 ^ 30) a → Bounded (2 ^ 30) b → Bounded (2 ^ 30) c → Bounded (2 ^ 48) result }
     {
         sum(scaled(&self.a, a), scaled(&self.b, b), scaled(&self.c, c))
     }
@@ -123,7 +123,7 @@ impl Vertices {
     /// What the depth's numerator rises by for each sixteenth of a pixel to the right.
     pub fn across(&self) -> i128
         ensures value { result ≡ across_of self.now }
-        ensures near { Near (2 ^ 48) result }
+        ensures bounded { Bounded (2 ^ 48) result }
     {
         self.weighted(
             y_difference(&self.b, &self.c),
@@ -135,7 +135,7 @@ impl Vertices {
     /// What it rises by for each sixteenth of a pixel down.
     pub fn down(&self) -> i128
         ensures value { result ≡ down_of self.now }
-        ensures near { Near (2 ^ 48) result }
+        ensures bounded { Bounded (2 ^ 48) result }
     {
         self.weighted(
             x_difference(&self.c, &self.b),
@@ -147,7 +147,7 @@ impl Vertices {
     /// The depth's numerator at the origin.
     pub fn level(&self) -> i128
         ensures value { result ≡ level_of self.now }
-        ensures near { Near (2 ^ 79) result }
+        ensures bounded { Bounded (2 ^ 79) result }
     {
         self.weighted(
             origin_value(&self.b, &self.c),
@@ -159,7 +159,7 @@ impl Vertices {
     /// The doubled area.
     pub fn area(&self) -> i64
         ensures value { result ≡ area_of self.now }
-        ensures near { Near (2 ^ 61) result }
+        ensures bounded { Bounded (2 ^ 61) result }
     {
         minus(
             product(

@@ -5,9 +5,9 @@ use Rattle.std.specs.List.{All}
 use Rattle.std.proofs.lemmas.Int.{ints, to_z-of_z}
 use Rattle.std.proofs.lemmas.Bool.Decides.{nat_tests}
 use Rattle.std.proofs.lemmas.List.Elements.{All-get_or}
-use Rattle.cull_base.specs.Piece.{Piece, Point, Within, edge_value, middle, is_top_or_left, edge_covers, edge_touches, covers, touches, covered, touched, sample, each_sample}
-use Rattle.cull_base.specs.declared.clip.Side.{Side}
-use Rattle.cull_base.specs.declared.clip.Side.TheVariants.{Occluder, Object}
+use Rattle.cull_base.specs.Piece.{Piece, Point, IsCoordinate, edge_value, middle, is_top_or_left, edge_covers, edge_touches, covers, touches, covered, touched, sample, each_sample}
+use Rattle.cull_base.specs.declared.triangle.Side.{Side}
+use Rattle.cull_base.specs.declared.triangle.Side.TheVariants.{Occluder, Object}
 use Rattle.cull_base.specs.declared.place.Sub.{Sub}
 use Rattle.edge_lanes.specs.Lanes.{is_not_negative}
 use Rattle.edge_lanes.specs.Inside.{value_at, is_inside, inside_of, IsEdge}
@@ -41,8 +41,8 @@ pub is_not_negative-plain : (v : ℤ) → is_not_negative (v +ℤ pos 0) ≡ int
 is_not_negative-plain v = let e : v +ℤ pos 0 ≡ v = omega (arith, ints) in rw e refl
 
 -- a coordinate of a piece, as the code reads it
-pub within_read : (xs : List ℤ) (k : ℕ) → All Within xs → length xs ≡ 3 → k < 3 → FitsSigned w32 (slice_index_or xs k (pos 0)) → Within (to_z w32 (of_z w32 (slice_index_or xs k (pos 0))))
-within_read xs k h l lt f = simp to_z-of_z (All-get_or Within xs k (pos 0) (omega arith) h)
+pub within_read : (xs : List ℤ) (k : ℕ) → All IsCoordinate xs → length xs ≡ 3 → k < 3 → FitsSigned w32 (slice_index_or xs k (pos 0)) → IsCoordinate (to_z w32 (of_z w32 (slice_index_or xs k (pos 0))))
+within_read xs k h l lt f = simp to_z-of_z (All-get_or IsCoordinate xs k (pos 0) (omega arith) h)
 
 abbrev pub corner : List ℤ → List ℤ → ℕ → Point
 corner xs ys k = record { x = slice_index_or xs k (pos 0); y = slice_index_or ys k (pos 0) }

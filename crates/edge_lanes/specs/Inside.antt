@@ -1,7 +1,7 @@
 -- Which samples lie inside the three edges of a piece.
 use Rattle.std.specs.Prelude.{ℕ, ℤ, pos, ◌≡◌, ◌+◌, ◌*◌, ◌/◌, ◌%◌, ◌+ℤ◌, ◌*ℤ◌, List, Bool, ◌&&◌}
 use Rattle.cull_base.specs.Piece.{Point, edge_value, middle, is_top_or_left, each_sample}
-use Rattle.cull_base.specs.declared.clip.Side.{Side}
+use Rattle.cull_base.specs.declared.triangle.Side.{Side}
 use Rattle.cull_base.specs.declared.place.Sub.{Sub}
 use Rattle.cull_base.specs.declared.place.Tile.{Tile}
 use Rattle.edge_lanes.specs.Lanes.{is_not_negative, bias_of}

@@ -2,8 +2,8 @@
 use Rattle.std.specs.Prelude.{ℕ, ℤ, pos, negsuc, ◌+◌, ◌*◌, ◌+ℤ◌, ◌*ℤ◌, List, [], ◌∷◌, Bool, cond, int_le, map}
 use Rattle.std.specs.Int.{int_min, int_max}
 use Rattle.std.specs.Simd.Lanes.{mask_l}
-use Rattle.cull_base.specs.declared.clip.Side.{Side}
-use Rattle.cull_base.specs.declared.clip.Side.TheVariants.{Occluder, Object}
+use Rattle.cull_base.specs.declared.triangle.Side.{Side}
+use Rattle.cull_base.specs.declared.triangle.Side.TheVariants.{Occluder, Object}
 
 abbrev pub columns : List ℕ
 columns = 0 ∷ 1 ∷ 2 ∷ 3 ∷ 4 ∷ 5 ∷ 6 ∷ 7 ∷ []

@@ -1,35 +1,35 @@
 //! Steps of arithmetic that stay inside 64 bits, each with its value and its bound.
 ghost use Rattle.std.specs.Prelude.{◌≡◌, ℕ, ℤ, pos, ◌^◌, ◌+◌, ◌<◌, ◌+ℤ◌, ◌-ℤ◌, ◌*ℤ◌, neg_ℤ};
 ghost use Rattle.std.specs.Int.{int_min, int_max};
-ghost use Rattle.cull_base.specs.Piece.{Within};
-ghost use Rattle.cull_base.specs.Bounds.{Near};
+ghost use Rattle.cull_base.specs.Piece.{IsCoordinate};
+ghost use Rattle.cull_base.specs.Bounds.{Bounded};
 
 #[inline(always)]
 pub fn difference(a: i32, b: i32) -> i64
-    requires a_within { Within a }
-    requires b_within { Within b }
+    requires a_within { IsCoordinate a }
+    requires b_within { IsCoordinate b }
     ensures value { result ≡ a -ℤ b }
-    ensures near { Near (2 ^ 30) result }
+    ensures bounded { Bounded (2 ^ 30) result }
 {
     i64::from(a) - i64::from(b)
 }
 
 #[inline(always)]
 pub fn product(a: i64, b: i64) -> i64
-    requires a_near { Near (2 ^ 30) a }
-    requires b_near { Near (2 ^ 30) b }
+    requires a_bounded { Bounded (2 ^ 30) a }
+    requires b_bounded { Bounded (2 ^ 30) b }
     ensures value { result ≡ a *ℤ b }
-    ensures near { Near (2 ^ 60) result }
+    ensures bounded { Bounded (2 ^ 60) result }
 {
     a * b
 }
 
 #[inline(always)]
 pub fn minus(a: i64, b: i64) -> i64
-    requires a_near { Near (2 ^ 60) a }
-    requires b_near { Near (2 ^ 60) b }
+    requires a_bounded { Bounded (2 ^ 60) a }
+    requires b_bounded { Bounded (2 ^ 60) b }
     ensures value { result ≡ a -ℤ b }
-    ensures near { Near (2 ^ 61) result }
+    ensures bounded { Bounded (2 ^ 61) result }
 {
     a - b
 }
@@ -37,18 +37,18 @@ pub fn minus(a: i64, b: i64) -> i64
 // What one more pixel adds, which is sixteen sixteenths.
 #[inline(always)]
 pub fn pixel_step(a: i64) -> i64
-    requires { Near (2 ^ 30) a }
+    requires { Bounded (2 ^ 30) a }
     ensures value { result ≡ pos 16 *ℤ a }
-    ensures near { Near (2 ^ 34) result }
+    ensures bounded { Bounded (2 ^ 34) result }
 {
     16 * a
 }
 
 #[inline(always)]
 pub fn opposite(a: i64) -> i64
-    requires { Near (2 ^ 34) a }
+    requires { Bounded (2 ^ 34) a }
     ensures value { result ≡ neg_ℤ a }
-    ensures near { Near (2 ^ 34) result }
+    ensures bounded { Bounded (2 ^ 34) result }
 {
     -a
 }
@@ -56,10 +56,10 @@ pub fn opposite(a: i64) -> i64
 // A step taken so often, for a screen of at most 2048 pixels each way.
 #[inline(always)]
 pub fn steps(step: i64, count: u32) -> i64
-    requires near { Near (2 ^ 34) step }
+    requires bounded { Bounded (2 ^ 34) step }
     requires few { count < 2 ^ 11 }
     ensures value { result ≡ step *ℤ pos count }
-    ensures near { Near (2 ^ 45) result }
+    ensures bounded { Bounded (2 ^ 45) result }
 {
     step * i64::from(count)
 }
@@ -67,30 +67,30 @@ pub fn steps(step: i64, count: u32) -> i64
 // The most that steps from none to so many add, and the least.
 #[inline(always)]
 pub fn rise(step: i64, count: u32) -> i64
-    requires near { Near (2 ^ 34) step }
+    requires bounded { Bounded (2 ^ 34) step }
     requires few { count < 2 ^ 11 }
     ensures value { result ≡ int_max (step *ℤ pos count) (pos 0) }
-    ensures near { Near (2 ^ 45) result }
+    ensures bounded { Bounded (2 ^ 45) result }
 {
     steps(step, count).max(0)
 }
 
 #[inline(always)]
 pub fn fall(step: i64, count: u32) -> i64
-    requires near { Near (2 ^ 34) step }
+    requires bounded { Bounded (2 ^ 34) step }
     requires few { count < 2 ^ 11 }
     ensures value { result ≡ int_min (step *ℤ pos count) (pos 0) }
-    ensures near { Near (2 ^ 45) result }
+    ensures bounded { Bounded (2 ^ 45) result }
 {
     steps(step, count).min(0)
 }
 
 #[inline(always)]
 pub fn total(a: i64, b: i64) -> i64
-    requires a_near { Near (2 ^ 45) a }
-    requires b_near { Near (2 ^ 45) b }
+    requires a_bounded { Bounded (2 ^ 45) a }
+    requires b_bounded { Bounded (2 ^ 45) b }
     ensures value { result ≡ a +ℤ b }
-    ensures near { Near (2 ^ 46) result }
+    ensures bounded { Bounded (2 ^ 46) result }
 {
     a + b
 }

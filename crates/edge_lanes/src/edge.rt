@@ -1,8 +1,8 @@
 //! One edge of a piece: its value at a first sample, and what each pixel to the right and below adds.
 ghost use Rattle.std.specs.Prelude.{◌≡◌, ℕ, ℤ, pos, ◌^◌, ◌+◌, ◌*◌, ◌<◌, ◌+ℤ◌, ◌-ℤ◌, ◌*ℤ◌, ◌<ℤ◌, ◌≤ℤ◌, IsTrue, ◌↔◌, map};
 ghost use Rattle.std.specs.Simd.Lanes.{mask_l};
-ghost use Rattle.cull_base.specs.Piece.{Within, Point, middle, edge_value, is_top_or_left, each_sample};
-ghost use Rattle.cull_base.specs.Bounds.{Near};
+ghost use Rattle.cull_base.specs.Piece.{IsCoordinate, Point, middle, edge_value, is_top_or_left, each_sample};
+ghost use Rattle.cull_base.specs.Bounds.{Bounded};
 ghost use Rattle.edge_lanes.specs.Lanes.{offsets_of, columns, is_not_negative, bias_of, highest_of, lowest_of, row_of};
 
 use crate::arithmetic::{
@@ -24,9 +24,9 @@ pub struct Edge {
     // the most and the least that a sample of a subtile adds to its first
     highest: i64,
     lowest: i64,
-    ghost start_near: { Near (2 ^ 61 + 1) start },
-    ghost column_near: { Near (2 ^ 34) column },
-    ghost row_near: { Near (2 ^ 34) row },
+    ghost start_bounded: { Bounded (2 ^ 61 + 1) start },
+    ghost column_bounded: { Bounded (2 ^ 34) column },
+    ghost row_bounded: { Bounded (2 ^ 34) row },
     ghost are_offsets: { offsets ≡ offsets_of column },
     ghost is_highest: { highest ≡ highest_of column row },
     ghost is_lowest: { lowest ≡ lowest_of column row },
@@ -44,7 +44,7 @@ fn is_top_or_left(ax: i32, ay: i32, bx: i32, by: i32) -> bool
 #[inline(always)]
 fn bias(side: Side, top_or_left: bool) -> i64
     ensures value { result ≡ bias_of side top_or_left }
-    ensures near { Near 1 result }
+    ensures bounded { Bounded 1 result }
 {
     match side {
         Side::Occluder => if top_or_left { 0 } else { -1 },
@@ -54,10 +54,10 @@ fn bias(side: Side, top_or_left: bool) -> i64
 
 #[inline(always)]
 fn biased(value: i64, bias: i64) -> i64
-    requires value { Near (2 ^ 61) value }
-    requires bias { Near 1 bias }
+    requires value { Bounded (2 ^ 61) value }
+    requires bias { Bounded 1 bias }
     ensures value { result ≡ value +ℤ bias }
-    ensures near { Near (2 ^ 61 + 1) result }
+    ensures bounded { Bounded (2 ^ 61 + 1) result }
 {
     value + bias
 }
@@ -65,12 +65,12 @@ fn biased(value: i64, bias: i64) -> i64
 // The value at the sample of the first pixel.
 #[inline(always)]
 fn first_value(across: i64, down: i64, ax: i32, ay: i32) -> i64
-    requires across { Near (2 ^ 30) across }
-    requires down { Near (2 ^ 30) down }
-    requires ax { Within ax }
-    requires ay { Within ay }
+    requires across { Bounded (2 ^ 30) across }
+    requires down { Bounded (2 ^ 30) down }
+    requires ax { IsCoordinate ax }
+    requires ay { IsCoordinate ay }
     ensures value { result ≡ (across *ℤ (pos 8 -ℤ ay)) -ℤ (down *ℤ (pos 8 -ℤ ax)) }
-    ensures near { Near (2 ^ 61) result }
+    ensures bounded { Bounded (2 ^ 61) result }
 {
     minus(
         product(across, difference(8, ay)),
@@ -81,8 +81,8 @@ fn first_value(across: i64, down: i64, ax: i32, ay: i32) -> i64
 // The most and the least that a subtile's samples add.
 #[inline(always)]
 fn highest(column: i64, row: i64) -> i64
-    requires column { Near (2 ^ 34) column }
-    requires row { Near (2 ^ 34) row }
+    requires column { Bounded (2 ^ 34) column }
+    requires row { Bounded (2 ^ 34) row }
     ensures { result ≡ highest_of column row }
 {
     total(rise(column, 7), rise(row, 3))
@@ -90,8 +90,8 @@ fn highest(column: i64, row: i64) -> i64
 
 #[inline(always)]
 fn lowest(column: i64, row: i64) -> i64
-    requires column { Near (2 ^ 34) column }
-    requires row { Near (2 ^ 34) row }
+    requires column { Bounded (2 ^ 34) column }
+    requires row { Bounded (2 ^ 34) row }
     ensures { result ≡ lowest_of column row }
 {
     total(fall(column, 7), fall(row, 3))
@@ -99,9 +99,9 @@ fn lowest(column: i64, row: i64) -> i64
 
 #[inline(always)]
 fn from_steps(start: i64, column: i64, row: i64) -> Edge
-    requires start { Near (2 ^ 61 + 1) start }
-    requires column { Near (2 ^ 34) column }
-    requires row { Near (2 ^ 34) row }
+    requires start { Bounded (2 ^ 61 + 1) start }
+    requires column { Bounded (2 ^ 34) column }
+    requires row { Bounded (2 ^ 34) row }
     ensures start { result.start ≡ start }
     ensures column { result.column ≡ column }
     ensures row { result.row ≡ row }
@@ -118,21 +118,21 @@ fn from_steps(start: i64, column: i64, row: i64) -> Edge
 
 #[inline(always)]
 fn moved(start: i64, across: i64, down: i64) -> i64
-    requires start { Near (2 ^ 61 + 1) start }
-    requires across { Near (2 ^ 45) across }
-    requires down { Near (2 ^ 45) down }
+    requires start { Bounded (2 ^ 61 + 1) start }
+    requires across { Bounded (2 ^ 45) across }
+    requires down { Bounded (2 ^ 45) down }
     ensures value { result ≡ (start +ℤ across) +ℤ down }
-    ensures near { Near (2 ^ 61 + 2 ^ 47) result }
+    ensures bounded { Bounded (2 ^ 61 + 2 ^ 47) result }
 {
     start + across + down
 }
 
 #[inline(always)]
 fn lowered(start: i64, by: i64) -> i64
-    requires start { Near (2 ^ 61 + 2 ^ 47) start }
-    requires by { Near (2 ^ 45) by }
+    requires start { Bounded (2 ^ 61 + 2 ^ 47) start }
+    requires by { Bounded (2 ^ 45) by }
     ensures value { result ≡ start +ℤ by }
-    ensures near { Near (2 ^ 62) result }
+    ensures bounded { Bounded (2 ^ 62) result }
 {
     start + by
 }
@@ -142,10 +142,10 @@ impl Edge {
 
     /// The edge from a to b, in sixteenths of a pixel.
     pub fn of(ax: i32, ay: i32, bx: i32, by: i32, side: Side) -> Edge
-        requires ax { Within ax }
-        requires ay { Within ay }
-        requires bx { Within bx }
-        requires by { Within by }
+        requires ax { IsCoordinate ax }
+        requires ay { IsCoordinate ay }
+        requires bx { IsCoordinate bx }
+        requires by { IsCoordinate by }
         ensures { IsEdge result side (record { x = ax; y = ay }) (record { x = bx; y = by }) }
     {
         let across = difference(bx, ax);
@@ -164,7 +164,7 @@ impl Edge {
         requires column { sub.column < 256 }
         requires row { sub.row < 512 }
         ensures value { result ≡ value_at self.now (8 * sub.column) (4 * sub.row) }
-        ensures near { Near (2 ^ 61 + 2 ^ 47) result }
+        ensures bounded { Bounded (2 ^ 61 + 2 ^ 47) result }
     {
         moved(
             self.start,
@@ -176,7 +176,7 @@ impl Edge {
     /// Whether no sample of a subtile that begins with this value is inside.
     #[inline(always)]
     pub fn is_outside(&self, start: i64) -> bool
-        requires { Near (2 ^ 61 + 2 ^ 47) start }
+        requires { Bounded (2 ^ 61 + 2 ^ 47) start }
         ensures { IsTrue result ↔ ((start +ℤ highest_of self.now.column self.now.row) <ℤ pos 0) }
     {
         start + self.highest < 0
@@ -185,7 +185,7 @@ impl Edge {
     /// Whether each sample of such a subtile is inside.
     #[inline(always)]
     fn is_whole(&self, start: i64) -> bool
-        requires { Near (2 ^ 61 + 2 ^ 47) start }
+        requires { Bounded (2 ^ 61 + 2 ^ 47) start }
         ensures { IsTrue result ↔ (pos 0 ≤ℤ (start +ℤ lowest_of self.now.column self.now.row)) }
     {
         start + self.lowest >= 0
@@ -194,7 +194,7 @@ impl Edge {
     // Bit c is set where the value at column c isn't negative, in a row that begins with this value.
     #[inline(always)]
     fn columns(&self, start: i64) -> u64
-        requires { Near (2 ^ 62) start }
+        requires { Bounded (2 ^ 62) start }
         ensures { result ≡ mask_l (map (λ c. is_not_negative (start +ℤ (self.now.column *ℤ pos c))) columns) }
     {
         i64x8::splat(start)
@@ -206,7 +206,7 @@ impl Edge {
     // The same for a row of a subtile that begins with this value.
     #[inline(always)]
     fn row_of(&self, start: i64, row: u32) -> u64
-        requires start { Near (2 ^ 61 + 2 ^ 47) start }
+        requires start { Bounded (2 ^ 61 + 2 ^ 47) start }
         requires row { row < 4 }
         ensures value { result ≡ row_of (inside_from self.now start) row }
         ensures byte { result < 2 ^ 8 }
@@ -217,7 +217,7 @@ impl Edge {
     // The mask of a subtile that begins with this value, row by row.
     #[inline(always)]
     fn rows(&self, start: i64) -> u32
-        requires { Near (2 ^ 61 + 2 ^ 47) start }
+        requires { Bounded (2 ^ 61 + 2 ^ 47) start }
         ensures { result ≡ mask_l (each_sample (inside_from self.now start)) }
     {
         let upper = self.row_of(start, 0) + self.row_of(start, 1) * 256;
@@ -228,7 +228,7 @@ impl Edge {
     /// The samples of a subtile that are inside this edge, where the subtile begins with this value.
     #[inline(always)]
     pub fn mask(&self, start: i64) -> u32
-        requires { Near (2 ^ 61 + 2 ^ 47) start }
+        requires { Bounded (2 ^ 61 + 2 ^ 47) start }
         ensures { result ≡ mask_l (each_sample (inside_from self.now start)) }
     {
         if self.is_whole(start) {

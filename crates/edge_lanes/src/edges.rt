@@ -2,10 +2,10 @@
 ghost use Rattle.std.specs.Prelude.{◌≡◌, ℕ, ℤ, ◌+◌, ◌*◌, ◌/◌, ◌%◌, ◌<◌, ◌^◌, slice_index, IsTrue};
 ghost use Rattle.std.specs.Simd.Lanes.{mask_l};
 ghost use Rattle.cull_base.specs.Piece.{covered, touched, each_sample};
-ghost use Rattle.cull_base.specs.Bounds.{Near};
+ghost use Rattle.cull_base.specs.Bounds.{Bounded};
 ghost use Rattle.cull_base.specs.State.{samples_of};
 ghost use Rattle.cull_base.specs.declared.place.Sub.{Sub};
-ghost use Rattle.cull_base.specs.declared.clip.Side.{Side};
+ghost use Rattle.cull_base.specs.declared.triangle.Side.{Side};
 
 use crate::edge::Edge;
 use cull_base::{ScreenTri, Side, Sub, Tile};
@@ -37,9 +37,9 @@ impl Edges {
     // Whether an edge rejects each sample of a subtile that begins with these values.
     #[inline(always)]
     fn is_outside(&self, first: i64, second: i64, third: i64) -> bool
-        requires first { Near (2 ^ 61 + 2 ^ 47) first }
-        requires second { Near (2 ^ 61 + 2 ^ 47) second }
-        requires third { Near (2 ^ 61 + 2 ^ 47) third }
+        requires first { Bounded (2 ^ 61 + 2 ^ 47) first }
+        requires second { Bounded (2 ^ 61 + 2 ^ 47) second }
+        requires third { Bounded (2 ^ 61 + 2 ^ 47) third }
         ensures { IsTrue result → mask_l (each_sample (inside_all self.now first second third)) ≡ 0 }
     {
         self.first.is_outside(first)

@@ -14,19 +14,19 @@ abbrev pub is_between : ℕ → ℕ → ℕ → Bool
 is_between first behind n = nat_le first n && nat_lt n behind
 
 abbrev pub has_column : TileSpan → ℕ → Bool
-has_column span column = is_between span.first_column span.behind_column column
+has_column span column = is_between span.first_column span.end_column column
 
 abbrev pub has_row : TileSpan → ℕ → Bool
-has_row span row = is_between span.first_row span.behind_row row
+has_row span row = is_between span.first_row span.end_row row
 
 abbrev pub has_tile : TileSpan → Tile → Bool
 has_tile span place = has_row span place.row && has_column span place.column
 
 pub record IsSpan (size : Dimensions) (span : TileSpan) : Type 0 where
-  pub columns : span.first_column ≤ span.behind_column
-  pub rows : span.first_row ≤ span.behind_row
-  pub columns_within : span.behind_column ≤ tile_columns_of size
-  pub rows_within : span.behind_row ≤ tile_rows_of size
+  pub columns : span.first_column ≤ span.end_column
+  pub rows : span.first_row ≤ span.end_row
+  pub columns_within : span.end_column ≤ tile_columns_of size
+  pub rows_within : span.end_row ≤ tile_rows_of size
 
 -- the piece is merged into the tile's subtiles on the screen, and counted
 unfoldable pub taken_by : Dimensions → ℕ → Piece → TileOf → TileOf

@@ -25,7 +25,7 @@ fn take_in_row(states: &mut [TileState], piece: &Prepared, size: Size, span: Til
     ensures { (t : ℕ) → t < tile_count_of size → tile_at states.new t ≡ taken_where (nat_eq (t / tile_columns_of size) row && has_column span (t % tile_columns_of size)) size t piece.now.tri (tile_at states.old t) }
 {
     let first = row * size.tile_columns();
-    for column in span.first_column..span.behind_column {
+    for column in span.first_column..span.end_column {
         let tile = first + column;
         states[tile as usize].take_prepared(piece, size, tile);
     }
@@ -41,7 +41,7 @@ fn take_reached(states: &mut [TileState], tri: &ScreenTri, size: Size)
 {
     let span = TileSpan::of(tri, size);
     let piece = Prepared::of(tri);
-    for row in span.first_row..span.behind_row {
+    for row in span.first_row..span.end_row {
         take_in_row(states, &piece, size, span, row);
     }
 }

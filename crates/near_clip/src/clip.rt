@@ -1,9 +1,9 @@
 //! Which part of a triangle lies in front of the near plane.
 ghost use Rattle.std.specs.Prelude.{◌≡◌, ℤ, ◌+ℤ◌, ◌-ℤ◌, ◌*ℤ◌, ◌^◌, ◌≤◌, [], false, ◌↔◌};
 ghost use Rattle.std.specs.List.{All};
-ghost use Rattle.cull_base.specs.Bounds.{Near};
+ghost use Rattle.cull_base.specs.Bounds.{Bounded};
 ghost use Rattle.cull_base.specs.Guard.{is_past_guard};
-ghost use Rattle.near_clip.specs.NearPart.{corner, is_inside, whole, cut_of, near_part};
+ghost use Rattle.near_clip.specs.NearPart.{corner, is_in_front, whole, cut_point, near_part};
 ghost use Rattle.near_clip.specs.Reach.{IsInReach};
 
 use crate::hom_point::HomPoint;
@@ -11,8 +11,8 @@ use crate::polygon::Polygon;
 use cull_base::ClipVertex;
 
 #[inline(always)]
-fn is_inside(v: &ClipVertex, near: u16) -> bool
-    ensures { result ≡ is_inside v.now near }
+fn is_in_front(v: &ClipVertex, near: u16) -> bool
+    ensures { result ≡ is_in_front v.now near }
 {
     i64::from(near) <= v.w
 }
@@ -31,20 +31,20 @@ fn whole(v: &ClipVertex) -> HomPoint
 
 #[inline(always)]
 fn difference(a: i64, b: i64) -> i64
-    requires a { Near (2 ^ 24) a }
-    requires b { Near (2 ^ 24) b }
+    requires a { Bounded (2 ^ 24) a }
+    requires b { Bounded (2 ^ 24) b }
     ensures value { result ≡ a -ℤ b }
-    ensures near { Near (2 ^ 25) result }
+    ensures bounded { Bounded (2 ^ 25) result }
 {
     a - b
 }
 
 #[inline(always)]
 fn product(a: i64, b: i64) -> i64
-    requires a { Near (2 ^ 25) a }
-    requires b { Near (2 ^ 24) b }
+    requires a { Bounded (2 ^ 25) a }
+    requires b { Bounded (2 ^ 24) b }
     ensures value { result ≡ a *ℤ b }
-    ensures near { Near (2 ^ 49) result }
+    ensures bounded { Bounded (2 ^ 49) result }
 {
     a * b
 }
@@ -52,10 +52,10 @@ fn product(a: i64, b: i64) -> i64
 // p * b + q * a
 #[inline(always)]
 fn joined(p: i64, b: i64, q: i64, a: i64) -> i64
-    requires p { Near (2 ^ 25) p }
-    requires b { Near (2 ^ 24) b }
-    requires q { Near (2 ^ 25) q }
-    requires a { Near (2 ^ 24) a }
+    requires p { Bounded (2 ^ 25) p }
+    requires b { Bounded (2 ^ 24) b }
+    requires q { Bounded (2 ^ 25) q }
+    requires a { Bounded (2 ^ 24) a }
     ensures { result ≡ (p *ℤ b) +ℤ (q *ℤ a) }
 {
     product(p, b) + product(q, a)
@@ -66,7 +66,7 @@ fn cut(inside: &ClipVertex, outside: &ClipVertex, near: u16) -> HomPoint
     requires near { near ≤ 1024 }
     requires inside { is_past_guard inside.now near ≡ false }
     requires outside { is_past_guard outside.now near ≡ false }
-    ensures { result ≡ cut_of inside.now outside.now near }
+    ensures { result ≡ cut_point inside.now outside.now near }
 {
     let distance = i64::from(near);
     let p = difference(inside.w, distance);
@@ -88,9 +88,9 @@ fn part(v0: &ClipVertex, v1: &ClipVertex, v2: &ClipVertex, near: u16) -> Polygon
     ensures { result ≡ near_part v0.now v1.now v2.now near }
 {
     match (
-        is_inside(v0, near),
-        is_inside(v1, near),
-        is_inside(v2, near),
+        is_in_front(v0, near),
+        is_in_front(v1, near),
+        is_in_front(v2, near),
     ) {
         (true, true, true) => Polygon::triangle(whole(v0), whole(v1), whole(v2)),
         (true, true, false) => {
@@ -117,7 +117,7 @@ pub fn clip_near(tri: &[ClipVertex; 3], near: u16) -> Polygon
     requires guarded { All (λ v. is_past_guard v near ≡ false) tri.now }
     ensures value { result ≡ near_part (corner tri.now 0) (corner tri.now 1) (corner tri.now 2) near }
     ensures reach { All (IsInReach near) result }
-    ensures empty { (result ≡ []) ↔ All (λ v. is_inside v near ≡ false) tri.now }
+    ensures empty { (result ≡ []) ↔ All (λ v. is_in_front v near ≡ false) tri.now }
 {
     let [v0, v1, v2] = tri;
     part(v0, v1, v2, near)

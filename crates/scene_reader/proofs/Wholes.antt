@@ -9,8 +9,8 @@ use Rattle.std.proofs.lemmas.List.{length-append, length-map, map-id, take_at, d
 use Rattle.std.proofs.lemmas.List.Elements.{recursion_from_All, All-take, All-drop}
 use Rattle.cull_base.specs.Screen.{IsSize}
 use Rattle.cull_base.specs.declared.rect.Rect.{Rect}
-use Rattle.cull_base.specs.declared.clip.Winding.{Winding}
-use Rattle.cull_base.specs.declared.clip.Winding.TheVariants.{Both, DropClockwise, DropCounter}
+use Rattle.cull_base.specs.declared.triangle.Winding.{Winding}
+use Rattle.cull_base.specs.declared.triangle.Winding.TheVariants.{Both, DropClockwise, DropCounter}
 use Rattle.cull_base.specs.declared.scene_types.Tri.{Tri}
 use Rattle.cull_base.specs.declared.scene_types.Object.{Object}
 use Rattle.cull_base.specs.declared.scene_types.Object.TheVariants.{Area, Block, Mesh}

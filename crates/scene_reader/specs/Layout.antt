@@ -2,10 +2,10 @@
 use Rattle.std.specs.Prelude.{ℕ, ℤ, pos, ◌≡◌, ◌+◌, ◌^◌, ◌<◌, ◌≤◌, ◌≤ℤ◌, List, [], ◌∷◌, ◌++◌, length, slice_index_or}
 use Rattle.std.specs.List.{All, flat_map}
 use Rattle.std.specs.Int.{w16, w32, to_le_bytes, cast_unsigned}
-use Rattle.cull_base.specs.Bounds.{Near}
+use Rattle.cull_base.specs.Bounds.{Bounded}
 use Rattle.cull_base.specs.Screen.{IsSize}
-use Rattle.cull_base.specs.declared.clip.Winding.{Winding}
-use Rattle.cull_base.specs.declared.clip.Winding.TheVariants.{Both, DropClockwise, DropCounter}
+use Rattle.cull_base.specs.declared.triangle.Winding.{Winding}
+use Rattle.cull_base.specs.declared.triangle.Winding.TheVariants.{Both, DropClockwise, DropCounter}
 use Rattle.cull_base.specs.declared.scene_types.Tri.{Tri}
 use Rattle.cull_base.specs.declared.scene_types.Object.{Object}
 use Rattle.cull_base.specs.declared.scene_types.Object.TheVariants.{Area, Block, Mesh}
@@ -24,7 +24,7 @@ pub record Parts : Type 0 where
 
 -- at most 2^24 away from 0
 abbrev pub InLimits : ℤ → Type 0
-InLimits z = Near (2 ^ 24) z
+InLimits z = Bounded (2 ^ 24) z
 
 -- so many numbers, each within the limits
 abbrev pub IsRow : ℕ → List ℤ → Type 0

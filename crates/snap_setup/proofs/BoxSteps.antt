@@ -4,7 +4,7 @@ use Rattle.std.specs.Int.{int_min, int_max}
 use Rattle.cull_base.specs.declared.clip.ClipVertex.{ClipVertex}
 use Rattle.cull_base.specs.declared.rect.Rect.{Rect}
 use Rattle.cull_base.specs.Screen.{Dimensions}
-use Rattle.cull_base.specs.Piece.{first_pixel, pixel_behind}
+use Rattle.cull_base.specs.Piece.{first_pixel, end_pixel}
 use Rattle.near_clip.specs.declared.hom_point.HomPoint.{HomPoint}
 use Rattle.near_clip.specs.NearPart.{near_part}
 use Rattle.snap_setup.specs.declared.boxes.Extent.{Extent}
@@ -19,7 +19,7 @@ abbrev pub with : Extent → Extent → Extent
 with e f = record { left = int_min e.left f.left; top = int_min e.top f.top; right = int_max e.right f.right; bottom = int_max e.bottom f.bottom }
 
 abbrev pub rect_of : Extent → Rect
-rect_of e = record { x0 = first_pixel e.left; y0 = first_pixel e.top; x1 = pixel_behind e.right; y1 = pixel_behind e.bottom }
+rect_of e = record { x0 = first_pixel e.left; y0 = first_pixel e.top; x1 = end_pixel e.right; y1 = end_pixel e.bottom }
 
 pub box_none : (v0 v1 v2 : ClipVertex) (near : ℕ) (size : Dimensions) (ps : List HomPoint) → ps ≡ near_part v0 v1 v2 near → length ps ≡ 0 → None ≡ near_box_of v0 v1 v2 near size
 unfolding near_box_of snapped_part

@@ -3,12 +3,12 @@ use Rattle.std.proofs.Common.{◌≡◌, ℕ, ℤ, pos, negsuc, neg_ℤ, suc, ze
 use Rattle.std.proofs.lemmas.Int.{ints}
 use Rattle.std.proofs.Math.Nat.{mul-le-mul_left, div-lt_iff_lt-mul, div-eq_of_lt-le, div-add-mod, mod-lt, zero-div, mod-eq_of_lt}
 use Rattle.std.specs.Int.RustNames.{unsigned_abs}
-use Rattle.cull_base.specs.Bounds.{Near}
+use Rattle.cull_base.specs.Bounds.{Bounded}
 use Rattle.cull_base.specs.Depth.{floor_of, ceiling_of}
 use Rattle.snap_setup.specs.Snapping.{round_half}
 
 -- a floor is at most m away from 0 where the numerator is not less than -m and less than m + 1 times the denominator
-floor_near : (m b : ℕ) (z : ℤ) → 0 < b → neg_ℤ (pos (m * b)) ≤ℤ z → z <ℤ pos (m * b + b) → Near m (floor_of z (pos b))
+floor_near : (m b : ℕ) (z : ℤ) → 0 < b → neg_ℤ (pos (m * b)) ≤ℤ z → z <ℤ pos (m * b + b) → Bounded m (floor_of z (pos b))
 floor_near m b (pos a) hb low high =
     let lt : a < suc m * b = omega (arith, ints, high) in
     let q : a / b < suc m = (div-lt_iff_lt-mul {k = b} {x = a} {y = suc m} hb).1 lt in
@@ -19,7 +19,7 @@ floor_near m b (negsuc a) hb low high =
     (omega (arith, ints, q), omega (arith, ints))
 
 -- rounding keeps whole bounds
-pub round_half_near : (m : ℕ) (n w : ℤ) → pos 1 ≤ℤ w → neg_ℤ (pos m *ℤ w) ≤ℤ n → n ≤ℤ (pos m *ℤ w) → Near m (round_half n w)
+pub round_half_near : (m : ℕ) (n w : ℤ) → pos 1 ≤ℤ w → neg_ℤ (pos m *ℤ w) ≤ℤ n → n ≤ℤ (pos m *ℤ w) → Bounded m (round_half n w)
 round_half_near m n (pos b) h low high =
     floor_near m (2 * b) ((pos 2 *ℤ n) +ℤ pos b) (omega (arith, ints, h)) (omega (arith, ints, low)) (omega (arith, ints, high, h))
 round_half_near m n (negsuc b) h low high = absurd (omega (arith, ints, h))
@@ -56,14 +56,14 @@ pub rounded_is : (p : ℕ) (o w d s e q : ℤ) → d ≡ pos (16 * p) *ℤ o →
 rounded_is p o w d s e q ed es ee eq = let t = doubled_twice p o in rw (eq, es, ee, ed, t) refl
 
 -- a natural times a number that is at most g away from 0
-times_near : (g m : ℕ) (b : ℤ) → Near g b → Near (g * m) (pos m *ℤ b)
+times_near : (g m : ℕ) (b : ℤ) → Bounded g b → Bounded (g * m) (pos m *ℤ b)
 times_near g m (pos b) h = let le : b ≤ g = omega (arith, ints, h) in let k = mul-le-mul_left m le in (omega (arith, ints, k), omega (arith, ints, k))
 times_near g m (negsuc b) h = let le : suc b ≤ g = omega (arith, ints, h) in let k = mul-le-mul_left m le in (omega (arith, ints, k), omega (arith, ints, k))
 
 -- 8 * 2048 * 16385, which is below 2^29
-pub rounded_near : (p : ℕ) (o w : ℤ) → p ≤ 2048 → pos 1 ≤ℤ w → neg_ℤ (pos 16385 *ℤ w) ≤ℤ o → o ≤ℤ (pos 16385 *ℤ w) → Near 268451840 (round_half (pos (8 * p) *ℤ o) w)
+pub rounded_near : (p : ℕ) (o w : ℤ) → p ≤ 2048 → pos 1 ≤ℤ w → neg_ℤ (pos 16385 *ℤ w) ≤ℤ o → o ≤ℤ (pos 16385 *ℤ w) → Bounded 268451840 (round_half (pos (8 * p) *ℤ o) w)
 rounded_near p o (pos b) hp h low high =
-    let near : Near (16385 * b) o = (omega (arith, ints, low), omega (arith, ints, high)) in
+    let near : Bounded (16385 * b) o = (omega (arith, ints, low), omega (arith, ints, high)) in
     let t = times_near (16385 * b) (8 * p) o near in
     let le : 8 * p ≤ 16384 = omega arith in
     let m = mul-le-mul_left (16385 * b) le in

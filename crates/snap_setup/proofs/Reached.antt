@@ -7,9 +7,9 @@ use Rattle.near_clip.specs.Reach.{IsInReach}
 use Rattle.std.proofs.Math.Nat.{div-le_of_le-mul, div-add-mod, lt_of_mul-lt-mul_left}
 use Rattle.std.specs.Int.{div_ceil}
 use Rattle.std.specs.Int.RustNames.{unsigned_abs}
-use Rattle.cull_base.specs.declared.clip.Side.TheVariants.{Occluder, Object}
+use Rattle.cull_base.specs.declared.triangle.Side.TheVariants.{Occluder, Object}
 use Rattle.cull_base.specs.Screen.{Dimensions}
-use Rattle.cull_base.specs.Bounds.{Near}
+use Rattle.cull_base.specs.Bounds.{Bounded}
 use Rattle.snap_setup.specs.Snapping.{round_half, screen_x, screen_y, nearness_of, IsInSight}
 use Rattle.snap_setup.proofs.Floors.{ceiling_is}
 
@@ -25,8 +25,8 @@ pub record IsReached (near : ℕ) (p : HomPoint) (s w : ℕ) : Type 0 where
   pub scale_most : s ≤ 2 ^ 25
   pub w_least : near * s ≤ w
   pub w_most : w ≤ 2 ^ 49
-  pub x_near : Near (2 ^ 49) p.x
-  pub y_near : Near (2 ^ 49) p.y
+  pub x_near : Bounded (2 ^ 49) p.x
+  pub y_near : Bounded (2 ^ 49) p.y
 
 in_numbers : (near : ℕ) (x y : ℤ) (s w : ℕ) → near ≤ 1024 → let p : HomPoint = record { x = x; y = y; w = pos w; scale = pos s } in IsInReach near p → IsReached near p s w
 in_numbers near x y s w le r =
@@ -57,7 +57,7 @@ pub reached : (near : ℕ) (p : HomPoint) → near ≤ 1024 → IsInReach near p
 reached near p le r = reached_from near p.x p.y p.w p.scale le (omega (arith, ints, r.scale_least)) (w_positive near p.scale p.w r.scale_least r.w_least) r
 
 sight : (x y : ℤ) (s w near : ℕ) → 1 ≤ near → 1 ≤ s → near * s ≤ w → w ≤ 2 ^ 49 → let p : HomPoint = record { x = x; y = y; w = pos w; scale = pos s } in
-    IsInReach near p → Near (2 ^ 49) x → Near (2 ^ 49) y → IsInSight p
+    IsInReach near p → Bounded (2 ^ 49) x → Bounded (2 ^ 49) y → IsInSight p
 sight x y s w near hn hs least most r hx hy =
     let one = mul-le-mul hn hs in
     record {

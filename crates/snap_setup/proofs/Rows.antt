@@ -1,10 +1,10 @@
 -- Worked values of snapping and of pieces, each by computing.
 use Rattle.std.proofs.Common.{◌≡◌, ℕ, ℤ, pos, negsuc, neg_ℤ, refl, List, [], ◌∷◌, Option, Some, None, map}
 use Rattle.cull_base.specs.declared.clip.ClipVertex.{ClipVertex}
-use Rattle.cull_base.specs.declared.clip.Side.{Side}
-use Rattle.cull_base.specs.declared.clip.Side.TheVariants.{Occluder, Object}
-use Rattle.cull_base.specs.declared.clip.Winding.{Winding}
-use Rattle.cull_base.specs.declared.clip.Winding.TheVariants.{Both, DropClockwise, DropCounter}
+use Rattle.cull_base.specs.declared.triangle.Side.{Side}
+use Rattle.cull_base.specs.declared.triangle.Side.TheVariants.{Occluder, Object}
+use Rattle.cull_base.specs.declared.triangle.Winding.{Winding}
+use Rattle.cull_base.specs.declared.triangle.Winding.TheVariants.{Both, DropClockwise, DropCounter}
 use Rattle.cull_base.specs.declared.rect.Rect.{Rect}
 use Rattle.cull_base.specs.declared.scene_types.Tri.{Tri}
 use Rattle.cull_base.specs.Screen.{Dimensions}

@@ -1,6 +1,6 @@
 -- The piece of one triangle on the screen, if it has one.
 use Rattle.std.specs.Prelude.{List, [], ◌∷◌, Option, Some, None, cond}
-use Rattle.cull_base.specs.declared.clip.Winding.{Winding}
+use Rattle.cull_base.specs.declared.triangle.Winding.{Winding}
 use Rattle.cull_base.specs.Piece.{Piece}
 use Rattle.snap_setup.specs.Pieces.{is_left_out, turned}
 

@@ -3,17 +3,17 @@ use Rattle.std.specs.Prelude.{◌≡◌, ◌<◌, ℕ, ℤ, pos, ◌⊎◌, IsTr
 use Rattle.std.specs.List.{swap, flat_map, All}
 use Rattle.std.specs.Ordering.{int_eq}
 use Rattle.cull_base.specs.declared.clip.ClipVertex.{ClipVertex}
-use Rattle.cull_base.specs.declared.clip.Side.{Side}
-use Rattle.cull_base.specs.declared.clip.Side.TheVariants.{Occluder, Object}
-use Rattle.cull_base.specs.declared.clip.Winding.{Winding}
-use Rattle.cull_base.specs.declared.clip.Winding.TheVariants.{Both, DropClockwise, DropCounter}
+use Rattle.cull_base.specs.declared.triangle.Side.{Side}
+use Rattle.cull_base.specs.declared.triangle.Side.TheVariants.{Occluder, Object}
+use Rattle.cull_base.specs.declared.triangle.Winding.{Winding}
+use Rattle.cull_base.specs.declared.triangle.Winding.TheVariants.{Both, DropClockwise, DropCounter}
 use Rattle.cull_base.specs.declared.rect.Rect.{Rect}
 use Rattle.cull_base.specs.declared.scene_types.Tri.{Tri}
 use Rattle.cull_base.specs.Screen.{Dimensions}
 use Rattle.cull_base.specs.Guard.{is_past_guard}
-use Rattle.cull_base.specs.Piece.{Piece, doubled_area, first_pixel, pixel_behind}
+use Rattle.cull_base.specs.Piece.{Piece, doubled_area, first_pixel, end_pixel}
 use Rattle.cull_base.specs.Depth.{least_of, greatest_of}
-use Rattle.near_clip.specs.NearPart.{near_part, corner, is_inside}
+use Rattle.near_clip.specs.NearPart.{near_part, corner, is_in_front}
 use Rattle.snap_setup.specs.declared.snapping.Snapped.{Snapped}
 use Rattle.snap_setup.specs.Snapping.{snapped}
 
@@ -62,7 +62,7 @@ pieces_of v0 v1 v2 near size winding side = cond (is_any_past_guard v0 v1 v2 nea
 
 -- all of a triangle is behind the near plane
 abbrev pub IsBehind : ClipVertex → ClipVertex → ClipVertex → ℕ → Type 0
-IsBehind v0 v1 v2 near = (is_inside v0 near ≡ false) × (is_inside v1 near ≡ false) × (is_inside v2 near ≡ false)
+IsBehind v0 v1 v2 near = (is_in_front v0 near ≡ false) × (is_in_front v1 near ≡ false) × (is_in_front v2 near ≡ false)
 
 -- why a triangle gives no piece: a vertex is past the guard, all of it is behind the near plane, or each triangle of the polygon is left out
 abbrev pub GivesNone : ClipVertex → ClipVertex → ClipVertex → ℕ → Dimensions → Winding → Side → Type 0
@@ -77,7 +77,7 @@ box_around [] = None
 box_around (p ∷ ps) =
     let xs = map (λ s. s.x) (p ∷ ps) in
     let ys = map (λ s. s.y) (p ∷ ps) in
-    Some (record { x0 = first_pixel (least_of xs); y0 = first_pixel (least_of ys); x1 = pixel_behind (greatest_of xs); y1 = pixel_behind (greatest_of ys) })
+    Some (record { x0 = first_pixel (least_of xs); y0 = first_pixel (least_of ys); x1 = end_pixel (greatest_of xs); y1 = end_pixel (greatest_of ys) })
 
 -- the box of the snapped polygon, whatever its area; none where all of the triangle is behind the near plane
 unfoldable pub near_box_of : ClipVertex → ClipVertex → ClipVertex → ℕ → Dimensions → Option Rect

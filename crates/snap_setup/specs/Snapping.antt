@@ -1,11 +1,11 @@
 -- From clip space to the screen: coordinates in sixteenths of a pixel, and nearness.
 use Rattle.std.specs.Prelude.{ℕ, ℤ, pos, ◌*◌, ◌^◌, ◌≤◌, ◌≤ℤ◌, ◌+ℤ◌, ◌-ℤ◌, ◌*ℤ◌}
 use Rattle.std.specs.Int.RustNames.{unsigned_abs}
-use Rattle.cull_base.specs.declared.clip.Side.{Side}
-use Rattle.cull_base.specs.declared.clip.Side.TheVariants.{Occluder, Object}
+use Rattle.cull_base.specs.declared.triangle.Side.{Side}
+use Rattle.cull_base.specs.declared.triangle.Side.TheVariants.{Occluder, Object}
 use Rattle.cull_base.specs.Screen.{Dimensions}
-use Rattle.cull_base.specs.Bounds.{Near}
-use Rattle.cull_base.specs.Piece.{Within}
+use Rattle.cull_base.specs.Bounds.{Bounded}
+use Rattle.cull_base.specs.Piece.{IsCoordinate}
 use Rattle.cull_base.specs.Depth.{floor_of, ceiling_of}
 use Rattle.near_clip.specs.declared.hom_point.HomPoint.{HomPoint}
 use Rattle.near_clip.specs.Reach.{WithinScaled}
@@ -41,11 +41,11 @@ pub record IsInSight (p : HomPoint) : Type 0 where
   pub w_most : p.w ≤ℤ pos (2 ^ 49)
   pub x_beside : WithinScaled 16384 p.w p.x
   pub y_beside : WithinScaled 16384 p.w p.y
-  pub x_near : Near (2 ^ 49) p.x
-  pub y_near : Near (2 ^ 49) p.y
+  pub x_near : Bounded (2 ^ 49) p.x
+  pub y_near : Bounded (2 ^ 49) p.y
 
 -- what is true of each snapped point
 pub record IsSnapped (s : Snapped) : Type 0 where
-  pub x_within : Within s.x
-  pub y_within : Within s.y
+  pub x_within : IsCoordinate s.x
+  pub y_within : IsCoordinate s.y
   pub nearness_within : s.q ≤ 65535

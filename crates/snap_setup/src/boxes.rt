@@ -3,8 +3,8 @@ ghost use Rattle.std.specs.Prelude.{◌≡◌, ◌≤◌, false, ◌↔◌, IsNo
 ghost use Rattle.std.specs.List.{All};
 ghost use Rattle.std.specs.Int.{int_min, int_max};
 ghost use Rattle.cull_base.specs.Guard.{is_past_guard};
-ghost use Rattle.cull_base.specs.Piece.{first_pixel, pixel_behind};
-ghost use Rattle.near_clip.specs.NearPart.{corner, is_inside};
+ghost use Rattle.cull_base.specs.Piece.{first_pixel, end_pixel};
+ghost use Rattle.near_clip.specs.NearPart.{corner, is_in_front};
 ghost use Rattle.snap_setup.specs.Snapping.{screen_x, screen_y, IsInSight};
 ghost use Rattle.snap_setup.specs.Pieces.{near_box_of};
 
@@ -31,7 +31,7 @@ fn first_of(least: i32) -> i32
 }
 
 fn behind(greatest: i32) -> i32
-    ensures { result ≡ pixel_behind greatest }
+    ensures { result ≡ end_pixel greatest }
 {
     greatest.div_euclid(16) + 1
 }
@@ -72,7 +72,7 @@ impl Extent {
     }
 
     fn boxed(self) -> Rect
-        ensures { result ≡ record { x0 = first_pixel self.left; y0 = first_pixel self.top; x1 = pixel_behind self.right; y1 = pixel_behind self.bottom } }
+        ensures { result ≡ record { x0 = first_pixel self.left; y0 = first_pixel self.top; x1 = end_pixel self.right; y1 = end_pixel self.bottom } }
     {
         Rect {
             x0: first_of(self.left),
@@ -90,7 +90,7 @@ pub fn near_box(tri: &[ClipVertex; 3], near: u16, size: Size) -> Option<Rect>
     requires near_most { near ≤ 1024 }
     requires guarded { All (λ v. is_past_guard v near ≡ false) tri.now }
     ensures value { result ≡ near_box_of (corner tri.now 0) (corner tri.now 1) (corner tri.now 2) near size }
-    ensures none { IsNone result ↔ All (λ v. is_inside v near ≡ false) tri.now }
+    ensures none { IsNone result ↔ All (λ v. is_in_front v near ≡ false) tri.now }
 {
     let polygon = clip_near(tri, near);
     if polygon.len() == 0 {

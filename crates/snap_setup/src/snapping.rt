@@ -1,7 +1,7 @@
 //! Where a point stands on the screen, and how near it is.
 ghost use Rattle.std.specs.Prelude.{◌≡◌, ℤ, pos, neg_ℤ, ◌*◌, ◌^◌, ◌*ℤ◌, ◌+ℤ◌, ◌≤ℤ◌, ◌≤◌};
-ghost use Rattle.cull_base.specs.Bounds.{Near};
-ghost use Rattle.cull_base.specs.Piece.{Within};
+ghost use Rattle.cull_base.specs.Bounds.{Bounded};
+ghost use Rattle.cull_base.specs.Piece.{IsCoordinate};
 ghost use Rattle.near_clip.specs.Reach.{IsInReach};
 ghost use Rattle.snap_setup.specs.Snapping.{round_half, screen_x, screen_y, nearness_of, snapped, IsInSight, IsSnapped};
 
@@ -24,14 +24,14 @@ const NEAREST: u64 = 65535;
 fn wide_product(a: u32, b: i64) -> i128
     requires { a ≤ 2 ^ 15 }
     ensures value { result ≡ pos a *ℤ b }
-    ensures near { Near (2 ^ 78) result }
+    ensures bounded { Bounded (2 ^ 78) result }
 {
     i128::from(a) * i128::from(b)
 }
 
 #[inline(always)]
 fn wide_sum(a: i128, b: i64) -> i128
-    requires { Near (2 ^ 78) a }
+    requires { Bounded (2 ^ 78) a }
     ensures { result ≡ a +ℤ b }
 {
     a + i128::from(b)
@@ -45,7 +45,7 @@ fn rounded(pixels: u16, offset: i64, w: i64) -> i32
     requires w_least { pos 1 ≤ℤ w }
     requires w_most { w ≤ℤ pos (2 ^ 49) }
     ensures value { result ≡ round_half (pos (8 * pixels) *ℤ offset) w }
-    ensures within { Within result }
+    ensures within { IsCoordinate result }
 {
     let doubled = wide_product(16 * u32::from(pixels), offset);
     floor_quotient(wide_sum(doubled, w), 2 * w) as i32
@@ -55,7 +55,7 @@ fn rounded(pixels: u16, offset: i64, w: i64) -> i32
 pub(crate) fn place_x(point: &HomPoint, size: Size) -> i32
     requires { IsInSight point.now }
     ensures value { result ≡ screen_x point.now size }
-    ensures within { Within result }
+    ensures within { IsCoordinate result }
 {
     rounded(size.width(), point.x + point.w, point.w)
 }
@@ -64,7 +64,7 @@ pub(crate) fn place_x(point: &HomPoint, size: Size) -> i32
 pub(crate) fn place_y(point: &HomPoint, size: Size) -> i32
     requires { IsInSight point.now }
     ensures value { result ≡ screen_y point.now size }
-    ensures within { Within result }
+    ensures within { IsCoordinate result }
 {
     rounded(size.height(), point.w - point.y, point.w)
 }

@@ -1,9 +1,9 @@
 //! The pieces of one triangle.
 ghost use Rattle.std.specs.Prelude.{◌≡◌, ℤ, pos, [], false, ◌≤◌, ◌^◌, ◌-ℤ◌, ◌*ℤ◌, ◌<ℤ◌, ◌↔◌, Some, length};
 ghost use Rattle.std.specs.List.{All};
-ghost use Rattle.cull_base.specs.Bounds.{Near};
+ghost use Rattle.cull_base.specs.Bounds.{Bounded};
 ghost use Rattle.cull_base.specs.Guard.{is_past_guard};
-ghost use Rattle.cull_base.specs.Piece.{Within, doubled_area};
+ghost use Rattle.cull_base.specs.Piece.{IsCoordinate, doubled_area};
 ghost use Rattle.near_clip.specs.NearPart.{corner};
 ghost use Rattle.snap_setup.specs.Pieces.{triangle, is_dropped, pieces_of, kept_of, snapped_part, is_any_past_guard, GivesNone};
 ghost use Rattle.snap_setup.specs.Judged.{piece_if};
@@ -17,28 +17,28 @@ use near_clip::clip_near;
 
 #[inline(always)]
 fn difference(a: i32, b: i32) -> i64
-    requires a_within { Within a }
-    requires b_within { Within b }
+    requires a_within { IsCoordinate a }
+    requires b_within { IsCoordinate b }
     ensures value { result ≡ a -ℤ b }
-    ensures near { Near (2 ^ 30) result }
+    ensures bounded { Bounded (2 ^ 30) result }
 {
     i64::from(a) - i64::from(b)
 }
 
 #[inline(always)]
 fn product(a: i64, b: i64) -> i64
-    requires a_near { Near (2 ^ 30) a }
-    requires b_near { Near (2 ^ 30) b }
+    requires a_bounded { Bounded (2 ^ 30) a }
+    requires b_bounded { Bounded (2 ^ 30) b }
     ensures value { result ≡ a *ℤ b }
-    ensures near { Near (2 ^ 60) result }
+    ensures bounded { Bounded (2 ^ 60) result }
 {
     a * b
 }
 
 #[inline(always)]
 fn minus(a: i64, b: i64) -> i64
-    requires a_near { Near (2 ^ 60) a }
-    requires b_near { Near (2 ^ 60) b }
+    requires a_bounded { Bounded (2 ^ 60) a }
+    requires b_bounded { Bounded (2 ^ 60) b }
     ensures { result ≡ a -ℤ b }
 {
     a - b

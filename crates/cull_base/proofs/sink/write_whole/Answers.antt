@@ -15,7 +15,7 @@ loop-rest-preserved g c =
         part.0 + n,
         omega (arith, length-drop part.0 piece, within, part.1),
         c.behind-rest.ensures ∙ ap (drop n) rest ∙ drop-drop n part.0 piece,
-        appends_more _ _ _ piece c.loop-rest.rest.now part.0 n rest part.3 c.in_ok-n.ensures.appended,
+        appends_more (g.W.Sink.says c.args.sink.now) (g.W.Sink.says c.loop-rest.sink) (g.W.Sink.says c.write.new.self) piece c.loop-rest.rest.now part.0 n rest part.3 c.in_ok-n.ensures.appended,
       );
       faults = omega (arith, c.loop-rest.invariant.faults, c.in_ok-n.ensures.faults_stay);
       refusals = omega (arith, c.loop-rest.invariant.refusals, c.in_ok-n.ensures.refusals_stay);

@@ -1,7 +1,7 @@
 use Rattle.std.proofs.Common.{◌≡◌, ℤ, pos, ◌^◌, ◌+ℤ◌, ◌-ℤ◌, ◌*ℤ◌, ◌≤ℤ◌, ◌<ℤ◌, arith, FitsSigned}
 use Rattle.std.specs.Int.{w128}
 use Rattle.std.proofs.lemmas.Int.{ints, to_z-of_z}
-use Rattle.cull_base.specs.Bounds.{Near}
+use Rattle.cull_base.specs.Bounds.{Bounded}
 use Rattle.cull_base.specs.Depth.{floor_of}
 use Rattle.depth_plane.proofs.Floors.{floor_of-le, floor_of-lt}
 use Rattle.depth_plane.proofs.quotient.remainder.Goals as goal
@@ -12,10 +12,10 @@ least n d w h e = rw e (floor_of-le n d h)
 above : (n d w : ℤ) → pos 0 <ℤ d → w ≡ floor_of n d → n <ℤ ((w *ℤ d) +ℤ d)
 above n d w h e = rw e (floor_of-lt n d h)
 
-product_fits : (n d p : ℤ) → Near (2 ^ 80) n → d ≤ℤ pos (2 ^ 61) → p ≤ℤ n → n <ℤ (p +ℤ d) → FitsSigned w128 p
+product_fits : (n d p : ℤ) → Bounded (2 ^ 80) n → d ≤ℤ pos (2 ^ 61) → p ≤ℤ n → n <ℤ (p +ℤ d) → FitsSigned w128 p
 product_fits n d p hn hd l g = omega (arith, ints)
 
-rest_fits : (n d p : ℤ) → Near (2 ^ 80) n → d ≤ℤ pos (2 ^ 61) → p ≤ℤ n → n <ℤ (p +ℤ d) → FitsSigned w128 (n -ℤ p)
+rest_fits : (n d p : ℤ) → Bounded (2 ^ 80) n → d ≤ℤ pos (2 ^ 61) → p ≤ℤ n → n <ℤ (p +ℤ d) → FitsSigned w128 (n -ℤ p)
 rest_fits n d p hn hd l g = omega (arith, ints)
 
 split : (n p : ℤ) → n ≡ p +ℤ (n -ℤ p)

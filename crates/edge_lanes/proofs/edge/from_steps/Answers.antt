@@ -19,9 +19,9 @@ invariant_of-result c =
     let fh : FitsSigned w64 c.highest.result = search rules in
     let fl : FitsSigned w64 c.lowest.result = search rules in
     record {
-      start_near = simp to_z-of_z c.requires.start;
-      column_near = simp to_z-of_z c.requires.column;
-      row_near = simp to_z-of_z c.requires.row;
+      start_bounded = simp to_z-of_z c.requires.start;
+      column_bounded = simp to_z-of_z c.requires.column;
+      row_bounded = simp to_z-of_z c.requires.row;
       are_offsets = simp to_z-of_z;
       is_highest = let e = simp to_z-of_z at c.highest.ensures in simp to_z-of_z e;
       is_lowest = let e = simp to_z-of_z at c.lowest.ensures in simp to_z-of_z e;

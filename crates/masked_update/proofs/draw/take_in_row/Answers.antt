@@ -63,6 +63,6 @@ bounds-states-tile c =
 
 pub returns : goal.returns
 returns c =
-    let end : c.loop-column.column ≡ c.args.span.behind_column = omega (arith, c.loop-column-test.false, c.loop-column.auto.column-end, c.requires.span.columns) in
+    let end : c.loop-column.column ≡ c.args.span.end_column = omega (arith, c.loop-column-test.false, c.loop-column.auto.column-end, c.requires.span.columns) in
     let f : ℕ → TileOf → TileOf = λ t y. taken_by c.args.size t c.args.piece.now.tri y in
     subst (λ n. Where (in_row (tile_columns_of c.args.size) c.args.row c.args.span.first_column n) f (tile_columns_of c.args.size * tile_rows_of c.args.size) c.args.states.now c.loop-column.states) end c.loop-column.invariant

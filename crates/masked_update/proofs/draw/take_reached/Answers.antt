@@ -17,7 +17,7 @@ loop-row-preserved c =
 pub returns-clause-taken : goal.returns-clause-taken
 returns-clause-taken c t h =
     let columns = tile_columns_of c.args.size in
-    let end : c.loop-row.row ≡ c.of-span.result.behind_row = omega (arith, c.loop-row-test.false, c.loop-row.auto.row-end, c.of-span.ensures.span.rows) in
+    let end : c.loop-row.row ≡ c.of-span.result.end_row = omega (arith, c.loop-row-test.false, c.loop-row.auto.row-end, c.of-span.ensures.span.rows) in
     c.loop-row.invariant t h
     ∙ ap (λ n. taken_where (is_between c.of-span.result.first_row n (t / columns) && has_column c.of-span.result (t % columns)) c.args.size t c.args.tri.now (tile_at c.args.states.now t)) end
     ∙ ap (λ b. taken_where b c.args.size t c.args.tri.now (tile_at c.args.states.now t)) (c.of-span.ensures.tiles t h)

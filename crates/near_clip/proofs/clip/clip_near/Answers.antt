@@ -1,5 +1,5 @@
 use Rattle.std.proofs.Common.{◌≡◌, false, arith, ◌∙◌, sym}
-use Rattle.near_clip.specs.NearPart.{corner, is_inside}
+use Rattle.near_clip.specs.NearPart.{corner, is_in_front}
 use Rattle.near_clip.proofs.Guarded.{guarded}
 use Rattle.near_clip.proofs.Reaches.{near_part_reaches, near_part-empty, near_part-outside, all_corners}
 use Rattle.near_clip.proofs.clip.clip_near.Goals as goal
@@ -18,6 +18,6 @@ pub returns-clause-empty : goal.returns-clause-empty
 returns-clause-empty c =
     let v0 = corner c.args.tri.now 0 in let v1 = corner c.args.tri.now 1 in let v2 = corner c.args.tri.now 2 in
     let n = c.args.near in (
-      λ e. let (a, b, d) = near_part-empty v0 v1 v2 n (sym c.part.ensures ∙ e) in all_corners (λ v. is_inside v n ≡ false) c.args.tri.now c.told-tri a b d,
+      λ e. let (a, b, d) = near_part-empty v0 v1 v2 n (sym c.part.ensures ∙ e) in all_corners (λ v. is_in_front v n ≡ false) c.args.tri.now c.told-tri a b d,
       λ h. c.part.ensures ∙ near_part-outside v0 v1 v2 n (h 0 _ (omega (arith, c.told-tri))) (h 1 _ (omega (arith, c.told-tri))) (h 2 _ (omega (arith, c.told-tri))),
     )

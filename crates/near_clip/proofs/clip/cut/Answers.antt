@@ -2,40 +2,40 @@ use Rattle.std.proofs.Common.{◌≡◌, ◌*ℤ◌, ◌+ℤ◌, ◌-ℤ◌, ℕ
 use Rattle.std.proofs.lemmas.Int.{ints, to_z-of_z}
 use Rattle.cull_base.specs.declared.clip.ClipVertex.{ClipVertex}
 use Rattle.near_clip.specs.declared.hom_point.HomPoint.{HomPoint}
-use Rattle.near_clip.specs.NearPart.{cut_of}
+use Rattle.near_clip.specs.NearPart.{cut_point}
 use Rattle.near_clip.proofs.Guarded.{guarded, narrowed}
 use Rattle.near_clip.proofs.clip.cut.Goals as goal
 
 pub difference-q-requires-clause-b : goal.difference-q-requires-clause-b
-difference-q-requires-clause-b c = let f : FitsSigned w64 c.args.outside.now.w = search rules in simp to_z-of_z (narrowed c.args.near _ c.requires.near (guarded c.args.outside.now c.args.near c.requires.outside).w_within)
+difference-q-requires-clause-b c = let f : FitsSigned w64 c.args.outside.now.w = search rules in simp to_z-of_z (narrowed c.args.near _ c.requires.bounded (guarded c.args.outside.now c.args.near c.requires.outside).w_within)
 
 pub joined-requires-clause-b : goal.joined-requires-clause-b
-joined-requires-clause-b c = let f : FitsSigned w64 c.args.outside.now.x = search rules in simp to_z-of_z (narrowed c.args.near _ c.requires.near (guarded c.args.outside.now c.args.near c.requires.outside).x_within)
+joined-requires-clause-b c = let f : FitsSigned w64 c.args.outside.now.x = search rules in simp to_z-of_z (narrowed c.args.near _ c.requires.bounded (guarded c.args.outside.now c.args.near c.requires.outside).x_within)
 
 pub joined-requires-clause-a : goal.joined-requires-clause-a
-joined-requires-clause-a c = let f : FitsSigned w64 c.args.inside.now.x = search rules in simp to_z-of_z (narrowed c.args.near _ c.requires.near (guarded c.args.inside.now c.args.near c.requires.inside).x_within)
+joined-requires-clause-a c = let f : FitsSigned w64 c.args.inside.now.x = search rules in simp to_z-of_z (narrowed c.args.near _ c.requires.bounded (guarded c.args.inside.now c.args.near c.requires.inside).x_within)
 
 pub joined-requires-2-clause-b : goal.joined-requires-2-clause-b
-joined-requires-2-clause-b c = let f : FitsSigned w64 c.args.outside.now.y = search rules in simp to_z-of_z (narrowed c.args.near _ c.requires.near (guarded c.args.outside.now c.args.near c.requires.outside).y_within)
+joined-requires-2-clause-b c = let f : FitsSigned w64 c.args.outside.now.y = search rules in simp to_z-of_z (narrowed c.args.near _ c.requires.bounded (guarded c.args.outside.now c.args.near c.requires.outside).y_within)
 
 pub joined-requires-2-clause-a : goal.joined-requires-2-clause-a
-joined-requires-2-clause-a c = let f : FitsSigned w64 c.args.inside.now.y = search rules in simp to_z-of_z (narrowed c.args.near _ c.requires.near (guarded c.args.inside.now c.args.near c.requires.inside).y_within)
+joined-requires-2-clause-a c = let f : FitsSigned w64 c.args.inside.now.y = search rules in simp to_z-of_z (narrowed c.args.near _ c.requires.bounded (guarded c.args.inside.now c.args.near c.requires.inside).y_within)
 
 pub joined-requires-3-clause-b : goal.joined-requires-3-clause-b
-joined-requires-3-clause-b c = let f : FitsSigned w64 c.args.outside.now.w = search rules in simp to_z-of_z (narrowed c.args.near _ c.requires.near (guarded c.args.outside.now c.args.near c.requires.outside).w_within)
+joined-requires-3-clause-b c = let f : FitsSigned w64 c.args.outside.now.w = search rules in simp to_z-of_z (narrowed c.args.near _ c.requires.bounded (guarded c.args.outside.now c.args.near c.requires.outside).w_within)
 
 pub joined-requires-3-clause-a : goal.joined-requires-3-clause-a
-joined-requires-3-clause-a c = let f : FitsSigned w64 c.args.inside.now.w = search rules in simp to_z-of_z (narrowed c.args.near _ c.requires.near (guarded c.args.inside.now c.args.near c.requires.inside).w_within)
+joined-requires-3-clause-a c = let f : FitsSigned w64 c.args.inside.now.w = search rules in simp to_z-of_z (narrowed c.args.near _ c.requires.bounded (guarded c.args.inside.now c.args.near c.requires.inside).w_within)
 
 pub difference-requires-clause-a : goal.difference-requires-clause-a
-difference-requires-clause-a c = let f : FitsSigned w64 c.args.inside.now.w = search rules in simp to_z-of_z (narrowed c.args.near _ c.requires.near (guarded c.args.inside.now c.args.near c.requires.inside).w_within)
+difference-requires-clause-a c = let f : FitsSigned w64 c.args.inside.now.w = search rules in simp to_z-of_z (narrowed c.args.near _ c.requires.bounded (guarded c.args.inside.now c.args.near c.requires.inside).w_within)
 
 pub difference-requires-clause-b : goal.difference-requires-clause-b
-difference-requires-clause-b c = let f : FitsSigned w64 c.args.outside.now.w = search rules in simp to_z-of_z (narrowed c.args.near _ c.requires.near (guarded c.args.outside.now c.args.near c.requires.outside).w_within)
+difference-requires-clause-b c = let f : FitsSigned w64 c.args.outside.now.w = search rules in simp to_z-of_z (narrowed c.args.near _ c.requires.bounded (guarded c.args.outside.now c.args.near c.requires.outside).w_within)
 
 cut_is : (a b : ClipVertex) (near : ℕ) (n p q x y w s : ℤ) → n ≡ pos near → p ≡ a.w -ℤ n → q ≡ n -ℤ b.w →
     x ≡ (p *ℤ b.x) +ℤ (q *ℤ a.x) → y ≡ (p *ℤ b.y) +ℤ (q *ℤ a.y) → w ≡ (p *ℤ b.w) +ℤ (q *ℤ a.w) → s ≡ a.w -ℤ b.w →
-    let r : HomPoint = record { x = x; y = y; w = w; scale = s } in r ≡ cut_of a b near
+    let r : HomPoint = record { x = x; y = y; w = w; scale = s } in r ≡ cut_point a b near
 cut_is a b near n p q x y w s en ep eq ex ey ew es = rw (ex, ey, ew, es, ep, eq, en) refl
 
 pub returns : goal.returns

@@ -1,17 +1,17 @@
 use Rattle.std.proofs.Common.{◌≡◌, ◌*ℤ◌, ◌+ℤ◌, ℕ, ℤ, pos, FitsSigned, w32, w64, to_z, of_z, arith, rules, ◌*◌, refl}
 use Rattle.std.specs.Int.{w128}
 use Rattle.std.proofs.lemmas.Int.{ints, to_z-of_z}
-use Rattle.cull_base.specs.Bounds.{Near}
-use Rattle.cull_base.specs.Piece.{Within}
+use Rattle.cull_base.specs.Bounds.{Bounded}
+use Rattle.cull_base.specs.Piece.{IsCoordinate}
 use Rattle.cull_base.specs.Depth.{floor_of}
 use Rattle.snap_setup.specs.Snapping.{round_half}
 use Rattle.snap_setup.proofs.Floors.{rounded_is, rounded_near}
 use Rattle.snap_setup.proofs.snapping.rounded.Goals as goal
 
-fits32 : (q r : ℤ) → q ≡ r → Near 268451840 r → FitsSigned w32 q
+fits32 : (q r : ℤ) → q ≡ r → Bounded 268451840 r → FitsSigned w32 q
 fits32 q r e h = rw e (omega (arith, ints, h))
 
-within : (q r : ℤ) → q ≡ r → Near 268451840 r → Within q
+within : (q r : ℤ) → q ≡ r → Bounded 268451840 r → IsCoordinate q
 within q r e h = rw e (omega (arith, ints, h), omega (arith, ints, h))
 
 -- what `floor_quotient` answered

@@ -1,18 +1,18 @@
 use Rattle.std.proofs.Common.{◌*ℤ◌, ◌^◌, FitsSigned, w64, arith}
 use Rattle.std.proofs.lemmas.Int.{ints, to_z-of_z}
-use Rattle.cull_base.proofs.Bounds.{near-mul}
+use Rattle.cull_base.proofs.Bounds.{bounded-mul}
 use Rattle.snap_setup.proofs.triangle.product.Goals as goal
 
 pub returns-clause-value : goal.returns-clause-value
 returns-clause-value c =
     let a : FitsSigned w64 c.args.a = c.ranges.a in let b : FitsSigned w64 c.args.b = c.ranges.b in
-    let n = near-mul (2 ^ 30) (2 ^ 30) c.args.a c.args.b c.requires.a_near c.requires.b_near in
+    let n = bounded-mul (2 ^ 30) (2 ^ 30) c.args.a c.args.b c.requires.a_bounded c.requires.b_bounded in
     let p : FitsSigned w64 (c.args.a *ℤ c.args.b) = omega (arith, ints, n) in
     simp to_z-of_z
 
-pub returns-clause-near : goal.returns-clause-near
-returns-clause-near c =
+pub returns-clause-bounded : goal.returns-clause-bounded
+returns-clause-bounded c =
     let a : FitsSigned w64 c.args.a = c.ranges.a in let b : FitsSigned w64 c.args.b = c.ranges.b in
-    let n = near-mul (2 ^ 30) (2 ^ 30) c.args.a c.args.b c.requires.a_near c.requires.b_near in
+    let n = bounded-mul (2 ^ 30) (2 ^ 30) c.args.a c.args.b c.requires.a_bounded c.requires.b_bounded in
     let p : FitsSigned w64 (c.args.a *ℤ c.args.b) = omega (arith, ints, n) in
     simp to_z-of_z n

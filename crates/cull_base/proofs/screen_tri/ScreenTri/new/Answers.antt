@@ -9,8 +9,8 @@ not_positive z a e le lt = omega (arith, ints)
 positive : (z a : ℤ) → z ≡ a → pos 0 <ℤ z → pos 0 <ℤ a
 positive z a e lt = omega (arith, ints)
 
-pub returns-then-doubled_area-le0 : goal.returns-then-doubled_area-le0
-returns-then-doubled_area-le0 c =
+pub returns-then-edge_value-le0 : goal.returns-then-edge_value-le0
+returns-then-edge_value-le0 c =
     let x0 : FitsSigned w32 (slice_index_or c.args.x 0 (pos 0)) = search rules in
     let x1 : FitsSigned w32 (slice_index_or c.args.x 1 (pos 0)) = search rules in
     let x2 : FitsSigned w32 (slice_index_or c.args.x 2 (pos 0)) = search rules in
@@ -18,8 +18,8 @@ returns-then-doubled_area-le0 c =
     let y1 : FitsSigned w32 (slice_index_or c.args.y 1 (pos 0)) = search rules in
     let y2 : FitsSigned w32 (slice_index_or c.args.y 2 (pos 0)) = search rules in
     let t : Piece = record { xs = c.args.x; ys = c.args.y; qs = c.args.q } in
-    let e : c.doubled_area.result ≡ doubled_area t = simp to_z-of_z at c.doubled_area.ensures in
-    let le : c.doubled_area.result ≤ℤ pos 0 = omega (arith, ints, c.if-doubled_area-le0.true, c.doubled_area.type_inv) in
+    let e : c.edge_value.result ≡ doubled_area t = simp to_z-of_z at c.edge_value.ensures.value in
+    let le : c.edge_value.result ≤ℤ pos 0 = omega (arith, ints, c.if-edge_value-le0.true, c.edge_value.type_inv) in
     record { value = λ h. not_positive _ _ e le h.positive_area; given = λ h. absurd (not_positive _ _ e le h.positive_area) }
 
 pub invariant_of-result : goal.invariant_of-result
@@ -31,8 +31,8 @@ invariant_of-result c =
     let y1 : FitsSigned w32 (slice_index_or c.args.y 1 (pos 0)) = search rules in
     let y2 : FitsSigned w32 (slice_index_or c.args.y 2 (pos 0)) = search rules in
     let t : Piece = record { xs = c.args.x; ys = c.args.y; qs = c.args.q } in
-    let e : c.doubled_area.result ≡ doubled_area t = simp to_z-of_z at c.doubled_area.ensures in
-    let gt : pos 0 <ℤ c.doubled_area.result = omega (arith, ints, c.if-doubled_area-le0.false, c.doubled_area.type_inv) in
+    let e : c.edge_value.result ≡ doubled_area t = simp to_z-of_z at c.edge_value.ensures.value in
+    let gt : pos 0 <ℤ c.edge_value.result = omega (arith, ints, c.if-edge_value-le0.false, c.edge_value.type_inv) in
     record {
       positive_area = positive _ _ e gt;
       x_within = c.if-not-are_within.ensures.0 (search rules);

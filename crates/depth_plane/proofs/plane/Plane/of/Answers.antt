@@ -1,7 +1,7 @@
 use Rattle.std.proofs.Common.{◌≡◌, ℤ, pos, ◌<ℤ◌, ◌≤ℤ◌, ◌^◌, ◌∙◌, ap, arith, FitsSigned, rules, w64, refl}
 use Rattle.std.specs.Int.{w128}
 use Rattle.std.proofs.lemmas.Int.{ints, to_z-of_z}
-use Rattle.cull_base.specs.Bounds.{Near}
+use Rattle.cull_base.specs.Bounds.{Bounded}
 use Rattle.cull_base.specs.Piece.{Piece, doubled_area}
 use Rattle.depth_plane.specs.Plane.{Coefficients, plane_of, numerator_at}
 use Rattle.depth_plane.proofs.Planes.{numerator_at-plane_of, area-plane_of, plane_of-computed}
@@ -10,7 +10,7 @@ use Rattle.depth_plane.proofs.plane.Plane.of.Goals as goal
 positive : (n : ℤ) (c : Coefficients) (t : Piece) → c ≡ plane_of t → pos 0 <ℤ doubled_area t → c.area ≡ n → pos 0 <ℤ n
 positive n c t e h en = let a = area-plane_of t in rw (← en, e, a) h
 
-within : (n : ℤ) → Near (2 ^ 61) n → n ≤ℤ pos (2 ^ 61)
+within : (n : ℤ) → Bounded (2 ^ 61) n → n ≤ℤ pos (2 ^ 61)
 within n h = omega (arith, ints, h)
 
 pub returns-clause-value : goal.returns-clause-value
@@ -33,11 +33,11 @@ invariant_of-result c =
     let fm : FitsSigned w128 c.from.result = search rules in
     let e = simp to_z-of_z at c.from.ensures in
     let is = simp to_z-of_z at (returns-clause-value c) in
-    let near = rw (← e) at c.area.ensures.near in
+    let near = rw (← e) at c.area.ensures.bounded in
     simp to_z-of_z (record {
-      across = c.across.ensures.near;
-      down = c.down.ensures.near;
-      level = c.level.ensures.near;
+      across = c.across.ensures.bounded;
+      down = c.down.ensures.bounded;
+      level = c.level.ensures.bounded;
       positive_area = positive c.from.result _ c.args.tri.now is c.of-vertices.ensures.valid.positive_area refl;
       area_within = within c.from.result near;
     })

@@ -3,11 +3,11 @@ use Rattle.std.specs.Int.{w128}
 use Rattle.std.proofs.lemmas.Int.{to_z-of_z}
 use Rattle.depth_plane.proofs.vertices.Vertices.down.Goals as goal
 
-pub returns-clause-near : goal.returns-clause-near
-returns-clause-near c =
+pub returns-clause-bounded : goal.returns-clause-bounded
+returns-clause-bounded c =
     let fa : FitsSigned w64 c.x_difference.result = search rules in
     let fb : FitsSigned w64 c.x_difference-2.result = search rules in
     let fc : FitsSigned w64 c.x_difference-3.result = search rules in
     let fr : FitsSigned w128 c.weighted.result = search rules in
     let h = simp to_z-of_z at c.weighted.ensures.nearer in
-    simp to_z-of_z (h c.x_difference.ensures.near c.x_difference-2.ensures.near c.x_difference-3.ensures.near)
+    simp to_z-of_z (h c.x_difference.ensures.bounded c.x_difference-2.ensures.bounded c.x_difference-3.ensures.bounded)

@@ -1,14 +1,14 @@
 use Rattle.std.proofs.Common.{◌≡◌, ℕ, ℤ, pos, ◌^◌, ◌≤◌, ◌*◌, ◌+ℤ◌, ◌*ℤ◌, FitsSigned, w64, rules, arith}
 use Rattle.std.specs.Int.{w128}
 use Rattle.std.proofs.lemmas.Int.{ints, to_z-of_z}
-use Rattle.cull_base.specs.Bounds.{Near}
-use Rattle.cull_base.proofs.Bounds.{near-mul}
+use Rattle.cull_base.specs.Bounds.{Bounded}
+use Rattle.cull_base.proofs.Bounds.{bounded-mul}
 use Rattle.depth_plane.proofs.vertices.Vertices.weighted.Goals as goal
 
-scaled_near : (q : ℕ) (a s : ℤ) → q ≤ 65535 → Near (2 ^ 30) a → s ≡ pos q *ℤ a → Near (65535 * 2 ^ 30) s
-scaled_near q a s h k e = rw e (near-mul 65535 (2 ^ 30) (pos q) a (omega (arith, ints), omega (arith, ints)) k)
+scaled_near : (q : ℕ) (a s : ℤ) → q ≤ 65535 → Bounded (2 ^ 30) a → s ≡ pos q *ℤ a → Bounded (65535 * 2 ^ 30) s
+scaled_near q a s h k e = rw e (bounded-mul 65535 (2 ^ 30) (pos q) a (omega (arith, ints), omega (arith, ints)) k)
 
-sum_near : (s t u r : ℤ) → r ≡ (s +ℤ t) +ℤ u → Near (65535 * 2 ^ 30) s → Near (65535 * 2 ^ 30) t → Near (65535 * 2 ^ 30) u → Near (2 ^ 48) r
+sum_near : (s t u r : ℤ) → r ≡ (s +ℤ t) +ℤ u → Bounded (65535 * 2 ^ 30) s → Bounded (65535 * 2 ^ 30) t → Bounded (65535 * 2 ^ 30) u → Bounded (2 ^ 48) r
 sum_near s t u r e hs ht hu = omega (arith, ints, e, hs, ht, hu)
 
 pub returns-clause-nearer : goal.returns-clause-nearer

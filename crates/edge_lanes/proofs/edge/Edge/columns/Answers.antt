@@ -4,13 +4,13 @@ use Rattle.edge_lanes.proofs.Lanes.{lane_test, mask_of_eight}
 use Rattle.edge_lanes.proofs.edge.Edge.columns.Goals as goal
 
 pub overflow_add-result : goal.overflow_add-result
-overflow_add-result c = let e = c.args.self.now.are_offsets in rw e (omega (arith, ints, c.requires, c.args.self.now.column_near, c.ranges))
+overflow_add-result c = let e = c.args.self.now.are_offsets in rw e (omega (arith, ints, c.requires, c.args.self.now.column_bounded, c.ranges))
 
 pub returns : goal.returns
 returns c =
     let e = c.args.self.now.are_offsets in
     let s = c.args.start in let t = c.args.self.now.column in
-    let near = c.args.self.now.column_near in
+    let near = c.args.self.now.column_bounded in
     let test = λ (k : ℕ) (p : FitsSigned w64 (t *ℤ pos k)) (q : FitsSigned w64 (s +ℤ (t *ℤ pos k))). lane_test s (t *ℤ pos k) c.ranges.start p q in
     rw e (mask_of_eight _ _ _ _ _ _ _ _ _ _ _ _ _ _ _ _
     (test 0 (omega (arith, ints)) (omega (arith, ints))) (test 1 (omega (arith, ints)) (omega (arith, ints)))

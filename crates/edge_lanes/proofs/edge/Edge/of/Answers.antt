@@ -1,6 +1,6 @@
 use Rattle.std.proofs.Common.{◌≡◌, ℕ, ℤ, pos, ◌*◌, ◌+◌, ◌+ℤ◌, ◌-ℤ◌, ◌*ℤ◌, neg_ℤ, FitsSigned, w32, w64, rules, Bool}
 use Rattle.std.proofs.lemmas.Int.{to_z-of_z}
-use Rattle.cull_base.specs.declared.clip.Side.{Side}
+use Rattle.cull_base.specs.declared.triangle.Side.{Side}
 use Rattle.edge_lanes.specs.Lanes.{bias_of}
 use Rattle.edge_lanes.specs.Inside.{value_at}
 use Rattle.edge_lanes.specs.declared.edge.Edge.{Edge}

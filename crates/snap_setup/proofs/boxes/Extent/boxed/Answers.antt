@@ -1,15 +1,15 @@
 use Rattle.std.proofs.Common.{rules, ◌≡◌, ℤ, FitsSigned, w32, refl}
 use Rattle.std.proofs.lemmas.Int.{to_z-of_z}
 use Rattle.cull_base.specs.declared.rect.Rect.{Rect}
-use Rattle.cull_base.specs.Piece.{first_pixel, pixel_behind}
+use Rattle.cull_base.specs.Piece.{first_pixel, end_pixel}
 use Rattle.snap_setup.specs.declared.boxes.Extent.{Extent}
 use Rattle.snap_setup.proofs.boxes.Extent.boxed.Goals as goal
 
 abbrev rectangle : ℤ → ℤ → ℤ → ℤ → Rect
 rectangle x0 y0 x1 y1 = record { x0 = x0; y0 = y0; x1 = x1; y1 = y1 }
 
-is_box : (e : Extent) (x0 y0 x1 y1 : ℤ) → x0 ≡ first_pixel e.left → y0 ≡ first_pixel e.top → x1 ≡ pixel_behind e.right → y1 ≡ pixel_behind e.bottom
-    → rectangle x0 y0 x1 y1 ≡ rectangle (first_pixel e.left) (first_pixel e.top) (pixel_behind e.right) (pixel_behind e.bottom)
+is_box : (e : Extent) (x0 y0 x1 y1 : ℤ) → x0 ≡ first_pixel e.left → y0 ≡ first_pixel e.top → x1 ≡ end_pixel e.right → y1 ≡ end_pixel e.bottom
+    → rectangle x0 y0 x1 y1 ≡ rectangle (first_pixel e.left) (first_pixel e.top) (end_pixel e.right) (end_pixel e.bottom)
 is_box e x0 y0 x1 y1 ea eb ec ed = rw (ea, eb, ec, ed) refl
 
 pub returns : goal.returns

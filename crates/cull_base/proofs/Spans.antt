@@ -8,8 +8,8 @@ use Rattle.cull_base.specs.declared.rect.Rect.{Rect}
 use Rattle.cull_base.specs.Rectangle.{meets, cut_of, common, no_pixels}
 use Rattle.cull_base.specs.Screen.{Dimensions, IsSize, screen_of, tile_columns_of, tile_rows_of, tile_count_of, tile_place, tile_rect_of}
 use Rattle.cull_base.proofs.Places.{row_below}
-use Rattle.masked_update.specs.Taken.{is_between, has_tile, IsSpan}
-use Rattle.masked_update.specs.declared.span.TileSpan.{TileSpan}
+use Rattle.cull_base.specs.Span.{is_between, has_tile, IsSpan}
+use Rattle.cull_base.specs.declared.tile_span.TileSpan.{TileSpan}
 
 pub same : (a b : Bool) → (a ≡ true → b ≡ true) → (b ≡ true → a ≡ true) → a ≡ b
 same true b f g = sym (f refl)
@@ -58,7 +58,7 @@ from_zero size a r e = subst FromZero (sym e) (by (meets a (screen_of size)) ref
 
 -- the tiles of the span
 abbrev pub span_of : ℕ → ℕ → ℕ → ℕ → TileSpan
-span_of x0 x1 y0 y1 = record { first_column = x0 / 32; behind_column = div_ceil x1 32; first_row = y0 / 8; behind_row = div_ceil y1 8 }
+span_of x0 x1 y0 y1 = record { first_column = x0 / 32; end_column = div_ceil x1 32; first_row = y0 / 8; end_row = div_ceil y1 8 }
 
 pub columns_some : (size : Dimensions) → IsSize size.width size.height → 0 < tile_columns_of size
 columns_some size valid = let wide = valid.wide in omega arith
@@ -155,7 +155,7 @@ span_within size a x0 x1 y0 y1 e0 e1 f0 f1 = by (meets a (screen_of size)) refl 
 
 -- the span of the pixels that a box shares with the screen
 pub span_is : (size : Dimensions) (a r : Rect) (x0 x1 y0 y1 c d : ℕ) → IsSize size.width size.height → r ≡ cut_of a (screen_of size) → pos x0 ≡ r.x0 → pos x1 ≡ r.x1 → pos y0 ≡ r.y0 → pos y1 ≡ r.y1
-    → c ≡ div_ceil x1 32 → d ≡ div_ceil y1 8 → let span : TileSpan = record { first_column = x0 / 32; behind_column = c; first_row = y0 / 8; behind_row = d } in
+    → c ≡ div_ceil x1 32 → d ≡ div_ceil y1 8 → let span : TileSpan = record { first_column = x0 / 32; end_column = c; first_row = y0 / 8; end_row = d } in
     ((t : ℕ) → t < tile_count_of size → has_tile span (tile_place size t) ≡ meets a (tile_rect_of size t)) × IsSpan size span
 span_is size a r x0 x1 y0 y1 c d valid e e0 e1 f0 f1 ec ed =
     let g0 = e0 ∙ ap (λ (k : Rect). k.x0) e in

@@ -1,0 +1,24 @@
+-- Columns and rows of tiles, each from a first to before an end.
+use Rattle.std.specs.Prelude.{ℕ, ◌≤◌, Bool, nat_le, nat_lt, ◌&&◌}
+use Rattle.cull_base.specs.Screen.{Dimensions, tile_columns_of, tile_rows_of}
+use Rattle.cull_base.specs.declared.place.Tile.{Tile}
+use Rattle.cull_base.specs.declared.tile_span.TileSpan.{TileSpan}
+
+-- from a first number to before an end
+abbrev pub is_between : ℕ → ℕ → ℕ → Bool
+is_between first end n = nat_le first n && nat_lt n end
+
+abbrev pub has_column : TileSpan → ℕ → Bool
+has_column span column = is_between span.first_column span.end_column column
+
+abbrev pub has_row : TileSpan → ℕ → Bool
+has_row span row = is_between span.first_row span.end_row row
+
+abbrev pub has_tile : TileSpan → Tile → Bool
+has_tile span place = has_row span place.row && has_column span place.column
+
+pub record IsSpan (size : Dimensions) (span : TileSpan) : Type 0 where
+  pub columns : span.first_column ≤ span.end_column
+  pub rows : span.first_row ≤ span.end_row
+  pub columns_within : span.end_column ≤ tile_columns_of size
+  pub rows_within : span.end_row ≤ tile_rows_of size

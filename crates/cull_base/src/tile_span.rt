@@ -1,0 +1,49 @@
+//! The tiles that a rectangle reaches, computed from it and not searched for.
+ghost use Rattle.std.specs.Prelude.{◌≡◌, ℕ, pos, ◌<◌, ◌≤ℤ◌};
+ghost use Rattle.cull_base.specs.Screen.{IsSize, tile_columns_of, tile_rows_of, tile_count_of, tile_place, tile_rect_of};
+ghost use Rattle.cull_base.specs.Rectangle.{meets};
+ghost use Rattle.cull_base.specs.Span.{has_tile};
+
+use crate::rect::Rect;
+use crate::size;
+use crate::size::Size;
+
+const TILE_WIDTH: u32 = size::TILE_WIDTH as u32;
+
+const TILE_HEIGHT: u32 = size::TILE_HEIGHT as u32;
+
+/// Columns and rows of tiles, each from a first to before an end.
+#[derive(Clone, Copy)]
+pub struct TileSpan {
+    pub first_column: u32,
+    pub end_column: u32,
+    pub first_row: u32,
+    pub end_row: u32,
+}
+
+fn pixel_of(place: i32) -> u32
+    requires { pos 0 ≤ℤ place }
+    ensures { pos result ≡ place }
+{
+    place as u32
+}
+
+impl TileSpan {
+    ghost use Rattle.cull_base.specs.Span.{IsSpan};
+
+    /// The tiles whose pixels on the screen meet a rectangle.
+    pub fn of(rect: &Rect, size: Size) -> TileSpan
+        ensures tiles { (t : ℕ) → t < tile_count_of size → has_tile result (tile_place size t) ≡ meets rect.now (tile_rect_of size t) }
+        ensures span { IsSpan size result }
+        ensures sized { IsSize size.width size.height }
+    {
+        let _width = size.width();
+        let reached = rect.cut(&size.screen());
+        TileSpan {
+            first_column: pixel_of(reached.x0) / TILE_WIDTH,
+            end_column: pixel_of(reached.x1).div_ceil(TILE_WIDTH),
+            first_row: pixel_of(reached.y0) / TILE_HEIGHT,
+            end_row: pixel_of(reached.y1).div_ceil(TILE_HEIGHT),
+        }
+    }
+}
