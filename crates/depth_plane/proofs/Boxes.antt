@@ -1,19 +1,20 @@
 -- A sample that a piece covers or touches lies in the piece's box.
-use Rattle.std.proofs.Common.{◌≡◌, ℕ, ℤ, pos, negsuc, ◌+◌, ◌*◌, ◌≤◌, ◌+ℤ◌, ◌*ℤ◌, ◌≤ℤ◌, ◌<ℤ◌, arith, true}
+use Rattle.std.proofs.Common.{◌≡◌, ℕ, ℤ, pos, negsuc, ◌+◌, ◌*◌, ◌≤◌, ◌+ℤ◌, ◌*ℤ◌, ◌≤ℤ◌, ◌<ℤ◌, arith, true, List, length, slice_index_or}
 use Rattle.std.specs.Int.{int_min, int_max}
 use Rattle.std.proofs.lemmas.Int.{ints, clamps}
-use Rattle.cull_base.specs.Piece.{Piece, IsPiece, vertex, edge_value, doubled_area, covers, touches, middle, box_of, least_of_three, greatest_of_three, first_pixel, end_pixel}
+use Rattle.cull_base.specs.Piece.{Piece, IsPiece, vertex, edge_value, doubled_area, covers, touches, middle, box_of, least_of, greatest_of, first_pixel, end_pixel}
+use Rattle.cull_base.proofs.Extents.{least_of_three, greatest_of_three}
 use Rattle.cull_base.specs.Rectangle.{HasPixel}
 use Rattle.depth_plane.proofs.Products.{mul_comm, le_from_times}
 use Rattle.depth_plane.proofs.Mean.{weights_of, touches_covered, mean_above, mean_below, mean_x, mean_y, total_of}
 
 -- a mean of three numbers lies between the least and the greatest
 between : (a b c w x y d p : ℤ) → pos 0 <ℤ d → pos 0 ≤ℤ w → pos 0 ≤ℤ x → pos 0 ≤ℤ y → d ≡ (w +ℤ x) +ℤ y → d *ℤ p ≡ ((w *ℤ a) +ℤ (x *ℤ b)) +ℤ (y *ℤ c) →
-    (int_min a (int_min b c) ≤ℤ p) × (p ≤ℤ int_max a (int_max b c))
+    (int_min (int_min a b) c ≤ℤ p) × (p ≤ℤ int_max (int_max a b) c)
 between a b c w x y d p h hw hx hy ed ep =
     let sum : p *ℤ d ≡ ((a *ℤ w) +ℤ (b *ℤ x)) +ℤ (c *ℤ y) = summed (mul_comm p d) (mul_comm w a) (mul_comm x b) (mul_comm y c) ep in (
-      le_from_times (int_min a (int_min b c)) p d h (mean_above a b c w x y (int_min a (int_min b c)) d (p *ℤ d) hw hx hy (omega (arith, ints, clamps)) (omega (arith, ints, clamps)) (omega (arith, ints, clamps)) ed sum),
-      le_from_times p (int_max a (int_max b c)) d h (mean_below a b c w x y (int_max a (int_max b c)) d (p *ℤ d) hw hx hy (omega (arith, ints, clamps)) (omega (arith, ints, clamps)) (omega (arith, ints, clamps)) ed sum),
+      le_from_times (int_min (int_min a b) c) p d h (mean_above a b c w x y (int_min (int_min a b) c) d (p *ℤ d) hw hx hy (omega (arith, ints, clamps)) (omega (arith, ints, clamps)) (omega (arith, ints, clamps)) ed sum),
+      le_from_times p (int_max (int_max a b) c) d h (mean_below a b c w x y (int_max (int_max a b) c) d (p *ℤ d) hw hx hy (omega (arith, ints, clamps)) (omega (arith, ints, clamps)) (omega (arith, ints, clamps)) ed sum),
     )
   where
     summed : p *ℤ d ≡ d *ℤ p → w *ℤ a ≡ a *ℤ w → x *ℤ b ≡ b *ℤ x → y *ℤ c ≡ c *ℤ y → d *ℤ p ≡ ((w *ℤ a) +ℤ (x *ℤ b)) +ℤ (y *ℤ c) → p *ℤ d ≡ ((a *ℤ w) +ℤ (b *ℤ x)) +ℤ (c *ℤ y)
@@ -31,6 +32,11 @@ pixel_between low high px l h = (from low l, before high h)
     before (pos a) l = let k : 16 * px + 8 ≤ a = omega (arith, ints, l) in omega (arith, ints)
     before (negsuc a) l = absurd (omega (arith, ints, l))
 
+-- three coordinates around that of a pixel's sample
+spanned : (vs : List ℤ) (pixel : ℕ) → length vs ≡ 3 → let a = slice_index_or vs 0 (pos 0) in let b = slice_index_or vs 1 (pos 0) in let c = slice_index_or vs 2 (pos 0) in
+    (int_min (int_min a b) c ≤ℤ pos (16 * pixel + 8)) × (pos (16 * pixel + 8) ≤ℤ int_max (int_max a b) c) → (first_pixel (least_of vs) ≤ℤ pos pixel) × (pos pixel <ℤ end_pixel (greatest_of vs))
+spanned vs pixel three (low, high) = pixel_between (least_of vs) (greatest_of vs) pixel (rw (← least_of_three vs three) low) (rw (← greatest_of_three vs three) high)
+
 pub touches-in_box : (t : Piece) (px py : ℕ) → IsPiece t → touches t (middle px py) ≡ true → HasPixel (box_of t) (pos px) (pos py)
 touches-in_box t px py h e =
     let p = middle px py in
@@ -38,8 +44,8 @@ touches-in_box t px py h e =
     let a = vertex t 0 in let b = vertex t 1 in let c = vertex t 2 in
     let x = between a.x b.x c.x (edge_value b c p) (edge_value c a p) (edge_value a b p) (doubled_area t) p.x h.positive_area w.first w.second w.third (total_of t p) (mean_x a.x a.y b.x b.y c.x c.y p.x p.y) in
     let y = between a.y b.y c.y (edge_value b c p) (edge_value c a p) (edge_value a b p) (doubled_area t) p.y h.positive_area w.first w.second w.third (total_of t p) (mean_y a.x a.y b.x b.y c.x c.y p.x p.y) in
-    let m = pixel_between (least_of_three t.xs) (greatest_of_three t.xs) px x.0 x.1 in
-    let n = pixel_between (least_of_three t.ys) (greatest_of_three t.ys) py y.0 y.1 in
+    let m = spanned t.xs px h.three_x x in
+    let n = spanned t.ys py h.three_y y in
     (m.0, m.1, n.0, n.1)
 
 pub covers-in_box : (t : Piece) (px py : ℕ) → IsPiece t → covers t (middle px py) ≡ true → HasPixel (box_of t) (pos px) (pos py)

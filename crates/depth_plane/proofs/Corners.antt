@@ -6,8 +6,7 @@ use Rattle.std.proofs.Math.Nat.{mul-le-mul_left}
 use Rattle.std.proofs.lemmas.Int.{ints, fold-int_min_bounds, fold-int_min_reached, fold-int_max_bounds, fold-int_max_reached}
 use Rattle.std.proofs.lemmas.List.FromFn.{length-map-range_with_len, get_or-map-range_with_len}
 use Rattle.std.proofs.lemmas.List.Elements.{All-get_or}
-use Rattle.cull_base.specs.Piece.{Point, sample, each_sample}
-use Rattle.cull_base.specs.Depth.{least_of, greatest_of}
+use Rattle.cull_base.specs.Piece.{least_of, greatest_of, Point, sample, each_sample}
 use Rattle.cull_base.specs.declared.place.Sub.{Sub}
 use Rattle.depth_plane.specs.Plane.{Coefficients, numerator_at}
 use Rattle.depth_plane.specs.Corner.{least_place, greatest_place}

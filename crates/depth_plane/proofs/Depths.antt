@@ -3,8 +3,9 @@ use Rattle.std.proofs.Common.{◌≡◌, ℕ, ℤ, pos, negsuc, ◌≤◌, ◌<�
 use Rattle.std.specs.Int.{int_min, int_max}
 use Rattle.std.proofs.lemmas.Int.{ints, clamps}
 use Rattle.std.proofs.lemmas.List.Elements.{All-get_or}
-use Rattle.cull_base.specs.Piece.{Piece, IsPiece, touches, sample, each_sample, nearness}
-use Rattle.cull_base.specs.Depth.{numerator, denominator, least_of, greatest_of, floor_of, ceiling_of, in_range, least_nearness, greatest_nearness, low_of, high_of, DepthAtLeast}
+use Rattle.cull_base.specs.Piece.{least_of, greatest_of, Piece, IsPiece, touches, sample, each_sample, nearness}
+use Rattle.cull_base.specs.declared.nearness.TheConstants.{HELD_TOP}
+use Rattle.cull_base.specs.Depth.{numerator, denominator, floor_of, ceiling_of, cut_to_range, least_nearness, greatest_nearness, low_of, high_of, DepthAtLeast}
 use Rattle.cull_base.specs.declared.place.Sub.{Sub}
 use Rattle.depth_plane.specs.Plane.{Coefficients, plane_of, numerator_at, DepthAtMost}
 use Rattle.depth_plane.proofs.Products.{le_times}
@@ -13,11 +14,11 @@ use Rattle.depth_plane.proofs.Corners.{least_of-le, greatest_of-ge}
 use Rattle.depth_plane.proofs.Mean.{weights_of, numerator_above, numerator_below}
 use Rattle.depth_plane.proofs.Planes.{area-plane_of, each_sample-plane_of}
 
-in_range-le : (z : ℤ) → pos 0 ≤ℤ z → pos (in_range z) ≤ℤ z
+in_range-le : (z : ℤ) → pos 0 ≤ℤ z → pos (cut_to_range HELD_TOP z) ≤ℤ z
 in_range-le (pos n) h = omega (arith, ints)
 in_range-le (negsuc n) h = absurd (omega (arith, ints, h))
 
-in_range-ge : (z : ℤ) → z ≤ℤ pos 65535 → z ≤ℤ pos (in_range z)
+in_range-ge : (z : ℤ) → z ≤ℤ pos 65535 → z ≤ℤ pos (cut_to_range HELD_TOP z)
 in_range-ge (pos n) h = let l : n ≤ 65535 = omega (arith, ints, h) in omega (arith, ints)
 in_range-ge (negsuc n) h = omega (arith, ints)
 
@@ -53,7 +54,7 @@ low_of-below t u k h lt e =
     let by_floor = at_floor (floor_of l d *ℤ d) l (f k) (floor_of-le l d h.positive_area) (least_of-le f k lt) in
     let z = int_max (pos (least_nearness t)) (floor_of l d) in
     let s = int_max-left (pos (least_nearness t)) (floor_of l d) in
-    at_most (pos (in_range z)) z d (f k) h.positive_area (in_range-le z (not_negative (least_nearness t) z s)) (int_max-times (pos (least_nearness t)) (floor_of l d) d (f k) by_nearness by_floor)
+    at_most (pos (cut_to_range HELD_TOP z)) z d (f k) h.positive_area (in_range-le z (not_negative (least_nearness t) z s)) (int_max-times (pos (least_nearness t)) (floor_of l d) d (f k) by_nearness by_floor)
   where
     at_floor : (a b c : ℤ) → a ≤ℤ b → b ≤ℤ c → a ≤ℤ c
     at_floor a b c p q = omega (arith, ints)
@@ -73,7 +74,7 @@ high_of-above t u k h lt e =
     let z = int_min (pos (greatest_nearness t)) (ceiling_of g d) in
     let s = int_min-left (pos (greatest_nearness t)) (ceiling_of g d) in
     let a = nearness_small t 0 h (omega arith) in let b = nearness_small t 1 h (omega arith) in let c = nearness_small t 2 h (omega arith) in
-    at_least (pos (in_range z)) z d (f k) h.positive_area (in_range-ge z (small (greatest_nearness t) z (omega arith) s)) (int_min-times (pos (greatest_nearness t)) (ceiling_of g d) d (f k) by_nearness by_ceiling)
+    at_least (pos (cut_to_range HELD_TOP z)) z d (f k) h.positive_area (in_range-ge z (small (greatest_nearness t) z (omega arith) s)) (int_min-times (pos (greatest_nearness t)) (ceiling_of g d) d (f k) by_nearness by_ceiling)
   where
     at_ceiling : (a b c : ℤ) → a ≤ℤ b → b ≤ℤ c → a ≤ℤ c
     at_ceiling a b c p q = omega (arith, ints)
@@ -84,7 +85,7 @@ high_of-above t u k h lt e =
 -- the bounds as they are computed
 pub low_of-computed : (t : Piece) (u : Sub) (v : Coefficients) (qs : List ℕ) (a b r : ℕ) (x l d f m : ℤ) → v ≡ plane_of t → qs ≡ t.qs →
     a ≡ min (slice_index qs 1) (slice_index qs 2) → b ≡ min (slice_index qs 0) a → x ≡ pos b → l ≡ least_of (each_sample (λ k. numerator_at v (sample u k))) → d ≡ v.area →
-    f ≡ floor_of l d → m ≡ int_max x f → r ≡ in_range m → r ≡ low_of t u
+    f ≡ floor_of l d → m ≡ int_max x f → r ≡ cut_to_range HELD_TOP m → r ≡ low_of t u
 unfolding low_of
 low_of-computed t u v qs a b r x l d f m ev eq ea eb ex el ed ef em er =
     let s = each_sample-plane_of t u in let n = area-plane_of t in
@@ -92,7 +93,7 @@ low_of-computed t u v qs a b r x l d f m ev eq ea eb ex el ed ef em er =
 
 pub high_of-computed : (t : Piece) (u : Sub) (v : Coefficients) (qs : List ℕ) (a b r : ℕ) (x l d f m : ℤ) → v ≡ plane_of t → qs ≡ t.qs →
     a ≡ max (slice_index qs 1) (slice_index qs 2) → b ≡ max (slice_index qs 0) a → x ≡ pos b → l ≡ greatest_of (each_sample (λ k. numerator_at v (sample u k))) → d ≡ v.area →
-    f ≡ ceiling_of l d → m ≡ int_min x f → r ≡ in_range m → r ≡ high_of t u
+    f ≡ ceiling_of l d → m ≡ int_min x f → r ≡ cut_to_range HELD_TOP m → r ≡ high_of t u
 unfolding high_of
 high_of-computed t u v qs a b r x l d f m ev eq ea eb ex el ed ef em er =
     let s = each_sample-plane_of t u in let n = area-plane_of t in

@@ -1,7 +1,7 @@
 //! The plane of a piece's depth.
 ghost use Rattle.std.specs.Prelude.{◌≡◌, ℕ, ℤ, pos, true, ◌<◌, ◌≤◌, ◌^◌, ◌<ℤ◌, IsTrue, ◌↔◌, ◌+◌, ◌*◌};
-ghost use Rattle.cull_base.specs.Piece.{Piece, Point, covers, touches, sample, each_sample};
-ghost use Rattle.cull_base.specs.Depth.{numerator, denominator, low_of, high_of, least_of, greatest_of, DepthAtLeast, DepthLess};
+ghost use Rattle.cull_base.specs.Piece.{least_of, greatest_of, Piece, Point, covers, touches, sample, each_sample};
+ghost use Rattle.cull_base.specs.Depth.{numerator, denominator, low_of, high_of, DepthAtLeast, DepthLess};
 ghost use Rattle.cull_base.specs.Bounds.{Bounded};
 ghost use Rattle.depth_plane.specs.Plane.{plane_of, numerator_at, IsNearer, point_of, DepthAtMost};
 

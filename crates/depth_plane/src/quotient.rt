@@ -1,7 +1,8 @@
 //! Whole quotients by a positive area, and their cut to the range of nearness.
 ghost use Rattle.std.specs.Prelude.{◌≡◌, ℕ, ℤ, pos, ◌≤◌, ◌^◌, ◌≤ℤ◌, ◌<ℤ◌, ◌+ℤ◌, ◌*ℤ◌, neg_ℤ, IsTrue, ◌↔◌};
 ghost use Rattle.cull_base.specs.Bounds.{Bounded};
-ghost use Rattle.cull_base.specs.Depth.{floor_of, ceiling_of, in_range};
+ghost use Rattle.cull_base.specs.declared.nearness.TheConstants.{HELD_TOP};
+ghost use Rattle.cull_base.specs.Depth.{floor_of, ceiling_of, cut_to_range};
 
 // A division of 64 bits takes a third of the time of one of 128.
 pub fn floor(numerator: i128, area: i128) -> i128
@@ -29,7 +30,7 @@ pub fn ceiling(numerator: i128, area: i128) -> i128
 
 /// The nearest number from 0 to the greatest nearness.
 pub fn cut_to_range(depth: i128) -> u32
-    ensures value { result ≡ in_range depth }
+    ensures value { result ≡ cut_to_range HELD_TOP depth }
     ensures within { result ≤ 65535 }
 {
     depth.clamp(0, 65535) as u32

@@ -1,8 +1,7 @@
 use Rattle.std.proofs.Common.{◌≡◌, ℕ, ℤ, pos, ◌+◌, ◌*◌, ◌+ℤ◌, ◌*ℤ◌, FitsSigned, rules, refl}
 use Rattle.std.specs.Int.{w128}
 use Rattle.std.proofs.lemmas.Int.{to_z-of_z}
-use Rattle.cull_base.specs.Piece.{sample, each_sample}
-use Rattle.cull_base.specs.Depth.{least_of}
+use Rattle.cull_base.specs.Piece.{least_of, sample, each_sample}
 use Rattle.cull_base.specs.declared.place.Sub.{Sub}
 use Rattle.depth_plane.specs.Plane.{Coefficients, numerator_at}
 use Rattle.depth_plane.specs.Corner.{least_place}
