@@ -1,9 +1,12 @@
-//! From the scene into clip space: the guard, past which nothing is held in whole numbers.
+//! From the scene into clip space: where a vertex lies as a camera sees it, and the guard, past which nothing is held
+//! in whole numbers.
 #![tactic(auto)]
 
 mod guard;
+mod identity;
 
 pub use guard::past_guard;
+pub use identity::identity_keeps;
 
 #[cfg(test)]
 mod tests;

@@ -16,3 +16,8 @@ fn the_guard_is_past_16384_near_distances(rt: HostRuntime) {
         assert_eq!(rt; past_guard(&ClipVertex { x, y, w }, near), past);
     }
 }
+
+#[test]
+fn the_law_on_the_identity_is_called(rt: HostRuntime) {
+    identity_keeps();
+}

@@ -1,0 +1,2 @@
+pub mod ClipCoordinates
+pub mod Rows
