@@ -1,22 +1,20 @@
 -- Why hidden is never a hole.
-use Rattle.std.specs.Prelude.{ℕ, ℤ, pos, ◌≡◌, true, List, slice_get, Some}
+use Rattle.std.specs.Prelude.{ℕ, ◌≡◌, ◌<◌, true, List, length, slice_get, Some}
 use Rattle.std.specs.List.{Contains}
-use Rattle.cull_base.specs.declared.rect.Rect.{Rect}
-use Rattle.cull_base.specs.declared.scene_types.Object.TheVariants.{Area}
+use Rattle.cull_base.specs.declared.scene_types.Object.{Object}
 use Rattle.cull_base.specs.declared.scene_types.Verdict.TheVariants.{Occluded}
-use Rattle.cull_base.specs.Screen.{screen_of}
-use Rattle.cull_base.specs.Rectangle.{HasPixel, cut_of}
-use Rattle.cull_base.specs.Piece.{Piece, middle, covers}
-use Rattle.cull_base.specs.Depth.{DepthAbove}
+use Rattle.cull_base.specs.Piece.{Piece, Point, middle, covers}
+use Rattle.cull_base.specs.Fraction.{Fraction, IsBelow, depth_at}
 use Rattle.scene_reader.specs.Layout.{Parts}
-use Rattle.cull_report.specs.Rectangle.{asked_nearness}
-use Rattle.cull_report.specs.Scene.{frame_pieces, scene_verdicts, size_of}
+use Rattle.cull_report.specs.Scene.{frame_pieces, frame_verdicts, object_samples, object_near}
 
--- a piece of the list covers the pixel's sample, and its depth there is strictly above q
-abbrev pub IsBehind : List Piece → ℕ → ℕ → ℕ → Type 0
-IsBehind pieces px py q = (t : Piece) × Contains pieces t × (covers t (middle px py) ≡ true) × DepthAbove t (middle px py) q
+-- a piece of the list covers the point, and its depth there is strictly above a nearness
+abbrev pub HasNearerPiece : List Piece → Point → Fraction → Type 0
+HasNearerPiece pieces p near = (t : Piece) × Contains pieces t × (covers t p ≡ true) × IsBelow near (depth_at t p)
 
--- each object that is called occluded is behind a piece of the frame at each of its pixels in the screen
-abbrev pub HidesTruly : Parts → Type 0
-HidesTruly s = (o : ℕ) (rect : Rect) (w : ℤ) (px py : ℕ) → slice_get s.objects o ≡ Some (Area rect w) → slice_get (scene_verdicts s) o ≡ Some Occluded
-    → HasPixel (cut_of rect (screen_of (size_of s))) (pos px) (pos py) → IsBehind (frame_pieces s) px py (asked_nearness s.near w)
+-- In each frame, an object that is called occluded has at each of its samples in the screen a piece of the frame strictly nearer than it is there.
+pub record HidesTruly (s : Parts) : Type 0 where
+  pub at_each_sample : (frame o : ℕ) (object : Object) (px py : ℕ) → frame < length s.cameras
+    → slice_get s.objects o ≡ Some object → slice_get (frame_verdicts s frame) o ≡ Some Occluded
+    → px < s.width → py < s.height → object_samples s frame object px py ≡ true
+    → HasNearerPiece (frame_pieces s frame) (middle px py) (object_near s frame object px py)

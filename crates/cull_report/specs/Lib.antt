@@ -1,7 +1,8 @@
 pub mod Lines
 pub mod Text
-pub mod Writing
+pub mod Pixels
 pub mod Area
-pub mod Rectangle
+pub mod Shape
+pub mod Shapes
 pub mod Scene
 pub mod Behind

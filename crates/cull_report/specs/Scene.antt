@@ -1,27 +1,26 @@
--- The report of a scene: that of one thread that merges all drawn triangles in submission order.
-use Rattle.std.specs.Prelude.{ℕ, ℤ, pos, ◌≡◌, ◌≤ℤ◌, List, [], ◌∷◌, ◌++◌, ◌<◌, Bool, true, false, length, map, slice_index_or}
-use Rattle.std.specs.List.{All}
+-- The report of a scene: that of one thread that merges all drawn triangles in submission order, frame by frame.
+use Rattle.std.specs.Prelude.{ℕ, ℤ, pos, ◌≡◌, ◌≤ℤ◌, List, [], ◌∷◌, ◌++◌, ◌<◌, Bool, true, false, length, map, take, drop, slice_index_or}
+use Rattle.std.specs.List.{All, flat_map, range_with_len}
 use Rattle.cull_base.specs.declared.clip.ClipVertex.{ClipVertex}
+use Rattle.cull_base.specs.declared.nearness.TheConstants.{GRADE_TOP}
 use Rattle.cull_base.specs.declared.place.Sub.{Sub}
+use Rattle.cull_base.specs.declared.rect.Rect.{Rect}
 use Rattle.cull_base.specs.declared.scene_types.Object.{Object}
 use Rattle.cull_base.specs.declared.scene_types.Object.TheVariants.{Area, Block, Mesh}
 use Rattle.cull_base.specs.declared.scene_types.Verdict.{Verdict}
-use Rattle.cull_base.specs.declared.scene_types.Verdict.TheVariants.{Visible, Occluded}
+use Rattle.cull_base.specs.declared.scene_types.Verdict.TheVariants.{Occluded}
+use Rattle.cull_base.specs.Fraction.{Fraction}
 use Rattle.cull_base.specs.Screen.{Dimensions}
 use Rattle.cull_base.specs.Piece.{Piece}
 use Rattle.cull_base.specs.State.{State}
 use Rattle.cull_base.specs.Fold.{after}
+use Rattle.cull_base.specs.Tiles.{PieceList}
 use Rattle.scene_reader.specs.Layout.{Parts}
+use Rattle.camera_path.specs.Clip.{clip_of, identity_camera}
 use Rattle.snap_setup.specs.Pieces.{list_of_clips}
-use Rattle.cull_report.specs.Rectangle.{rectangle_verdict}
+use Rattle.cull_report.specs.Shape.{Shape, has_sample, near_at, area_of, verdict_of}
+use Rattle.cull_report.specs.Shapes.{rectangle_shape, box_shape, mesh_shape, corners_of}
 use Rattle.cull_report.specs.Text.{header_text, frame_text}
-
--- the camera that leaves each vertex as it is
-abbrev pub identity_camera : List ℤ
-identity_camera =
-    pos 65536 ∷ pos 0 ∷ pos 0 ∷ pos 0 ∷
-    pos 0 ∷ pos 65536 ∷ pos 0 ∷ pos 0 ∷
-    pos 0 ∷ pos 0 ∷ pos 65536 ∷ pos 0 ∷ []
 
 -- a rectangle that doesn't stand before the near distance
 abbrev pub IsBuiltObject : ℕ → Object → Type 0
@@ -38,26 +37,51 @@ pub record IsBuilt (s : Parts) : Type 0 where
 abbrev pub size_of : Parts → Dimensions
 size_of s = record { width = s.width; height = s.height }
 
--- through the identity camera a vertex keeps its coordinates
-abbrev pub clip_of : List ℤ → ClipVertex
-clip_of v = record { x = slice_index_or v 0 (pos 0); y = slice_index_or v 1 (pos 0); w = slice_index_or v 2 (pos 0) }
+abbrev pub camera_at : Parts → ℕ → List ℤ
+camera_at s frame = slice_index_or s.cameras frame []
 
--- the pieces of the frame: those of the occluder triangles in submission order
-unfoldable pub frame_pieces : Parts → List Piece
-frame_pieces s = list_of_clips (map clip_of s.vertices) s.occluders s.near (size_of s) s.winding
+-- the scene's vertices through the frame's camera
+unfoldable pub frame_clips : Parts → ℕ → List ClipVertex
+frame_clips s frame = map (clip_of (camera_at s frame)) s.vertices
 
--- A built scene has rectangles alone; what stands for other objects is in no report.
-abbrev pub object_verdict : Dimensions → ℕ → (Sub → State) → Object → Verdict
-object_verdict size near state_of (Area rect w) = rectangle_verdict size near rect w state_of
-object_verdict size near state_of (Block low high) = Visible
-object_verdict size near state_of (Mesh first count) = Visible
+-- the pieces of a frame: those of the occluder triangles in submission order
+unfoldable pub frame_list : Parts → ℕ → PieceList
+frame_list s frame = record { size = size_of s; members = list_of_clips (frame_clips s frame) s.occluders GRADE_TOP s.near (size_of s) s.winding }
 
--- each object's verdict over the states after the whole list
-unfoldable pub scene_verdicts : Parts → List Verdict
-scene_verdicts s = map (object_verdict (size_of s) s.near (λ u. after u (frame_pieces s))) s.objects
+abbrev pub frame_pieces : Parts → ℕ → List Piece
+frame_pieces s frame = (frame_list s frame).members
 
+-- the shape of an object in a frame: a rectangle doesn't move with the camera
+unfoldable pub object_shape : Parts → ℕ → Object → Shape
+object_shape s frame (Area rect w) = rectangle_shape GRADE_TOP s.near (size_of s) rect w
+object_shape s frame (Block low high) = box_shape GRADE_TOP s.near (size_of s) (map (clip_of (camera_at s frame)) (corners_of low high))
+object_shape s frame (Mesh first count) = mesh_shape GRADE_TOP s.near (size_of s) (frame_clips s frame) (take count (drop first s.object_tris))
+
+-- the samples of an object in a frame, its nearness at one of them, and its area
+abbrev pub object_samples : Parts → ℕ → Object → ℕ → ℕ → Bool
+object_samples s frame object px py = has_sample (object_shape s frame object) px py
+
+abbrev pub object_near : Parts → ℕ → Object → ℕ → ℕ → Fraction
+object_near s frame object px py = near_at (object_shape s frame object) px py
+
+abbrev pub object_area : Parts → ℕ → Object → Rect
+object_area s frame object = area_of (size_of s) (object_shape s frame object)
+
+-- the verdict of an object in a frame over the states of subtiles
+abbrev pub object_verdict : Parts → ℕ → (Sub → State) → Object → Verdict
+object_verdict s frame state_of object = verdict_of (size_of s) state_of (object_shape s frame object)
+
+-- each object's verdict over the states after the frame's whole list
+unfoldable pub frame_verdicts : Parts → ℕ → List Verdict
+frame_verdicts s frame = map (object_verdict s frame (λ u. after u (frame_pieces s frame))) s.objects
+
+-- the lines of one frame
+abbrev pub frame_report : Parts → ℕ → List ℕ
+frame_report s frame = frame_text frame (length (frame_pieces s frame)) (frame_verdicts s frame)
+
+-- the header, and then the frames' lines
 unfoldable pub report_text : Parts → List ℕ
-report_text s = header_text s.width s.height (length s.cameras) (length s.objects) ++ frame_text 0 (length (frame_pieces s)) (scene_verdicts s)
+report_text s = header_text s.width s.height (length s.cameras) (length s.objects) ++ flat_map (frame_report s) (range_with_len 0 (length s.cameras))
 
 -- the objects that are marked have the verdict occluded
 abbrev pub IsMarkedRight : (Object → Verdict) → List Object → List Bool → Type 0

@@ -1,0 +1,34 @@
+-- The pixels of a screen, each with its subtile and its sample there.
+use Rattle.std.specs.Prelude.{ℕ, ℤ, pos, negsuc, ◌+◌, ◌*◌, ◌/◌, ◌%◌, Bool, not, ◌&&◌, int_le, int_lt}
+use Rattle.std.specs.List.{list_all, range_with_len}
+use Rattle.cull_base.specs.declared.rect.Rect.{Rect}
+use Rattle.cull_base.specs.declared.place.Sub.{Sub}
+use Rattle.cull_base.specs.Screen.{Dimensions, tile_columns_of}
+use Rattle.cull_base.specs.State.{State}
+use Rattle.masked_update.specs.TileOf.{TileOf, sub_at}
+
+-- a number that isn't negative
+abbrev pub natural : ℤ → ℕ
+natural (pos n) = n
+natural (negsuc n) = 0
+
+-- the subtile in which a pixel lies, and its sample there
+abbrev pub sub_of_pixel : ℕ → ℕ → Sub
+sub_of_pixel px py = record { column = px / 8; row = py / 4 }
+
+abbrev pub sample_of_pixel : ℕ → ℕ → ℕ
+sample_of_pixel px py = 8 * (py % 4) + px % 8
+
+-- a test holds at each pixel of the screen, and at some pixel of it
+unfoldable pub at_each_pixel : Dimensions → (ℕ → ℕ → Bool) → Bool
+at_each_pixel size test = list_all (λ py. list_all (λ px. test px py) (range_with_len 0 size.width)) (range_with_len 0 size.height)
+
+abbrev pub at_some_pixel : Dimensions → (ℕ → ℕ → Bool) → Bool
+at_some_pixel size test = not (at_each_pixel size (λ px py. not (test px py)))
+
+abbrev pub has_pixel : Rect → ℕ → ℕ → Bool
+has_pixel r px py = (int_le r.x0 (pos px) && int_lt (pos px) r.x1) && (int_le r.y0 (pos py) && int_lt (pos py) r.y1)
+
+-- the state of a subtile among those of the tiles
+abbrev pub state_in : Dimensions → (ℕ → TileOf) → Sub → State
+state_in size tile_of u = sub_at (tile_of (u.row / 2 * tile_columns_of size + u.column / 4)) (4 * (u.row % 2) + u.column % 4)
