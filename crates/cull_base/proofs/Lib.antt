@@ -7,3 +7,4 @@ pub mod Spans
 pub mod Masks
 pub mod Streams
 pub mod Rows
+pub mod Ranges

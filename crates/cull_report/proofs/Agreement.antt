@@ -1,48 +1,52 @@
 -- A verdict asks only for the states of subtiles on the screen.
-use Rattle.std.proofs.Common.{◌≡◌, ℕ, ℤ, pos, ◌≤◌, ◌<◌, Bool, true, false, cond, arith, refl, sym, ap, List, [], ◌∷◌, map, int_lt}
-use Rattle.cull_base.specs.declared.rect.Rect.{Rect}
+use Rattle.std.proofs.Common.{◌≡◌, ℕ, ◌<◌, Bool, true, false, ◌||◌, not, cond, refl, sym, ap, List, [], ◌∷◌, map}
+use Rattle.std.specs.List.{list_all}
 use Rattle.cull_base.specs.declared.place.Sub.{Sub}
 use Rattle.cull_base.specs.declared.scene_types.Object.{Object}
-use Rattle.cull_base.specs.declared.scene_types.Object.TheVariants.{Area, Block, Mesh}
-use Rattle.cull_base.specs.declared.scene_types.Verdict.TheVariants.{Visible, Occluded, Outside}
-use Rattle.cull_base.specs.Screen.{Dimensions, screen_of}
-use Rattle.cull_base.specs.Rectangle.{meets, cut_of}
-use Rattle.cull_base.specs.State.{State}
-use Rattle.cull_report.specs.Rectangle.{natural, sub_of_pixel, is_hidden, asked_nearness, rectangle_verdict}
-use Rattle.cull_report.specs.Scene.{object_verdict}
-use Rattle.cull_report.proofs.Hiding.{hidden_each, hidden_if_each, same_test, cut_on_screen}
+use Rattle.cull_base.specs.declared.scene_types.Verdict.{Verdict}
+use Rattle.cull_base.specs.declared.scene_types.Verdict.TheVariants.{Visible, Occluded}
+use Rattle.cull_base.specs.Screen.{Dimensions}
+use Rattle.cull_base.specs.Piece.{middle, touches}
+use Rattle.cull_base.specs.Depth.{high_of}
+use Rattle.cull_base.specs.State.{State, hides}
+use Rattle.scene_reader.specs.Layout.{Parts}
+use Rattle.cull_report.specs.Pixels.{sub_of_pixel, sample_of_pixel, at_each_pixel, at_some_pixel}
+use Rattle.cull_report.specs.Shape.{Shape, Decided, Flat, Pieces, has_sample, is_hidden_at, is_hidden, verdict_of}
+use Rattle.cull_report.specs.Scene.{size_of, object_shape, object_verdict}
+use Rattle.cull_report.proofs.Hiding.{each_to, each_from, same_test}
 
 -- the same states at each pixel of the screen
 abbrev pub Agrees : Dimensions → (Sub → State) → (Sub → State) → Type 0
 Agrees size f g = (px py : ℕ) → px < size.width → py < size.height → f (sub_of_pixel px py) ≡ g (sub_of_pixel px py)
 
-hidden_alike : (size : Dimensions) (r : Rect) (q : ℕ) (f g : Sub → State) → natural r.x1 ≤ size.width → natural r.y1 ≤ size.height → Agrees size f g → is_hidden r q f ≡ true → is_hidden r q g ≡ true
-hidden_alike size r q f g xw yw same h = hidden_if_each r q g (λ px py inside.
-    let e = same px py (omega (arith, inside.1)) (omega (arith, inside.3)) in
-    rw (← e) (hidden_each r q f h px py inside))
-
 agrees_back : (size : Dimensions) (f g : Sub → State) → Agrees size f g → Agrees size g f
 agrees_back size f g same px py x y = sym (same px py x y)
 
-pub rectangle_alike : (size : Dimensions) (near : ℕ) (r : Rect) (w : ℤ) (f g : Sub → State) → Agrees size f g → rectangle_verdict size near r w f ≡ rectangle_verdict size near r w g
-unfolding rectangle_verdict
-rectangle_alike size near r w f g same = by (meets r (screen_of size)) refl
-  where
-    by : (m : Bool) → meets r (screen_of size) ≡ m → rectangle_verdict size near r w f ≡ rectangle_verdict size near r w g
-    by false m = rw m refl
-    by true m =
-        let on = cut_on_screen r size m in
-        let cut = cut_of r (screen_of size) in let q = asked_nearness near w in
-        let e = same_test (is_hidden cut q f) (is_hidden cut q g) (hidden_alike size cut q f g on.x1_within on.y1_within same) (hidden_alike size cut q g f on.x1_within on.y1_within (agrees_back size f g same)) in
-        ap (λ (h : Bool). cond (meets r (screen_of size)) (cond (int_lt w (pos near)) Visible (cond h Occluded Visible)) Outside) e
+hidden_at_alike : (f g : Sub → State) (shape : Shape) (px py : ℕ) → f (sub_of_pixel px py) ≡ g (sub_of_pixel px py) → is_hidden_at f shape px py ≡ is_hidden_at g shape px py
+hidden_at_alike f g (Decided v) px py e = refl
+hidden_at_alike f g (Flat r q) px py e = ap (λ (s : State). hides s (sample_of_pixel px py) q) e
+hidden_at_alike f g (Pieces ps hull) px py e = ap (λ (s : State). list_all (λ t. not (touches t (middle px py)) || hides s (sample_of_pixel px py) (high_of t (sub_of_pixel px py))) ps) e
 
-pub object_alike : (size : Dimensions) (near : ℕ) (f g : Sub → State) → Agrees size f g → (o : Object) → object_verdict size near f o ≡ object_verdict size near g o
-object_alike size near f g same (Area r w) = rectangle_alike size near r w f g same
-object_alike size near f g same (Block low high) = refl
-object_alike size near f g same (Mesh first count) = refl
+each_alike : (size : Dimensions) (f g : Sub → State) (shape : Shape) → Agrees size f g
+    → at_each_pixel size (λ i j. not (has_sample shape i j) || is_hidden_at f shape i j) ≡ true → at_each_pixel size (λ i j. not (has_sample shape i j) || is_hidden_at g shape i j) ≡ true
+each_alike size f g shape same e = each_from size (λ i j. not (has_sample shape i j) || is_hidden_at g shape i j) (λ px py x y.
+    let one = each_to size (λ i j. not (has_sample shape i j) || is_hidden_at f shape i j) e px py x y in
+    rw (hidden_at_alike f g shape px py (same px py x y)) at one)
 
-pub objects_alike : (size : Dimensions) (near : ℕ) (f g : Sub → State) → Agrees size f g → (os : List Object) → map (object_verdict size near f) os ≡ map (object_verdict size near g) os
-objects_alike size near f g same [] = refl
-objects_alike size near f g same (o ∷ os) =
-    let first = object_alike size near f g same o in let rest = objects_alike size near f g same os in
+hidden_alike : (size : Dimensions) (f g : Sub → State) (shape : Shape) → Agrees size f g → is_hidden size f shape ≡ is_hidden size g shape
+unfolding is_hidden
+hidden_alike size f g shape same =
+    let e = same_test (at_each_pixel size (λ i j. not (has_sample shape i j) || is_hidden_at f shape i j)) (at_each_pixel size (λ i j. not (has_sample shape i j) || is_hidden_at g shape i j))
+      (each_alike size f g shape same) (each_alike size g f shape (agrees_back size f g same)) in
+    rw e refl
+
+pub shape_alike : (size : Dimensions) (f g : Sub → State) (shape : Shape) → Agrees size f g → verdict_of size f shape ≡ verdict_of size g shape
+shape_alike size f g (Decided v) same = refl
+shape_alike size f g (Flat r q) same = ap (λ (b : Bool). cond b Occluded Visible) (hidden_alike size f g (Flat r q) same)
+shape_alike size f g (Pieces ps hull) same = ap (λ (b : Bool). cond b Occluded Visible) (hidden_alike size f g (Pieces ps hull) same)
+
+pub objects_alike : (s : Parts) (frame : ℕ) (f g : Sub → State) → Agrees (size_of s) f g → (os : List Object) → map (object_verdict s frame f) os ≡ map (object_verdict s frame g) os
+objects_alike s frame f g same [] = refl
+objects_alike s frame f g same (o ∷ os) =
+    let first = shape_alike (size_of s) f g (object_shape s frame o) same in let rest = objects_alike s frame f g same os in
     rw (first, rest) refl

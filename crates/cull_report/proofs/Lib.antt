@@ -1,6 +1,6 @@
-pub mod Writing
 pub mod ReportLines
 pub mod Pixels
 pub mod Hiding
+pub mod Areas
 pub mod Agreement
 pub mod Occluders

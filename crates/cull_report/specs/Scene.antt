@@ -18,6 +18,8 @@ use Rattle.cull_base.specs.Tiles.{PieceList}
 use Rattle.scene_reader.specs.Layout.{Parts}
 use Rattle.camera_path.specs.Clip.{clip_of, identity_camera}
 use Rattle.snap_setup.specs.Pieces.{list_of_clips}
+use Rattle.masked_update.specs.TileOf.{TileOf}
+use Rattle.cull_report.specs.Pixels.{state_in}
 use Rattle.cull_report.specs.Shape.{Shape, has_sample, near_at, area_of, verdict_of}
 use Rattle.cull_report.specs.Shapes.{rectangle_shape, box_shape, mesh_shape, corners_of}
 use Rattle.cull_report.specs.Text.{header_text, frame_text}
@@ -70,6 +72,10 @@ object_area s frame object = area_of (size_of s) (object_shape s frame object)
 -- the verdict of an object in a frame over the states of subtiles
 abbrev pub object_verdict : Parts → ℕ → (Sub → State) → Object → Verdict
 object_verdict s frame state_of object = verdict_of (size_of s) state_of (object_shape s frame object)
+
+-- the same over what tiles hold
+abbrev pub verdict_in : Parts → ℕ → (ℕ → TileOf) → Object → Verdict
+verdict_in s frame tile_of object = object_verdict s frame (state_in (size_of s) tile_of) object
 
 -- each object's verdict over the states after the frame's whole list
 unfoldable pub frame_verdicts : Parts → ℕ → List Verdict

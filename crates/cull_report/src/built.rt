@@ -1,7 +1,8 @@
 //! What of a scene the program can draw so far.
 ghost use Rattle.std.specs.Prelude.{◌≡◌, ℤ, List, [], ◌∷◌, IsTrue, ◌↔◌, map, IfOk, pos, ◌≤ℤ◌};
 ghost use Rattle.std.specs.List.{All};
-ghost use Rattle.cull_report.specs.Scene.{IsBuilt, IsBuiltObject, clip_of, identity_camera};
+ghost use Rattle.cull_report.specs.Scene.{IsBuilt, IsBuiltObject};
+ghost use Rattle.camera_path.specs.Clip.{as_clip, identity_camera};
 
 use cull_base::{ClipVertex, Memory, Object};
 use scene_reader::Scene;
@@ -50,8 +51,8 @@ pub fn is_built(scene: &Scene) -> bool
         && are_built_objects(scene.near(), scene.objects())
 }
 
-fn clip_of(vertex: &[i32; 3]) -> ClipVertex
-    ensures { result ≡ clip_of vertex.now }
+fn as_clip(vertex: &[i32; 3]) -> ClipVertex
+    ensures { result ≡ as_clip vertex.now }
 {
     let [x, y, w] = *vertex;
     ClipVertex {
@@ -61,11 +62,11 @@ fn clip_of(vertex: &[i32; 3]) -> ClipVertex
     }
 }
 
-/// The clip vertices of a built scene: through the identity camera a vertex keeps its coordinates.
+/// The clip vertices through the identity camera, by which a vertex keeps its coordinates.
 pub fn identity_clips(alloc: Global, vertices: &[[i32; 3]]) -> Result<Vec<ClipVertex>, Memory>
-    ensures { IfOk result (λ v. v.items ≡ map clip_of vertices.now) }
+    ensures { IfOk result (λ v. v.items ≡ map as_clip vertices.now) }
 {
-    match vertices.iter().map(clip_of).collect(alloc) {
+    match vertices.iter().map(as_clip).collect(alloc) {
         Ok(clips) => Ok(clips),
         Err(AllocError) => Err(Memory),
     }

@@ -1,9 +1,11 @@
 //! A line of text, put together on the stack.
 ghost use Rattle.std.specs.Prelude.{◌≡◌, ℕ, List, [], ◌∷◌, ◌++◌, ◌+◌, ◌<◌, ◌≤◌, length};
 ghost use Rattle.std.specs.Fmt.{decimal};
+ghost use Rattle.cull_base.specs.Stream.{Writes};
 ghost use Rattle.arrayvec.specs.ArrayVec.{array_vec_len};
 
 use arrayvec::ArrayVec;
+use cull_base::{Sink, SinkError, write_whole};
 use itoa::Buffer;
 use std::marker::Model;
 
@@ -89,5 +91,13 @@ impl Line {
         ensures { result.now ≡ self.now }
     {
         self.bytes.as_slice()
+    }
+
+    /// Writes the line whole. Failed and Memory are the sink's; after an error a front of the line that isn't the whole
+    /// was appended.
+    pub fn write_to<W: Sink>(&self, sink: &mut W) -> Result<(), SinkError>
+        ensures { Writes (W.says sink.old) (W.says sink.new) result self.now }
+    {
+        write_whole(sink, self.as_slice())
     }
 }

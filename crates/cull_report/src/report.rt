@@ -1,10 +1,10 @@
 //! The texts of the report.
 ghost use Rattle.std.specs.Prelude.{◌≡◌, ℕ, List, [], ◌∷◌, ◌++◌, ◌<◌, ◌≤◌, ◌^◌, length, count_by};
 ghost use Rattle.cull_report.specs.Text.{header_text, frame_line, verdict_line, verdict_lines, end_line, frame_text, verdict_word, is_visible, is_occluded, is_outside};
-ghost use Rattle.cull_report.specs.Writing.{Seen, Writes};
+ghost use Rattle.cull_base.specs.Stream.{Writes};
 
 use crate::line::Line;
-use cull_base::{Sink, SinkError, Verdict, write_whole};
+use cull_base::{Sink, SinkError, Verdict};
 use scene_reader::Scene;
 
 const REPORT_VERSION: u64 = 1;
@@ -73,17 +73,11 @@ fn end_line(frame: u32, visible: usize, occluded: usize, outside: usize) -> Line
     line
 }
 
-fn write_line<W: Sink>(sink: &mut W, line: &Line) -> Result<(), SinkError>
-    ensures { Writes (record { holding = W.holding sink.old; faults = W.faults sink.old; refusals = W.refusals sink.old }) (record { holding = W.holding sink.new; faults = W.faults sink.new; refusals = W.refusals sink.new }) result line.now }
-{
-    write_whole(sink, line.as_slice())
-}
-
 fn write_verdicts<W: Sink>(sink: &mut W, verdicts: &[Verdict]) -> Result<(), SinkError>
-    ensures { Writes (record { holding = W.holding sink.old; faults = W.faults sink.old; refusals = W.refusals sink.old }) (record { holding = W.holding sink.new; faults = W.faults sink.new; refusals = W.refusals sink.new }) result (verdict_lines 0 verdicts.now) }
+    ensures { Writes (W.says sink.old) (W.says sink.new) result (verdict_lines 0 verdicts.now) }
 {
     for (object, verdict) in verdicts.iter().enumerate() {
-        write_line(sink, &verdict_line(object, *verdict))?;
+        verdict_line(object, *verdict).write_to(sink)?;
     }
     Ok(())
 }
@@ -108,19 +102,19 @@ pub fn write_frame<W: Sink>(
     pieces: u32,
     verdicts: &[Verdict],
 ) -> Result<(), SinkError>
-    ensures { Writes (record { holding = W.holding sink.old; faults = W.faults sink.old; refusals = W.refusals sink.old }) (record { holding = W.holding sink.new; faults = W.faults sink.new; refusals = W.refusals sink.new }) result (frame_text frame pieces verdicts.now) }
+    ensures { Writes (W.says sink.old) (W.says sink.new) result (frame_text frame pieces verdicts.now) }
 {
-    write_line(sink, &frame_line(frame, pieces))?;
+    frame_line(frame, pieces).write_to(sink)?;
     write_verdicts(sink, verdicts)?;
     let visible = count_of(verdicts, Verdict::Visible);
     let occluded = count_of(verdicts, Verdict::Occluded);
     let outside = count_of(verdicts, Verdict::Outside);
-    write_line(sink, &end_line(frame, visible, occluded, outside))
+    end_line(frame, visible, occluded, outside).write_to(sink)
 }
 
 /// Writes the report's first line. Failed and Memory are the sink's, as for a frame.
 pub fn write_header<W: Sink>(sink: &mut W, scene: &Scene) -> Result<(), SinkError>
-    ensures { Writes (record { holding = W.holding sink.old; faults = W.faults sink.old; refusals = W.refusals sink.old }) (record { holding = W.holding sink.new; faults = W.faults sink.new; refusals = W.refusals sink.new }) result (header_text scene.now.width scene.now.height (length scene.now.cameras) (length scene.now.objects)) }
+    ensures { Writes (W.says sink.old) (W.says sink.new) result (header_text scene.now.width scene.now.height (length scene.now.cameras) (length scene.now.objects)) }
 {
     let size = scene.size();
     let line = header_line(
@@ -129,5 +123,5 @@ pub fn write_header<W: Sink>(sink: &mut W, scene: &Scene) -> Result<(), SinkErro
         scene.cameras().len(),
         scene.objects().len(),
     );
-    write_line(sink, &line)
+    line.write_to(sink)
 }

@@ -5,7 +5,7 @@ use Rattle.cull_report.proofs.report.write_verdicts.Given as goal
 
 abbrev pub invariant-loop-object : goal.invariant-loop-object
 invariant-loop-object g l = record {
-  written : Appends (g.W.Sink.holding l.fn.sink) (g.W.Sink.holding l.sink) (verdict_lines 0 (take l.object l.verdicts));
-  faults : g.W.Sink.faults l.fn.sink ≤ g.W.Sink.faults l.sink;
-  refusals : g.W.Sink.refusals l.fn.sink ≤ g.W.Sink.refusals l.sink;
+  written : Appends (g.W.Sink.says l.fn.sink) (g.W.Sink.says l.sink) (verdict_lines 0 (take l.object l.verdicts));
+  faults : (g.W.Sink.says l.fn.sink).faults ≤ (g.W.Sink.says l.sink).faults;
+  refusals : (g.W.Sink.says l.fn.sink).refusals ≤ (g.W.Sink.says l.sink).refusals;
 }
