@@ -1,25 +1,20 @@
 -- The points of a clipped triangle stay within the guard.
-use Rattle.std.proofs.Common.{◌≡◌, ℕ, ℤ, pos, negsuc, suc, ◌*◌, ◌≤◌, ◌<ℤ◌, ◌≤ℤ◌, ◌+ℤ◌, ◌-ℤ◌, ◌*ℤ◌, Bool, true, false, arith, refl, List, [], ◌∷◌, length}
+use Rattle.std.proofs.Common.{◌≡◌, ℕ, ℤ, pos, negsuc, ◌*◌, ◌≤◌, ◌<ℤ◌, ◌≤ℤ◌, ◌+ℤ◌, ◌-ℤ◌, ◌*ℤ◌, Bool, true, false, arith, refl, List, [], ◌∷◌, length}
 use Rattle.std.proofs.lemmas.Int.{ints}
-use Rattle.std.proofs.Math.Nat.{mul-le-mul_left}
 use Rattle.std.specs.List.{All}
 use Rattle.std.proofs.lemmas.List.Elements.{All-nil, All-cons}
 use Rattle.cull_base.specs.Bounds.{Bounded}
 use Rattle.cull_base.specs.declared.clip.ClipVertex.{ClipVertex}
+use Rattle.cull_base.proofs.Bounds.{times-bounded}
 use Rattle.cull_base.proofs.Ring.{diff-add, diff-sub, diff-mul, diff-same, over3}
 use Rattle.near_clip.specs.declared.hom_point.HomPoint.{HomPoint}
 use Rattle.near_clip.specs.NearPart.{corner, is_in_front, whole, cut_point, part_by, near_part}
 use Rattle.near_clip.specs.Reach.{IsInReach, WithinScaled}
 use Rattle.near_clip.proofs.Guarded.{IsGuarded}
 
--- a natural times a number that is at most g away from 0
-times_near : (g m : ℕ) (b : ℤ) → Bounded g b → Bounded (g * m) (pos m *ℤ b)
-times_near g m (pos b) h = let le : b ≤ g = omega (arith, ints, h) in let k = mul-le-mul_left m le in (omega (arith, ints, k), omega (arith, ints, k))
-times_near g m (negsuc b) h = let le : suc b ≤ g = omega (arith, ints, h) in let k = mul-le-mul_left m le in (omega (arith, ints, k), omega (arith, ints, k))
-
--- a mean of two such numbers, by natural weights
+-- a mean of two bounded numbers, by natural weights
 mean_within : (g m n : ℕ) (b a : ℤ) → Bounded g b → Bounded g a → WithinScaled g (pos m +ℤ pos n) ((pos m *ℤ b) +ℤ (pos n *ℤ a))
-mean_within g m n b a hb ha = let x = times_near g m b hb in let y = times_near g n a ha in (omega (arith, ints, x, y), omega (arith, ints, x, y))
+mean_within g m n b a hb ha = let x = times-bounded g m b hb in let y = times-bounded g n a ha in (omega (arith, ints, x, y), omega (arith, ints, x, y))
 
 natural : (z : ℤ) → pos 0 ≤ℤ z → (n : ℕ) × (z ≡ pos n)
 natural (pos n) h = (n, refl)

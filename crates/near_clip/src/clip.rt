@@ -51,7 +51,7 @@ fn product(a: i64, b: i64) -> i64
 
 // p * b + q * a
 #[inline(always)]
-fn joined(p: i64, b: i64, q: i64, a: i64) -> i64
+fn weighted_sum(p: i64, b: i64, q: i64, a: i64) -> i64
     requires p { Bounded (2 ^ 25) p }
     requires b { Bounded (2 ^ 24) b }
     requires q { Bounded (2 ^ 25) q }
@@ -72,9 +72,9 @@ fn cut(inside: &ClipVertex, outside: &ClipVertex, near: u16) -> HomPoint
     let p = difference(inside.w, distance);
     let q = difference(distance, outside.w);
     HomPoint {
-        x: joined(p, outside.x, q, inside.x),
-        y: joined(p, outside.y, q, inside.y),
-        w: joined(p, outside.w, q, inside.w),
+        x: weighted_sum(p, outside.x, q, inside.x),
+        y: weighted_sum(p, outside.y, q, inside.y),
+        w: weighted_sum(p, outside.w, q, inside.w),
         scale: difference(inside.w, outside.w),
     }
 }

@@ -8,8 +8,8 @@ use Rattle.cull_base.specs.Piece.{first_pixel, end_pixel}
 use Rattle.near_clip.specs.declared.hom_point.HomPoint.{HomPoint}
 use Rattle.near_clip.specs.NearPart.{near_part}
 use Rattle.snap_setup.specs.declared.boxes.Extent.{Extent}
-use Rattle.snap_setup.specs.Snapping.{snapped, screen_x, screen_y}
-use Rattle.snap_setup.specs.Pieces.{snapped_part, near_box_of}
+use Rattle.snap_setup.specs.Snapping.{screen_x, screen_y}
+use Rattle.snap_setup.specs.Pieces.{near_box_of}
 use Rattle.snap_setup.proofs.KeptPieces.{list_none, list_three, list_four}
 
 abbrev pub extent_of : HomPoint → Dimensions → Extent
@@ -22,13 +22,13 @@ abbrev pub rect_of : Extent → Rect
 rect_of e = record { x0 = first_pixel e.left; y0 = first_pixel e.top; x1 = end_pixel e.right; y1 = end_pixel e.bottom }
 
 pub box_none : (v0 v1 v2 : ClipVertex) (near : ℕ) (size : Dimensions) (ps : List HomPoint) → ps ≡ near_part v0 v1 v2 near → length ps ≡ 0 → None ≡ near_box_of v0 v1 v2 near size
-unfolding near_box_of snapped_part
+unfolding near_box_of
 box_none v0 v1 v2 near size ps e h = let n : near_part v0 v1 v2 near ≡ [] = sym e ∙ list_none ps h in rw n refl
 
 pub box_three : (v0 v1 v2 : ClipVertex) (near : ℕ) (size : Dimensions) (ps : List HomPoint) (p0 p1 p2 : HomPoint) (e0 e1 e2 a b : Extent) (r : Rect) →
     ps ≡ near_part v0 v1 v2 near → length ps ≡ 3 → p0 ≡ get_or ps 0 p0 → p1 ≡ get_or ps 1 p1 → p2 ≡ get_or ps 2 p2 →
     e0 ≡ extent_of p0 size → e1 ≡ extent_of p1 size → e2 ≡ extent_of p2 size → a ≡ with e0 e1 → b ≡ with a e2 → r ≡ rect_of b → Some r ≡ near_box_of v0 v1 v2 near size
-unfolding near_box_of snapped_part snapped
+unfolding near_box_of
 box_three v0 v1 v2 near size ps p0 p1 p2 e0 e1 e2 a b r e h g0 g1 g2 f0 f1 f2 ea eb er =
     let n : near_part v0 v1 v2 near ≡ p0 ∷ p1 ∷ p2 ∷ [] = sym e ∙ list_three ps p0 p1 p2 h g0 g1 g2 in
     rw (n, er, eb, ea, f0, f1, f2) refl
@@ -36,7 +36,7 @@ box_three v0 v1 v2 near size ps p0 p1 p2 e0 e1 e2 a b r e h g0 g1 g2 f0 f1 f2 ea
 pub box_four : (v0 v1 v2 : ClipVertex) (near : ℕ) (size : Dimensions) (ps : List HomPoint) (p0 p1 p2 p3 : HomPoint) (e0 e1 e2 e3 a b d : Extent) (r : Rect) →
     ps ≡ near_part v0 v1 v2 near → length ps ≡ 4 → p0 ≡ get_or ps 0 p0 → p1 ≡ get_or ps 1 p1 → p2 ≡ get_or ps 2 p2 → p3 ≡ get_or ps 3 p3 →
     e0 ≡ extent_of p0 size → e1 ≡ extent_of p1 size → e2 ≡ extent_of p2 size → e3 ≡ extent_of p3 size → a ≡ with e0 e1 → b ≡ with a e2 → d ≡ with b e3 → r ≡ rect_of d → Some r ≡ near_box_of v0 v1 v2 near size
-unfolding near_box_of snapped_part snapped
+unfolding near_box_of
 box_four v0 v1 v2 near size ps p0 p1 p2 p3 e0 e1 e2 e3 a b d r e h g0 g1 g2 g3 f0 f1 f2 f3 ea eb ed er =
     let n : near_part v0 v1 v2 near ≡ p0 ∷ p1 ∷ p2 ∷ p3 ∷ [] = sym e ∙ list_four ps p0 p1 p2 p3 h g0 g1 g2 g3 in
     rw (n, er, ed, eb, ea, f0, f1, f2, f3) refl

@@ -11,24 +11,24 @@ use Rattle.cull_base.specs.Piece.{Piece}
 use Rattle.near_clip.specs.NearPart.{corner}
 use Rattle.snap_setup.specs.Pieces.{pieces_of, clip_at, list_of_clips}
 
-abbrev pub pieces_at : List ClipVertex → ℕ → Dimensions → Winding → Tri → List Piece
-pieces_at clips near size winding t = pieces_of (clip_at clips t 0) (clip_at clips t 1) (clip_at clips t 2) near size winding Occluder
+abbrev pub pieces_at : List ClipVertex → ℕ → ℕ → Dimensions → Winding → Tri → List Piece
+pieces_at clips top near size winding t = pieces_of (clip_at clips t 0) (clip_at clips t 1) (clip_at clips t 2) top near size winding Occluder
 
-pub list_none : (clips : List ClipVertex) (near : ℕ) (size : Dimensions) (winding : Winding) → [] ≡ list_of_clips clips [] near size winding
+pub list_none : (clips : List ClipVertex) (top near : ℕ) (size : Dimensions) (winding : Winding) → [] ≡ list_of_clips clips [] top near size winding
 unfolding list_of_clips
-list_none clips near size winding = refl
+list_none clips top near size winding = refl
 
 -- by the corners that the code looked up
-pub by_corners : (clips cs : List ClipVertex) (near : ℕ) (size : Dimensions) (winding : Winding) (t : Tri) (ps : List Piece) →
-    ps ≡ pieces_of (corner cs 0) (corner cs 1) (corner cs 2) near size winding Occluder → corner cs 0 ≡ clip_at clips t 0 → corner cs 1 ≡ clip_at clips t 1 → corner cs 2 ≡ clip_at clips t 2 → ps ≡ pieces_at clips near size winding t
-by_corners clips cs near size winding t ps e e0 e1 e2 = rw (e, e0, e1, e2) refl
+pub by_corners : (clips cs : List ClipVertex) (top near : ℕ) (size : Dimensions) (winding : Winding) (t : Tri) (ps : List Piece) →
+    ps ≡ pieces_of (corner cs 0) (corner cs 1) (corner cs 2) top near size winding Occluder → corner cs 0 ≡ clip_at clips t 0 → corner cs 1 ≡ clip_at clips t 1 → corner cs 2 ≡ clip_at clips t 2 → ps ≡ pieces_at clips top near size winding t
+by_corners clips cs top near size winding t ps e e0 e1 e2 = rw (e, e0, e1, e2) refl
 
 -- one triangle more
-pub list_more : (clips : List ClipVertex) (tris : List Tri) (near : ℕ) (size : Dimensions) (winding : Winding) (i : ℕ) (d : Tri) (before ps : List Piece) → i < length tris →
-    before ≡ list_of_clips clips (take i tris) near size winding → ps ≡ pieces_at clips near size winding (get_or tris i d) → before ++ ps ≡ list_of_clips clips (take (i + 1) tris) near size winding
+pub list_more : (clips : List ClipVertex) (tris : List Tri) (top near : ℕ) (size : Dimensions) (winding : Winding) (i : ℕ) (d : Tri) (before ps : List Piece) → i < length tris →
+    before ≡ list_of_clips clips (take i tris) top near size winding → ps ≡ pieces_at clips top near size winding (get_or tris i d) → before ++ ps ≡ list_of_clips clips (take (i + 1) tris) top near size winding
 unfolding list_of_clips
-list_more clips tris near size winding i d before ps lt eb ep =
+list_more clips tris top near size winding i d before ps lt eb ep =
     let m = take_more tris i d lt in
-    let a = flat_map-append (pieces_at clips near size winding) (take i tris) (get_or tris i d ∷ []) in
-    let n = append-nil (pieces_at clips near size winding (get_or tris i d)) in
+    let a = flat_map-append (pieces_at clips top near size winding) (take i tris) (get_or tris i d ∷ []) in
+    let n = append-nil (pieces_at clips top near size winding (get_or tris i d)) in
     rw (m, a, n, eb, ep) refl

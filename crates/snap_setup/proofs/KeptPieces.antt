@@ -47,27 +47,27 @@ list_four (x ∷ y ∷ z ∷ []) a b c d e ea eb ec ed = absurd (omega arith)
 list_four (x ∷ y ∷ z ∷ w ∷ []) a b c d e ea eb ec ed = cc
 list_four (x ∷ y ∷ z ∷ w ∷ v ∷ xs) a b c d e ea eb ec ed = absurd (omega arith)
 
-pub part_none : (v0 v1 v2 : ClipVertex) (near : ℕ) (size : Dimensions) (winding : Winding) (side : Side) (ps : List HomPoint) → ps ≡ near_part v0 v1 v2 near → length ps ≡ 0 →
-    [] ≡ kept_of (snapped_part v0 v1 v2 near size side) winding
+pub part_none : (v0 v1 v2 : ClipVertex) (top near : ℕ) (size : Dimensions) (winding : Winding) (side : Side) (ps : List HomPoint) → ps ≡ near_part v0 v1 v2 near → length ps ≡ 0 →
+    [] ≡ kept_of (snapped_part v0 v1 v2 top near size side) winding
 unfolding kept_of snapped_part
-part_none v0 v1 v2 near size winding side ps e h = let n : near_part v0 v1 v2 near ≡ [] = sym e ∙ list_none ps h in rw n refl
+part_none v0 v1 v2 top near size winding side ps e h = let n : near_part v0 v1 v2 near ≡ [] = sym e ∙ list_none ps h in rw n refl
 
-pub part_three : (v0 v1 v2 : ClipVertex) (near : ℕ) (size : Dimensions) (winding : Winding) (side : Side) (ps : List HomPoint) (p0 p1 p2 : HomPoint) (s0 s1 s2 : Snapped) (first : Option Piece) (r : List Piece) →
+pub part_three : (v0 v1 v2 : ClipVertex) (top near : ℕ) (size : Dimensions) (winding : Winding) (side : Side) (ps : List HomPoint) (p0 p1 p2 : HomPoint) (s0 s1 s2 : Snapped) (first : Option Piece) (r : List Piece) →
     ps ≡ near_part v0 v1 v2 near → length ps ≡ 3 → p0 ≡ get_or ps 0 p0 → p1 ≡ get_or ps 1 p1 → p2 ≡ get_or ps 2 p2 →
-    s0 ≡ snapped p0 near size side → s1 ≡ snapped p1 near size side → s2 ≡ snapped p2 near size side →
-    first ≡ piece_if winding (triangle s0 s1 s2) → r ≡ listed first ++ [] → r ≡ kept_of (snapped_part v0 v1 v2 near size side) winding
+    s0 ≡ snapped p0 top near size side → s1 ≡ snapped p1 top near size side → s2 ≡ snapped p2 top near size side →
+    first ≡ piece_if winding (triangle s0 s1 s2) → r ≡ listed first ++ [] → r ≡ kept_of (snapped_part v0 v1 v2 top near size side) winding
 unfolding kept_of snapped_part
-part_three v0 v1 v2 near size winding side ps p0 p1 p2 s0 s1 s2 first r e h e0 e1 e2 f0 f1 f2 ef er =
+part_three v0 v1 v2 top near size winding side ps p0 p1 p2 s0 s1 s2 first r e h e0 e1 e2 f0 f1 f2 ef er =
     let n : near_part v0 v1 v2 near ≡ p0 ∷ p1 ∷ p2 ∷ [] = sym e ∙ list_three ps p0 p1 p2 h e0 e1 e2 in
     let k = kept_cons winding (triangle s0 s1 s2) [] in
     rw (n, ← f0, ← f1, ← f2, k, er, ef) refl
 
-pub part_four : (v0 v1 v2 : ClipVertex) (near : ℕ) (size : Dimensions) (winding : Winding) (side : Side) (ps : List HomPoint) (p0 p1 p2 p3 : HomPoint) (s0 s1 s2 s3 : Snapped) (first second : Option Piece) (r : List Piece) →
+pub part_four : (v0 v1 v2 : ClipVertex) (top near : ℕ) (size : Dimensions) (winding : Winding) (side : Side) (ps : List HomPoint) (p0 p1 p2 p3 : HomPoint) (s0 s1 s2 s3 : Snapped) (first second : Option Piece) (r : List Piece) →
     ps ≡ near_part v0 v1 v2 near → length ps ≡ 4 → p0 ≡ get_or ps 0 p0 → p1 ≡ get_or ps 1 p1 → p2 ≡ get_or ps 2 p2 → p3 ≡ get_or ps 3 p3 →
-    s0 ≡ snapped p0 near size side → s1 ≡ snapped p1 near size side → s2 ≡ snapped p2 near size side → s3 ≡ snapped p3 near size side →
-    first ≡ piece_if winding (triangle s0 s1 s2) → second ≡ piece_if winding (triangle s0 s2 s3) → r ≡ listed first ++ listed second → r ≡ kept_of (snapped_part v0 v1 v2 near size side) winding
+    s0 ≡ snapped p0 top near size side → s1 ≡ snapped p1 top near size side → s2 ≡ snapped p2 top near size side → s3 ≡ snapped p3 top near size side →
+    first ≡ piece_if winding (triangle s0 s1 s2) → second ≡ piece_if winding (triangle s0 s2 s3) → r ≡ listed first ++ listed second → r ≡ kept_of (snapped_part v0 v1 v2 top near size side) winding
 unfolding kept_of snapped_part
-part_four v0 v1 v2 near size winding side ps p0 p1 p2 p3 s0 s1 s2 s3 first second r e h e0 e1 e2 e3 f0 f1 f2 f3 ef es er =
+part_four v0 v1 v2 top near size winding side ps p0 p1 p2 p3 s0 s1 s2 s3 first second r e h e0 e1 e2 e3 f0 f1 f2 f3 ef es er =
     let n : near_part v0 v1 v2 near ≡ p0 ∷ p1 ∷ p2 ∷ p3 ∷ [] = sym e ∙ list_four ps p0 p1 p2 p3 h e0 e1 e2 e3 in
     let k = kept_cons winding (triangle s0 s1 s2) (triangle s0 s2 s3 ∷ []) in
     let l = kept_cons winding (triangle s0 s2 s3) [] in
@@ -91,14 +91,14 @@ none_kept winding (t ∷ ts) h =
     kept_cons winding t ts ∙ rw l (none_kept winding ts (λ k d lt. h (suc k) d (omega arith)))
 
 -- why a triangle gives no piece
-pub gives_none : (v0 v1 v2 : ClipVertex) (near : ℕ) (size : Dimensions) (winding : Winding) (side : Side) → (pieces_of v0 v1 v2 near size winding side ≡ []) ↔ GivesNone v0 v1 v2 near size winding side
+pub gives_none : (v0 v1 v2 : ClipVertex) (top near : ℕ) (size : Dimensions) (winding : Winding) (side : Side) → (pieces_of v0 v1 v2 top near size winding side ≡ []) ↔ GivesNone v0 v1 v2 top near size winding side
 unfolding pieces_of kept_of snapped_part
-gives_none v0 v1 v2 near size winding side = (to (is_any_past_guard v0 v1 v2 near) refl, from)
+gives_none v0 v1 v2 top near size winding side = (to (is_any_past_guard v0 v1 v2 near) refl, from)
   where
     points : List Snapped
-    points = map (λ p. snapped p near size side) (near_part v0 v1 v2 near)
+    points = map (λ p. snapped p top near size side) (near_part v0 v1 v2 near)
 
-    to : (b : Bool) → is_any_past_guard v0 v1 v2 near ≡ b → cond b [] (kept_from winding (triangles_of points)) ≡ [] → GivesNone v0 v1 v2 near size winding side
+    to : (b : Bool) → is_any_past_guard v0 v1 v2 near ≡ b → cond b [] (kept_from winding (triangles_of points)) ≡ [] → GivesNone v0 v1 v2 top near size winding side
     to true h e = inl h
     to false h e = inr (inr (kept_nothing winding (triangles_of points) e))
 
@@ -106,19 +106,19 @@ gives_none v0 v1 v2 near size winding side = (to (is_any_past_guard v0 v1 v2 nea
     same true ts e = refl
     same false ts e = e
 
-    from : GivesNone v0 v1 v2 near size winding side → pieces_of v0 v1 v2 near size winding side ≡ []
+    from : GivesNone v0 v1 v2 top near size winding side → pieces_of v0 v1 v2 top near size winding side ≡ []
     from (inl h) = rw h refl
     from (inr (inl h)) = let e = near_part-outside v0 v1 v2 near h.0 h.1 h.2 in let ts : kept_from winding (triangles_of points) ≡ [] = rw e refl in same (is_any_past_guard v0 v1 v2 near) (kept_from winding (triangles_of points)) ts
     from (inr (inr h)) = same (is_any_past_guard v0 v1 v2 near) (kept_from winding (triangles_of points)) (none_kept winding (triangles_of points) h)
 
 -- what the two ways through `set_up` give
-pub past : (v0 v1 v2 : ClipVertex) (near : ℕ) (size : Dimensions) (winding : Winding) (side : Side) → is_any_past_guard v0 v1 v2 near ≡ true → [] ≡ pieces_of v0 v1 v2 near size winding side
+pub past : (v0 v1 v2 : ClipVertex) (top near : ℕ) (size : Dimensions) (winding : Winding) (side : Side) → is_any_past_guard v0 v1 v2 near ≡ true → [] ≡ pieces_of v0 v1 v2 top near size winding side
 unfolding pieces_of
-past v0 v1 v2 near size winding side e = rw e refl
+past v0 v1 v2 top near size winding side e = rw e refl
 
-pub held : (v0 v1 v2 : ClipVertex) (near : ℕ) (size : Dimensions) (winding : Winding) (side : Side) (r : List Piece) → is_any_past_guard v0 v1 v2 near ≡ false → r ≡ kept_of (snapped_part v0 v1 v2 near size side) winding → r ≡ pieces_of v0 v1 v2 near size winding side
+pub held : (v0 v1 v2 : ClipVertex) (top near : ℕ) (size : Dimensions) (winding : Winding) (side : Side) (r : List Piece) → is_any_past_guard v0 v1 v2 near ≡ false → r ≡ kept_of (snapped_part v0 v1 v2 top near size side) winding → r ≡ pieces_of v0 v1 v2 top near size winding side
 unfolding pieces_of
-held v0 v1 v2 near size winding side r e h = rw e h
+held v0 v1 v2 top near size winding side r e h = rw e h
 
 pub all_within_guard : (vs : List ClipVertex) (near : ℕ) → length vs ≡ 3 → is_any_past_guard (corner vs 0) (corner vs 1) (corner vs 2) near ≡ false → All (λ v. is_past_guard v near ≡ false) vs
 all_within_guard vs near e h =

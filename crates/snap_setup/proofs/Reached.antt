@@ -25,8 +25,8 @@ pub record IsReached (near : ℕ) (p : HomPoint) (s w : ℕ) : Type 0 where
   pub scale_most : s ≤ 2 ^ 25
   pub w_least : near * s ≤ w
   pub w_most : w ≤ 2 ^ 49
-  pub x_near : Bounded (2 ^ 49) p.x
-  pub y_near : Bounded (2 ^ 49) p.y
+  pub x_bounded : Bounded (2 ^ 49) p.x
+  pub y_bounded : Bounded (2 ^ 49) p.y
 
 in_numbers : (near : ℕ) (x y : ℤ) (s w : ℕ) → near ≤ 1024 → let p : HomPoint = record { x = x; y = y; w = pos w; scale = pos s } in IsInReach near p → IsReached near p s w
 in_numbers near x y s w le r =
@@ -40,8 +40,8 @@ in_numbers near x y s w le r =
       scale_most = small;
       w_least = least;
       w_most = omega (arith, ints, r.w_most, most);
-      x_near = (omega (arith, ints, r.x_within, most), omega (arith, ints, r.x_within, most));
-      y_near = (omega (arith, ints, r.y_within, most), omega (arith, ints, r.y_within, most));
+      x_bounded = (omega (arith, ints, r.x_within, most), omega (arith, ints, r.x_within, most));
+      y_bounded = (omega (arith, ints, r.y_within, most), omega (arith, ints, r.y_within, most));
     }
 
 reached_from : (near : ℕ) (x y w s : ℤ) → near ≤ 1024 → pos 0 ≤ℤ s → pos 0 ≤ℤ w → let p : HomPoint = record { x = x; y = y; w = w; scale = s } in IsInReach near p → (m n : ℕ) × IsReached near p m n
@@ -65,8 +65,8 @@ sight x y s w near hn hs least most r hx hy =
       w_most = omega (arith, ints, most);
       x_beside = (omega (arith, ints, r.x_within, least), omega (arith, ints, r.x_within, least));
       y_beside = (omega (arith, ints, r.y_within, least), omega (arith, ints, r.y_within, least));
-      x_near = hx;
-      y_near = hy;
+      x_bounded = hx;
+      y_bounded = hy;
     }
 
 sight_along : (near : ℕ) (x y s' w' : ℤ) (s w : ℕ) → s' ≡ pos s → w' ≡ pos w → 1 ≤ near → let p : HomPoint = record { x = x; y = y; w = w'; scale = s' } in
@@ -75,7 +75,7 @@ sight_along near x y (pos s') (pos w') s w es ew hn k r =
     let a : s' ≡ s = omega (arith, ints, es) in
     let b : w' ≡ w = omega (arith, ints, ew) in
     let least : near * s' ≤ w' = rw (a, b) k.w_least in
-    sight x y s' w' near hn (omega (arith, k.scale_least)) least (omega (arith, k.w_most)) r k.x_near k.y_near
+    sight x y s' w' near hn (omega (arith, k.scale_least)) least (omega (arith, k.w_most)) r k.x_bounded k.y_bounded
 sight_along near x y (negsuc s') w' s w es ew hn k r = absurd (omega (arith, ints, es))
 sight_along near x y (pos s') (negsuc w') s w es ew hn k r = absurd (omega (arith, ints, ew))
 
@@ -90,47 +90,47 @@ pub y_is : (p : HomPoint) (size : Dimensions) (height : ℕ) (r : ℤ) → heigh
 y_is p size height r e h = rw (h, e) refl
 
 -- the two roundings of nearness, as the code computes them
-pub record IsNearness (near : ℕ) (p : HomPoint) (down up : ℕ) : Type 0 where
-  pub down_is : down ≡ nearness_of p near Occluder
-  pub up_is : up ≡ nearness_of p near Object
-  pub down_small : down ≤ 65535
-  pub up_small : up ≤ 65535
+pub record IsNearness (top near : ℕ) (p : HomPoint) (down up : ℕ) : Type 0 where
+  pub down_is : down ≡ nearness_of p top near Occluder
+  pub up_is : up ≡ nearness_of p top near Object
+  pub down_small : down ≤ top
+  pub up_small : up ≤ top
 
-quotient_small : (n w : ℕ) → 0 < w → n ≤ 65535 * w → n / w ≤ 65535
-quotient_small n w h le = div-le_of_le-mul w (omega (arith, le))
+quotient_small : (top n w : ℕ) → 0 < w → n ≤ top * w → n / w ≤ top
+quotient_small top n w h le = div-le_of_le-mul w (omega (arith, le))
 
-ceiling_small : (n w : ℕ) → 0 < w → n ≤ 65535 * w → n / w + min 1 (n % w) ≤ 65535
-ceiling_small n w h le = by_rest (n % w) refl
+ceiling_small : (top n w : ℕ) → 0 < w → n ≤ top * w → n / w + min 1 (n % w) ≤ top
+ceiling_small top n w h le = by_rest (n % w) refl
   where
-    by_rest : (r : ℕ) → r ≡ n % w → n / w + min 1 (n % w) ≤ 65535
-    by_rest zero e = omega (arith, quotient_small n w h le)
+    by_rest : (r : ℕ) → r ≡ n % w → n / w + min 1 (n % w) ≤ top
+    by_rest zero e = omega (arith, quotient_small top n w h le)
     by_rest (suc k) e =
         let m = div-add-mod n w in
-        let lt : w * (n / w) < w * 65535 = omega (arith, m, e) in
-        let q : n / w < 65535 = lt_of_mul-lt-mul_left w lt in
+        let lt : w * (n / w) < w * top = omega (arith, m, e) in
+        let q : n / w < top = lt_of_mul-lt-mul_left w lt in
         omega (arith, q)
 
-nearness_in : (near : ℕ) (x y : ℤ) (s w : ℕ) → let p : HomPoint = record { x = x; y = y; w = pos w; scale = pos s } in 1 ≤ near → 1 ≤ s → near * s ≤ w →
-    IsNearness near p (65535 * near * s / w) (div_ceil (65535 * near * s) w)
-nearness_in near x y s w hn hs le =
+nearness_in : (top near : ℕ) (x y : ℤ) (s w : ℕ) → let p : HomPoint = record { x = x; y = y; w = pos w; scale = pos s } in 1 ≤ near → 1 ≤ s → near * s ≤ w →
+    IsNearness top near p (top * near * s / w) (div_ceil (top * near * s) w)
+nearness_in top near x y s w hn hs le =
     let positive : 0 < w = omega (arith, mul-le-mul hn hs) in
-    let most : 65535 * near * s ≤ 65535 * w = omega (arith, mul-le-mul_left 65535 le) in
+    let most : top * near * s ≤ top * w = omega (arith, mul-le-mul_left top le) in
     record {
       down_is = refl;
-      up_is = sym (ceiling_is (65535 * near * s) w positive);
-      down_small = quotient_small _ w positive most;
-      up_small = ceiling_small _ w positive most;
+      up_is = sym (ceiling_is (top * near * s) w positive);
+      down_small = quotient_small top _ w positive most;
+      up_small = ceiling_small top _ w positive most;
     }
 
-nearness_along : (near : ℕ) (x y s' w' : ℤ) (s w : ℕ) → s' ≡ pos s → w' ≡ pos w → let p : HomPoint = record { x = x; y = y; w = w'; scale = s' } in 1 ≤ near → 1 ≤ s → near * s ≤ w →
-    IsNearness near p (65535 * near * unsigned_abs s' / unsigned_abs w') (div_ceil (65535 * near * unsigned_abs s') (unsigned_abs w'))
-nearness_along near x y s' w' s w es ew hn hs le = rw (es, ew) (nearness_in near x y s w hn hs le)
+nearness_along : (top near : ℕ) (x y s' w' : ℤ) (s w : ℕ) → s' ≡ pos s → w' ≡ pos w → let p : HomPoint = record { x = x; y = y; w = w'; scale = s' } in 1 ≤ near → 1 ≤ s → near * s ≤ w →
+    IsNearness top near p (top * near * unsigned_abs s' / unsigned_abs w') (div_ceil (top * near * unsigned_abs s') (unsigned_abs w'))
+nearness_along top near x y s' w' s w es ew hn hs le = rw (es, ew) (nearness_in top near x y s w hn hs le)
 
-pub nearness_is : (near : ℕ) (p : HomPoint) → 1 ≤ near → near ≤ 1024 → IsInReach near p →
-    IsNearness near p (65535 * near * unsigned_abs p.scale / unsigned_abs p.w) (div_ceil (65535 * near * unsigned_abs p.scale) (unsigned_abs p.w))
-nearness_is near p hn le h = let (s, w, r) = reached near p le h in nearness_along near p.x p.y p.scale p.w s w r.scale_is r.w_is hn r.scale_least r.w_least
+nearness_is : (top near : ℕ) (p : HomPoint) → 1 ≤ near → near ≤ 1024 → IsInReach near p →
+    IsNearness top near p (top * near * unsigned_abs p.scale / unsigned_abs p.w) (div_ceil (top * near * unsigned_abs p.scale) (unsigned_abs p.w))
+nearness_is top near p hn le h = let (s, w, r) = reached near p le h in nearness_along top near p.x p.y p.scale p.w s w r.scale_is r.w_is hn r.scale_least r.w_least
 
 -- the nearness by the numbers that the code took
-pub nearness_from : (near : ℕ) (p : HomPoint) (a n w : ℕ) → 1 ≤ near → near ≤ 1024 → IsInReach near p → a ≡ unsigned_abs p.scale → n ≡ 65535 * near * a → w ≡ unsigned_abs p.w →
-    IsNearness near p (n / w) (div_ceil n w)
-nearness_from near p a n w hn le h ea en ew = let k = nearness_is near p hn le h in rw (en, ea, ew) k
+pub nearness_from : (top near : ℕ) (p : HomPoint) (a n w : ℕ) → 1 ≤ near → near ≤ 1024 → IsInReach near p →
+    a ≡ unsigned_abs p.scale → n ≡ top * near * a → w ≡ unsigned_abs p.w → IsNearness top near p (n / w) (div_ceil n w)
+nearness_from top near p a n w hn le h ea en ew = let k = nearness_is top near p hn le h in rw (en, ea, ew) k

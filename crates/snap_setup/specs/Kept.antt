@@ -1,6 +1,7 @@
 -- Pieces as they are held.
-use Rattle.std.specs.Prelude.{List, [], ◌∷◌}
+use Rattle.std.specs.Prelude.{List, [], ◌∷◌, ◌++◌}
 use Rattle.cull_base.specs.Piece.{Piece}
+use Rattle.cull_base.specs.Tiles.{FrameListOf}
 use Rattle.snap_setup.specs.declared.kept.Kept.{Kept}
 use Rattle.snap_setup.specs.declared.kept.Kept.TheVariants.{Nothing, One, Two}
 
@@ -8,3 +9,7 @@ abbrev pub kept_in : Kept → List Piece
 kept_in Nothing = []
 kept_in (One a) = a ∷ []
 kept_in (Two a b) = a ∷ b ∷ []
+
+-- a frame list with some pieces behind its members
+abbrev pub with_pieces : FrameListOf → List Piece → FrameListOf
+with_pieces f pieces = record { list = record { size = f.list.size; members = f.list.members ++ pieces }; room = f.room }

@@ -4,18 +4,18 @@ use Rattle.std.specs.List.{swap, flat_map, All}
 use Rattle.std.specs.Ordering.{int_eq}
 use Rattle.cull_base.specs.declared.clip.ClipVertex.{ClipVertex}
 use Rattle.cull_base.specs.declared.triangle.Side.{Side}
-use Rattle.cull_base.specs.declared.triangle.Side.TheVariants.{Occluder, Object}
+use Rattle.cull_base.specs.declared.triangle.Side.TheVariants.{Occluder}
 use Rattle.cull_base.specs.declared.triangle.Winding.{Winding}
 use Rattle.cull_base.specs.declared.triangle.Winding.TheVariants.{Both, DropClockwise, DropCounter}
 use Rattle.cull_base.specs.declared.rect.Rect.{Rect}
 use Rattle.cull_base.specs.declared.scene_types.Tri.{Tri}
 use Rattle.cull_base.specs.Screen.{Dimensions}
 use Rattle.cull_base.specs.Guard.{is_past_guard}
-use Rattle.cull_base.specs.Piece.{Piece, doubled_area, first_pixel, end_pixel}
-use Rattle.cull_base.specs.Depth.{least_of, greatest_of}
+use Rattle.cull_base.specs.Piece.{Piece, doubled_area, box_around}
+use Rattle.near_clip.specs.declared.hom_point.HomPoint.{HomPoint}
 use Rattle.near_clip.specs.NearPart.{near_part, corner, is_in_front}
 use Rattle.snap_setup.specs.declared.snapping.Snapped.{Snapped}
-use Rattle.snap_setup.specs.Snapping.{snapped}
+use Rattle.snap_setup.specs.Snapping.{snapped, screen_x, screen_y}
 
 -- three snapped points as they stand, whatever the area
 abbrev pub triangle : Snapped → Snapped → Snapped → Piece
@@ -49,39 +49,37 @@ turned t = cond (int_lt (doubled_area t) (pos 0)) (exchanged t) t
 unfoldable pub kept_of : List Snapped → Winding → List Piece
 kept_of points winding = map turned (filter (λ t. not (is_left_out winding t)) (triangles_of points))
 
--- the polygon in front of the near plane, on the screen
-unfoldable pub snapped_part : ClipVertex → ClipVertex → ClipVertex → ℕ → Dimensions → Side → List Snapped
-snapped_part v0 v1 v2 near size side = map (λ p. snapped p near size side) (near_part v0 v1 v2 near)
+-- the polygon in front of the near plane, on the screen, by the top of the scene's grade of nearness
+unfoldable pub snapped_part : ClipVertex → ClipVertex → ClipVertex → ℕ → ℕ → Dimensions → Side → List Snapped
+snapped_part v0 v1 v2 top near size side = map (λ p. snapped p top near size side) (near_part v0 v1 v2 near)
 
 abbrev pub is_any_past_guard : ClipVertex → ClipVertex → ClipVertex → ℕ → Bool
 is_any_past_guard v0 v1 v2 near = is_past_guard v0 near || (is_past_guard v1 near || is_past_guard v2 near)
 
 -- the pieces of a triangle: none where a vertex is past the guard
-unfoldable pub pieces_of : ClipVertex → ClipVertex → ClipVertex → ℕ → Dimensions → Winding → Side → List Piece
-pieces_of v0 v1 v2 near size winding side = cond (is_any_past_guard v0 v1 v2 near) [] (kept_of (snapped_part v0 v1 v2 near size side) winding)
+unfoldable pub pieces_of : ClipVertex → ClipVertex → ClipVertex → ℕ → ℕ → Dimensions → Winding → Side → List Piece
+pieces_of v0 v1 v2 top near size winding side =
+    cond (is_any_past_guard v0 v1 v2 near) [] (kept_of (snapped_part v0 v1 v2 top near size side) winding)
 
 -- all of a triangle is behind the near plane
 abbrev pub IsBehind : ClipVertex → ClipVertex → ClipVertex → ℕ → Type 0
 IsBehind v0 v1 v2 near = (is_in_front v0 near ≡ false) × (is_in_front v1 near ≡ false) × (is_in_front v2 near ≡ false)
 
 -- why a triangle gives no piece: a vertex is past the guard, all of it is behind the near plane, or each triangle of the polygon is left out
-abbrev pub GivesNone : ClipVertex → ClipVertex → ClipVertex → ℕ → Dimensions → Winding → Side → Type 0
-GivesNone v0 v1 v2 near size winding side =
+abbrev pub GivesNone : ClipVertex → ClipVertex → ClipVertex → ℕ → ℕ → Dimensions → Winding → Side → Type 0
+GivesNone v0 v1 v2 top near size winding side =
     IsTrue (is_any_past_guard v0 v1 v2 near)
     ⊎ (IsBehind v0 v1 v2 near
-    ⊎ All (λ t. is_left_out winding t ≡ true) (triangles_of (snapped_part v0 v1 v2 near size side)))
+    ⊎ All (λ t. is_left_out winding t ≡ true) (triangles_of (snapped_part v0 v1 v2 top near size side)))
 
--- the pixels that points may reach, if there is a point
-abbrev pub box_around : List Snapped → Option Rect
-box_around [] = None
-box_around (p ∷ ps) =
-    let xs = map (λ s. s.x) (p ∷ ps) in
-    let ys = map (λ s. s.y) (p ∷ ps) in
-    Some (record { x0 = first_pixel (least_of xs); y0 = first_pixel (least_of ys); x1 = end_pixel (greatest_of xs); y1 = end_pixel (greatest_of ys) })
+-- the pixels that a polygon may reach on the screen, whatever its area; none if it has no points
+abbrev pub polygon_box : List HomPoint → Dimensions → Option Rect
+polygon_box [] size = None
+polygon_box (p ∷ ps) size = Some (box_around (map (λ p. screen_x p size) (p ∷ ps)) (map (λ p. screen_y p size) (p ∷ ps)))
 
--- the box of the snapped polygon, whatever its area; none where all of the triangle is behind the near plane
+-- the box of the polygon in front of the near plane; none where all of the triangle is behind it
 unfoldable pub near_box_of : ClipVertex → ClipVertex → ClipVertex → ℕ → Dimensions → Option Rect
-near_box_of v0 v1 v2 near size = box_around (snapped_part v0 v1 v2 near size Object)
+near_box_of v0 v1 v2 near size = polygon_box (near_part v0 v1 v2 near) size
 
 -- vertex k of a triangle, looked up among the clips
 abbrev pub clip_at : List ClipVertex → Tri → ℕ → ClipVertex
@@ -92,6 +90,6 @@ abbrev pub HasClips : ℕ → Tri → Type 0
 HasClips n t = All (λ i. i < n) t.0
 
 -- the occluder pieces of the triangles, one triangle after another
-unfoldable pub list_of_clips : List ClipVertex → List Tri → ℕ → Dimensions → Winding → List Piece
-list_of_clips clips tris near size winding =
-    flat_map (λ t. pieces_of (clip_at clips t 0) (clip_at clips t 1) (clip_at clips t 2) near size winding Occluder) tris
+unfoldable pub list_of_clips : List ClipVertex → List Tri → ℕ → ℕ → Dimensions → Winding → List Piece
+list_of_clips clips tris top near size winding =
+    flat_map (λ t. pieces_of (clip_at clips t 0) (clip_at clips t 1) (clip_at clips t 2) top near size winding Occluder) tris

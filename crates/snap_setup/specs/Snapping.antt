@@ -3,6 +3,7 @@ use Rattle.std.specs.Prelude.{ℕ, ℤ, pos, ◌*◌, ◌^◌, ◌≤◌, ◌≤
 use Rattle.std.specs.Int.RustNames.{unsigned_abs}
 use Rattle.cull_base.specs.declared.triangle.Side.{Side}
 use Rattle.cull_base.specs.declared.triangle.Side.TheVariants.{Occluder, Object}
+use Rattle.cull_base.specs.declared.nearness.TheConstants.{HELD_TOP}
 use Rattle.cull_base.specs.Screen.{Dimensions}
 use Rattle.cull_base.specs.Bounds.{Bounded}
 use Rattle.cull_base.specs.Piece.{IsCoordinate}
@@ -28,12 +29,12 @@ abbrev pub rounded_by : Side → ℤ → ℤ → ℤ
 rounded_by Occluder n d = floor_of n d
 rounded_by Object n d = ceiling_of n d
 
--- 65535 * near * scale / w, in whole numbers
-abbrev pub nearness_of : HomPoint → ℕ → Side → ℕ
-nearness_of p near side = unsigned_abs (rounded_by side (pos (65535 * near) *ℤ p.scale) p.w)
+-- top * near * scale / w, in whole numbers: the top is the nearness of the near distance
+abbrev pub nearness_of : HomPoint → ℕ → ℕ → Side → ℕ
+nearness_of p top near side = unsigned_abs (rounded_by side (pos (top * near) *ℤ p.scale) p.w)
 
-unfoldable pub snapped : HomPoint → ℕ → Dimensions → Side → Snapped
-snapped p near size side = record { x = screen_x p size; y = screen_y p size; q = nearness_of p near side }
+unfoldable pub snapped : HomPoint → ℕ → ℕ → Dimensions → Side → Snapped
+snapped p top near size side = record { x = screen_x p size; y = screen_y p size; q = nearness_of p top near side }
 
 -- in front of the viewer, with w and the coordinates small enough for the sums of snapping
 pub record IsInSight (p : HomPoint) : Type 0 where
@@ -41,11 +42,11 @@ pub record IsInSight (p : HomPoint) : Type 0 where
   pub w_most : p.w ≤ℤ pos (2 ^ 49)
   pub x_beside : WithinScaled 16384 p.w p.x
   pub y_beside : WithinScaled 16384 p.w p.y
-  pub x_near : Bounded (2 ^ 49) p.x
-  pub y_near : Bounded (2 ^ 49) p.y
+  pub x_bounded : Bounded (2 ^ 49) p.x
+  pub y_bounded : Bounded (2 ^ 49) p.y
 
 -- what is true of each snapped point
 pub record IsSnapped (s : Snapped) : Type 0 where
   pub x_within : IsCoordinate s.x
   pub y_within : IsCoordinate s.y
-  pub nearness_within : s.q ≤ 65535
+  pub nearness_within : s.q ≤ HELD_TOP

@@ -1,6 +1,7 @@
 //! The pieces of a frame.
 ghost use Rattle.std.specs.Prelude.{◌≡◌, ◌≤◌, length, IfOk};
 ghost use Rattle.std.specs.List.{All};
+ghost use Rattle.cull_base.specs.declared.nearness.TheConstants.{GRADE_TOP};
 ghost use Rattle.near_clip.specs.NearPart.{corner};
 ghost use Rattle.snap_setup.specs.Pieces.{list_of_clips, clip_at, HasClips};
 
@@ -22,8 +23,8 @@ pub fn frame_list(
     requires near_most { near ≤ 1024 }
     requires triangles { length tris.now ≤ 65536 }
     requires indices { All (HasClips (length clips.now)) tris.now }
-    ensures members { IfOk result (λ f. f.members ≡ list_of_clips clips.now tris.now near size winding) }
-    ensures size { IfOk result (λ f. f.size ≡ size) }
+    ensures members { IfOk result (λ f. f.list.members ≡ list_of_clips clips.now tris.now GRADE_TOP near size winding) }
+    ensures size { IfOk result (λ f. f.list.size ≡ size) }
 {
     let mut list = FrameList::with_room(alloc, size, 2 * tris.len() as u32)?;
     for tri in tris {

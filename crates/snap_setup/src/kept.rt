@@ -29,6 +29,7 @@ impl Model for Pieces {
 
 impl Pieces {
     ghost use Rattle.snap_setup.specs.Judged.{listed};
+    ghost use Rattle.snap_setup.specs.Kept.{with_pieces};
 
     pub(crate) fn none() -> Pieces
         ensures { result ≡ [] }
@@ -74,8 +75,8 @@ impl Pieces {
     }
 
     pub(crate) fn push_onto(&self, list: &mut FrameList)
-        requires { length list.old.members + 2 ≤ list.old.room }
-        ensures { list.new ≡ record list.old { members = list.old.members ++ self.now } }
+        requires { length list.old.list.members + 2 ≤ list.old.room }
+        ensures { list.new ≡ with_pieces list.old self.now }
     {
         match &self.kept {
             Kept::Nothing => {}

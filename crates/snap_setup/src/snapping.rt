@@ -2,23 +2,22 @@
 ghost use Rattle.std.specs.Prelude.{◌≡◌, ℤ, pos, neg_ℤ, ◌*◌, ◌^◌, ◌*ℤ◌, ◌+ℤ◌, ◌≤ℤ◌, ◌≤◌};
 ghost use Rattle.cull_base.specs.Bounds.{Bounded};
 ghost use Rattle.cull_base.specs.Piece.{IsCoordinate};
+ghost use Rattle.cull_base.specs.declared.nearness.TheConstants.{GRADE_TOP};
 ghost use Rattle.near_clip.specs.Reach.{IsInReach};
 ghost use Rattle.snap_setup.specs.Snapping.{round_half, screen_x, screen_y, nearness_of, snapped, IsInSight, IsSnapped};
 
 use crate::quotient::floor_quotient;
-use cull_base::{Side, Size};
+use cull_base::{GRADE_TOP, Side, Size};
 use near_clip::HomPoint;
 
-/// A point on the screen: coordinates in sixteenths of a pixel, y downwards, and nearness from 0 to 65535.
+/// A point on the screen: coordinates in sixteenths of a pixel, y downwards, and nearness from 0 to the top of
+/// the scene's grade.
 #[derive(Clone, Copy, Debug, PartialEq, Eq)]
 pub struct Snapped {
     pub x: i32,
     pub y: i32,
     pub q: u32,
 }
-
-/// The nearness of a point on the near plane.
-const NEAREST: u64 = 65535;
 
 #[inline(always)]
 fn wide_product(a: u32, b: i64) -> i128
@@ -73,17 +72,17 @@ pub(crate) fn place_y(point: &HomPoint, size: Size) -> i32
 fn nearness_numerator(near: u16, scale: u64) -> u64
     requires near { near ≤ 1024 }
     requires scale { scale ≤ 2 ^ 25 }
-    ensures { result ≡ 65535 * near * scale }
+    ensures { result ≡ GRADE_TOP * near * scale }
 {
-    NEAREST * u64::from(near) * scale
+    u64::from(GRADE_TOP) * u64::from(near) * scale
 }
 
 fn nearness(point: &HomPoint, near: u16, side: Side) -> u32
     requires near_least { 1 ≤ near }
     requires near_most { near ≤ 1024 }
     requires reach { IsInReach near point.now }
-    ensures value { result ≡ nearness_of point.now near side }
-    ensures within { result ≤ 65535 }
+    ensures value { result ≡ nearness_of point.now GRADE_TOP near side }
+    ensures within { result ≤ GRADE_TOP }
 {
     let numerator = nearness_numerator(near, point.scale.unsigned_abs());
     let w = point.w.unsigned_abs();
@@ -100,7 +99,7 @@ pub fn snap(point: &HomPoint, near: u16, size: Size, side: Side) -> Snapped
     requires near_least { 1 ≤ near }
     requires near_most { near ≤ 1024 }
     requires reach { IsInReach near point.now }
-    ensures value { result ≡ snapped point.now near size side }
+    ensures value { result ≡ snapped point.now GRADE_TOP near size side }
     ensures within { IsSnapped result }
 {
     Snapped {

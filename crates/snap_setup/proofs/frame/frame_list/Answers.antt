@@ -1,5 +1,6 @@
 use Rattle.std.proofs.Common.{[], arith, get_or, refl, length-append}
 use Rattle.cull_base.specs.declared.scene_types.Tri.{Tri}
+use Rattle.cull_base.specs.declared.nearness.TheConstants.{GRADE_TOP}
 use Rattle.snap_setup.proofs.FrameLists.{list_none, list_more, by_corners}
 use Rattle.snap_setup.proofs.frame.frame_list.Goals as goal
 
@@ -9,7 +10,7 @@ loop-tri-init c =
     record {
       size = rw e refl;
       room = rw e refl;
-      members = rw e (list_none c.args.clips.now c.args.near c.args.size c.args.winding);
+      members = rw e (list_none c.args.clips.now GRADE_TOP c.args.near c.args.size c.args.winding);
       short = rw e (omega arith);
     }
 
@@ -18,10 +19,10 @@ loop-tri-preserved c =
     let e = c.push_onto.ensures in
     let i = c.loop-tri.invariant in
     let d : Tri = record { 0 = [] } in
-    let ps = by_corners c.args.clips.now c.corners-corners.result c.args.near c.args.size c.args.winding (get_or c.args.tris.now c.loop-tri.tri-index d) c.set_up.result c.set_up.ensures.value c.corners-corners.ensures.first c.corners-corners.ensures.second c.corners-corners.ensures.third in
+    let ps = by_corners c.args.clips.now c.corners-corners.result GRADE_TOP c.args.near c.args.size c.args.winding (get_or c.args.tris.now c.loop-tri.tri-index d) c.set_up.result c.set_up.ensures.value c.corners-corners.ensures.first c.corners-corners.ensures.second c.corners-corners.ensures.third in
     record {
       size = rw e i.size;
       room = rw e i.room;
-      members = rw e (list_more c.args.clips.now c.args.tris.now c.args.near c.args.size c.args.winding c.loop-tri.tri-index d c.loop-tri.list.members c.set_up.result c.loop-tri-test.true i.members ps);
+      members = rw e (list_more c.args.clips.now c.args.tris.now GRADE_TOP c.args.near c.args.size c.args.winding c.loop-tri.tri-index d c.loop-tri.list.list.members c.set_up.result c.loop-tri-test.true i.members ps);
       short = rw e (rw length-append (omega (arith, i.short, c.set_up.ensures.most)));
     }

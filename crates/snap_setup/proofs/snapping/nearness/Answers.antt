@@ -1,16 +1,17 @@
 use Rattle.std.proofs.Common.{◌≤◌, ℕ, Fits, FitsSigned, w32, w64, arith, rules, ◌∙◌}
 use Rattle.std.proofs.lemmas.Int.{to_z-of_z}
+use Rattle.cull_base.specs.declared.nearness.TheConstants.{GRADE_TOP}
 use Rattle.snap_setup.proofs.Reached.{nearness_from}
 use Rattle.snap_setup.proofs.snapping.nearness.Goals as goal
 
-small : (q : ℕ) → q ≤ 65535 → Fits w32 q
+small : (q : ℕ) → q ≤ GRADE_TOP → Fits w32 q
 small q h = omega (arith, h)
 
 pub overflow_cast-result : goal.overflow_cast-result
 overflow_cast-result c =
     let p = c.args.point.now in
     let fs : FitsSigned w64 p.scale = search rules in let fw : FitsSigned w64 p.w = search rules in
-    let k = nearness_from c.args.near p _ _ _ c.requires.near_least c.requires.near_most c.requires.reach
+    let k = nearness_from GRADE_TOP c.args.near p _ _ _ c.requires.near_least c.requires.near_most c.requires.reach
     (simp to_z-of_z at c.unsigned_abs.ensures.value) c.nearness_numerator-numerator.ensures (simp to_z-of_z at c.unsigned_abs-w.ensures.value) in
     small _ k.down_small
 
@@ -18,7 +19,7 @@ pub overflow_cast-result-in-Object : goal.overflow_cast-result-in-Object
 overflow_cast-result-in-Object c =
     let p = c.args.point.now in
     let fs : FitsSigned w64 p.scale = search rules in let fw : FitsSigned w64 p.w = search rules in
-    let k = nearness_from c.args.near p _ _ _ c.requires.near_least c.requires.near_most c.requires.reach
+    let k = nearness_from GRADE_TOP c.args.near p _ _ _ c.requires.near_least c.requires.near_most c.requires.reach
     (simp to_z-of_z at c.unsigned_abs.ensures.value) c.nearness_numerator-numerator.ensures (simp to_z-of_z at c.unsigned_abs-w.ensures.value) in
     small _ (rw c.div_ceil.ensures k.up_small)
 
@@ -26,7 +27,7 @@ pub returns-in-Object-clause-within : goal.returns-in-Object-clause-within
 returns-in-Object-clause-within c =
     let p = c.args.point.now in
     let fs : FitsSigned w64 p.scale = search rules in let fw : FitsSigned w64 p.w = search rules in
-    let k = nearness_from c.args.near p _ _ _ c.requires.near_least c.requires.near_most c.requires.reach
+    let k = nearness_from GRADE_TOP c.args.near p _ _ _ c.requires.near_least c.requires.near_most c.requires.reach
     (simp to_z-of_z at c.unsigned_abs.ensures.value) c.nearness_numerator-numerator.ensures (simp to_z-of_z at c.unsigned_abs-w.ensures.value) in
     rw c.div_ceil.ensures k.up_small
 
@@ -34,7 +35,7 @@ pub returns-in-Object-clause-value : goal.returns-in-Object-clause-value
 returns-in-Object-clause-value c =
     let p = c.args.point.now in
     let fs : FitsSigned w64 p.scale = search rules in let fw : FitsSigned w64 p.w = search rules in
-    let k = nearness_from c.args.near p _ _ _ c.requires.near_least c.requires.near_most c.requires.reach
+    let k = nearness_from GRADE_TOP c.args.near p _ _ _ c.requires.near_least c.requires.near_most c.requires.reach
     (simp to_z-of_z at c.unsigned_abs.ensures.value) c.nearness_numerator-numerator.ensures (simp to_z-of_z at c.unsigned_abs-w.ensures.value) in
     let s = c.in-Object.is in
     rw s (c.div_ceil.ensures ∙ k.up_is)

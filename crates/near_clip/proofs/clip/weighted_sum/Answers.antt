@@ -1,6 +1,6 @@
 use Rattle.std.proofs.Common.{◌≡◌, ◌*ℤ◌, ◌+ℤ◌, ℤ, FitsSigned, w64, arith, rules, refl}
 use Rattle.std.proofs.lemmas.Int.{ints, to_z-of_z}
-use Rattle.near_clip.proofs.clip.joined.Goals as goal
+use Rattle.near_clip.proofs.clip.weighted_sum.Goals as goal
 
 summed : (p b q a x y : ℤ) → x ≡ p *ℤ b → y ≡ q *ℤ a → x +ℤ y ≡ (p *ℤ b) +ℤ (q *ℤ a)
 summed p b q a x y ex ey = rw (ex, ey) refl
