@@ -18,8 +18,8 @@ in_range-le : (z : ℤ) → pos 0 ≤ℤ z → pos (cut_to_range HELD_TOP z) ≤
 in_range-le (pos n) h = omega (arith, ints)
 in_range-le (negsuc n) h = absurd (omega (arith, ints, h))
 
-in_range-ge : (z : ℤ) → z ≤ℤ pos 65535 → z ≤ℤ pos (cut_to_range HELD_TOP z)
-in_range-ge (pos n) h = let l : n ≤ 65535 = omega (arith, ints, h) in omega (arith, ints)
+in_range-ge : (z : ℤ) → z ≤ℤ pos HELD_TOP → z ≤ℤ pos (cut_to_range HELD_TOP z)
+in_range-ge (pos n) h = let l : n ≤ HELD_TOP = omega (arith, ints, h) in omega (arith, ints)
 in_range-ge (negsuc n) h = omega (arith, ints)
 
 int_max-times : (x y d n : ℤ) → (x *ℤ d) ≤ℤ n → (y *ℤ d) ≤ℤ n → (int_max x y *ℤ d) ≤ℤ n
@@ -40,8 +40,8 @@ int_max-left x y = omega (arith, ints, clamps)
 int_min-left : (x y : ℤ) → int_min x y ≤ℤ x
 int_min-left x y = omega (arith, ints, clamps)
 
-nearness_small : (t : Piece) (k : ℕ) → IsPiece t → k < 3 → nearness t k ≤ 65535
-nearness_small t k h l = let three = h.three_q in All-get_or (λ q. q ≤ 65535) t.qs k 0 (omega arith) h.nearness_within
+nearness_small : (t : Piece) (k : ℕ) → IsPiece t → k < 3 → nearness t k ≤ HELD_TOP
+nearness_small t k h l = let three = h.three_q in All-get_or (λ q. q ≤ HELD_TOP) t.qs k 0 (omega arith) h.nearness_within
 
 pub low_of-below : (t : Piece) (u : Sub) (k : ℕ) → IsPiece t → k < 32 → touches t (sample u k) ≡ true → DepthAtLeast t (sample u k) (low_of t u)
 unfolding low_of
@@ -79,7 +79,7 @@ high_of-above t u k h lt e =
     at_ceiling : (a b c : ℤ) → a ≤ℤ b → b ≤ℤ c → a ≤ℤ c
     at_ceiling a b c p q = omega (arith, ints)
 
-    small : (n : ℕ) (z : ℤ) → n ≤ 65535 → z ≤ℤ pos n → z ≤ℤ pos 65535
+    small : (n : ℕ) (z : ℤ) → n ≤ HELD_TOP → z ≤ℤ pos n → z ≤ℤ pos HELD_TOP
     small n z l p = omega (arith, ints)
 
 -- the bounds as they are computed

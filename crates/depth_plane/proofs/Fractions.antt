@@ -1,8 +1,10 @@
 -- Two fractions are compared by whole quotients first, and by remainders where these agree.
 use Rattle.std.proofs.Common.{◌≡◌, ◌≢◌, ℤ, pos, negsuc, ◌+ℤ◌, ◌*ℤ◌, ◌≤ℤ◌, ◌<ℤ◌, arith}
 use Rattle.std.proofs.lemmas.Int.{ints, by_lt_z}
+use Rattle.cull_base.specs.Depth.{floor_of}
 use Rattle.cull_base.proofs.Ring.{diff-add, diff-mul, diff-same, over3, over4}
-use Rattle.depth_plane.proofs.Products.{le_times, mul_comm, mul-add}
+use Rattle.depth_plane.proofs.Products.{le_times, mul_comm, mul-add, times_one}
+use Rattle.depth_plane.proofs.Floors.{floor_of-le, floor_of-lt}
 
 split_times : (w d r e : ℤ) → ((w *ℤ d) +ℤ r) *ℤ e ≡ (w *ℤ (d *ℤ e)) +ℤ (r *ℤ e)
 split_times = over4 (λ w d r e. ((w *ℤ d) +ℤ r) *ℤ e ≡ (w *ℤ (d *ℤ e)) +ℤ (r *ℤ e)) (λ a a' b b' c c' d d'. simp (diff-add, diff-mul) (diff-same _ _ _ _ (omega arith)))
@@ -12,10 +14,6 @@ swapped = over3 (λ w d e. (w *ℤ e) *ℤ d ≡ (w *ℤ d) *ℤ e) (λ a a' b b
 
 one_more : (a d : ℤ) → (a +ℤ pos 1) *ℤ d ≡ (a *ℤ d) +ℤ d
 one_more a d = let e = mul_comm (a +ℤ pos 1) d in let f = mul-add d a (pos 1) in let g = mul_comm a d in let h = times_one d in omega (arith, ints, e, f, g, h)
-  where
-    times_one : (w : ℤ) → w *ℤ pos 1 ≡ w
-    times_one (pos n) = omega (arith, ints)
-    times_one (negsuc n) = omega (arith, ints)
 
 -- equal quotients
 crossed : (w d r e s : ℤ) → ((w *ℤ d) +ℤ r) *ℤ e ≡ (w *ℤ (d *ℤ e)) +ℤ (r *ℤ e) × (((w *ℤ e) +ℤ s) *ℤ d ≡ (w *ℤ (d *ℤ e)) +ℤ (s *ℤ d))
@@ -41,7 +39,7 @@ apart n m w v d e hd he ln lm l =
     let i = le_times (w *ℤ d) n e (omega (arith, ints, he)) ln in
     omega (arith, ints, f, g, h, i, hd)
 
-pub other_quotient : (n m w v d e : ℤ) → pos 0 <ℤ d → pos 0 <ℤ e → (w *ℤ d) ≤ℤ n → n <ℤ ((w *ℤ d) +ℤ d) → (v *ℤ e) ≤ℤ m → m <ℤ ((v *ℤ e) +ℤ e) → w ≢ v →
+other_quotient : (n m w v d e : ℤ) → pos 0 <ℤ d → pos 0 <ℤ e → (w *ℤ d) ≤ℤ n → n <ℤ ((w *ℤ d) +ℤ d) → (v *ℤ e) ≤ℤ m → m <ℤ ((v *ℤ e) +ℤ e) → w ≢ v →
     (v <ℤ w → (m *ℤ d) <ℤ (n *ℤ e)) × ((m *ℤ d) <ℤ (n *ℤ e) → v <ℤ w)
 other_quotient n m w v d e hd he ln gn lm gm ne = (
   apart n m w v d e hd he ln gm,
@@ -50,3 +48,7 @@ other_quotient n m w v d e hd he ln gn lm gm ne = (
   where
     strict : w ≢ v → w ≤ℤ v → w <ℤ v
     strict ne l = by_lt_z w v (λ g. g) (λ g. absurd (ne (omega (arith, ints, g, l))))
+
+pub floors_differ : (n m w v d e : ℤ) → pos 0 <ℤ d → pos 0 <ℤ e → w ≡ floor_of n d → v ≡ floor_of m e → w ≢ v →
+    (v <ℤ w → (m *ℤ d) <ℤ (n *ℤ e)) × ((m *ℤ d) <ℤ (n *ℤ e) → v <ℤ w)
+floors_differ n m w v d e hd he ew ev ne = rw (ew, ev) (other_quotient n m (floor_of n d) (floor_of m e) d e hd he (floor_of-le n d hd) (floor_of-lt n d hd) (floor_of-le m e he) (floor_of-lt m e he) (rw (ew, ev) at ne))

@@ -1,3 +1,4 @@
+pub mod Nearness
 pub mod Products
 pub mod Corners
 pub mod Mean

@@ -8,9 +8,7 @@ use Rattle.cull_base.specs.declared.place.Sub.{Sub}
 use Rattle.depth_plane.specs.Vertices.{IsVertex, across_of, down_of, level_of, area_of}
 use Rattle.depth_plane.specs.declared.vertices.Vertices.{Vertices}
 use Rattle.depth_plane.specs.Plane.{plane_of, numerator_at}
-
-abbrev edge : ℤ → ℤ → ℤ → ℤ → ℤ → ℤ → ℤ
-edge ax ay bx by px py = ((bx -ℤ ax) *ℤ (py -ℤ ay)) -ℤ ((by -ℤ ay) *ℤ (px -ℤ ax))
+use Rattle.depth_plane.proofs.Mean.{edge}
 
 abbrev by_edges : ℕ → ℕ → ℕ → ℤ → ℤ → ℤ → ℤ → ℤ → ℤ → ℤ → ℤ → ℤ
 by_edges p q r ax ay bx by cx cy x y = ((pos p *ℤ edge bx by cx cy x y) +ℤ (pos q *ℤ edge cx cy ax ay x y)) +ℤ (pos r *ℤ edge ax ay bx by x y)
@@ -19,7 +17,7 @@ abbrev by_slopes : ℕ → ℕ → ℕ → ℤ → ℤ → ℤ → ℤ → ℤ �
 by_slopes p q r ax ay bx by cx cy x y =
     (((((pos p *ℤ (by -ℤ cy)) +ℤ (pos q *ℤ (cy -ℤ ay))) +ℤ (pos r *ℤ (ay -ℤ by))) *ℤ x)
     +ℤ ((((pos p *ℤ (cx -ℤ bx)) +ℤ (pos q *ℤ (ax -ℤ cx))) +ℤ (pos r *ℤ (bx -ℤ ax))) *ℤ y))
-    +ℤ (((pos p *ℤ ((bx *ℤ cy) -ℤ (cx *ℤ by))) +ℤ (pos q *ℤ ((cx *ℤ ay) -ℤ (ax *ℤ cy)))) +ℤ (pos r *ℤ ((ax *ℤ by) -ℤ (bx *ℤ ay))))
+    +ℤ by_edges p q r ax ay bx by cx cy (pos 0) (pos 0)
 
 slopes_are : (p q r : ℕ) (ax ay bx by cx cy x y : ℤ) → by_slopes p q r ax ay bx by cx cy x y ≡ by_edges p q r ax ay bx by cx cy x y
 slopes_are p q r ax ay bx by cx cy x y =

@@ -25,7 +25,7 @@ times_le (pos n) (negsuc a) (negsuc m) h k = let le : suc m ≤ suc a = omega (a
 pub le_times : (a m w : ℤ) → pos 0 ≤ℤ w → a ≤ℤ m → (a *ℤ w) ≤ℤ (m *ℤ w)
 le_times a m w h k = let e = mul_comm a w in let f = mul_comm m w in omega (arith, ints, e, f, times_le w a m h k)
 
-times_one : (w : ℤ) → w *ℤ pos 1 ≡ w
+pub times_one : (w : ℤ) → w *ℤ pos 1 ≡ w
 times_one (pos n) = omega (arith, ints)
 times_one (negsuc n) = omega (arith, ints)
 

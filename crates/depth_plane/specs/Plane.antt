@@ -14,9 +14,9 @@ pub record Coefficients : Type 0 where
 
 -- the area is positive, and the sizes keep products inside 128 bits
 pub record IsPlane (c : Coefficients) : Type 0 where
-  pub across : Bounded (2 ^ 48) c.across
-  pub down : Bounded (2 ^ 48) c.down
-  pub level : Bounded (2 ^ 79) c.level
+  pub across : Bounded (2 ^ 56) c.across
+  pub down : Bounded (2 ^ 56) c.down
+  pub level : Bounded (2 ^ 87) c.level
   pub positive_area : pos 0 <ℤ c.area
   pub area_within : c.area ≤ℤ pos (2 ^ 61)
 
@@ -24,9 +24,8 @@ pub record IsPlane (c : Coefficients) : Type 0 where
 abbrev pub weighted : Piece → ℤ → ℤ → ℤ → ℤ
 weighted t a b c = ((pos (nearness t 0) *ℤ a) +ℤ (pos (nearness t 1) *ℤ b)) +ℤ (pos (nearness t 2) *ℤ c)
 
--- the value at the origin of the edge from a to b
-abbrev pub from_origin : Point → Point → ℤ
-from_origin a b = (a.x *ℤ b.y) -ℤ (b.x *ℤ a.y)
+abbrev pub origin : Point
+origin = record { x = pos 0; y = pos 0 }
 
 unfoldable pub plane_of : Piece → Coefficients
 plane_of t =
@@ -34,7 +33,7 @@ plane_of t =
     record {
       across = weighted t (b.y -ℤ c.y) (c.y -ℤ a.y) (a.y -ℤ b.y);
       down = weighted t (c.x -ℤ b.x) (a.x -ℤ c.x) (b.x -ℤ a.x);
-      level = weighted t (from_origin b c) (from_origin c a) (from_origin a b);
+      level = numerator t origin;
       area = denominator t;
     }
 

@@ -27,21 +27,21 @@ pub fn greatest_along(slope: i128, first: u32, span: u32) -> u32
 
 #[inline(always)]
 fn term(slope: i128, place: u32) -> i128
-    requires slope { Bounded (2 ^ 48) slope }
+    requires slope { Bounded (2 ^ 56) slope }
     requires place { place < 2 ^ 21 }
     ensures value { result ≡ slope *ℤ pos place }
-    ensures bounded { Bounded (2 ^ 69) result }
+    ensures bounded { Bounded (2 ^ 77) result }
 {
     slope * i128::from(place)
 }
 
 #[inline(always)]
 fn sum(a: i128, b: i128, level: i128) -> i128
-    requires a { Bounded (2 ^ 69) a }
-    requires b { Bounded (2 ^ 69) b }
-    requires level { Bounded (2 ^ 79) level }
+    requires a { Bounded (2 ^ 77) a }
+    requires b { Bounded (2 ^ 77) b }
+    requires level { Bounded (2 ^ 87) level }
     ensures value { result ≡ (a +ℤ b) +ℤ level }
-    ensures bounded { Bounded (2 ^ 80) result }
+    ensures bounded { Bounded (2 ^ 88) result }
 {
     a + b + level
 }
@@ -49,13 +49,13 @@ fn sum(a: i128, b: i128, level: i128) -> i128
 /// The value of a plane at a place.
 #[inline(always)]
 pub fn numerator_at(across: i128, down: i128, level: i128, x: u32, y: u32) -> i128
-    requires across { Bounded (2 ^ 48) across }
-    requires down { Bounded (2 ^ 48) down }
-    requires level { Bounded (2 ^ 79) level }
+    requires across { Bounded (2 ^ 56) across }
+    requires down { Bounded (2 ^ 56) down }
+    requires level { Bounded (2 ^ 87) level }
     requires x { x < 2 ^ 21 }
     requires y { y < 2 ^ 21 }
     ensures value { result ≡ ((across *ℤ pos x) +ℤ (down *ℤ pos y)) +ℤ level }
-    ensures bounded { Bounded (2 ^ 80) result }
+    ensures bounded { Bounded (2 ^ 88) result }
 {
     sum(term(across, x), term(down, y), level)
 }

@@ -1,7 +1,6 @@
 //! Depth: the plane of a piece's depth over the screen, and its bounds over a subtile.
 #![tactic(auto)]
 
-mod arithmetic;
 mod corner;
 mod plane;
 mod quotient;

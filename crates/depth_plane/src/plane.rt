@@ -3,6 +3,7 @@ ghost use Rattle.std.specs.Prelude.{◌≡◌, ℕ, ℤ, pos, true, ◌<◌, ◌
 ghost use Rattle.cull_base.specs.Piece.{least_of, greatest_of, Piece, Point, covers, touches, sample, each_sample};
 ghost use Rattle.cull_base.specs.Depth.{numerator, denominator, low_of, high_of, DepthAtLeast, DepthLess};
 ghost use Rattle.cull_base.specs.Bounds.{Bounded};
+ghost use Rattle.cull_base.specs.declared.nearness.TheConstants.{HELD_TOP};
 ghost use Rattle.depth_plane.specs.Plane.{plane_of, numerator_at, IsNearer, point_of, DepthAtMost};
 
 use crate::corner::{greatest_along, least_along, numerator_at};
@@ -23,7 +24,7 @@ pub struct Plane {
     across: i128,
     down: i128,
     level: i128,
-    area: i128,
+    area: i64,
 }
 
 impl Model for Plane {
@@ -60,18 +61,18 @@ impl Plane {
             across: vertices.across(),
             down: vertices.down(),
             level: vertices.level(),
-            area: i128::from(vertices.area()),
+            area: vertices.area(),
         }
     }
 
-    /// A bound that no covered sample of the subtile is below, from 0 to 65535. Conditions: the plane is the piece's,
-    /// and the subtile lies within 2048 by 2048 pixels.
+    /// The low bound of a subtile: nearness, from 0 to the top that pieces hold, that no covered sample is below.
+    /// Conditions: the plane is the piece's, and the subtile lies within 2048 by 2048 pixels.
     pub fn low(&self, tri: &ScreenTri, sub: Sub) -> u32
         requires plane { self.now ≡ plane_of tri.now }
         requires column { sub.column < 256 }
         requires row { sub.row < 512 }
         ensures value { result ≡ low_of tri.now sub }
-        ensures within { result ≤ 65535 }
+        ensures within { result ≤ HELD_TOP }
         ensures below { (k : ℕ) → k < 32 → covers tri.now (sample sub k) ≡ true → DepthAtLeast tri.now (sample sub k) result }
     {
         let [q0, q1, q2] = tri.q();
@@ -79,13 +80,14 @@ impl Plane {
         cut_to_range(i128::from(least_nearness).max(floor(self.least(sub), self.area)))
     }
 
-    /// A bound that no touched sample of the subtile is above, from 0 to 65535. Conditions as for `low`.
+    /// The high bound of a subtile: nearness, from 0 to the top that pieces hold, that no touched sample is above.
+    /// Conditions as for `low`.
     pub fn high(&self, tri: &ScreenTri, sub: Sub) -> u32
         requires plane { self.now ≡ plane_of tri.now }
         requires column { sub.column < 256 }
         requires row { sub.row < 512 }
         ensures value { result ≡ high_of tri.now sub }
-        ensures within { result ≤ 65535 }
+        ensures within { result ≤ HELD_TOP }
         ensures above { (k : ℕ) → k < 32 → touches tri.now (sample sub k) ≡ true → DepthAtMost tri.now (sample sub k) result }
     {
         let [q0, q1, q2] = tri.q();
@@ -97,7 +99,7 @@ impl Plane {
     #[inline(always)]
     fn at(&self, sample: Sample) -> i128
         ensures value { result ≡ numerator_at self.now (point_of sample) }
-        ensures bounded { Bounded (2 ^ 80) result }
+        ensures bounded { Bounded (2 ^ 88) result }
     {
         numerator_at(
             self.across,
@@ -114,7 +116,7 @@ impl Plane {
         requires column { sub.column < 256 }
         requires row { sub.row < 512 }
         ensures value { result ≡ least_of (each_sample (λ k. numerator_at self.now (sample sub k))) }
-        ensures bounded { Bounded (2 ^ 80) result }
+        ensures bounded { Bounded (2 ^ 88) result }
     {
         let x = least_along(self.across, place(8 * sub.column), SPAN_ACROSS);
         let y = least_along(self.down, place(4 * sub.row), SPAN_DOWN);
@@ -127,7 +129,7 @@ impl Plane {
         requires column { sub.column < 256 }
         requires row { sub.row < 512 }
         ensures value { result ≡ greatest_of (each_sample (λ k. numerator_at self.now (sample sub k))) }
-        ensures bounded { Bounded (2 ^ 80) result }
+        ensures bounded { Bounded (2 ^ 88) result }
     {
         let x = greatest_along(self.across, place(8 * sub.column), SPAN_ACROSS);
         let y = greatest_along(self.down, place(4 * sub.row), SPAN_DOWN);

@@ -4,70 +4,58 @@ ghost use Rattle.cull_base.specs.Bounds.{Bounded};
 ghost use Rattle.cull_base.specs.declared.nearness.TheConstants.{HELD_TOP};
 ghost use Rattle.cull_base.specs.Depth.{floor_of, ceiling_of, cut_to_range};
 
-// A division of 64 bits takes a third of the time of one of 128.
-pub fn floor(numerator: i128, area: i128) -> i128
-    requires numerator { Bounded (2 ^ 80) numerator }
+use cull_base::HELD_TOP;
+use cull_base::arithmetic::floor_quotient;
+
+pub fn floor(numerator: i128, area: i64) -> i128
+    requires numerator { Bounded (2 ^ 88) numerator }
     requires area { pos 0 <ℤ area }
-    requires area_within { area ≤ℤ pos (2 ^ 61) }
     ensures value { result ≡ floor_of numerator area }
-    ensures bounded { Bounded (2 ^ 80) result }
+    ensures bounded { Bounded (2 ^ 88) result }
 {
-    if -0x4000_0000_0000_0000 < numerator && numerator < 0x4000_0000_0000_0000 {
-        i128::from((numerator as i64).div_euclid(area as i64))
-    } else {
-        numerator.div_euclid(area)
-    }
+    floor_quotient(numerator, area)
 }
 
-pub fn ceiling(numerator: i128, area: i128) -> i128
-    requires numerator { Bounded (2 ^ 80) numerator }
+pub fn ceiling(numerator: i128, area: i64) -> i128
+    requires numerator { Bounded (2 ^ 88) numerator }
     requires area { pos 0 <ℤ area }
-    requires area_within { area ≤ℤ pos (2 ^ 61) }
-    ensures value { result ≡ ceiling_of numerator area }
+    ensures { result ≡ ceiling_of numerator area }
 {
     -floor(-numerator, area)
 }
 
-/// The nearest number from 0 to the greatest nearness.
+/// The nearest number from 0 to the top that pieces hold.
 pub fn cut_to_range(depth: i128) -> u32
     ensures value { result ≡ cut_to_range HELD_TOP depth }
-    ensures within { result ≤ 65535 }
+    ensures within { result ≤ HELD_TOP }
 {
-    depth.clamp(0, 65535) as u32
+    depth.clamp(0, i128::from(HELD_TOP)) as u32
 }
 
 // What a whole quotient leaves of the numerator: from 0 to below the area.
-fn remainder(numerator: i128, area: i128, whole: i128) -> i128
-    requires numerator { Bounded (2 ^ 80) numerator }
+fn remainder(numerator: i128, area: i64, whole: i128) -> i64
+    requires numerator { Bounded (2 ^ 88) numerator }
     requires area { pos 0 <ℤ area }
-    requires area_within { area ≤ℤ pos (2 ^ 61) }
     requires whole { whole ≡ floor_of numerator area }
-    ensures value { numerator ≡ (whole *ℤ area) +ℤ result }
-    ensures from { pos 0 ≤ℤ result }
-    ensures below { result <ℤ area }
+    ensures { numerator ≡ (whole *ℤ area) +ℤ result }
 {
-    numerator - whole * area
+    (numerator - whole * i128::from(area)) as i64
 }
 
-fn crossed(remainder: i128, area: i128) -> i128
-    requires from { pos 0 ≤ℤ remainder }
-    requires below { remainder ≤ℤ pos (2 ^ 61) }
-    requires area { pos 0 <ℤ area }
-    requires area_within { area ≤ℤ pos (2 ^ 61) }
-    ensures { result ≡ remainder *ℤ area }
+#[inline(always)]
+fn product(a: i64, b: i64) -> i128
+    ensures { result ≡ a *ℤ b }
 {
-    remainder * area
+    i128::from(a) * i128::from(b)
 }
 
 /// Whether the first fraction is strictly greater. A bare cross product would leave 128 bits, so whole quotients come
 /// first, and remainders where these agree.
-pub fn is_greater(numerator: i128, area: i128, other: i128, other_area: i128) -> bool
-    requires numerator { Bounded (2 ^ 80) numerator }
+pub fn is_greater(numerator: i128, area: i64, other: i128, other_area: i64) -> bool
+    requires numerator { Bounded (2 ^ 88) numerator }
     requires area { pos 0 <ℤ area }
-    requires area_within { area ≤ℤ pos (2 ^ 61) }
-    requires other { Bounded (2 ^ 80) other }
+    requires other { Bounded (2 ^ 88) other }
     requires other_area { pos 0 <ℤ other_area }
-    requires other_area_within { other_area ≤ℤ pos (2 ^ 61) }
     ensures { IsTrue result ↔ ((other *ℤ area) <ℤ (numerator *ℤ other_area)) }
 {
     let whole = floor(numerator, area);
@@ -75,7 +63,7 @@ pub fn is_greater(numerator: i128, area: i128, other: i128, other_area: i128) ->
     if whole == other_whole {
         let left = remainder(numerator, area, whole);
         let other_left = remainder(other, other_area, other_whole);
-        crossed(left, other_area) > crossed(other_left, area)
+        product(left, other_area) > product(other_left, area)
     } else {
         whole > other_whole
     }

@@ -2,9 +2,10 @@
 ghost use Rattle.std.specs.Prelude.{◌≡◌, ℕ, ℤ, pos, ◌*◌, ◌<◌, ◌≤◌, ◌^◌, ◌+ℤ◌, ◌-ℤ◌, ◌*ℤ◌};
 ghost use Rattle.cull_base.specs.Piece.{IsPiece, IsCoordinate};
 ghost use Rattle.cull_base.specs.Bounds.{Bounded};
+ghost use Rattle.cull_base.specs.declared.nearness.TheConstants.{HELD_TOP};
 
-use crate::arithmetic::{difference, minus, product, widened};
 use cull_base::ScreenTri;
+use cull_base::arithmetic::{difference, edge_value};
 
 /// A vertex of a piece.
 #[derive(Clone, Copy)]
@@ -14,11 +15,11 @@ pub struct Vertex {
     q: u32,
     ghost x_within: { IsCoordinate x },
     ghost y_within: { IsCoordinate y },
-    ghost q_within: { q ≤ 65535 },
+    ghost q_within: { q ≤ HELD_TOP },
 }
 
 impl Vertex {
-    ghost use Rattle.depth_plane.specs.Vertices.{IsVertex};
+    ghost use Rattle.depth_plane.specs.Vertices.{IsVertex, from_origin};
 
     /// Condition: k is below 3.
     fn of(tri: &ScreenTri, k: usize) -> Vertex
@@ -31,6 +32,15 @@ impl Vertex {
             y: tri.y()[k],
             q: tri.q()[k],
         }
+    }
+
+    // The value at the origin of the edge from here to another vertex.
+    #[inline(always)]
+    fn origin_value(&self, end: &Vertex) -> i64
+        ensures value { result ≡ from_origin self.now end.now }
+        ensures bounded { Bounded (2 ^ 61) result }
+    {
+        edge_value(self.x, self.y, end.x, end.y, 0, 0)
     }
 }
 
@@ -50,35 +60,21 @@ fn y_difference(a: &Vertex, b: &Vertex) -> i64
     difference(a.y, b.y)
 }
 
-// The value at the origin of the edge from a to b.
 #[inline(always)]
-fn origin_value(a: &Vertex, b: &Vertex) -> i64
-    ensures value { result ≡ (a.now.x *ℤ b.now.y) -ℤ (b.now.x *ℤ a.now.y) }
-    ensures bounded { Bounded (2 ^ 61) result }
-{
-    minus(
-        product(widened(a.x), widened(b.y)),
-        product(widened(b.x), widened(a.y)),
-    )
-}
-
-#[inline(always)]
-fn scaled(a: &Vertex, value: i64) -> i128
+fn times_nearness(a: &Vertex, value: i64) -> i128
     requires { Bounded (2 ^ 61) value }
     ensures value { result ≡ pos a.now.q *ℤ value }
-    ensures bounded { Bounded (65535 * 2 ^ 61) result }
-    ensures within { a.now.q ≤ 65535 }
+    ensures bounded { (n : ℕ) → Bounded n value → Bounded (2 ^ 24 * n) result }
 {
     i128::from(a.q) * i128::from(value)
 }
 
 #[inline(always)]
 fn sum(a: i128, b: i128, c: i128) -> i128
-    requires a { Bounded (65535 * 2 ^ 61) a }
-    requires b { Bounded (65535 * 2 ^ 61) b }
-    requires c { Bounded (65535 * 2 ^ 61) c }
-    ensures value { result ≡ (a +ℤ b) +ℤ c }
-    ensures bounded { Bounded (2 ^ 79) result }
+    requires a { Bounded (2 ^ 85) a }
+    requires b { Bounded (2 ^ 85) b }
+    requires c { Bounded (2 ^ 85) c }
+    ensures { result ≡ (a +ℤ b) +ℤ c }
 {
     a + b + c
 }
@@ -109,23 +105,26 @@ impl Vertices {
 
     // The sum of three values, each weighted by the nearness of its vertex.
     #[inline(always)]
-    fn weighted(&self, a: i64, b: i64, c: i64) -> i128
+    fn weighted_sum(&self, a: i64, b: i64, c: i64) -> i128
         requires a { Bounded (2 ^ 61) a }
         requires b { Bounded (2 ^ 61) b }
         requires c { Bounded (2 ^ 61) c }
         ensures value { result ≡ weighted_of self.now a b c }
-        ensures bounded { Bounded (2 ^ 79) result }
-        ensures nearer { Bounded (2 ^ 30) a → Bounded (2 ^ 30) b → Bounded (2 ^ 30) c → Bounded (2 ^ 48) result }
+        ensures bounded { (n : ℕ) → Bounded n a → Bounded n b → Bounded n c → Bounded (2 ^ 26 * n) result }
     {
-        sum(scaled(&self.a, a), scaled(&self.b, b), scaled(&self.c, c))
+        sum(
+            times_nearness(&self.a, a),
+            times_nearness(&self.b, b),
+            times_nearness(&self.c, c),
+        )
     }
 
     /// What the depth's numerator rises by for each sixteenth of a pixel to the right.
     pub fn across(&self) -> i128
         ensures value { result ≡ across_of self.now }
-        ensures bounded { Bounded (2 ^ 48) result }
+        ensures bounded { Bounded (2 ^ 56) result }
     {
-        self.weighted(
+        self.weighted_sum(
             y_difference(&self.b, &self.c),
             y_difference(&self.c, &self.a),
             y_difference(&self.a, &self.b),
@@ -135,9 +134,9 @@ impl Vertices {
     /// What it rises by for each sixteenth of a pixel down.
     pub fn down(&self) -> i128
         ensures value { result ≡ down_of self.now }
-        ensures bounded { Bounded (2 ^ 48) result }
+        ensures bounded { Bounded (2 ^ 56) result }
     {
-        self.weighted(
+        self.weighted_sum(
             x_difference(&self.c, &self.b),
             x_difference(&self.a, &self.c),
             x_difference(&self.b, &self.a),
@@ -147,12 +146,12 @@ impl Vertices {
     /// The depth's numerator at the origin.
     pub fn level(&self) -> i128
         ensures value { result ≡ level_of self.now }
-        ensures bounded { Bounded (2 ^ 79) result }
+        ensures bounded { Bounded (2 ^ 87) result }
     {
-        self.weighted(
-            origin_value(&self.b, &self.c),
-            origin_value(&self.c, &self.a),
-            origin_value(&self.a, &self.b),
+        self.weighted_sum(
+            self.b.origin_value(&self.c),
+            self.c.origin_value(&self.a),
+            self.a.origin_value(&self.b),
         )
     }
 
@@ -161,15 +160,7 @@ impl Vertices {
         ensures value { result ≡ area_of self.now }
         ensures bounded { Bounded (2 ^ 61) result }
     {
-        minus(
-            product(
-                x_difference(&self.b, &self.a),
-                y_difference(&self.c, &self.a),
-            ),
-            product(
-                y_difference(&self.b, &self.a),
-                x_difference(&self.c, &self.a),
-            ),
-        )
+        let Vertices { a, b, c } = self;
+        edge_value(a.x, a.y, b.x, b.y, c.x, c.y)
     }
 }

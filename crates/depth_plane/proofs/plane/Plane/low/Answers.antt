@@ -1,4 +1,4 @@
-use Rattle.std.proofs.Common.{ap, rules, FitsSigned}
+use Rattle.std.proofs.Common.{ap, rules, FitsSigned, w64}
 use Rattle.std.specs.Int.{w128}
 use Rattle.std.proofs.lemmas.Int.{to_z-of_z}
 use Rattle.cull_base.specs.Piece.{sample}
@@ -9,7 +9,7 @@ use Rattle.depth_plane.proofs.plane.Plane.low.Goals as goal
 
 pub returns-clause-value : goal.returns-clause-value
 returns-clause-value c =
-    let fa : FitsSigned w128 c.self.inside.area = search rules in
+    let fa : FitsSigned w64 c.self.inside.area = search rules in
     let fl : FitsSigned w128 c.least.result = search rules in
     let ff : FitsSigned w128 c.floor.result = search rules in
     let fx : FitsSigned w128 c.from.result = search rules in

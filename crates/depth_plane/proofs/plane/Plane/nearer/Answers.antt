@@ -1,4 +1,4 @@
-use Rattle.std.proofs.Common.{◌≡◌, ℤ, ◌*ℤ◌, ◌<ℤ◌, ap, rules, FitsSigned, Bool, IsTrue}
+use Rattle.std.proofs.Common.{◌≡◌, ℤ, ◌*ℤ◌, ◌<ℤ◌, ap, rules, FitsSigned, w64, Bool, IsTrue}
 use Rattle.std.specs.Int.{w128}
 use Rattle.std.proofs.lemmas.Int.{to_z-of_z}
 use Rattle.cull_base.specs.Piece.{Piece, Point}
@@ -19,7 +19,7 @@ of_pieces c o s t p b h ec eo =
 
 pub returns-clause-value : goal.returns-clause-value
 returns-clause-value c =
-    let fd : FitsSigned w128 c.self.inside.area = search rules in let fe : FitsSigned w128 c.other.inside.area = search rules in
+    let fd : FitsSigned w64 c.self.inside.area = search rules in let fe : FitsSigned w64 c.other.inside.area = search rules in
     let fn : FitsSigned w128 c.at.result = search rules in let fm : FitsSigned w128 c.at-2.result = search rules in
     let h = simp to_z-of_z at c.is_greater.ensures in
     joined c.args.self.now c.args.other.now (point_of c.args.sample) c.is_greater.result c.at.result c.at-2.result c.self.inside.area c.other.inside.area h

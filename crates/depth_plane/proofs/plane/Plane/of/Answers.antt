@@ -19,10 +19,9 @@ returns-clause-value c =
     let fd : FitsSigned w128 c.down.result = search rules in
     let fl : FitsSigned w128 c.level.result = search rules in
     let fn : FitsSigned w64 c.area.result = search rules in
-    let fm : FitsSigned w128 c.from.result = search rules in
-    simp to_z-of_z (plane_of-computed c.args.tri.now c.of-vertices.result c.across.result c.down.result c.level.result c.from.result
+    simp to_z-of_z (plane_of-computed c.args.tri.now c.of-vertices.result c.across.result c.down.result c.level.result c.area.result
     c.of-vertices.ensures.a c.of-vertices.ensures.b c.of-vertices.ensures.c
-    c.across.ensures.value c.down.ensures.value c.level.ensures.value (let e = simp to_z-of_z at c.from.ensures in e ∙ c.area.ensures.value))
+    c.across.ensures.value c.down.ensures.value c.level.ensures.value c.area.ensures.value)
 
 pub invariant_of-result : goal.invariant_of-result
 invariant_of-result c =
@@ -30,16 +29,13 @@ invariant_of-result c =
     let fd : FitsSigned w128 c.down.result = search rules in
     let fl : FitsSigned w128 c.level.result = search rules in
     let fn : FitsSigned w64 c.area.result = search rules in
-    let fm : FitsSigned w128 c.from.result = search rules in
-    let e = simp to_z-of_z at c.from.ensures in
     let is = simp to_z-of_z at (returns-clause-value c) in
-    let near = rw (← e) at c.area.ensures.bounded in
     simp to_z-of_z (record {
       across = c.across.ensures.bounded;
       down = c.down.ensures.bounded;
       level = c.level.ensures.bounded;
-      positive_area = positive c.from.result _ c.args.tri.now is c.of-vertices.ensures.valid.positive_area refl;
-      area_within = within c.from.result near;
+      positive_area = positive c.area.result _ c.args.tri.now is c.of-vertices.ensures.valid.positive_area refl;
+      area_within = within c.area.result c.area.ensures.bounded;
     })
 
 pub returns-clause-numerator : goal.returns-clause-numerator
