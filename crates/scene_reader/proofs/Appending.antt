@@ -1,51 +1,38 @@
--- Appending entry after entry, and what an error leaves.
-use Rattle.std.proofs.Common.{◌≡◌, ℕ, ◌+◌, ◌<◌, ◌++◌, ◌∷◌, List, [], length, get_or, take, drop, arith, refl, sym, ap, ◌∙◌, subst, Option, ℤ, Result, Ok, Err}
-use Rattle.std.specs.Prelude.{OnOk, OnErr}
+-- Writing entry after entry, and what an error leaves.
+use Rattle.std.proofs.Common.{◌≡◌, ℕ, ℤ, ◌+◌, ◌<◌, ◌≤◌, ◌++◌, ◌∷◌, List, [], length, get_or, take, drop, arith, refl, sym, ap, ◌∙◌, subst, Option, Some, None, Result, Ok, Err}
+use Rattle.std.specs.List.{flat_map}
+use Rattle.std.specs.Option.{option_map}
+use Rattle.std.proofs.lemmas.List.{take_all, take-append-drop, take_more, drop_more, append-nil}
+use Rattle.std.proofs.lemmas.List.Concat.{flat_map-append}
+use Rattle.cull_base.specs.Stream.{SinkSays, Appends, Writes}
+use Rattle.cull_base.specs.declared.memory.SinkError.{SinkError}
 use Rattle.cull_base.specs.declared.scene_types.Object.TheVariants.{Block}
+use Rattle.cull_base.proofs.Streams.{writes_then, writes_no_more}
 use Rattle.scene_reader.specs.Layout.{Parts, axis, numbers_of, row_bytes, short_bytes, word_bytes, winding_code, header_bytes}
 use Rattle.scene_reader.proofs.Shapes.{three}
-use Rattle.std.specs.List.{flat_map}
-use Rattle.std.proofs.lemmas.List.{length-append, take-append-le, take-append-drop, take_more, drop_more, append-nil}
-use Rattle.std.proofs.lemmas.List.Concat.{flat_map-append}
-use Rattle.std.proofs.Math.Seq.{take-append-add}
-use Rattle.cull_base.specs.Stream.{Appends, AppendsPrefix, AppendsProperPrefix}
-use Rattle.cull_base.proofs.Streams.{appends_then}
 
-pub prefix_wider : (a c : Option (List ℕ)) (x y : List ℕ) → AppendsPrefix a c x → AppendsPrefix a c (x ++ y)
-prefix_wider a c x y p = (p.0, omega (arith, p.1, length-append x y), subst (λ (t : List ℕ). Appends a c t) (sym (take-append-le p.0 x y p.1)) p.2)
+-- a call that wrote its text, and then another
+pub writes_on : {s0 s1 s2 : SinkSays} {r : Result (Unit {0}) SinkError} {x : Unit {0}} {a b : List ℕ} → Writes s0 s1 (Ok x) a → Writes s1 s2 r b → Writes s0 s2 r (a ++ b)
+writes_on v w = writes_then _ _ _ _ _ _ v.ok v.faults_stay v.refusals_stay w
 
-pub prefix_later : (a b c : Option (List ℕ)) (x y : List ℕ) → Appends a b x → AppendsPrefix b c y → AppendsPrefix a c (x ++ y)
-prefix_later a b c x y e p = (length x + p.0, omega (arith, p.1, length-append x y), subst (λ (t : List ℕ). Appends a c t) (sym (take-append-add x y p.0)) (appends_then a b c x (take p.0 y) e p.2))
+-- ---- entries
 
-pub from_proper : (a c : Option (List ℕ)) (x : List ℕ) → AppendsProperPrefix a c x → AppendsPrefix a c x
-from_proper a c x p = (p.0, omega (arith, p.1), p.2)
+module _ {X : Type 0} (enc : X → List ℕ) (xs : List X) (i : ℕ) (d : X) (lt : i < length xs) {s0 s1 s2 : SinkSays} where
+  -- one entry more
+  pub goes_on : {x y z : Unit {0}} → Writes s0 s1 (Ok x) (flat_map enc (take i xs)) → Writes s1 s2 (Ok y) (enc (get_or xs i d)) → Writes s0 s2 (Ok z) (flat_map enc (take (i + 1) xs))
+  goes_on before now =
+      let more : flat_map enc (take (i + 1) xs) ≡ flat_map enc (take i xs) ++ enc (get_or xs i d) = ap (flat_map enc) (take_more xs i d lt) ∙ flat_map-append enc (take i xs) (get_or xs i d ∷ []) ∙ ap (λ (t : List ℕ). flat_map enc (take i xs) ++ t) (append-nil (enc (get_or xs i d))) in
+      rw more (writes_on before now)
 
-entry_in : {X : Type 0} (enc : X → List ℕ) (xs : List X) (i : ℕ) (d : X) → i < length xs → flat_map enc xs ≡ flat_map enc (take i xs) ++ (enc (get_or xs i d) ++ flat_map enc (drop (i + 1) xs))
-entry_in enc xs i d lt =
-    ap (flat_map enc) (sym (take-append-drop i xs)) ∙ flat_map-append enc (take i xs) (drop i xs) ∙ ap (λ (t : List ℕ). flat_map enc (take i xs) ++ t) (ap (flat_map enc) (drop_more xs i d lt))
+  -- an error in entry number i
+  pub stops_at : {x : Unit {0}} {e : SinkError} → Writes s0 s1 (Ok x) (flat_map enc (take i xs)) → Writes s1 s2 (Err e) (enc (get_or xs i d)) → Writes s0 s2 (Err e) (flat_map enc xs)
+  stops_at {x} {e} before now =
+      let whole : flat_map enc xs ≡ flat_map enc (take i xs) ++ (enc (get_or xs i d) ++ flat_map enc (drop (i + 1) xs)) =
+      ap (flat_map enc) (sym (take-append-drop i xs)) ∙ flat_map-append enc (take i xs) (drop i xs) ∙ ap (λ (t : List ℕ). flat_map enc (take i xs) ++ t) (ap (flat_map enc) (drop_more xs i d lt)) in
+      rw whole (writes_on before (writes_no_more s1 s2 e (enc (get_or xs i d)) (flat_map enc (drop (i + 1) xs)) now))
 
--- an error in entry number i
-pub stops_at : {X : Type 0} (enc : X → List ℕ) (xs : List X) (i : ℕ) (d : X) (a b c : Option (List ℕ)) → i < length xs
-    → Appends a b (flat_map enc (take i xs)) → AppendsPrefix b c (enc (get_or xs i d)) → AppendsPrefix a c (flat_map enc xs)
-stops_at enc xs i d a b c lt before p =
-    subst (λ (t : List ℕ). AppendsPrefix a c t) (sym (entry_in enc xs i d lt))
-    (prefix_later a b c (flat_map enc (take i xs)) (enc (get_or xs i d) ++ flat_map enc (drop (i + 1) xs)) before (prefix_wider b c (enc (get_or xs i d)) (flat_map enc (drop (i + 1) xs)) p))
-
--- one entry more
-pub goes_on : {X : Type 0} (enc : X → List ℕ) (xs : List X) (i : ℕ) (d : X) (a b c : Option (List ℕ)) → i < length xs
-    → Appends a b (flat_map enc (take i xs)) → Appends b c (enc (get_or xs i d)) → Appends a c (flat_map enc (take (i + 1) xs))
-goes_on enc xs i d a b c lt before e =
-    let more : flat_map enc (take (i + 1) xs) ≡ flat_map enc (take i xs) ++ enc (get_or xs i d) = ap (flat_map enc) (take_more xs i d lt) ∙ flat_map-append enc (take i xs) (get_or xs i d ∷ []) ∙ ap (λ (t : List ℕ). flat_map enc (take i xs) ++ t) (append-nil (enc (get_or xs i d))) in
-    subst (λ (t : List ℕ). Appends a c t) (sym more) (appends_then a b c (flat_map enc (take i xs)) (enc (get_or xs i d)) before e)
-
--- the last call's result is the answer
-pub ok_then : {T E : Type 0} (r : Result T E) (a b c : Option (List ℕ)) (x y : List ℕ) → Appends a b x → OnOk r (Appends b c y) → OnOk r (Appends a c (x ++ y))
-ok_then (Ok t) a b c x y e h = appends_then a b c x y e h
-ok_then (Err f) a b c x y e h = tt
-
-pub err_then : {T E : Type 0} (r : Result T E) (a b c : Option (List ℕ)) (x y : List ℕ) → Appends a b x → OnErr r (AppendsPrefix b c y) → OnErr r (AppendsPrefix a c (x ++ y))
-err_then (Ok t) a b c x y e h = tt
-err_then (Err f) a b c x y e h = prefix_later a b c x y e h
+pub ends_at : {X : Type 0} (enc : X → List ℕ) (xs : List X) (i : ℕ) {s0 s1 : SinkSays} {x : Unit {0}} → length xs ≤ i → Writes s0 s1 (Ok x) (flat_map enc (take i xs)) → Writes s0 s1 (Ok x) (flat_map enc xs)
+ends_at enc xs i le w = let all : take i xs ≡ xs = take_all i xs le in rw all at w
 
 -- ---- objects and headers
 

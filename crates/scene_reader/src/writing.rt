@@ -1,19 +1,14 @@
 //! Writing a scene as its one layout, number by number. Nothing is allocated.
-ghost use Rattle.std.specs.Prelude.{◌≡◌, ◌≤◌, OnOk, OnErr, IsErrOf};
+ghost use Rattle.std.specs.Prelude.{◌≡◌};
 ghost use Rattle.std.specs.List.{flat_map};
-ghost use Rattle.cull_base.specs.Stream.{Rose, Appends, AppendsPrefix};
+ghost use Rattle.cull_base.specs.Stream.{Writes};
 ghost use Rattle.scene_reader.specs.Layout.{layout, header_bytes, word_bytes, row_bytes, tri_bytes, object_bytes, numbers_of, winding_code};
 
 use crate::scene::Scene;
 use cull_base::{Object, Sink, SinkError, Tri, Winding, write_whole};
 
 fn write_words<W: Sink>(sink: &mut W, words: &[u32]) -> Result<(), SinkError>
-    ensures ok { OnOk result (Appends (W.holding sink.old) (W.holding sink.new) (flat_map word_bytes words.now)) }
-    ensures err { OnErr result (AppendsPrefix (W.holding sink.old) (W.holding sink.new) (flat_map word_bytes words.now)) }
-    ensures failed { IsErrOf result SinkError.Failed → Rose (W.faults sink.old) (W.faults sink.new) }
-    ensures memory { IsErrOf result SinkError.Memory → Rose (W.refusals sink.old) (W.refusals sink.new) }
-    ensures faults_stay { W.faults sink.old ≤ W.faults sink.new }
-    ensures refusals_stay { W.refusals sink.old ≤ W.refusals sink.new }
+    ensures { Writes (W.says sink.old) (W.says sink.new) result (flat_map word_bytes words.now) }
 {
     for word in words {
         write_whole(sink, &word.to_le_bytes())?;
@@ -22,12 +17,7 @@ fn write_words<W: Sink>(sink: &mut W, words: &[u32]) -> Result<(), SinkError>
 }
 
 fn write_row<W: Sink>(sink: &mut W, row: &[i32]) -> Result<(), SinkError>
-    ensures ok { OnOk result (Appends (W.holding sink.old) (W.holding sink.new) (row_bytes row.now)) }
-    ensures err { OnErr result (AppendsPrefix (W.holding sink.old) (W.holding sink.new) (row_bytes row.now)) }
-    ensures failed { IsErrOf result SinkError.Failed → Rose (W.faults sink.old) (W.faults sink.new) }
-    ensures memory { IsErrOf result SinkError.Memory → Rose (W.refusals sink.old) (W.refusals sink.new) }
-    ensures faults_stay { W.faults sink.old ≤ W.faults sink.new }
-    ensures refusals_stay { W.refusals sink.old ≤ W.refusals sink.new }
+    ensures { Writes (W.says sink.old) (W.says sink.new) result (row_bytes row.now) }
 {
     for number in row {
         write_whole(sink, &number.to_le_bytes())?;
@@ -36,12 +26,7 @@ fn write_row<W: Sink>(sink: &mut W, row: &[i32]) -> Result<(), SinkError>
 }
 
 fn write_rows<W: Sink, const N: usize>(sink: &mut W, rows: &[[i32; N]]) -> Result<(), SinkError>
-    ensures ok { OnOk result (Appends (W.holding sink.old) (W.holding sink.new) (flat_map row_bytes rows.now)) }
-    ensures err { OnErr result (AppendsPrefix (W.holding sink.old) (W.holding sink.new) (flat_map row_bytes rows.now)) }
-    ensures failed { IsErrOf result SinkError.Failed → Rose (W.faults sink.old) (W.faults sink.new) }
-    ensures memory { IsErrOf result SinkError.Memory → Rose (W.refusals sink.old) (W.refusals sink.new) }
-    ensures faults_stay { W.faults sink.old ≤ W.faults sink.new }
-    ensures refusals_stay { W.refusals sink.old ≤ W.refusals sink.new }
+    ensures { Writes (W.says sink.old) (W.says sink.new) result (flat_map row_bytes rows.now) }
 {
     for row in rows {
         write_row(sink, row)?;
@@ -50,12 +35,7 @@ fn write_rows<W: Sink, const N: usize>(sink: &mut W, rows: &[[i32; N]]) -> Resul
 }
 
 fn write_tris<W: Sink>(sink: &mut W, triangles: &[Tri]) -> Result<(), SinkError>
-    ensures ok { OnOk result (Appends (W.holding sink.old) (W.holding sink.new) (flat_map tri_bytes triangles.now)) }
-    ensures err { OnErr result (AppendsPrefix (W.holding sink.old) (W.holding sink.new) (flat_map tri_bytes triangles.now)) }
-    ensures failed { IsErrOf result SinkError.Failed → Rose (W.faults sink.old) (W.faults sink.new) }
-    ensures memory { IsErrOf result SinkError.Memory → Rose (W.refusals sink.old) (W.refusals sink.new) }
-    ensures faults_stay { W.faults sink.old ≤ W.faults sink.new }
-    ensures refusals_stay { W.refusals sink.old ≤ W.refusals sink.new }
+    ensures { Writes (W.says sink.old) (W.says sink.new) result (flat_map tri_bytes triangles.now) }
 {
     for triangle in triangles {
         write_words(sink, &triangle.0)?;
@@ -64,12 +44,7 @@ fn write_tris<W: Sink>(sink: &mut W, triangles: &[Tri]) -> Result<(), SinkError>
 }
 
 fn write_corners<W: Sink>(sink: &mut W, low: &[i32; 3], high: &[i32; 3]) -> Result<(), SinkError>
-    ensures ok { OnOk result (Appends (W.holding sink.old) (W.holding sink.new) (row_bytes (numbers_of (Object.Block low.now high.now)))) }
-    ensures err { OnErr result (AppendsPrefix (W.holding sink.old) (W.holding sink.new) (row_bytes (numbers_of (Object.Block low.now high.now)))) }
-    ensures failed { IsErrOf result SinkError.Failed → Rose (W.faults sink.old) (W.faults sink.new) }
-    ensures memory { IsErrOf result SinkError.Memory → Rose (W.refusals sink.old) (W.refusals sink.new) }
-    ensures faults_stay { W.faults sink.old ≤ W.faults sink.new }
-    ensures refusals_stay { W.refusals sink.old ≤ W.refusals sink.new }
+    ensures { Writes (W.says sink.old) (W.says sink.new) result (row_bytes (numbers_of (Object.Block low.now high.now))) }
 {
     write_row(sink, low)?;
     write_row(sink, high)
@@ -77,12 +52,7 @@ fn write_corners<W: Sink>(sink: &mut W, low: &[i32; 3], high: &[i32; 3]) -> Resu
 
 /// The kind of an object and its six numbers.
 fn write_object<W: Sink>(sink: &mut W, object: &Object) -> Result<(), SinkError>
-    ensures ok { OnOk result (Appends (W.holding sink.old) (W.holding sink.new) (object_bytes object.now)) }
-    ensures err { OnErr result (AppendsPrefix (W.holding sink.old) (W.holding sink.new) (object_bytes object.now)) }
-    ensures failed { IsErrOf result SinkError.Failed → Rose (W.faults sink.old) (W.faults sink.new) }
-    ensures memory { IsErrOf result SinkError.Memory → Rose (W.refusals sink.old) (W.refusals sink.new) }
-    ensures faults_stay { W.faults sink.old ≤ W.faults sink.new }
-    ensures refusals_stay { W.refusals sink.old ≤ W.refusals sink.new }
+    ensures { Writes (W.says sink.old) (W.says sink.new) result (object_bytes object.now) }
 {
     match object {
         Object::Area { rect, w } => {
@@ -101,12 +71,7 @@ fn write_object<W: Sink>(sink: &mut W, object: &Object) -> Result<(), SinkError>
 }
 
 fn write_objects<W: Sink>(sink: &mut W, objects: &[Object]) -> Result<(), SinkError>
-    ensures ok { OnOk result (Appends (W.holding sink.old) (W.holding sink.new) (flat_map object_bytes objects.now)) }
-    ensures err { OnErr result (AppendsPrefix (W.holding sink.old) (W.holding sink.new) (flat_map object_bytes objects.now)) }
-    ensures failed { IsErrOf result SinkError.Failed → Rose (W.faults sink.old) (W.faults sink.new) }
-    ensures memory { IsErrOf result SinkError.Memory → Rose (W.refusals sink.old) (W.refusals sink.new) }
-    ensures faults_stay { W.faults sink.old ≤ W.faults sink.new }
-    ensures refusals_stay { W.refusals sink.old ≤ W.refusals sink.new }
+    ensures { Writes (W.says sink.old) (W.says sink.new) result (flat_map object_bytes objects.now) }
 {
     for object in objects {
         write_object(sink, object)?;
@@ -172,14 +137,10 @@ fn header_of(scene: &Scene) -> [u8; 32]
     ]
 }
 
-/// Appends the scene's layout, or after an error a prefix of it. It allocates nothing.
+/// Appends the scene's layout, or after an error a front of it that isn't the whole. Failed comes only where the sink's
+/// count of faults rose, Memory only where that of refused growths did. Nothing is allocated here.
 pub fn write_scene<W: Sink>(scene: &Scene, sink: &mut W) -> Result<(), SinkError>
-    ensures ok { OnOk result (Appends (W.holding sink.old) (W.holding sink.new) (layout scene.now)) }
-    ensures err { OnErr result (AppendsPrefix (W.holding sink.old) (W.holding sink.new) (layout scene.now)) }
-    ensures failed { IsErrOf result SinkError.Failed → Rose (W.faults sink.old) (W.faults sink.new) }
-    ensures memory { IsErrOf result SinkError.Memory → Rose (W.refusals sink.old) (W.refusals sink.new) }
-    ensures faults_stay { W.faults sink.old ≤ W.faults sink.new }
-    ensures refusals_stay { W.refusals sink.old ≤ W.refusals sink.new }
+    ensures { Writes (W.says sink.old) (W.says sink.new) result (layout scene.now) }
 {
     write_whole(sink, &header_of(scene))?;
     write_rows(sink, scene.vertices())?;

@@ -1,53 +1,73 @@
-use Rattle.std.proofs.Common.{◌++◌}
+use Rattle.std.proofs.Common.{◌++◌, List, ℕ}
 use Rattle.std.specs.List.{flat_map}
 use Rattle.std.proofs.lemmas.Result.{err_from_is_err_and}
-use Rattle.scene_reader.specs.Layout.{layout, header_bytes, row_bytes, tri_bytes, object_bytes}
-use Rattle.scene_reader.proofs.Appending.{prefix_wider, prefix_later, from_proper, ok_then, err_then}
+use Rattle.cull_base.proofs.Streams.{writes_no_more}
+use Rattle.scene_reader.specs.Layout.{Parts, layout, header_bytes, row_bytes, tri_bytes, object_bytes}
+use Rattle.scene_reader.proofs.Appending.{writes_on}
 use Rattle.scene_reader.proofs.writing.write_scene.Goals as goal
 
-pub returns-in_err-write_whole-clause-err : goal.returns-in_err-write_whole-clause-err
+-- what is written behind the objects, the object triangles, the occluders, the vertices and the header
+abbrev after_objects : Parts → List ℕ
+after_objects p = flat_map row_bytes p.cameras
+
+abbrev after_object_tris : Parts → List ℕ
+after_object_tris p = flat_map object_bytes p.objects ++ after_objects p
+
+abbrev after_occluders : Parts → List ℕ
+after_occluders p = flat_map tri_bytes p.object_tris ++ after_object_tris p
+
+abbrev after_vertices : Parts → List ℕ
+after_vertices p = flat_map tri_bytes p.occluders ++ after_occluders p
+
+abbrev after_header : Parts → List ℕ
+after_header p = flat_map row_bytes p.vertices ++ after_vertices p
+
+pub returns-in_err-write_whole : goal.returns-in_err-write_whole
 unfolding layout
-returns-in_err-write_whole-clause-err g c =
+returns-in_err-write_whole g c =
     let q = err_from_is_err_and c.from_residual.result c.from_residual.ensures.1 in
-    let p = c.args.scene.now in
-    rw q.1 (prefix_wider (g.W.Sink.holding c.args.sink.now) (g.W.Sink.holding c.write_whole.new.sink) (header_bytes p) ((flat_map row_bytes p.vertices) ++ ((flat_map tri_bytes p.occluders) ++ ((flat_map tri_bytes p.object_tris) ++ ((flat_map object_bytes p.objects) ++ (flat_map row_bytes p.cameras))))) (from_proper _ _ (header_bytes p) (rw c.header_of.ensures at c.in_err-write_whole.ensures.err)))
+    rw (q.1, q.2) (writes_no_more _ _ _ _ (after_header c.args.scene.now) (rw c.header_of.ensures at c.in_err-write_whole.ensures))
 
-pub returns-in_err-write_rows-clause-err : goal.returns-in_err-write_rows-clause-err
+pub returns-in_err-write_rows : goal.returns-in_err-write_rows
 unfolding layout
-returns-in_err-write_rows-clause-err g c =
+returns-in_err-write_rows g c =
     let q = err_from_is_err_and c.from_residual-in_err-write_rows.result c.from_residual-in_err-write_rows.ensures.1 in
-    let p = c.args.scene.now in
-    rw q.1 (prefix_later (g.W.Sink.holding c.args.sink.now) (g.W.Sink.holding c.write_whole.new.sink) (g.W.Sink.holding c.write_rows.new.sink) (header_bytes p) ((flat_map row_bytes p.vertices) ++ ((flat_map tri_bytes p.occluders) ++ ((flat_map tri_bytes p.object_tris) ++ ((flat_map object_bytes p.objects) ++ (flat_map row_bytes p.cameras))))) (rw c.header_of.ensures at c.in_ok-write_whole.ensures.ok) (prefix_wider (g.W.Sink.holding c.write_whole.new.sink) (g.W.Sink.holding c.write_rows.new.sink) (flat_map row_bytes p.vertices) ((flat_map tri_bytes p.occluders) ++ ((flat_map tri_bytes p.object_tris) ++ ((flat_map object_bytes p.objects) ++ (flat_map row_bytes p.cameras)))) (rw c.vertices.ensures at c.in_err-write_rows.ensures.err)))
+    let header = rw c.header_of.ensures at c.in_ok-write_whole.ensures in
+    rw (q.1, q.2) (writes_on header (writes_no_more _ _ _ _ (after_vertices c.args.scene.now) (rw c.vertices.ensures at c.in_err-write_rows.ensures)))
 
-pub returns-in_err-write_tris-clause-err : goal.returns-in_err-write_tris-clause-err
+pub returns-in_err-write_tris : goal.returns-in_err-write_tris
 unfolding layout
-returns-in_err-write_tris-clause-err g c =
+returns-in_err-write_tris g c =
     let q = err_from_is_err_and c.from_residual-in_err-write_tris.result c.from_residual-in_err-write_tris.ensures.1 in
-    let p = c.args.scene.now in
-    rw q.1 (prefix_later (g.W.Sink.holding c.args.sink.now) (g.W.Sink.holding c.write_whole.new.sink) (g.W.Sink.holding c.write_tris.new.sink) (header_bytes p) ((flat_map row_bytes p.vertices) ++ ((flat_map tri_bytes p.occluders) ++ ((flat_map tri_bytes p.object_tris) ++ ((flat_map object_bytes p.objects) ++ (flat_map row_bytes p.cameras))))) (rw c.header_of.ensures at c.in_ok-write_whole.ensures.ok) (prefix_later (g.W.Sink.holding c.write_whole.new.sink) (g.W.Sink.holding c.write_rows.new.sink) (g.W.Sink.holding c.write_tris.new.sink) (flat_map row_bytes p.vertices) ((flat_map tri_bytes p.occluders) ++ ((flat_map tri_bytes p.object_tris) ++ ((flat_map object_bytes p.objects) ++ (flat_map row_bytes p.cameras)))) (rw c.vertices.ensures at c.in_ok-write_rows.ensures.ok) (prefix_wider (g.W.Sink.holding c.write_rows.new.sink) (g.W.Sink.holding c.write_tris.new.sink) (flat_map tri_bytes p.occluders) ((flat_map tri_bytes p.object_tris) ++ ((flat_map object_bytes p.objects) ++ (flat_map row_bytes p.cameras))) (rw c.occluders.ensures at c.in_err-write_tris.ensures.err))))
+    let header = rw c.header_of.ensures at c.in_ok-write_whole.ensures in
+    let vertices = rw c.vertices.ensures at c.in_ok-write_rows.ensures in
+    rw (q.1, q.2) (writes_on header (writes_on vertices (writes_no_more _ _ _ _ (after_occluders c.args.scene.now) (rw c.occluders.ensures at c.in_err-write_tris.ensures))))
 
-pub returns-in_err-write_tris-2-clause-err : goal.returns-in_err-write_tris-2-clause-err
+pub returns-in_err-write_tris-2 : goal.returns-in_err-write_tris-2
 unfolding layout
-returns-in_err-write_tris-2-clause-err g c =
+returns-in_err-write_tris-2 g c =
     let q = err_from_is_err_and c.from_residual-in_err-write_tris-2.result c.from_residual-in_err-write_tris-2.ensures.1 in
-    let p = c.args.scene.now in
-    rw q.1 (prefix_later (g.W.Sink.holding c.args.sink.now) (g.W.Sink.holding c.write_whole.new.sink) (g.W.Sink.holding c.write_tris-2.new.sink) (header_bytes p) ((flat_map row_bytes p.vertices) ++ ((flat_map tri_bytes p.occluders) ++ ((flat_map tri_bytes p.object_tris) ++ ((flat_map object_bytes p.objects) ++ (flat_map row_bytes p.cameras))))) (rw c.header_of.ensures at c.in_ok-write_whole.ensures.ok) (prefix_later (g.W.Sink.holding c.write_whole.new.sink) (g.W.Sink.holding c.write_rows.new.sink) (g.W.Sink.holding c.write_tris-2.new.sink) (flat_map row_bytes p.vertices) ((flat_map tri_bytes p.occluders) ++ ((flat_map tri_bytes p.object_tris) ++ ((flat_map object_bytes p.objects) ++ (flat_map row_bytes p.cameras)))) (rw c.vertices.ensures at c.in_ok-write_rows.ensures.ok) (prefix_later (g.W.Sink.holding c.write_rows.new.sink) (g.W.Sink.holding c.write_tris.new.sink) (g.W.Sink.holding c.write_tris-2.new.sink) (flat_map tri_bytes p.occluders) ((flat_map tri_bytes p.object_tris) ++ ((flat_map object_bytes p.objects) ++ (flat_map row_bytes p.cameras))) (rw c.occluders.ensures at c.in_ok-write_tris.ensures.ok) (prefix_wider (g.W.Sink.holding c.write_tris.new.sink) (g.W.Sink.holding c.write_tris-2.new.sink) (flat_map tri_bytes p.object_tris) ((flat_map object_bytes p.objects) ++ (flat_map row_bytes p.cameras)) (rw c.object_tris.ensures at c.in_err-write_tris-2.ensures.err)))))
+    let header = rw c.header_of.ensures at c.in_ok-write_whole.ensures in
+    let vertices = rw c.vertices.ensures at c.in_ok-write_rows.ensures in
+    let occluders = rw c.occluders.ensures at c.in_ok-write_tris.ensures in
+    rw (q.1, q.2) (writes_on header (writes_on vertices (writes_on occluders (writes_no_more _ _ _ _ (after_object_tris c.args.scene.now) (rw c.object_tris.ensures at c.in_err-write_tris-2.ensures)))))
 
-pub returns-in_err-write_objects-clause-err : goal.returns-in_err-write_objects-clause-err
+pub returns-in_err-write_objects : goal.returns-in_err-write_objects
 unfolding layout
-returns-in_err-write_objects-clause-err g c =
+returns-in_err-write_objects g c =
     let q = err_from_is_err_and c.from_residual-in_err-write_objects.result c.from_residual-in_err-write_objects.ensures.1 in
-    let p = c.args.scene.now in
-    rw q.1 (prefix_later (g.W.Sink.holding c.args.sink.now) (g.W.Sink.holding c.write_whole.new.sink) (g.W.Sink.holding c.write_objects.new.sink) (header_bytes p) ((flat_map row_bytes p.vertices) ++ ((flat_map tri_bytes p.occluders) ++ ((flat_map tri_bytes p.object_tris) ++ ((flat_map object_bytes p.objects) ++ (flat_map row_bytes p.cameras))))) (rw c.header_of.ensures at c.in_ok-write_whole.ensures.ok) (prefix_later (g.W.Sink.holding c.write_whole.new.sink) (g.W.Sink.holding c.write_rows.new.sink) (g.W.Sink.holding c.write_objects.new.sink) (flat_map row_bytes p.vertices) ((flat_map tri_bytes p.occluders) ++ ((flat_map tri_bytes p.object_tris) ++ ((flat_map object_bytes p.objects) ++ (flat_map row_bytes p.cameras)))) (rw c.vertices.ensures at c.in_ok-write_rows.ensures.ok) (prefix_later (g.W.Sink.holding c.write_rows.new.sink) (g.W.Sink.holding c.write_tris.new.sink) (g.W.Sink.holding c.write_objects.new.sink) (flat_map tri_bytes p.occluders) ((flat_map tri_bytes p.object_tris) ++ ((flat_map object_bytes p.objects) ++ (flat_map row_bytes p.cameras))) (rw c.occluders.ensures at c.in_ok-write_tris.ensures.ok) (prefix_later (g.W.Sink.holding c.write_tris.new.sink) (g.W.Sink.holding c.write_tris-2.new.sink) (g.W.Sink.holding c.write_objects.new.sink) (flat_map tri_bytes p.object_tris) ((flat_map object_bytes p.objects) ++ (flat_map row_bytes p.cameras)) (rw c.object_tris.ensures at c.in_ok-write_tris-2.ensures.ok) (prefix_wider (g.W.Sink.holding c.write_tris-2.new.sink) (g.W.Sink.holding c.write_objects.new.sink) (flat_map object_bytes p.objects) (flat_map row_bytes p.cameras) (rw c.objects.ensures at c.in_err-write_objects.ensures.err))))))
+    let header = rw c.header_of.ensures at c.in_ok-write_whole.ensures in
+    let vertices = rw c.vertices.ensures at c.in_ok-write_rows.ensures in
+    let occluders = rw c.occluders.ensures at c.in_ok-write_tris.ensures in
+    let object_tris = rw c.object_tris.ensures at c.in_ok-write_tris-2.ensures in
+    rw (q.1, q.2) (writes_on header (writes_on vertices (writes_on occluders (writes_on object_tris (writes_no_more _ _ _ _ (after_objects c.args.scene.now) (rw c.objects.ensures at c.in_err-write_objects.ensures))))))
 
-pub returns-clause-ok : goal.returns-clause-ok
+pub returns : goal.returns
 unfolding layout
-returns-clause-ok g c =
-    let p = c.args.scene.now in
-    (ok_then c.write_rows-2.result (g.W.Sink.holding c.args.sink.now) (g.W.Sink.holding c.write_whole.new.sink) (g.W.Sink.holding c.write_rows-2.new.sink) (header_bytes p) ((flat_map row_bytes p.vertices) ++ ((flat_map tri_bytes p.occluders) ++ ((flat_map tri_bytes p.object_tris) ++ ((flat_map object_bytes p.objects) ++ (flat_map row_bytes p.cameras))))) (rw c.header_of.ensures at c.in_ok-write_whole.ensures.ok) (ok_then c.write_rows-2.result (g.W.Sink.holding c.write_whole.new.sink) (g.W.Sink.holding c.write_rows.new.sink) (g.W.Sink.holding c.write_rows-2.new.sink) (flat_map row_bytes p.vertices) ((flat_map tri_bytes p.occluders) ++ ((flat_map tri_bytes p.object_tris) ++ ((flat_map object_bytes p.objects) ++ (flat_map row_bytes p.cameras)))) (rw c.vertices.ensures at c.in_ok-write_rows.ensures.ok) (ok_then c.write_rows-2.result (g.W.Sink.holding c.write_rows.new.sink) (g.W.Sink.holding c.write_tris.new.sink) (g.W.Sink.holding c.write_rows-2.new.sink) (flat_map tri_bytes p.occluders) ((flat_map tri_bytes p.object_tris) ++ ((flat_map object_bytes p.objects) ++ (flat_map row_bytes p.cameras))) (rw c.occluders.ensures at c.in_ok-write_tris.ensures.ok) (ok_then c.write_rows-2.result (g.W.Sink.holding c.write_tris.new.sink) (g.W.Sink.holding c.write_tris-2.new.sink) (g.W.Sink.holding c.write_rows-2.new.sink) (flat_map tri_bytes p.object_tris) ((flat_map object_bytes p.objects) ++ (flat_map row_bytes p.cameras)) (rw c.object_tris.ensures at c.in_ok-write_tris-2.ensures.ok) (ok_then c.write_rows-2.result (g.W.Sink.holding c.write_tris-2.new.sink) (g.W.Sink.holding c.write_objects.new.sink) (g.W.Sink.holding c.write_rows-2.new.sink) (flat_map object_bytes p.objects) (flat_map row_bytes p.cameras) (rw c.objects.ensures at c.in_ok-write_objects.ensures.ok) (rw c.cameras.ensures at c.write_rows-2.ensures.ok))))))
-
-pub returns-clause-err : goal.returns-clause-err
-unfolding layout
-returns-clause-err g c =
-    let p = c.args.scene.now in
-    (err_then c.write_rows-2.result (g.W.Sink.holding c.args.sink.now) (g.W.Sink.holding c.write_whole.new.sink) (g.W.Sink.holding c.write_rows-2.new.sink) (header_bytes p) ((flat_map row_bytes p.vertices) ++ ((flat_map tri_bytes p.occluders) ++ ((flat_map tri_bytes p.object_tris) ++ ((flat_map object_bytes p.objects) ++ (flat_map row_bytes p.cameras))))) (rw c.header_of.ensures at c.in_ok-write_whole.ensures.ok) (err_then c.write_rows-2.result (g.W.Sink.holding c.write_whole.new.sink) (g.W.Sink.holding c.write_rows.new.sink) (g.W.Sink.holding c.write_rows-2.new.sink) (flat_map row_bytes p.vertices) ((flat_map tri_bytes p.occluders) ++ ((flat_map tri_bytes p.object_tris) ++ ((flat_map object_bytes p.objects) ++ (flat_map row_bytes p.cameras)))) (rw c.vertices.ensures at c.in_ok-write_rows.ensures.ok) (err_then c.write_rows-2.result (g.W.Sink.holding c.write_rows.new.sink) (g.W.Sink.holding c.write_tris.new.sink) (g.W.Sink.holding c.write_rows-2.new.sink) (flat_map tri_bytes p.occluders) ((flat_map tri_bytes p.object_tris) ++ ((flat_map object_bytes p.objects) ++ (flat_map row_bytes p.cameras))) (rw c.occluders.ensures at c.in_ok-write_tris.ensures.ok) (err_then c.write_rows-2.result (g.W.Sink.holding c.write_tris.new.sink) (g.W.Sink.holding c.write_tris-2.new.sink) (g.W.Sink.holding c.write_rows-2.new.sink) (flat_map tri_bytes p.object_tris) ((flat_map object_bytes p.objects) ++ (flat_map row_bytes p.cameras)) (rw c.object_tris.ensures at c.in_ok-write_tris-2.ensures.ok) (err_then c.write_rows-2.result (g.W.Sink.holding c.write_tris-2.new.sink) (g.W.Sink.holding c.write_objects.new.sink) (g.W.Sink.holding c.write_rows-2.new.sink) (flat_map object_bytes p.objects) (flat_map row_bytes p.cameras) (rw c.objects.ensures at c.in_ok-write_objects.ensures.ok) (rw c.cameras.ensures at c.write_rows-2.ensures.err))))))
+returns g c =
+    let header = rw c.header_of.ensures at c.in_ok-write_whole.ensures in
+    let vertices = rw c.vertices.ensures at c.in_ok-write_rows.ensures in
+    let occluders = rw c.occluders.ensures at c.in_ok-write_tris.ensures in
+    let object_tris = rw c.object_tris.ensures at c.in_ok-write_tris-2.ensures in
+    let objects = rw c.objects.ensures at c.in_ok-write_objects.ensures in
+    writes_on header (writes_on vertices (writes_on occluders (writes_on object_tris (writes_on objects (rw c.cameras.ensures at c.write_rows-2.ensures)))))
