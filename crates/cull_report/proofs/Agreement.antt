@@ -11,7 +11,7 @@ use Rattle.cull_base.specs.Depth.{high_of}
 use Rattle.cull_base.specs.State.{State, hides}
 use Rattle.scene_reader.specs.Layout.{Parts}
 use Rattle.cull_report.specs.Pixels.{sub_of_pixel, sample_of_pixel, at_each_pixel, at_some_pixel}
-use Rattle.cull_report.specs.Shape.{Shape, Decided, Flat, Pieces, has_sample, is_hidden_at, is_hidden, verdict_of}
+use Rattle.cull_report.specs.Shape.{Shape, AlwaysOutside, AlwaysVisible, Flat, Pieces, has_sample, is_hidden_at, is_hidden, verdict_of}
 use Rattle.cull_report.specs.Scene.{size_of, object_shape, object_verdict}
 use Rattle.cull_report.proofs.Hiding.{each_to, each_from, same_test}
 
@@ -23,7 +23,8 @@ agrees_back : (size : Dimensions) (f g : Sub → State) → Agrees size f g → 
 agrees_back size f g same px py x y = sym (same px py x y)
 
 hidden_at_alike : (f g : Sub → State) (shape : Shape) (px py : ℕ) → f (sub_of_pixel px py) ≡ g (sub_of_pixel px py) → is_hidden_at f shape px py ≡ is_hidden_at g shape px py
-hidden_at_alike f g (Decided v) px py e = refl
+hidden_at_alike f g AlwaysOutside px py e = refl
+hidden_at_alike f g AlwaysVisible px py e = refl
 hidden_at_alike f g (Flat r q) px py e = ap (λ (s : State). hides s (sample_of_pixel px py) q) e
 hidden_at_alike f g (Pieces ps hull) px py e = ap (λ (s : State). list_all (λ t. not (touches t (middle px py)) || hides s (sample_of_pixel px py) (high_of t (sub_of_pixel px py))) ps) e
 
@@ -41,7 +42,8 @@ hidden_alike size f g shape same =
     rw e refl
 
 pub shape_alike : (size : Dimensions) (f g : Sub → State) (shape : Shape) → Agrees size f g → verdict_of size f shape ≡ verdict_of size g shape
-shape_alike size f g (Decided v) same = refl
+shape_alike size f g AlwaysOutside same = refl
+shape_alike size f g AlwaysVisible same = refl
 shape_alike size f g (Flat r q) same = ap (λ (b : Bool). cond b Occluded Visible) (hidden_alike size f g (Flat r q) same)
 shape_alike size f g (Pieces ps hull) same = ap (λ (b : Bool). cond b Occluded Visible) (hidden_alike size f g (Pieces ps hull) same)
 

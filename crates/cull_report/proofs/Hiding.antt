@@ -1,6 +1,6 @@
 -- What it means that an object is hidden.
 use Rattle.std.proofs.Common.{◌≡◌, ℕ, ℤ, pos, negsuc, zero, suc, ◌+◌, ◌≤◌, ◌<◌, ◌≤ℤ◌, ◌<ℤ◌, Bool, true, false, ◌&&◌, ◌||◌, not, cond, arith, refl, sym, ap, ◌∙◌, int_lt, inl, inr, IsTrue}
-use Rattle.std.specs.List.{list_all, range_with_len}
+use Rattle.std.specs.List.{list_all, list_any, range_with_len}
 use Rattle.std.proofs.lemmas.Bool.{cases_lt}
 use Rattle.std.proofs.lemmas.Int.{ints}
 use Rattle.cull_base.specs.declared.rect.Rect.{Rect}
@@ -47,16 +47,22 @@ each_from size test h =
     all_from (λ j. list_all (λ i. test i j) (range_with_len 0 size.width)) 0 size.height (λ py _ y.
     all_from (λ i. test i py) 0 size.width (λ px _ x. h px py (omega (arith, x)) (omega (arith, y))))
 
-pub some_pixel : (size : Dimensions) (test : ℕ → ℕ → Bool) (px py : ℕ) → px < size.width → py < size.height → test px py ≡ true → at_some_pixel size test ≡ true
-some_pixel size test px py x y t = by (at_each_pixel size (λ i j. not (test i j))) refl
+any_from : (p : ℕ → Bool) (a n k : ℕ) → a ≤ k → k < a + n → p k ≡ true → list_any p (range_with_len a n) ≡ true
+any_from p a zero k le lt t = absurd (omega arith)
+any_from p a (suc n) k le lt t = elim (cases_lt a k) [
+      | inl later ↦ let rest = any_from p (a + 1) n k (omega arith) (omega arith) t in rw rest (or_true (p a))
+      | inr first ↦ let here : a ≡ k = omega arith in let found : p a ≡ true = rw here t in rw found refl
+    ]
   where
-    by : (b : Bool) → at_each_pixel size (λ i j. not (test i j)) ≡ b → not b ≡ true
-    by false e = refl
-    by true e = let n = each_to size (λ i j. not (test i j)) e px py x y in absurd (off (test px py) t n)
-      where
-        off : (b : Bool) → b ≡ true → not b ≡ true → ⊥
-        off true e f = cc
-        off false e f = cc
+    or_true : (b : Bool) → (b || true) ≡ true
+    or_true true = refl
+    or_true false = refl
+
+pub some_pixel : (size : Dimensions) (test : ℕ → ℕ → Bool) (px py : ℕ) → px < size.width → py < size.height → test px py ≡ true → at_some_pixel size test ≡ true
+unfolding at_some_pixel
+some_pixel size test px py x y t =
+    any_from (λ j. list_any (λ i. test i j) (range_with_len 0 size.width)) 0 size.height py (omega arith) (omega (arith, y))
+    (any_from (λ i. test i py) 0 size.width px (omega arith) (omega (arith, x)) t)
 
 -- two tests that hold alike are one
 pub same_test : (a b : Bool) → (a ≡ true → b ≡ true) → (b ≡ true → a ≡ true) → a ≡ b

@@ -1,5 +1,5 @@
 -- An occluded object has a piece strictly nearer at each of its samples.
-use Rattle.std.proofs.Common.{◌≡◌, ℕ, ℤ, pos, negsuc, zero, suc, ◌+◌, ◌*◌, ◌/◌, ◌%◌, ◌≤◌, ◌<◌, ◌*ℤ◌, ◌≤ℤ◌, ◌<ℤ◌, Bool, true, false, cond, arith, refl, List, [], ◌∷◌, map, length, int_lt, inl, inr, Some, nat_lt, sym, ap, ◌∙◌, subst}
+use Rattle.std.proofs.Common.{◌≡◌, ℕ, ℤ, pos, negsuc, zero, suc, ◌+◌, ◌*◌, ◌/◌, ◌%◌, ◌≤◌, ◌<◌, ◌*ℤ◌, ◌≤ℤ◌, ◌<ℤ◌, Bool, ◌&&◌, true, false, cond, arith, refl, List, [], ◌∷◌, map, length, int_lt, inl, inr, Some, nat_lt, sym, ap, ◌∙◌, subst}
 use Rattle.std.specs.Prelude.{slice_get}
 use Rattle.std.specs.List.{All, Contains}
 use Rattle.std.proofs.lemmas.Bool.Decides.{nat_tests}
@@ -22,11 +22,11 @@ use Rattle.cull_base.specs.Fold.{after, IsSound}
 use Rattle.cull_base.specs.Tiles.{ArePieces}
 use Rattle.scene_reader.specs.Layout.{Parts}
 use Rattle.cull_report.specs.Pixels.{sub_of_pixel, sample_of_pixel}
-use Rattle.cull_report.specs.Shape.{Shape, Decided, Flat, Pieces, has_sample, near_at, is_hidden, verdict_of}
+use Rattle.cull_report.specs.Shape.{Shape, AlwaysOutside, AlwaysVisible, Flat, Pieces, has_sample, near_at, is_hidden, verdict_of}
 use Rattle.cull_report.specs.Shapes.{nearness_at, rectangle_shape}
 use Rattle.cull_report.specs.Scene.{IsBuilt, IsBuiltObject, frame_pieces, frame_verdicts, size_of, object_shape, object_verdict}
-use Rattle.cull_report.specs.Behind.{HasNearerPiece, HidesTruly}
-use Rattle.cull_report.proofs.Hiding.{hidden_each}
+use Rattle.cull_report.specs.Hiding.{HasNearerPiece, HidesTruly}
+use Rattle.cull_report.proofs.Hiding.{and_true, hidden_each}
 use Rattle.cull_report.proofs.Pixels.{sample_below}
 
 -- the sample of a pixel stands in its middle
@@ -41,19 +41,19 @@ above : (q b : ℕ) (d n : ℤ) → q < b → pos 0 <ℤ d → (pos b *ℤ d) �
 above q b (pos d) n lt p le = let m : suc q * d ≤ b * d = mul-le-mul_right d (omega arith) in let some : 0 < d = omega (arith, ints, p) in omega (arith, ints, le)
 above q b (negsuc d) n lt p le = absurd (omega (arith, ints, p))
 
-hidden_below : (q b : ℕ) → nat_lt q b ≡ true → q < b
-hidden_below q b e = grind (arith, nat_tests)
+below : (m n : ℕ) → nat_lt m n ≡ true → m < n
+below m n e = grind (arith, nat_tests)
 
 -- a sample that hides a nearness has a piece strictly nearer
 nearer_piece : (pieces : List Piece) (u : Sub) (k q : ℕ) (p : Point) → ArePieces pieces → IsSound u pieces (after u pieces) → k < 32 → sample u k ≡ p → hides (after u pieces) k q ≡ true
     → HasNearerPiece pieces p (whole_number (pos q))
 nearer_piece pieces u k q p all sound lt at h =
-    let below = hidden_below q (bound_at (after u pieces) k) h in
+    let under = below q (bound_at (after u pieces) k) h in
     elim (sound k lt) [
       | inl z ↦ absurd (omega arith)
       | inr best ↦ let (t, has, reach) = best in
           let positive = (all t has.member).positive_area in
-          (t, has.member, rw (← at) has.covering, rw (← at) (above q (bound_at (after u pieces) k) (denominator t) (numerator t (sample u k)) below positive reach))
+          (t, has.member, rw (← at) has.covering, rw (← at) (above q (bound_at (after u pieces) k) (denominator t) (numerator t (sample u k)) under positive reach))
     ]
 
 flat_occluded : (size : Dimensions) (f : Sub → State) (r : Rect) (q : ℕ) → verdict_of size f (Flat r q) ≡ Occluded → is_hidden size f (Flat r q) ≡ true
@@ -71,23 +71,25 @@ verdict_there f (y ∷ ys) (suc o) x v e g = verdict_there f ys o x v e g
 
 -- an object of one nearness, or one that is decided
 abbrev pub IsFlat : Shape → Type 0
-IsFlat (Decided v) = Unit {0}
+IsFlat AlwaysOutside = Unit {0}
+IsFlat AlwaysVisible = Unit {0}
 IsFlat (Flat r q) = Unit {0}
 IsFlat (Pieces ps hull) = ⊥
 
 flat_hides : (size : Dimensions) (pieces : List Piece) (shape : Shape) (px py : ℕ) → IsFlat shape → ArePieces pieces → ((u : Sub) → IsSound u pieces (after u pieces))
     → verdict_of size (λ u. after u pieces) shape ≡ Occluded → px < size.width → py < size.height → has_sample shape px py ≡ true → HasNearerPiece pieces (middle px py) (near_at shape px py)
-flat_hides size pieces (Decided v) px py flat all sound occluded x y has = absurd cc
+flat_hides size pieces AlwaysOutside px py flat all sound occluded x y has = absurd cc
+flat_hides size pieces AlwaysVisible px py flat all sound occluded x y has = absurd cc
 flat_hides size pieces (Flat r q) px py flat all sound occluded x y has =
     let f : Sub → State = λ u. after u pieces in
     let h = hidden_each size f (Flat r q) (flat_occluded size f r q occluded) px py x y has in
     nearer_piece pieces (sub_of_pixel px py) (sample_of_pixel px py) q (middle px py) all (sound (sub_of_pixel px py)) (sample_below px py) (sample_is_middle px py) h
 flat_hides size pieces (Pieces ps hull) px py flat all sound occluded x y has = absurd flat
 
-rectangle_is_flat : (scale near : ℕ) (size : Dimensions) (r : Rect) (w : ℤ) → IsFlat (rectangle_shape scale near size r w)
-rectangle_is_flat scale near size r w = by (int_lt w (pos near)) (meets r (screen_of size))
+rectangle_is_flat : (top near : ℕ) (size : Dimensions) (r : Rect) (w : ℤ) → IsFlat (rectangle_shape top near size r w)
+rectangle_is_flat top near size r w = by (int_lt w (pos near)) (meets r (screen_of size))
   where
-    by : (b m : Bool) → IsFlat (cond b (cond m (Decided Visible) (Decided Outside)) (cond m (Flat r (nearness_at scale near w)) (Decided Outside)))
+    by : (b m : Bool) → IsFlat (cond m (cond b AlwaysVisible (Flat r (nearness_at top near w))) AlwaysOutside)
     by true true = tt
     by true false = tt
     by false true = tt
@@ -108,8 +110,10 @@ pub hides_truly : (s : Parts) → IsBuilt s → ((frame : ℕ) → frame < lengt
     → ((frame : ℕ) → frame < length s.cameras → (u : Sub) → IsSound u (frame_pieces s frame) (after u (frame_pieces s frame))) → HidesTruly s
 unfolding frame_verdicts
 hides_truly s built all sound = record {
-  at_each_sample = λ frame o x px py lt at is w h has.
+  at_each_sample = λ frame o x px py lt at is has.
+      let sampled = and_true (nat_lt px s.width && nat_lt py s.height) (has_sample (object_shape s frame x) px py) has in
+      let on = and_true (nat_lt px s.width) (nat_lt py s.height) sampled.0 in
       let pieces = frame_pieces s frame in
       let occluded = verdict_there (object_verdict s frame (λ u. after u pieces)) s.objects o x Occluded at is in
-      flat_hides (size_of s) pieces (object_shape s frame x) px py (built_is_flat s frame x (built_there s.near s.objects o x built.objects at)) (all frame lt) (sound frame lt) occluded w h has;
+      flat_hides (size_of s) pieces (object_shape s frame x) px py (built_is_flat s frame x (built_there s.near s.objects o x built.objects at)) (all frame lt) (sound frame lt) occluded (below px s.width on.0) (below py s.height on.1) sampled.1;
 }

@@ -5,4 +5,4 @@ pub mod Area
 pub mod Shape
 pub mod Shapes
 pub mod Scene
-pub mod Behind
+pub mod Hiding

@@ -1,18 +1,18 @@
 -- The pixels of a screen, each with its subtile and its sample there.
-use Rattle.std.specs.Prelude.{ℕ, ℤ, pos, negsuc, ◌+◌, ◌*◌, ◌/◌, ◌%◌, Bool, not, ◌&&◌, int_le, int_lt}
-use Rattle.std.specs.List.{list_all, range_with_len}
+use Rattle.std.specs.Prelude.{ℕ, ℤ, pos, negsuc, ◌+◌, ◌*◌, ◌/◌, ◌%◌, Bool, ◌&&◌, int_le, int_lt}
+use Rattle.std.specs.List.{list_all, list_any, range_with_len}
 use Rattle.cull_base.specs.declared.rect.Rect.{Rect}
 use Rattle.cull_base.specs.declared.place.Sub.{Sub}
 use Rattle.cull_base.specs.Screen.{Dimensions, tile_columns_of}
 use Rattle.cull_base.specs.State.{State}
 use Rattle.masked_update.specs.TileOf.{TileOf, sub_at}
 
--- a number that isn't negative
+-- a number that isn't negative, and 0 for one that is
 abbrev pub natural : ℤ → ℕ
 natural (pos n) = n
 natural (negsuc n) = 0
 
--- the subtile in which a pixel lies, and its sample there
+-- the subtile in which a pixel lies, and the number of its sample there
 abbrev pub sub_of_pixel : ℕ → ℕ → Sub
 sub_of_pixel px py = record { column = px / 8; row = py / 4 }
 
@@ -23,8 +23,8 @@ sample_of_pixel px py = 8 * (py % 4) + px % 8
 unfoldable pub at_each_pixel : Dimensions → (ℕ → ℕ → Bool) → Bool
 at_each_pixel size test = list_all (λ py. list_all (λ px. test px py) (range_with_len 0 size.width)) (range_with_len 0 size.height)
 
-abbrev pub at_some_pixel : Dimensions → (ℕ → ℕ → Bool) → Bool
-at_some_pixel size test = not (at_each_pixel size (λ px py. not (test px py)))
+unfoldable pub at_some_pixel : Dimensions → (ℕ → ℕ → Bool) → Bool
+at_some_pixel size test = list_any (λ py. list_any (λ px. test px py) (range_with_len 0 size.width)) (range_with_len 0 size.height)
 
 abbrev pub has_pixel : Rect → ℕ → ℕ → Bool
 has_pixel r px py = (int_le r.x0 (pos px) && int_lt (pos px) r.x1) && (int_le r.y0 (pos py) && int_lt (pos py) r.y1)

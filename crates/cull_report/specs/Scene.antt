@@ -1,5 +1,5 @@
 -- The report of a scene: that of one thread that merges all drawn triangles in submission order, frame by frame.
-use Rattle.std.specs.Prelude.{ℕ, ℤ, pos, ◌≡◌, ◌≤ℤ◌, List, [], ◌∷◌, ◌++◌, ◌<◌, Bool, true, false, length, map, take, drop, slice_index_or}
+use Rattle.std.specs.Prelude.{ℕ, ℤ, pos, ◌≡◌, ◌≤ℤ◌, List, [], ◌∷◌, ◌++◌, ◌<◌, Bool, true, false, ◌&&◌, nat_lt, length, map, take, drop, slice_index_or}
 use Rattle.std.specs.List.{All, flat_map, range_with_len}
 use Rattle.cull_base.specs.declared.clip.ClipVertex.{ClipVertex}
 use Rattle.cull_base.specs.declared.nearness.TheConstants.{GRADE_TOP}
@@ -59,9 +59,9 @@ object_shape s frame (Area rect w) = rectangle_shape GRADE_TOP s.near (size_of s
 object_shape s frame (Block low high) = box_shape GRADE_TOP s.near (size_of s) (map (clip_of (camera_at s frame)) (corners_of low high))
 object_shape s frame (Mesh first count) = mesh_shape GRADE_TOP s.near (size_of s) (frame_clips s frame) (take count (drop first s.object_tris))
 
--- the samples of an object in a frame, its nearness at one of them, and its area
+-- whether the sample of a pixel of the screen belongs to an object in a frame, the object's nearness there, and its area
 abbrev pub object_samples : Parts → ℕ → Object → ℕ → ℕ → Bool
-object_samples s frame object px py = has_sample (object_shape s frame object) px py
+object_samples s frame object px py = (nat_lt px s.width && nat_lt py s.height) && has_sample (object_shape s frame object) px py
 
 abbrev pub object_near : Parts → ℕ → Object → ℕ → ℕ → Fraction
 object_near s frame object px py = near_at (object_shape s frame object) px py

@@ -1,11 +1,11 @@
--- The shapes of rectangles, boxes and meshes. The scale is the top of the scene's grade of nearness.
-use Rattle.std.specs.Prelude.{ℕ, ℤ, pos, ◌+◌, ◌*◌, ◌∷◌, [], List, map, Bool, not, ◌||◌, cond, int_lt, slice_index_or, Option, Some, None}
+-- The shapes of rectangles, boxes and meshes. The top is that of the scene's grade of nearness.
+use Rattle.std.specs.Prelude.{ℕ, ℤ, pos, ◌*◌, ◌∷◌, [], List, map, Bool, not, ◌||◌, cond, int_lt, slice_index_or}
 use Rattle.std.specs.Int.{div_ceil}
+use Rattle.std.specs.Option.{option_to_list}
 use Rattle.std.specs.List.{list_all, list_any, flat_map}
 use Rattle.cull_base.specs.declared.clip.ClipVertex.{ClipVertex}
 use Rattle.cull_base.specs.declared.rect.Rect.{Rect}
 use Rattle.cull_base.specs.declared.scene_types.Tri.{Tri}
-use Rattle.cull_base.specs.declared.scene_types.Verdict.TheVariants.{Visible, Outside}
 use Rattle.cull_base.specs.declared.triangle.Side.TheVariants.{Object}
 use Rattle.cull_base.specs.declared.triangle.Winding.TheVariants.{Both}
 use Rattle.cull_base.specs.Guard.{is_past_guard}
@@ -16,16 +16,16 @@ use Rattle.near_clip.specs.NearPart.{is_in_front, whole}
 use Rattle.snap_setup.specs.Snapping.{screen_x, screen_y}
 use Rattle.snap_setup.specs.Pieces.{pieces_of, near_box_of, clip_at}
 use Rattle.cull_report.specs.Pixels.{natural}
-use Rattle.cull_report.specs.Shape.{Shape, Decided, Pieces, flat_shape}
+use Rattle.cull_report.specs.Shape.{Shape, AlwaysOutside, AlwaysVisible, Flat, Pieces, flat_shape}
 
--- the nearness of what is asked for at distance w, rounded up: scale * near / w
+-- the nearness of what is asked for at distance w, rounded up: top * near / w
 abbrev pub nearness_at : ℕ → ℕ → ℤ → ℕ
-nearness_at scale near w = div_ceil (scale * near) (natural w)
+nearness_at top near w = div_ceil (top * near) (natural w)
 
--- a rectangle at distance w: it is visible before the near distance, where it has a pixel in the screen
+-- a rectangle at distance w: outside without a pixel in the screen, visible before the near distance
 abbrev pub rectangle_shape : ℕ → ℕ → Dimensions → Rect → ℤ → Shape
-rectangle_shape scale near size rect w =
-    cond (int_lt w (pos near)) (cond (meets rect (screen_of size)) (Decided Visible) (Decided Outside)) (flat_shape size rect (nearness_at scale near w))
+rectangle_shape top near size rect w =
+    cond (meets rect (screen_of size)) (cond (int_lt w (pos near)) AlwaysVisible (Flat rect (nearness_at top near w))) AlwaysOutside
 
 -- the eight corners of a box between its least and its greatest
 abbrev pub corners_of : List ℤ → List ℤ → List (List ℤ)
@@ -35,31 +35,33 @@ corners_of low high =
     (x0 ∷ y0 ∷ z0 ∷ []) ∷ (x1 ∷ y0 ∷ z0 ∷ []) ∷ (x0 ∷ y1 ∷ z0 ∷ []) ∷ (x1 ∷ y1 ∷ z0 ∷ [])
     ∷ (x0 ∷ y0 ∷ z1 ∷ []) ∷ (x1 ∷ y0 ∷ z1 ∷ []) ∷ (x0 ∷ y1 ∷ z1 ∷ []) ∷ (x1 ∷ y1 ∷ z1 ∷ []) ∷ []
 
+-- behind the near plane
 abbrev pub is_behind : ℕ → ClipVertex → Bool
 is_behind near v = not (is_in_front v near)
 
+-- the pixels around a box's corners on the screen, and its nearness, which is that of its least w
+abbrev pub box_rect_of : Dimensions → List ClipVertex → Rect
+box_rect_of size corners = box_around (map (λ v. screen_x (whole v) size) corners) (map (λ v. screen_y (whole v) size) corners)
+
+abbrev pub box_nearness : ℕ → ℕ → List ClipVertex → ℕ
+box_nearness top near corners = nearness_at top near (least_of (map (λ v. v.w) corners))
+
 -- A box, by the clip vertices of its corners: outside where all are behind the near plane, else visible where one is or is past the
--- guard; else the rectangle around them on the screen, with the nearness of the least w.
+-- guard, else its rectangle on the screen.
 abbrev pub box_shape : ℕ → ℕ → Dimensions → List ClipVertex → Shape
-box_shape scale near size corners =
-    cond (list_all (is_behind near) corners) (Decided Outside)
-    (cond (list_any (λ v. is_past_guard v near || is_behind near v) corners) (Decided Visible)
-    (flat_shape size
-    (box_around (map (λ v. screen_x (whole v) size) corners) (map (λ v. screen_y (whole v) size) corners))
-    (nearness_at scale near (least_of (map (λ v. v.w) corners)))))
+box_shape top near size corners =
+    cond (list_all (is_behind near) corners) AlwaysOutside
+    (cond (list_any (λ v. is_past_guard v near || is_behind near v) corners) AlwaysVisible
+    (flat_shape size (box_rect_of size corners) (box_nearness top near corners)))
 
 abbrev pub vertices_of : List ClipVertex → Tri → List ClipVertex
 vertices_of clips t = clip_at clips t 0 ∷ clip_at clips t 1 ∷ clip_at clips t 2 ∷ []
 
-abbrev pub listed : Option Rect → List Rect
-listed None = []
-listed (Some r) = r ∷ []
-
 -- the boxes of the triangles' parts in front of the near plane
 abbrev pub near_boxes : ℕ → Dimensions → List ClipVertex → List Tri → List Rect
-near_boxes near size clips tris = flat_map (λ t. listed (near_box_of (clip_at clips t 0) (clip_at clips t 1) (clip_at clips t 2) near size)) tris
+near_boxes near size clips tris = flat_map (λ t. option_to_list (near_box_of (clip_at clips t 0) (clip_at clips t 1) (clip_at clips t 2) near size)) tris
 
--- the smallest rectangle that holds some others
+-- the smallest rectangle that holds some others, each of which has a pixel
 abbrev pub hull_of : List Rect → Rect
 hull_of rects = record {
   x0 = least_of (map (λ r. r.x0) rects);
@@ -71,11 +73,11 @@ hull_of rects = record {
 -- A mesh, by its triangles among clip vertices: outside where all is behind the near plane, or where there is no triangle; else visible
 -- where a vertex is past the guard; else outside where no near box meets the screen; else its pieces, within the hull of the boxes.
 abbrev pub mesh_shape : ℕ → ℕ → Dimensions → List ClipVertex → List Tri → Shape
-mesh_shape scale near size clips tris =
+mesh_shape top near size clips tris =
     let vertices = flat_map (vertices_of clips) tris in
     let boxes = near_boxes near size clips tris in
-    cond (list_all (is_behind near) vertices) (Decided Outside)
-    (cond (list_any (λ v. is_past_guard v near) vertices) (Decided Visible)
+    cond (list_all (is_behind near) vertices) AlwaysOutside
+    (cond (list_any (λ v. is_past_guard v near) vertices) AlwaysVisible
     (cond (list_any (λ r. meets r (screen_of size)) boxes)
-    (Pieces (flat_map (λ t. pieces_of (clip_at clips t 0) (clip_at clips t 1) (clip_at clips t 2) scale near size Both Object) tris) (hull_of boxes))
-    (Decided Outside)))
+    (Pieces (flat_map (λ t. pieces_of (clip_at clips t 0) (clip_at clips t 1) (clip_at clips t 2) top near size Both Object) tris) (hull_of boxes))
+    AlwaysOutside))

@@ -1,9 +1,10 @@
 //! What of a scene the program can draw so far.
 ghost use Rattle.std.specs.Prelude.{◌≡◌, ℤ, List, [], ◌∷◌, IsTrue, ◌↔◌, map, IfOk, pos, ◌≤ℤ◌};
 ghost use Rattle.std.specs.List.{All};
-ghost use Rattle.cull_report.specs.Scene.{IsBuilt, IsBuiltObject};
+ghost use Rattle.cull_report.specs.Scene.{IsBuilt, IsBuiltObject, frame_clips};
 ghost use Rattle.camera_path.specs.Clip.{as_clip, identity_camera};
 
+use camera_path::identity_keeps;
 use cull_base::{ClipVertex, Memory, Object};
 use scene_reader::Scene;
 use std::alloc::{AllocError, Global};
@@ -62,11 +63,13 @@ fn as_clip(vertex: &[i32; 3]) -> ClipVertex
     }
 }
 
-/// The clip vertices through the identity camera, by which a vertex keeps its coordinates.
-pub fn identity_clips(alloc: Global, vertices: &[[i32; 3]]) -> Result<Vec<ClipVertex>, Memory>
-    ensures { IfOk result (λ v. v.items ≡ map as_clip vertices.now) }
+/// The clip vertices of a built scene's only frame: through the identity camera a vertex keeps its coordinates.
+pub fn identity_clips(alloc: Global, scene: &Scene) -> Result<Vec<ClipVertex>, Memory>
+    requires { IsBuilt scene.now }
+    ensures { IfOk result (λ v. v.items ≡ frame_clips scene.now 0) }
 {
-    match vertices.iter().map(as_clip).collect(alloc) {
+    identity_keeps();
+    match scene.vertices().iter().map(as_clip).collect(alloc) {
         Ok(clips) => Ok(clips),
         Err(AllocError) => Err(Memory),
     }

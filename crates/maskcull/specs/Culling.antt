@@ -1,8 +1,11 @@
 -- What a run owes over the bytes that were left in its source.
-use Rattle.std.specs.Prelude.{ℕ, ◌≡◌, List, Result, Err, ◌⊎◌}
+use Rattle.std.specs.Prelude.{ℕ, ◌≡◌, List, [], Result, Err, ◌⊎◌, Some, None, IfSome}
+use Rattle.cull_base.specs.Stream.{SourceSays, SinkSays, Appends, AppendsPrefix}
+use Rattle.scene_reader.specs.Fault.{first_fault}
+use Rattle.cull_report.specs.Hiding.{HidesTruly}
 use Rattle.scene_reader.specs.Layout.{Parts, IsScene, layout}
 use Rattle.scene_reader.specs.declared.error.SceneError.{SceneError}
-use Rattle.cull_report.specs.Scene.{IsBuilt}
+use Rattle.cull_report.specs.Scene.{IsBuilt, report_text}
 use Rattle.maskcull.specs.declared.failure.Failure.{Failure}
 use Rattle.maskcull.specs.declared.failure.Status.{Status}
 use Rattle.maskcull.specs.declared.failure.Status.TheVariants as statuses
@@ -16,6 +19,17 @@ pub record IsSceneOf (bytes : List ℕ) (s : Parts) : Type 0 where
 -- the bytes are the layout of the scene s, which can be drawn
 pub record IsDrawable (bytes : List ℕ) (s : Parts) : Type 0 where
   pub layout : IsSceneOf bytes s
+  pub built : IsBuilt s
+
+-- the bytes are the layout of s and of no other scene
+pub record IsOnlyScene (bytes : List ℕ) (s : Parts) : Type 0 where
+  pub layout : IsSceneOf bytes s
+  pub only : (t : Parts) → IsSceneOf bytes t → t ≡ s
+  pub fault_free : first_fault bytes ≡ None
+
+-- and it can be drawn
+pub record CanDraw (bytes : List ℕ) (s : Parts) : Type 0 where
+  pub scene : IsOnlyScene bytes s
   pub built : IsBuilt s
 
 -- a fact of the refusal, if the failure is one
@@ -34,3 +48,39 @@ StatusIs status wanted = (status ≡ wanted) ⊎ (status ≡ statuses.ReadFault)
 -- the status is one after which part of the report may stand
 abbrev pub MayHaveWritten : Status → Type 0
 MayHaveWritten status = (status ≡ statuses.ReportFault) ⊎ (status ≡ statuses.Memory)
+
+-- a fact of the bytes that are left in a source, where they are told
+abbrev pub IfBytes : SourceSays → (List ℕ → Type 0) → Type 0
+IfBytes source P = IfSome source.left P
+
+-- the bytes were the layout of a scene that can be drawn, none are left, its whole report was written, and what it calls occluded is hidden
+abbrev pub IsCulled : SourceSays → SourceSays → SinkSays → SinkSays → Type 0
+IsCulled before after report_before report_after =
+    IfBytes before (λ bytes. (s : Parts) × IsDrawable bytes s × (after.left ≡ Some []) × Appends report_before report_after (report_text s) × HidesTruly s)
+
+-- the bytes have this first fault
+abbrev pub HasFault : SourceSays → SceneError → Type 0
+HasFault source e = IfBytes source (λ bytes. first_fault bytes ≡ Some e)
+
+-- the bytes are the layout of a scene that can't be drawn yet
+abbrev pub IsUndrawn : SourceSays → Type 0
+IsUndrawn source = IfBytes source (λ bytes. (s : Parts) × IsSceneOf bytes s × (IsBuilt s → ⊥))
+
+-- a fact of each scene that can be drawn, and of each other one, whose layout the bytes are
+abbrev pub EachDrawable : SourceSays → (Parts → Type 0) → Type 0
+EachDrawable source P = IfBytes source (λ bytes. (s : Parts) → IsDrawable bytes s → P s)
+
+abbrev pub EachUndrawn : SourceSays → Type 0 → Type 0
+EachUndrawn source P = IfBytes source (λ bytes. (s : Parts) → IsSceneOf bytes s → (IsBuilt s → ⊥) → P)
+
+-- a fact of each fault that is the first of the bytes
+abbrev pub EachFault : SourceSays → (SceneError → Type 0) → Type 0
+EachFault source P = IfBytes source (λ bytes. (e : SceneError) → first_fault bytes ≡ Some e → P e)
+
+-- the report gained a front of the text of the scene that the bytes are the layout of
+abbrev pub GainsFront : SourceSays → SinkSays → SinkSays → Type 0
+GainsFront source before after = EachDrawable source (λ s. AppendsPrefix before after (report_text s))
+
+-- a fact that holds where the bytes aren't the layout of a scene that can be drawn
+abbrev pub WithoutScene : SourceSays → Type 0 → Type 0
+WithoutScene source P = IfBytes source (λ bytes. ((s : Parts) → IsDrawable bytes s → ⊥) → P)

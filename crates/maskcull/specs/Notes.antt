@@ -1,7 +1,6 @@
 -- What is noted of a run that isn't done.
-use Rattle.std.specs.Prelude.{ℕ, List, [], ◌∷◌, ◌++◌, map, codes, ◌⊎◌, Option}
+use Rattle.std.specs.Prelude.{ℕ, List, [], ◌∷◌, ◌++◌, map, codes}
 use Rattle.std.specs.Fmt.{decimal}
-use Rattle.cull_base.specs.Stream.{Rose, Appends, AppendsPrefix}
 use Rattle.scene_reader.specs.declared.error.SceneError.{SceneError}
 use Rattle.scene_reader.specs.declared.error.SceneError.TheVariants.{Truncated, BadMagic, BadVersion, BadSize, BadNear, BadWinding, BadReserved, BadCount, Trailing, BadVertex, BadIndex, BadKind, BadObject, BadCamera}
 use Rattle.scene_reader.specs.declared.error.SceneError.TheVariants as errors
@@ -40,11 +39,6 @@ note_text NotBuilt = codes "not built" ++ 10 ∷ []
 note_text ReadFault = codes "read fault" ++ 10 ∷ []
 note_text ReportFault = codes "report fault" ++ 10 ∷ []
 note_text Memory = codes "out of memory" ++ 10 ∷ []
-
--- the text was appended, or a front of it where one of the sink's counts rose
-abbrev pub IsNoted : Option (List ℕ) → Option (List ℕ) → ℕ → ℕ → ℕ → ℕ → List ℕ → Type 0
-IsNoted before after faults_before faults_after refusals_before refusals_after text =
-    Appends before after text ⊎ (AppendsPrefix before after text × (Rose faults_before faults_after ⊎ Rose refusals_before refusals_after))
 
 -- what is noted of a status that needs no numbers
 abbrev pub status_text : Status → List ℕ

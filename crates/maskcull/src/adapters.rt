@@ -20,11 +20,7 @@ impl<R: Read> Input<R> {
 }
 
 impl<R: Read> Source for Input<R> {
-    ghost left = { λ _. None };
-
-    ghost faults = { λ s. s.faults };
-
-    ghost turns = { λ _. 0 };
+    ghost says = { λ s. record { left = None; faults = s.faults; turns = 0 } };
 
     fn read(&mut self, buf: &mut [u8]) -> Result<usize, Failed> {
         match self.reader.read(buf) {
@@ -37,8 +33,9 @@ impl<R: Read> Source for Input<R> {
     }
 }
 
-// How much a writer took of a piece and flushed; None where it failed or took nothing of a piece that isn't empty.
-fn taken<W: Write>(writer: &mut W, piece: &[u8]) -> Option<usize>
+// Writes and flushes a front of a piece, and says how much of it; None where that failed or nothing was taken of a
+// piece that isn't empty.
+fn write_flushed<W: Write>(writer: &mut W, piece: &[u8]) -> Option<usize>
     ensures within { IfSome result (λ n. n ≤ length piece.now) }
     ensures some { IfSome result (λ n. 0 < length piece.now → 0 < n) }
 {
@@ -67,14 +64,10 @@ impl<W: Write> Output<W> {
 }
 
 impl<W: Write> Sink for Output<W> {
-    ghost holding = { λ _. None };
-
-    ghost faults = { λ s. s.faults };
-
-    ghost refusals = { λ _. 0 };
+    ghost says = { λ s. record { holding = None; faults = s.faults; refusals = 0 } };
 
     fn write(&mut self, piece: &[u8]) -> Result<usize, SinkError> {
-        match taken(&mut self.writer, piece) {
+        match write_flushed(&mut self.writer, piece) {
             Some(n) => Ok(n),
             None => {
                 self.faults = self.faults.saturating_add(1);
@@ -83,3 +76,6 @@ impl<W: Write> Sink for Output<W> {
         }
     }
 }
+
+#[cfg(test)]
+mod tests;

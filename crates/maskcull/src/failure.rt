@@ -1,7 +1,7 @@
 //! How a run ends: its status, and what is noted of a run that isn't done.
 ghost use Rattle.std.specs.Prelude.{◌≡◌, [], ◌∷◌, ◌++◌, ◌≤◌, length, codes};
 
-use cull_base::{Memory, Sink, SinkError, write_whole};
+use cull_base::{Memory, Sink, SinkError};
 use cull_report::Line;
 use scene_reader::SceneError;
 
@@ -103,7 +103,8 @@ fn line_of(text: &[u8]) -> Line
 
 impl Failure {
     ghost use Rattle.maskcull.specs.Outcome.{status_of};
-    ghost use Rattle.maskcull.specs.Notes.{refusal_text, note_text, IsNoted};
+    ghost use Rattle.maskcull.specs.Notes.{refusal_text, note_text};
+    ghost use Rattle.cull_base.specs.Stream.{IsNoted};
 
     pub fn status(&self) -> Status
         ensures { result ≡ status_of self.now }
@@ -131,12 +132,14 @@ impl Failure {
         }
     }
 
-    /// Notes the failure, as far as the sink takes it. It takes no memory of its own.
-    pub fn note<E: Sink>(&self, notes: &mut E)
-        ensures noted { IsNoted (E.holding notes.old) (E.holding notes.new) (E.faults notes.old) (E.faults notes.new) (E.refusals notes.old) (E.refusals notes.new) (note_text self.now) }
+    /// Notes the failure, as far as the sink takes it, and tells its status. It takes no memory of its own.
+    pub fn end<E: Sink>(&self, notes: &mut E) -> Status
+        ensures value { result ≡ status_of self.now }
+        ensures noted { IsNoted (E.says notes.old) (E.says notes.new) (note_text self.now) }
     {
         // What can't be noted is lost: the status tells it still.
-        let _ = write_whole(notes, self.line().as_slice());
+        let _ = self.line().write_to(notes);
+        self.status()
     }
 }
 

@@ -8,33 +8,42 @@ mod run;
 mod words;
 
 use adapters::{Input, Output};
+use cull_base::Memory;
+use failure::Failure;
 pub use failure::Status;
 pub use run::run;
-use std::alloc::{AllocError, Global};
+use std::alloc::Global;
 use std::env;
-use std::io::BufReader;
+use std::io::{BufReader, ErrorKind, Stderr};
 use std::process::ExitCode;
 
-// The words that the program was started with; None without memory for them.
-fn words_of(rt: &HostRuntime, alloc: Global) -> Result<Vec<String>, AllocError> {
+// The words that the program was started with; none where one isn't UTF-8, which is no command.
+fn words_of(rt: &HostRuntime, alloc: Global) -> Result<Vec<String>, Memory> {
     match env::args(rt) {
-        Ok(words) => words.collect(alloc),
-        Err(_) => Ok(Vec::new(alloc)),
+        Ok(words) => words.collect(alloc).map_err(|_| Memory),
+        Err(error) => match error.kind() {
+            ErrorKind::OutOfMemory => Err(Memory),
+            _ => Ok(Vec::new(alloc)),
+        },
     }
 }
 
-fn main(rt: HostRuntime) -> ExitCode {
+// Runs the command of the words over the standard streams.
+fn start(rt: &HostRuntime, notes: &mut Output<Stderr>) -> Result<Status, Memory> {
     let alloc = rt.alloc();
-    let Ok(words) = words_of(&rt, alloc) else {
-        return ExitCode::from(Status::Memory.code());
-    };
-    let Ok(reader) = BufReader::new(alloc, rt.stdin()) else {
-        return ExitCode::from(Status::Memory.code());
-    };
+    let words = words_of(rt, alloc)?;
+    let reader = BufReader::new(alloc, rt.stdin()).map_err(|_| Memory)?;
     let mut input = Input::new(reader);
     let mut report = Output::new(rt.stdout());
+    Ok(run(rt, alloc, &words, &mut input, &mut report, notes))
+}
+
+fn main(rt: HostRuntime) -> ExitCode {
     let mut notes = Output::new(rt.stderr());
-    let status = run(&rt, alloc, &words, &mut input, &mut report, &mut notes);
+    let status = match start(&rt, &mut notes) {
+        Ok(status) => status,
+        Err(Memory) => Failure::Memory.end(&mut notes),
+    };
     ExitCode::from(status.code())
 }
 

@@ -10,11 +10,11 @@ use Rattle.cull_report.specs.Scene.{frame_pieces, frame_verdicts, object_samples
 
 -- a piece of the list covers the point, and its depth there is strictly above a nearness
 abbrev pub HasNearerPiece : List Piece → Point → Fraction → Type 0
-HasNearerPiece pieces p near = (t : Piece) × Contains pieces t × (covers t p ≡ true) × IsBelow near (depth_at t p)
+HasNearerPiece pieces p nearness = (t : Piece) × Contains pieces t × (covers t p ≡ true) × IsBelow nearness (depth_at t p)
 
 -- In each frame, an object that is called occluded has at each of its samples in the screen a piece of the frame strictly nearer than it is there.
 pub record HidesTruly (s : Parts) : Type 0 where
   pub at_each_sample : (frame o : ℕ) (object : Object) (px py : ℕ) → frame < length s.cameras
     → slice_get s.objects o ≡ Some object → slice_get (frame_verdicts s frame) o ≡ Some Occluded
-    → px < s.width → py < s.height → object_samples s frame object px py ≡ true
+    → object_samples s frame object px py ≡ true
     → HasNearerPiece (frame_pieces s frame) (middle px py) (object_near s frame object px py)
