@@ -4,6 +4,7 @@ pub mod Rectangles
 pub mod Places
 pub mod Extents
 pub mod Spans
+pub mod Bits
 pub mod Masks
 pub mod Streams
 pub mod Rows

@@ -1,24 +1,27 @@
 -- The best depth is there where some member covers, and it is at least what any covering member reaches.
 use Rattle.std.proofs.Common.{◌≡◌, ℕ, pos, zero, suc, ◌<◌, ◌≤◌, ◌*ℤ◌, List, [], ◌∷◌, ◌++◌, Bool, true, false, length, arith, refl, ◌∙◌, sym, subst, ◌⊎◌, inl, inr}
 use Rattle.std.specs.List.{Contains}
+use Rattle.std.proofs.lemmas.Bool.{both_ways}
 use Rattle.std.proofs.lemmas.Int.{ints}
-use Rattle.std.proofs.lemmas.List.Elements.{Contains-append_left, Contains-append_right}
+use Rattle.std.proofs.lemmas.List.Elements.{Contains-append_left, Contains-append_right, Contains-push_cases}
 use Rattle.cull_base.specs.Piece.{Piece, Point, IsPiece, covers, sample, covered}
 use Rattle.cull_base.specs.Depth.{numerator, denominator, low_of, DepthAtLeast, DepthNoGreater}
 use Rattle.cull_base.specs.State.{State, bound_at, empty_state}
 use Rattle.cull_base.specs.Fold.{HasBestDepth, BestAtLeast, IsSound, IsLayered, step}
+use Rattle.cull_base.specs.Tiles.{ArePieces}
 use Rattle.cull_base.specs.declared.place.Sub.{Sub}
 use Rattle.depth_plane.proofs.Products.{le_times}
 use Rattle.masked_update.proofs.Fractions.{either_le, through, reaches_through}
 use Rattle.masked_update.proofs.Unchanged.{length-covered, has-covered, low_reached}
 use Rattle.masked_update.proofs.Sounds.{Reached, step_reached, empty_reached}
 
-abbrev pub AllPieces : List Piece → Type 0
-AllPieces pieces = (t : Piece) → Contains pieces t → IsPiece t
-
 -- some member that covers p is at least v there
 Reaches : List Piece → Point → ℕ → Type 0
 Reaches pieces p v = (t : Piece) × Contains pieces t × (covers t p ≡ true) × DepthAtLeast t p v
+
+-- one piece more
+pub pieces_more : (pieces : List Piece) (x : Piece) → ArePieces pieces → IsPiece x → ArePieces (pieces ++ x ∷ [])
+pieces_more pieces x all piece t m = elim (Contains-push_cases pieces x t m) [ inl h ↦ all t h | inr e ↦ subst IsPiece e piece ]
 
 pub at_head : (x : Piece) (xs : List Piece) → Contains (x ∷ xs) x
 at_head x xs = (0, omega arith, refl)
@@ -39,12 +42,9 @@ NoneCovers pieces p = (t : Piece) → Contains pieces t → covers t p ≡ true 
 none_longer : (x : Piece) (xs : List Piece) (p : Point) → covers x p ≡ false → NoneCovers xs p → NoneCovers (x ∷ xs) p
 unfolding NoneCovers
 none_longer x xs p e n t m c = elim (head_or_tail x t xs m) [
-  | inl is ↦ let f : covers t p ≡ false = rw (← is) e in absurd (two (covers t p) f c)
+  | inl is ↦ let f : covers t p ≡ false = rw (← is) e in absurd (both_ways (covers t p) f c)
   | inr r ↦ n t r c
 ]
-  where
-    two : (b : Bool) → b ≡ false → b ≡ true → ⊥
-    two b f g = cc
 
 -- a longer list has the same best where its first member is no better
 best_stays : (x t : Piece) (xs : List Piece) (p : Point) → HasBestDepth xs p t → (covers x p ≡ true → DepthNoGreater x t p) → HasBestDepth (x ∷ xs) p t
@@ -68,7 +68,7 @@ best_changes x xs p c no_better = record {
   ];
 }
 
-better_of : (x t : Piece) (xs : List Piece) (p : Point) → AllPieces (x ∷ xs) → covers x p ≡ true → HasBestDepth xs p t → (b : Piece) × HasBestDepth (x ∷ xs) p b
+better_of : (x t : Piece) (xs : List Piece) (p : Point) → ArePieces (x ∷ xs) → covers x p ≡ true → HasBestDepth xs p t → (b : Piece) × HasBestDepth (x ∷ xs) p b
 better_of x t xs p all c best = elim (either_le (numerator x p *ℤ denominator t) (numerator t p *ℤ denominator x)) [
   | inl le ↦ (t, best_stays x t xs p best (λ _. le))
   | inr ge ↦ (
@@ -80,22 +80,19 @@ better_of x t xs p all c best = elim (either_le (numerator x p *ℤ denominator 
   )
 ]
 
-best_or_none : (pieces : List Piece) (p : Point) → AllPieces pieces → NoneCovers pieces p ⊎ ((t : Piece) × HasBestDepth pieces p t)
+best_or_none : (pieces : List Piece) (p : Point) → ArePieces pieces → NoneCovers pieces p ⊎ ((t : Piece) × HasBestDepth pieces p t)
 unfolding NoneCovers
 best_or_none [] p all = inl (λ t m c. let lt = m.1 in absurd (omega (arith, lt)))
 best_or_none (x ∷ xs) p all = by (covers x p) refl (best_or_none xs p (λ t m. all t (in_tail x t xs m)))
   where
     by : (b : Bool) → covers x p ≡ b → NoneCovers xs p ⊎ ((t : Piece) × HasBestDepth xs p t) → NoneCovers (x ∷ xs) p ⊎ ((t : Piece) × HasBestDepth (x ∷ xs) p t)
     by false e (inl n) = inl (none_longer x xs p e n)
-    by false e (inr (t, best)) = inr (t, best_stays x t xs p best (λ c. absurd (two (covers x p) e c)))
-      where
-        two : (b : Bool) → b ≡ false → b ≡ true → ⊥
-        two b f g = cc
+    by false e (inr (t, best)) = inr (t, best_stays x t xs p best (λ c. absurd (both_ways (covers x p) e c)))
     by true e (inl n) = inr (x, best_changes x xs p e (λ other m c. absurd (n other m c)))
     by true e (inr (t, best)) = inr (better_of x t xs p all e best)
 
 -- what some member reaches, the best does
-best_reaches : (pieces : List Piece) (p : Point) (v : ℕ) → AllPieces pieces → Reaches pieces p v → BestAtLeast pieces p v
+best_reaches : (pieces : List Piece) (p : Point) (v : ℕ) → ArePieces pieces → Reaches pieces p v → BestAtLeast pieces p v
 unfolding NoneCovers Reaches
 best_reaches pieces p v all (t, m, c, at_least) = elim (best_or_none pieces p all) [
   | inl n ↦ absurd (n t m c)
@@ -106,7 +103,7 @@ reaches_best : (pieces : List Piece) (p : Point) (v : ℕ) → BestAtLeast piece
 unfolding Reaches
 reaches_best pieces p v (t, best, at_least) = (t, best.member, best.covering, at_least)
 
-reaches_less : (pieces : List Piece) (p : Point) (v w : ℕ) → AllPieces pieces → w ≤ v → Reaches pieces p v → Reaches pieces p w
+reaches_less : (pieces : List Piece) (p : Point) (v w : ℕ) → ArePieces pieces → w ≤ v → Reaches pieces p v → Reaches pieces p w
 unfolding Reaches
 reaches_less pieces p v w all le (t, m, c, at_least) =
     let d = (all t m).positive_area in
@@ -128,7 +125,7 @@ pub none_reached : (u : Sub) → IsReached u [] empty_state
 unfolding IsReached
 none_reached u = empty_reached (λ k v. Reaches [] (sample u k) v)
 
-pub step_is_reached : (u : Sub) (pieces : List Piece) (s : State) (x : Piece) → AllPieces (pieces ++ x ∷ []) → IsPiece x → IsReached u pieces s → IsReached u (pieces ++ x ∷ []) (step u s x)
+pub step_is_reached : (u : Sub) (pieces : List Piece) (s : State) (x : Piece) → ArePieces (pieces ++ x ∷ []) → IsPiece x → IsReached u pieces s → IsReached u (pieces ++ x ∷ []) (step u s x)
 unfolding IsReached
 step_is_reached u pieces s x all piece r =
     step_reached (λ k v. Reaches pieces (sample u k) v) (λ k v. Reaches (pieces ++ x ∷ []) (sample u k) v)
@@ -138,7 +135,7 @@ step_is_reached u pieces s x all piece r =
     (λ k lt h. reaches_new pieces x u k piece lt (sym (has-covered x u k lt) ∙ h))
     r
 
-pub reached_is_sound : (u : Sub) (pieces : List Piece) (s : State) → AllPieces pieces → IsReached u pieces s → IsSound u pieces s
+pub reached_is_sound : (u : Sub) (pieces : List Piece) (s : State) → ArePieces pieces → IsReached u pieces s → IsSound u pieces s
 unfolding IsReached
 reached_is_sound u pieces s all r k lt = elim (r.reached k lt) [
   | inl z ↦ inl z

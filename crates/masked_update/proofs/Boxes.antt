@@ -1,7 +1,7 @@
 -- A piece whose box has no pixel in a tile changes nothing there.
-use Rattle.std.proofs.Common.{◌≡◌, ℕ, pos, ◌+◌, ◌*◌, ◌<◌, ◌≤◌, ◌/◌, ◌%◌, arith, refl, ◌∙◌, sym, Bool, true, false, ◌&&◌, min, nat_lt}
+use Rattle.std.proofs.Common.{◌≡◌, ℕ, pos, ◌+◌, ◌*◌, ◌<◌, ◌≤◌, ◌/◌, ◌%◌, arith, refl, ◌∙◌, sym, Bool, true, false, min, nat_lt}
 use Rattle.std.proofs.lemmas.Int.{ints}
-use Rattle.std.proofs.lemmas.Bool.Decides.{nat_tests}
+use Rattle.std.proofs.lemmas.Bool.{both_ways, and_parts, ltb-true}
 use Rattle.cull_base.specs.Piece.{Piece, IsPiece, covered, box_of}
 use Rattle.cull_base.specs.Rectangle.{HasPixel, meets}
 use Rattle.cull_base.specs.Screen.{Dimensions, IsSize, tile_place, tile_rect_of, tile_sub, is_on_screen}
@@ -10,9 +10,9 @@ use Rattle.masked_update.specs.Merged.{sub_rect_of}
 use Rattle.std.proofs.lemmas.List.{ext_get_or}
 use Rattle.cull_base.specs.Fold.{step}
 use Rattle.cull_base.specs.declared.place.Sub.{Sub}
+use Rattle.cull_base.proofs.Bits.{one_of, length-samples_of, zero_has}
 use Rattle.cull_base.proofs.Rectangles.{meets_pixel}
 use Rattle.depth_plane.proofs.Boxes.{covers-in_box}
-use Rattle.masked_update.proofs.Bits.{one_of, length-samples_of, zero_has}
 use Rattle.masked_update.proofs.Unchanged.{step_none, length-covered, has-covered}
 
 -- a sample of a subtile on the screen lies in the tile's rectangle
@@ -20,18 +20,11 @@ in_tile : (size : Dimensions) (tile j k : ℕ) → IsSize size.width size.height
     → let u = tile_sub size tile j in HasPixel (tile_rect_of size tile) (pos (8 * u.column + k % 8)) (pos (4 * u.row + k / 8))
 in_tile size tile j k valid hj hk on =
     let place = tile_place size tile in
-    let lt = both (nat_lt (8 * (tile_sub size tile j).column) size.width) (nat_lt (4 * (tile_sub size tile j).row) size.height) on in
-    let x = across place.column size.width j k valid.whole_columns (below _ _ lt.0) in
-    let y = down place.row size.height j k hj hk valid.whole_rows (below _ _ lt.1) in
+    let lt = and_parts (nat_lt (8 * (tile_sub size tile j).column) size.width) (nat_lt (4 * (tile_sub size tile j).row) size.height) on in
+    let x = across place.column size.width j k valid.whole_columns (ltb-true _ _ lt.0) in
+    let y = down place.row size.height j k hj hk valid.whole_rows (ltb-true _ _ lt.1) in
     (omega (arith, ints, x.0), omega (arith, ints, x.1), omega (arith, ints, y.0), omega (arith, ints, y.1))
   where
-    both : (x y : Bool) → (x && y) ≡ true → (x ≡ true) × (y ≡ true)
-    both true y e = (refl, e)
-    both false y e = cc
-
-    below : (m n : ℕ) → nat_lt m n ≡ true → m < n
-    below m n e = grind (arith, nat_tests)
-
     across : (c w j k : ℕ) → w % 8 ≡ 0 → 8 * (4 * c + j % 4) < w → (32 * c ≤ 8 * (4 * c + j % 4) + k % 8) × (8 * (4 * c + j % 4) + k % 8 < min (32 * c + 32) w)
     across c w j k e lt = (omega arith, omega arith)
 
@@ -56,10 +49,7 @@ step_outside size tile j s t valid piece off hj on = by (is_none (covered t (til
         let x = 8 * u.column + o.0 % 8 in
         let y = 4 * u.row + o.0 / 8 in
         let m = (meets_pixel (box_of t) (tile_rect_of size tile)).1 (pos x, pos y, covers-in_box t x y piece c, in_tile size tile j o.0 valid hj below on) in
-        absurd (two (meets (box_of t) (tile_rect_of size tile)) off m)
-      where
-        two : (b : Bool) → b ≡ false → b ≡ true → ⊥
-        two b f g = cc
+        absurd (both_ways (meets (box_of t) (tile_rect_of size tile)) off m)
 
 -- a piece whose box has no pixel in a subtile covers none of its samples
 pub none_covered : (t : Piece) (u : Sub) → IsPiece t → meets (box_of t) (sub_rect_of u) ≡ false → samples_of 0 ≡ covered t u
@@ -70,13 +60,10 @@ none_covered t u piece off =
     in_sub : (k : ℕ) → k < 32 → HasPixel (sub_rect_of u) (pos (8 * u.column + k % 8)) (pos (4 * u.row + k / 8))
     in_sub k h = (omega (arith, ints), omega (arith, ints), omega (arith, ints), omega (arith, ints))
 
-    two : (b : Bool) → b ≡ false → b ≡ true → ⊥
-    two b f g = cc
-
     by : (b : Bool) (k : ℕ) → k < 32 → has (covered t u) k ≡ b → has (covered t u) k ≡ false
     by false k h e = e
     by true k h e =
         let c = sym (has-covered t u k h) ∙ e in
         let x = 8 * u.column + k % 8 in
         let y = 4 * u.row + k / 8 in
-        absurd (two (meets (box_of t) (sub_rect_of u)) off ((meets_pixel (box_of t) (sub_rect_of u)).1 (pos x, pos y, covers-in_box t x y piece c, in_sub k h)))
+        absurd (both_ways (meets (box_of t) (sub_rect_of u)) off ((meets_pixel (box_of t) (sub_rect_of u)).1 (pos x, pos y, covers-in_box t x y piece c, in_sub k h)))

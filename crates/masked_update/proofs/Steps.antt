@@ -2,18 +2,19 @@
 use Rattle.std.proofs.Common.{◌≡◌, ℕ, ◌+◌, ◌*◌, ◌<◌, ◌≤◌, ◌^◌, true, false, ◌&&◌, ◌||◌, not, cond, nat_eq, nat_lt, nat_le, arith, refl, ◌⊎◌, ◌≢◌, bit_or, min, subst, sym, ◌∙◌}
 use Rattle.std.proofs.lemmas.Bool.Decides.{nat_tests}
 use Rattle.std.proofs.lemmas.Nat.{or_lt, le_or_r}
-use Rattle.cull_base.specs.State.{State, is_none, samples_of, step_with, kept}
+use Rattle.cull_base.specs.declared.nearness.TheConstants.{HELD_TOP}
+use Rattle.cull_base.specs.State.{State, is_none, samples_of, step_with, samples_left}
 use Rattle.cull_base.specs.Fold.{IsLayered}
+use Rattle.cull_base.proofs.Bits.{none-samples_of, all-samples_of, samples_of-or}
 use Rattle.masked_update.specs.SubTile.{seen, Layers}
-use Rattle.masked_update.proofs.Bits.{none-samples_of, all-samples_of, samples_of-or}
 
 -- where nothing is covered, or the bound is no nearer
 pub stays : (s : State) (t c : ℕ) → c < 2 ^ 32 → (c ≡ 0) ⊎ (t ≤ s.reference) → step_with s t (samples_of c) ≡ s
 unfolding step_with
 stays s t c h e = let n = none-samples_of c h in rw n (grind (arith, nat_tests))
 
-kept_is : (a b m t k : ℕ) → m < 2 ^ 32 → k ≡ cond (not (nat_eq m 0) && nat_lt (2 * b) (t + a)) 0 m → kept (seen a b m) t ≡ samples_of k
-kept_is a b m t k h e = let n = none-samples_of m h in rw (n, e) (elim (not (nat_eq m 0) && nat_lt (2 * b) (t + a)) as (λ x. cond x (samples_of 0) (samples_of m) ≡ samples_of (cond x 0 m)) [ true ↦ refl | false ↦ refl ])
+left_is : (a b m t k : ℕ) → m < 2 ^ 32 → k ≡ cond (not (nat_eq m 0) && nat_lt (2 * b) (t + a)) 0 m → samples_left (seen a b m) t ≡ samples_of k
+left_is a b m t k h e = let n = none-samples_of m h in rw (n, e) (elim (not (nat_eq m 0) && nat_lt (2 * b) (t + a)) as (λ x. cond x (samples_of 0) (samples_of m) ≡ samples_of (cond x 0 m)) [ true ↦ refl | false ↦ refl ])
 
 steps : (a b m t c k b' : ℕ) → m < 2 ^ 32 → c < 2 ^ 32 → k < 2 ^ 32 → c ≢ 0 → a < t →
     k ≡ cond (not (nat_eq m 0) && nat_lt (2 * b) (t + a)) 0 m → b' ≡ cond (nat_eq k 0) t (min b t) →
@@ -21,7 +22,7 @@ steps : (a b m t c k b' : ℕ) → m < 2 ^ 32 → c < 2 ^ 32 → k < 2 ^ 32 → 
 unfolding step_with
 steps a b m t c k b' hm hc hk c0 at ek eb =
     let n = none-samples_of c hc in
-    let kk = kept_is a b m t k hm ek in
+    let kk = left_is a b m t k hm ek in
     let nk = none-samples_of k hk in
     let u = samples_of-or k c in
     let below : bit_or k c < 2 ^ 32 = or_lt 32 k c hk hc in
@@ -29,7 +30,7 @@ steps a b m t c k b' hm hc hk c0 at ek eb =
     let no : (nat_eq c 0 || nat_le t a) ≡ false = grind (arith, nat_tests) in
     rw (n, no, kk, nk, ← u, al, ← eb) refl
 
-pub next_layers : (a b m t c k b' : ℕ) → Layers a b m → t ≤ 65535 → c < 2 ^ 32 → k < 2 ^ 32 → c ≢ 0 → a < t →
+pub next_layers : (a b m t c k b' : ℕ) → Layers a b m → t ≤ HELD_TOP → c < 2 ^ 32 → k < 2 ^ 32 → c ≢ 0 → a < t →
     k ≡ cond (not (nat_eq m 0) && nat_lt (2 * b) (t + a)) 0 m → b' ≡ cond (nat_eq k 0) t (min b t) → bit_or k c ≢ 4294967295 → Layers a b' (bit_or k c)
 next_layers a b m t c k b' l ht hc hk c0 at ek eb full =
     let below : bit_or k c < 2 ^ 32 = or_lt 32 k c hk hc in
@@ -60,16 +61,18 @@ step_more a b m t c k b' s is l hc hk c0 at ek eb full =
 
 -- the layers of the fields are those of the state
 pub layered_of : (a b m : ℕ) (s : State) → seen a b m ≡ s → Layers a b m → IsLayered s
-layered_of a b m s is l = subst IsLayered is (λ e. by e)
+layered_of a b m s is l = subst IsLayered is (record { above = above; none = none })
   where
-    by : is_none (samples_of m) ≡ false → a < b
-    by e =
-        let n = none-samples_of m (omega (arith, l.not_full)) in
-        let z : nat_eq m 0 ≡ false = sym n ∙ e in
-        let wn = l.working_nearer in
-        grind (arith, nat_tests)
+    tested : is_none (samples_of m) ≡ nat_eq m 0
+    tested = none-samples_of m (omega (arith, l.not_full))
 
-pub filled_layers : (b : ℕ) → b ≤ 65535 → Layers b 0 0
+    above : is_none (samples_of m) ≡ false → a < b
+    above e = let z : nat_eq m 0 ≡ false = sym tested ∙ e in let wn = l.working_nearer in grind (arith, nat_tests)
+
+    none : is_none (samples_of m) ≡ true → b ≡ 0
+    none e = let z : nat_eq m 0 ≡ true = sym tested ∙ e in let we = l.working_empty in grind (arith, nat_tests)
+
+pub filled_layers : (b : ℕ) → b ≤ HELD_TOP → Layers b 0 0
 filled_layers b h = record {
   reference_within = h;
   working_within = omega arith;
@@ -78,5 +81,5 @@ filled_layers b h = record {
   not_full = omega arith;
 }
 
-pub lowered_within : (b t k b' : ℕ) → b ≤ 65535 → t ≤ 65535 → b' ≡ cond (nat_eq k 0) t (min b t) → b' ≤ 65535
+pub lowered_within : (b t k b' : ℕ) → b ≤ HELD_TOP → t ≤ HELD_TOP → b' ≡ cond (nat_eq k 0) t (min b t) → b' ≤ HELD_TOP
 lowered_within b t k b' hb ht e = grind (arith, nat_tests)

@@ -1,13 +1,14 @@
 -- Tiles that take a piece, row by row and column by column.
-use Rattle.std.proofs.Common.{◌≡◌, ◌≢◌, inl, inr, ℕ, suc, ◌+◌, ◌*◌, ◌/◌, ◌%◌, ◌<◌, ◌≤◌, List, length, set, Bool, true, false, ◌&&◌, cond, nat_eq, arith, ap, ◌∙◌, sym}
+use Rattle.std.proofs.Common.{◌≡◌, ◌≢◌, inl, inr, ℕ, suc, ◌+◌, ◌*◌, ◌/◌, ◌%◌, ◌<◌, ◌≤◌, List, length, set, Bool, true, false, ◌&&◌, cond, nat_eq, nat_le, nat_lt, arith, refl, ap, ◌∙◌, sym}
+use Rattle.std.specs.Cmp.{both_ways}
+use Rattle.std.proofs.lemmas.Bool.{and_from, eq-eqb, le-leb, lt-ltb}
 use Rattle.std.proofs.lemmas.Bool.Decides.{nat_tests, eqb_tells}
 use Rattle.std.proofs.lemmas.Nat.{div-mul-add, div-add-mod'}
 use Rattle.std.proofs.lemmas.List.{get_or-set_other}
 use Rattle.std.proofs.lemmas.Grind.{get_or-set_at}
 use Rattle.std.proofs.Math.Nat.{mul-add-mod_self_right, mod-eq_of_lt, mul-le-mul_right}
+use Rattle.cull_base.specs.Span.{is_between}
 use Rattle.masked_update.specs.TileOf.{TileOf, tile_at, no_tile}
-use Rattle.masked_update.specs.Taken.{is_between}
-use Rattle.masked_update.proofs.Spans.{same}
 
 -- the place of a tile by its number
 pub place : (row columns column : ℕ) → column < columns → ((row * columns + column) / columns ≡ row) × ((row * columns + column) % columns ≡ column)
@@ -20,13 +21,19 @@ tile_below row rows column columns lt below =
 
 -- a test that grows by one number keeps its answer elsewhere
 pub grows_elsewhere : (first n k : ℕ) → k ≢ n → is_between first n k ≡ is_between first (n + 1) k
-grows_elsewhere first n k ne = same _ _ (λ h. grind (arith, nat_tests)) (λ h. grind (arith, nat_tests))
+grows_elsewhere first n k ne = both_ways _ _ (λ h. grind (arith, nat_tests)) (λ h. grind (arith, nat_tests))
 
 pub before : (first n k : ℕ) → k ≡ n → is_between first n k ≡ false
 before first n k e = grind (arith, nat_tests)
 
 pub joined : (first n k : ℕ) → first ≤ n → k ≡ n → is_between first (n + 1) k ≡ true
 joined first n k le e = grind (arith, nat_tests)
+
+-- the place stands in its row, in the columns of a span
+pub here : (columns row first end column : ℕ) → column < columns → first ≤ column → column < end → (let t = row * columns + column in nat_eq (t / columns) row && is_between first end (t % columns)) ≡ true
+here columns row first end column lt le below =
+    let (in_row, in_column) = place row columns column lt in
+    rw (in_row, in_column) (and_from (nat_eq row row) (is_between first end column) (eq-eqb row row refl) (and_from (nat_le first column) (nat_lt column end) (le-leb first column le) (lt-ltb column end below)))
 
 -- f at each tile where the test holds
 abbrev pub Where : (ℕ → Bool) → (ℕ → TileOf → TileOf) → ℕ → List TileOf → List TileOf → Type 0

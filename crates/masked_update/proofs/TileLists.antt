@@ -1,123 +1,129 @@
 -- A tile after a list, one piece more at a time.
-use Rattle.std.proofs.Common.{◌≡◌, ℕ, ◌+◌, ◌<◌, ◌≤◌, List, [], length, take, get_or, slice_index_or, Bool, true, false, not, cond, map, arith, refl, ap, ◌∙◌, sym, subst, replicate}
-use Rattle.std.specs.List.{range_with_len, filter}
-use Rattle.std.proofs.lemmas.List.{ext_get_or, length-take-le, get_or-replicate}
-use Rattle.std.proofs.lemmas.List.Filters.{length-filter_more, length-filter_both}
-use Rattle.std.proofs.lemmas.List.FromFn.{length-map-range_with_len, get_or-map-range_with_len}
+use Rattle.std.proofs.Common.{◌≡◌, ℕ, ◌+◌, ◌<◌, ◌≤◌, List, [], ◌∷◌, ◌++◌, length, take, get_or, Bool, true, false, not, cond, arith, refl, ap, ◌∙◌, sym, subst, replicate, add-one}
+use Rattle.std.specs.List.{filter}
+use Rattle.std.proofs.Math.Seq.{take-suc}
+use Rattle.std.proofs.lemmas.List.{length-take-le, length_push, get_or-replicate, append-nil}
+use Rattle.std.proofs.lemmas.List.Elements.{filter_more}
+use Rattle.std.proofs.lemmas.List.Filters.{length-filter_both}
+use Rattle.std.proofs.lemmas.List.FromFn.{length-map-range_with_len}
 use Rattle.cull_base.specs.Piece.{Piece, IsPiece, box_of}
 use Rattle.cull_base.specs.Rectangle.{meets}
 use Rattle.cull_base.specs.Screen.{Dimensions, IsSize, tile_rect_of, tile_sub, is_on_screen}
 use Rattle.cull_base.specs.State.{State, empty_state}
-use Rattle.cull_base.specs.Fold.{step, after}
-use Rattle.cull_base.specs.Tiles.{Listed, tile_list}
+use Rattle.cull_base.specs.Fold.{step, after, IsSound, IsLayered}
+use Rattle.cull_base.specs.Tiles.{PieceList, ArePieces, tile_list, tile_after}
 use Rattle.cull_base.specs.declared.place.Sub.{Sub}
-use Rattle.masked_update.specs.TileOf.{TileOf, sub_at}
-use Rattle.masked_update.specs.Taken.{taken_by, taken_where, tile_of_list}
+use Rattle.masked_update.specs.TileOf.{TileOf, sub_at, empty_tile}
+use Rattle.masked_update.specs.Merged.{merged_at, merged_by}
+use Rattle.masked_update.specs.Taken.{taken_by, taken_where, tile_of, IsMember, MovesOn}
 use Rattle.masked_update.specs.Drawn.{IsDrawn}
-use Rattle.masked_update.proofs.Boxes.{step_outside}
-use Rattle.masked_update.proofs.Drawing.{no_piece, after-none, after-more, drawn_is}
+use Rattle.masked_update.proofs.Best.{pieces_more, reached_is_layered}
+use Rattle.masked_update.proofs.Drawing.{after-none, after-more, after_is_reached, after_is_sound}
+use Rattle.masked_update.proofs.Merging.{eight_of, one_of_eight}
+use Rattle.masked_update.proofs.OwnList.{after-tile_list}
 
 abbrev pub tile_with : List State → ℕ → TileOf
 tile_with subs count = record { subs = subs; count = count }
 
--- eight subtiles, each from its number
-eight_of : (f : ℕ → State) (subs : List State) → length subs ≡ 8 → ((j : ℕ) → j < 8 → slice_index_or subs j empty_state ≡ f j) → subs ≡ map f (range_with_len 0 8)
-eight_of f subs eight each = ext_get_or empty_state subs (map f (range_with_len 0 8)) (eight ∙ sym (length-map-range_with_len f 0 8))
-    (λ j h. let h' : j < 8 = omega (arith, h, eight) in each j h' ∙ sym (get_or-map-range_with_len f 0 8 j j empty_state h' (omega arith)))
+-- a subtile after some pieces, which stays empty off the screen
+state_at : Dimensions → ℕ → List Piece → ℕ → State
+state_at size tile pieces j = cond (is_on_screen size (tile_sub size tile j)) (after (tile_sub size tile j) pieces) empty_state
 
-one_of_eight : (f : ℕ → State) (j : ℕ) → j < 8 → slice_index_or (map f (range_with_len 0 8)) j empty_state ≡ f j
-one_of_eight f j h = get_or-map-range_with_len f 0 8 j j empty_state h (omega arith)
-
-choice : (b : Bool) (s x y : State) → (b ≡ true → s ≡ x) → (b ≡ false → s ≡ y) → s ≡ cond b x y
-choice true s x y f g = f refl
-choice false s x y f g = g refl
-
--- what `take` makes of a tile
-pub taken_is : (size : Dimensions) (tile : ℕ) (x : Piece) (old new : TileOf) → length new.subs ≡ 8 → new.count ≡ old.count + 1
-    → ((j : ℕ) → j < 8 → is_on_screen size (tile_sub size tile j) ≡ true → sub_at new j ≡ step (tile_sub size tile j) (sub_at old j) x)
-    → ((j : ℕ) → j < 8 → is_on_screen size (tile_sub size tile j) ≡ false → sub_at new j ≡ sub_at old j)
-    → new ≡ taken_by size tile x old
-unfolding taken_by
-taken_is size tile x old new eight counted merged others =
-    ap (λ n. tile_with new.subs n) counted ∙ ap (λ s. tile_with s (old.count + 1)) (eight_of next new.subs eight (λ j h. choice (is_on_screen size (tile_sub size tile j)) _ _ _ (merged j h) (others j h)))
+pub none_taken : (size : Dimensions) (tile : ℕ) → tile_of size tile [] ≡ empty_tile
+unfolding state_at
+none_taken size tile = ap (λ s. tile_with s 0) (sym (eight_of (state_at size tile []) (replicate 8 empty_state) refl
+    (λ j h. get_or-replicate 8 j empty_state empty_state h ∙ empty (is_on_screen size (tile_sub size tile j)) (tile_sub size tile j))))
   where
-    next : ℕ → State
-    next j = cond (is_on_screen size (tile_sub size tile j)) (step (tile_sub size tile j) (sub_at old j) x) (sub_at old j)
+    empty : (b : Bool) (u : Sub) → empty_state ≡ cond b (after u []) empty_state
+    empty true u = sym (after-none u)
+    empty false u = refl
 
-states_at : (size : Dimensions) (tile : ℕ) (pieces : List Piece) (j : ℕ) → State
-states_at size tile pieces j = cond (is_on_screen size (tile_sub size tile j)) (after (tile_sub size tile j) pieces) empty_state
-
-pub none_taken : (size : Dimensions) (tile : ℕ) → tile_of_list size tile [] ≡ tile_with (replicate 8 empty_state) 0
-unfolding tile_of_list tile_list states_at
-none_taken size tile = ap (λ s. tile_with s 0) (sym (eight_of (states_at size tile []) (replicate 8 empty_state) refl (λ j h. get_or-replicate 8 j empty_state empty_state h ∙ choice (is_on_screen size (tile_sub size tile j)) empty_state _ _ (λ _. sym (after-none (tile_sub size tile j))) (λ _. refl))))
-
--- a tile counts at most the pieces that came
-pub few : (size : Dimensions) (tile : ℕ) (pieces : List Piece) (i : ℕ) → i ≤ length pieces → (tile_of_list size tile (take i pieces)).count ≤ i
-unfolding tile_of_list tile_list
-few size tile pieces i le =
-    let p : Piece → Bool = λ t. meets (box_of t) (tile_rect_of size tile) in
-    let parts = length-filter_both p (λ t. cond (p t) false true) (λ t. other (p t)) (take i pieces) in
-    let len = length-take-le i pieces le in
-    omega (arith, parts, len)
+-- a tile that took some pieces takes one more
+pub one_taken : (size : Dimensions) (tile : ℕ) (pieces : List Piece) (x : Piece) → taken_by size tile x (tile_of size tile pieces) ≡ tile_of size tile (pieces ++ x ∷ [])
+unfolding merged_by state_at
+one_taken size tile pieces x =
+    ap (λ n. tile_with (merged_by size tile x subs) n) (sym (length_push pieces x))
+    ∙ ap (λ s. tile_with s (length (pieces ++ x ∷ []))) (eight_of (state_at size tile (pieces ++ x ∷ [])) (merged_by size tile x subs) (length-map-range_with_len (merged_at size tile x subs) 0 8)
+    (λ j h. one_of_eight (merged_at size tile x subs) j h ∙ ap (λ s. cond (is_on_screen size (tile_sub size tile j)) (step (tile_sub size tile j) s x) s) (one_of_eight (state_at size tile pieces) j h) ∙ more (is_on_screen size (tile_sub size tile j)) (tile_sub size tile j)))
   where
-    other : (b : Bool) → cond b false true ≡ not b
-    other true = refl
-    other false = refl
+    subs : List State
+    subs = tile_after size tile pieces
 
--- a subtile of a tile after a list
-at_on : (size : Dimensions) (tile : ℕ) (pieces : List Piece) (j : ℕ) → j < 8 → is_on_screen size (tile_sub size tile j) ≡ true → sub_at (tile_of_list size tile pieces) j ≡ after (tile_sub size tile j) pieces
-unfolding tile_of_list states_at
-at_on size tile pieces j h on = one_of_eight (states_at size tile pieces) j h ∙ ap (λ b. cond b (after (tile_sub size tile j) pieces) empty_state) on
+    more : (b : Bool) (u : Sub) → let s = cond b (after u pieces) empty_state in cond b (step u s x) s ≡ cond b (after u (pieces ++ x ∷ [])) empty_state
+    more true u = sym (after-more u pieces x)
+    more false u = refl
 
-at_off : (size : Dimensions) (tile : ℕ) (pieces : List Piece) (j : ℕ) → j < 8 → is_on_screen size (tile_sub size tile j) ≡ false → sub_at (tile_of_list size tile pieces) j ≡ empty_state
-unfolding tile_of_list states_at
-at_off size tile pieces j h off = one_of_eight (states_at size tile pieces) j h ∙ ap (λ b. cond b (after (tile_sub size tile j) pieces) empty_state) off
+-- the next member of a tile's list
+pub next_taken : (tile k : ℕ) (list : PieceList) (x : Piece) → IsMember tile k list x → MovesOn tile k list x
+next_taken tile k list x m =
+    let own = tile_list tile list in
+    let lt = m.within in
+    let now : length (take k own) ≡ k = length-take-le k own (omega arith) in
+    let more : take k own ++ x ∷ [] ≡ take (k + 1) own = ap (λ y. take k own ++ y ∷ []) (sym m.is) ∙ sym (take-suc own k x lt) ∙ ap (λ n. take n own) (sym (add-one k)) in
+    let counted : length (take (k + 1) own) ≡ k + 1 = length-take-le (k + 1) own (omega arith) in
+    ap (λ n. taken_by list.size tile x (tile_with (tile_after list.size tile (take k own)) n)) (sym now)
+    ∙ one_taken list.size tile (take k own) x ∙ ap (tile_of list.size tile) more ∙ ap (tile_with (tile_after list.size tile (take (k + 1) own))) counted
 
-eight_subs : (size : Dimensions) (tile : ℕ) (pieces : List Piece) → length (tile_of_list size tile pieces).subs ≡ 8
-unfolding tile_of_list states_at
-eight_subs size tile pieces = length-map-range_with_len (states_at size tile pieces) 0 8
-
-count_of : (size : Dimensions) (tile : ℕ) (pieces : List Piece) → (tile_of_list size tile pieces).count ≡ length (tile_list size tile pieces)
-unfolding tile_of_list
-count_of size tile pieces = refl
-
-count_more : (size : Dimensions) (tile : ℕ) (pieces : List Piece) (i : ℕ) (x : Piece) (b : Bool) → i < length pieces → get_or pieces i x ≡ x → meets (box_of x) (tile_rect_of size tile) ≡ b
-    → (tile_of_list size tile (take (i + 1) pieces)).count ≡ (tile_of_list size tile (take i pieces)).count + cond b 1 0
-unfolding tile_of_list tile_list
-count_more size tile pieces i x b lt is e =
-    let p : Piece → Bool = λ t. meets (box_of t) (tile_rect_of size tile) in
-    length-filter_more p pieces i x lt ∙ ap (λ c. length (filter p (take i pieces)) + cond c 1 0) (ap p is ∙ e)
-
-same_tile : (s t : TileOf) → length s.subs ≡ 8 → length t.subs ≡ 8 → s.count ≡ t.count → ((j : ℕ) → j < 8 → sub_at s j ≡ sub_at t j) → s ≡ t
-same_tile s t es et count each = ap (tile_with s.subs) count ∙ ap (λ subs. tile_with subs t.count) (ext_get_or empty_state s.subs t.subs (es ∙ sym et) (λ j h. each j (omega (arith, h, es))))
-
--- one more piece, which the tile takes where its box meets the tile
-pub list_more : (size : Dimensions) (tile : ℕ) (pieces : List Piece) (i : ℕ) (x : Piece) → IsSize size.width size.height → IsPiece x → i < length pieces → get_or pieces i x ≡ x
-    → tile_of_list size tile (take (i + 1) pieces) ≡ taken_where (meets (box_of x) (tile_rect_of size tile)) size tile x (tile_of_list size tile (take i pieces))
-list_more size tile pieces i x valid piece lt is = by (meets (box_of x) (tile_rect_of size tile)) refl
-  where
-    more : (u : Sub) → after u (take (i + 1) pieces) ≡ step u (after u (take i pieces)) x
-    more u = after-more u pieces i x lt ∙ ap (step u (after u (take i pieces))) is
-
-    by : (b : Bool) → meets (box_of x) (tile_rect_of size tile) ≡ b → tile_of_list size tile (take (i + 1) pieces) ≡ cond b (taken_by size tile x (tile_of_list size tile (take i pieces))) (tile_of_list size tile (take i pieces))
-    by true on =
-        taken_is size tile x (tile_of_list size tile (take i pieces)) (tile_of_list size tile (take (i + 1) pieces)) (eight_subs size tile (take (i + 1) pieces)) (count_more size tile pieces i x true lt is on)
-        (λ j h s. at_on size tile (take (i + 1) pieces) j h s ∙ more (tile_sub size tile j) ∙ ap (λ r. step (tile_sub size tile j) r x) (sym (at_on size tile (take i pieces) j h s)))
-        (λ j h s. at_off size tile (take (i + 1) pieces) j h s ∙ sym (at_off size tile (take i pieces) j h s))
-    by false off =
-        same_tile (tile_of_list size tile (take (i + 1) pieces)) (tile_of_list size tile (take i pieces)) (eight_subs size tile (take (i + 1) pieces)) (eight_subs size tile (take i pieces))
-        (let e = count_more size tile pieces i x false lt is off in omega (arith, e))
-        (λ j h. stays (is_on_screen size (tile_sub size tile j)) j h refl)
-      where
-        stays : (b : Bool) (j : ℕ) → j < 8 → is_on_screen size (tile_sub size tile j) ≡ b → sub_at (tile_of_list size tile (take (i + 1) pieces)) j ≡ sub_at (tile_of_list size tile (take i pieces)) j
-        stays true j h s =
-            at_on size tile (take (i + 1) pieces) j h s ∙ more (tile_sub size tile j) ∙ step_outside size tile j (after (tile_sub size tile j) (take i pieces)) x valid piece off h s
-            ∙ sym (at_on size tile (take i pieces) j h s)
-        stays false j h s = at_off size tile (take (i + 1) pieces) j h s ∙ sym (at_off size tile (take i pieces) j h s)
+-- the first members of a list
+abbrev pub first_of : ℕ → PieceList → PieceList
+first_of i list = record { size = list.size; members = take i list.members }
 
 -- a tile that took its own list
-pub drawn_of : (list : Listed) (tile : ℕ) (t : TileOf) → t ≡ tile_of_list list.size tile list.members → ((k : ℕ) → k < length list.members → IsPiece (slice_index_or list.members k no_piece))
-    → (0 < length list.members → IsSize list.size.width list.size.height) → IsDrawn list tile t
-drawn_of list tile t e pieces sized = subst (IsDrawn list tile) (sym e)
-    (drawn_is list tile (tile_of_list list.size tile list.members) (eight_subs list.size tile list.members) (count_of list.size tile list.members)
-    (λ j h on. at_on list.size tile list.members j h on) (λ j h off. at_off list.size tile list.members j h off) pieces sized)
+abbrev pub own_tile : PieceList → ℕ → TileOf
+own_tile list tile = tile_of list.size tile (tile_list tile list)
+
+pub none_listed : (list : PieceList) (tile : ℕ) → own_tile (first_of 0 list) tile ≡ empty_tile
+unfolding tile_list
+none_listed list tile = none_taken list.size tile
+
+-- a tile counts at most the pieces that came
+pub few : (list : PieceList) (tile i : ℕ) → i ≤ length list.members → (own_tile (first_of i list) tile).count ≤ i
+unfolding tile_list
+few list tile i le =
+    let p : Piece → Bool = λ t. meets (box_of t) (tile_rect_of list.size tile) in
+    let parts = length-filter_both p (λ t. not (p t)) (λ t. refl) (take i list.members) in
+    let len = length-take-le i list.members le in
+    omega (arith, parts, len)
+
+-- one more piece, which the tile takes where its box meets the tile
+pub list_more : (list : PieceList) (tile i : ℕ) (x : Piece) → i < length list.members → get_or list.members i x ≡ x
+    → own_tile (first_of (i + 1) list) tile ≡ taken_where (meets (box_of x) (tile_rect_of list.size tile)) list.size tile x (own_tile (first_of i list) tile)
+unfolding tile_list
+list_more list tile i x lt is =
+    let p : Piece → Bool = λ t. meets (box_of t) (tile_rect_of list.size tile) in
+    let more = filter_more p list.members i x lt ∙ ap (λ y. filter p (take i list.members) ++ cond (p y) (y ∷ []) []) is in
+    ap (tile_of list.size tile) more ∙ by (p x) (filter p (take i list.members))
+  where
+    by : (b : Bool) (pieces : List Piece) → tile_of list.size tile (pieces ++ cond b (x ∷ []) []) ≡ taken_where b list.size tile x (tile_of list.size tile pieces)
+    by true pieces = sym (one_taken list.size tile pieces x)
+    by false pieces = ap (tile_of list.size tile) (append-nil pieces)
+
+-- the first members are pieces, one more at a time
+pub pieces_next : (list : PieceList) (i : ℕ) (x : Piece) → i < length list.members → get_or list.members i x ≡ x → IsPiece x → ArePieces (take i list.members) → ArePieces (take (i + 1) list.members)
+pieces_next list i x lt is piece all =
+    let more : take (i + 1) list.members ≡ take i list.members ++ x ∷ [] = ap (λ n. take n list.members) (add-one i) ∙ take-suc list.members i x lt ∙ ap (λ y. take i list.members ++ y ∷ []) is in
+    subst ArePieces (sym more) (pieces_more (take i list.members) x all piece)
+
+-- all members are the list's
+pub own_whole : (list : PieceList) (tile i : ℕ) → take i list.members ≡ list.members → own_tile (first_of i list) tile ≡ own_tile list tile
+own_whole list tile i whole = ap (λ (pieces : List Piece). own_tile (record { size = list.size; members = pieces }) tile) whole
+
+-- a tile that took its own list is drawn
+pub drawn_of : (list : PieceList) (tile : ℕ) (t : TileOf) → t ≡ own_tile list tile → ArePieces list.members → (0 < length list.members → IsSize list.size.width list.size.height) → IsDrawn list tile t
+unfolding state_at
+drawn_of list tile t e all sized = subst (IsDrawn list tile) (sym e) (record {
+  states = eight_of (state_at list.size tile list.members) (own_tile list tile).subs (length-map-range_with_len (state_at list.size tile (tile_list tile list)) 0 8)
+      (λ j h. one_of_eight (state_at list.size tile (tile_list tile list)) j h ∙ same (is_on_screen list.size (tile_sub list.size tile j)) j h refl);
+  count = refl;
+  sound = λ j h on. subst (IsSound (tile_sub list.size tile j) list.members) (sym (at_on j h on)) (after_is_sound (tile_sub list.size tile j) list.members all);
+  layered = λ j h on. subst IsLayered (sym (at_on j h on)) (reached_is_layered (tile_sub list.size tile j) list.members (after (tile_sub list.size tile j) list.members) (after_is_reached (tile_sub list.size tile j) list.members all));
+  own_list = λ j h on. after-tile_list list tile j sized all h on;
+})
+  where
+    same : (b : Bool) (j : ℕ) → j < 8 → is_on_screen list.size (tile_sub list.size tile j) ≡ b
+        → cond b (after (tile_sub list.size tile j) (tile_list tile list)) empty_state ≡ cond b (after (tile_sub list.size tile j) list.members) empty_state
+    same true j h on = after-tile_list list tile j sized all h on
+    same false j h off = refl
+
+    at_on : (j : ℕ) → j < 8 → is_on_screen list.size (tile_sub list.size tile j) ≡ true → sub_at (own_tile list tile) j ≡ after (tile_sub list.size tile j) list.members
+    at_on j h on = one_of_eight (state_at list.size tile (tile_list tile list)) j h ∙ ap (λ b. cond b (after (tile_sub list.size tile j) (tile_list tile list)) empty_state) on ∙ after-tile_list list tile j sized all h on

@@ -1,6 +1,6 @@
 -- Pieces that change nothing in a subtile.
-use Rattle.std.proofs.Common.{◌≡◌, ℕ, ◌<◌, ◌≤◌, Bool, true, false, ◌||◌, cond, arith, refl, ap, ◌∙◌, sym, length, nat_le, max, pos}
-use Rattle.std.proofs.lemmas.Bool.Decides.{nat_tests}
+use Rattle.std.proofs.Common.{◌≡◌, ℕ, ◌<◌, ◌≤◌, Bool, true, false, arith, refl, ap, ◌∙◌, sym, length, max, pos}
+use Rattle.std.proofs.lemmas.Bool.{cond-true, or_left, or_right, le-leb}
 use Rattle.std.proofs.lemmas.Int.{ints}
 use Rattle.std.proofs.lemmas.List.FromFn.{get_or-map-range_with_len}
 use Rattle.cull_base.specs.State.{State, step_with, is_none, has, samples_of}
@@ -8,10 +8,10 @@ use Rattle.cull_base.specs.Fold.{step}
 use Rattle.cull_base.specs.Piece.{Piece, IsPiece, covered, covers, sample, each_sample, nearness}
 use Rattle.cull_base.specs.Depth.{low_of, greatest_nearness, denominator, DepthAtLeast}
 use Rattle.cull_base.specs.declared.place.Sub.{Sub}
+use Rattle.cull_base.proofs.Bits.{one_of, none-no_samples}
 use Rattle.depth_plane.proofs.Products.{le_from_times}
 use Rattle.depth_plane.proofs.Mean.{weights_of, touches_covered, numerator_below}
 use Rattle.depth_plane.proofs.Depths.{low_of-below}
-use Rattle.masked_update.proofs.Bits.{one_of, none-samples_of}
 
 pub length-covered : (t : Piece) (u : Sub) → length (covered t u) ≡ 32
 unfolding covered each_sample
@@ -23,20 +23,13 @@ has-covered t u k h = get_or-map-range_with_len (λ j. covers t (sample u j)) 0 
 
 pub step_none : (u : Sub) (s : State) (t : Piece) → is_none (covered t u) ≡ true → step u s t ≡ s
 unfolding step_with
-step_none u s t e = rw e refl
+step_none u s t e = cond-true _ _ _ (or_left _ _ e)
 
 step_not_nearer : (u : Sub) (s : State) (t : Piece) → low_of t u ≤ s.reference → step u s t ≡ s
 unfolding step_with
-step_not_nearer u s t h = rw (nearer _ _ h) (either (is_none (covered t u)) _ _)
-  where
-    nearer : (a b : ℕ) → a ≤ b → nat_le a b ≡ true
-    nearer a b h = grind (arith, nat_tests)
+step_not_nearer u s t h = cond-true _ _ _ (or_right _ _ (le-leb _ _ h))
 
-    either : (b : Bool) (x y : State) → cond (b || true) x y ≡ x
-    either true x y = refl
-    either false x y = refl
-
--- the least bound is no greater than the depth at a covered sample
+-- the low bound is no greater than the depth at a covered sample
 pub low_reached : (t : Piece) (u : Sub) (k : ℕ) → IsPiece t → k < 32 → covers t (sample u k) ≡ true → DepthAtLeast t (sample u k) (low_of t u)
 low_reached t u k piece h c = low_of-below t u k piece h (touches_covered t (sample u k) c)
 
@@ -72,7 +65,4 @@ step_behind u s t p le = by (is_none (covered t u)) refl
 
 -- a piece that covers none of its samples
 pub step_empty : (u : Sub) (s : State) (t : Piece) (mask : ℕ) → samples_of mask ≡ covered t u → mask ≡ 0 → step u s t ≡ s
-step_empty u s t mask is e = step_none u s t (ap is_none (sym is) ∙ none_of mask e)
-  where
-    none_of : (m : ℕ) → m ≡ 0 → is_none (samples_of m) ≡ true
-    none_of m e = let n = none-samples_of 0 (omega arith) in rw e n
+step_empty u s t mask is e = step_none u s t (ap is_none (sym is ∙ ap samples_of e) ∙ none-no_samples)

@@ -1,21 +1,36 @@
--- A tile after a whole list.
-use Rattle.std.specs.Prelude.{ℕ, ◌≡◌, ◌<◌, true, List, length}
-use Rattle.std.specs.List.{Contains}
-use Rattle.cull_base.specs.Piece.{Piece, IsPiece}
-use Rattle.cull_base.specs.Screen.{tile_sub, is_on_screen}
-use Rattle.cull_base.specs.Tiles.{Listed, tile_list, tile_after}
+-- Tiles after a piece, and after a whole list.
+use Rattle.std.specs.Prelude.{ℕ, ◌≡◌, ◌<◌, ◌/◌, ◌%◌, ◌&&◌, nat_eq, Bool, true, List, length}
+use Rattle.cull_base.specs.Piece.{Piece}
+use Rattle.cull_base.specs.Screen.{Dimensions, tile_columns_of, tile_count_of, tile_sub, is_on_screen}
+use Rattle.cull_base.specs.Span.{has_column}
+use Rattle.cull_base.specs.Tiles.{PieceList, tile_list, tile_after}
 use Rattle.cull_base.specs.Fold.{after, IsSound, IsLayered}
-use Rattle.masked_update.specs.TileOf.{TileOf, sub_at}
+use Rattle.cull_base.specs.declared.tile_span.TileSpan.{TileSpan}
+use Rattle.masked_update.specs.TileOf.{TileOf, sub_at, tile_at}
+use Rattle.masked_update.specs.Taken.{taken_where}
 
--- The states are those of the list, the count is the length of the tile's own list, and each subtile on the screen is sound. The tile's
--- own list gives it the same state.
-pub record IsDrawn (list : Listed) (tile : ℕ) (t : TileOf) : Type 0 where
+-- the tile stands in the row, in the columns of the span
+abbrev pub is_in_row : Dimensions → TileSpan → ℕ → ℕ → Bool
+is_in_row size span row t = nat_eq (t / tile_columns_of size) row && has_column span (t % tile_columns_of size)
+
+-- each tile where the test holds may count one piece more
+abbrev pub MayTake : (ℕ → Bool) → Dimensions → List TileOf → Type 0
+MayTake test size tiles = (t : ℕ) → t < tile_count_of size → test t ≡ true → (tile_at tiles t).count < 131072
+
+-- each tile where the test holds took the piece, and the others stay
+abbrev pub TookWhere : (ℕ → Bool) → Dimensions → Piece → List TileOf → List TileOf → Type 0
+TookWhere test size x old new = (t : ℕ) → t < tile_count_of size → tile_at new t ≡ taken_where (test t) size t x (tile_at old t)
+
+-- The states are those of the list, and the count is the length of the tile's own list, which gives the same states.
+-- Each subtile on the screen is sound and layered.
+pub record IsDrawn (list : PieceList) (tile : ℕ) (t : TileOf) : Type 0 where
   pub states : t.subs ≡ tile_after list.size tile list.members
-  pub count : t.count ≡ length (tile_list list.size tile list.members)
+  pub count : t.count ≡ length (tile_list tile list)
   pub sound : (j : ℕ) → j < 8 → is_on_screen list.size (tile_sub list.size tile j) ≡ true → IsSound (tile_sub list.size tile j) list.members (sub_at t j)
   pub layered : (j : ℕ) → j < 8 → is_on_screen list.size (tile_sub list.size tile j) ≡ true → IsLayered (sub_at t j)
-  pub own_list : (j : ℕ) → j < 8 → is_on_screen list.size (tile_sub list.size tile j) ≡ true → after (tile_sub list.size tile j) (tile_list list.size tile list.members) ≡ after (tile_sub list.size tile j) list.members
+  pub own_list : (j : ℕ) → j < 8 → is_on_screen list.size (tile_sub list.size tile j) ≡ true
+      → after (tile_sub list.size tile j) (tile_list tile list) ≡ after (tile_sub list.size tile j) list.members
 
--- each member of a list is a piece
-abbrev pub ArePieces : List Piece → Type 0
-ArePieces pieces = (t : Piece) → Contains pieces t → IsPiece t
+-- each tile of the screen is drawn
+abbrev pub AreDrawn : PieceList → List TileOf → Type 0
+AreDrawn list tiles = (t : ℕ) → t < tile_count_of list.size → IsDrawn list t (tile_at tiles t)

@@ -5,7 +5,7 @@ use Rattle.std.specs.Simd.Lanes.{mask_l}
 use Rattle.cull_base.specs.State.{samples_of}
 use Rattle.masked_update.specs.declared.sub_tile.SubTile.TheInside.{Inside}
 use Rattle.masked_update.specs.SubTile.{Layers}
-use Rattle.masked_update.specs.Masks.{mask_l-samples_of}
+use Rattle.cull_base.proofs.Bits.{mask_l-samples_of}
 
 pub fields_back : (s : Inside) → Layers s.reference s.working s.mask → record s { mask = mask_l (samples_of s.mask) } ≡ s
 fields_back s h =

@@ -1,7 +1,7 @@
 pub mod SubTile
-pub mod Masks
 pub mod Fields
+pub mod Setup
 pub mod TileOf
 pub mod Merged
-pub mod Drawn
 pub mod Taken
+pub mod Drawn

@@ -2,8 +2,8 @@
 #![tactic(auto)]
 
 mod draw;
-mod merging;
-mod span;
+mod member;
+mod piece_setup;
 mod sub_tile;
 #[cfg(test)]
 mod tests;
@@ -11,6 +11,8 @@ mod tile_state;
 mod tile_view;
 
 pub use draw::draw_plain;
+pub use member::next_member;
+pub use piece_setup::PieceSetup;
 pub use sub_tile::SubTile;
 pub use tile_state::TileState;
 pub use tile_view::{PlainView, TileView};

@@ -1,13 +1,13 @@
 //! A subtile: a reference depth, a working depth and the samples that the working depth holds for.
-ghost use Rattle.std.specs.Prelude.{◌≡◌, ℕ, ◌<◌, ◌≤◌, ◌^◌, ◌+◌, ◌-◌, ◌*◌, cond, not, ◌&&◌, nat_eq, nat_lt, min, IsTrue, ◌↔◌, true, List, [], ◌∷◌, ◌++◌};
-ghost use Rattle.std.specs.List.{All};
+ghost use Rattle.std.specs.Prelude.{◌≡◌, ◌<◌, ◌≤◌, ◌^◌, ◌+◌, ◌-◌, ◌*◌, cond, not, ◌&&◌, nat_eq, nat_lt, min, IsTrue, ◌↔◌};
 
 use std::marker::Model;
 
 /// All 32 samples of a subtile.
 const ALL_SAMPLES: u32 = 0xFFFF_FFFF;
 
-/// The depths are nearness from 0 to 65535. The working depth is above the reference where the mask isn't empty, and 0 elsewhere.
+/// The depths are nearness from 0 to the top that subtiles hold. The working depth is above the reference where the
+/// mask isn't empty, and 0 elsewhere.
 #[derive(Clone, Copy)]
 pub struct SubTile {
     reference: u32,
@@ -33,18 +33,17 @@ impl Model for SubTile {
     ghost inverse_ok = { λ s h. fields_back s h };
 }
 
-ghost use Rattle.cull_base.specs.State.{samples_of, empty_state, step_with, has, hides};
-ghost use Rattle.cull_base.specs.Fold.{IsLayered, IsSound};
-ghost use Rattle.cull_base.specs.Piece.{Piece, IsPiece, covered};
-ghost use Rattle.cull_base.specs.Depth.{low_of};
-ghost use Rattle.cull_base.specs.declared.place.Sub.{Sub};
+ghost use Rattle.cull_base.specs.declared.nearness.TheConstants.{HELD_TOP};
+ghost use Rattle.cull_base.specs.State.{samples_of, empty_state, step_with};
+ghost use Rattle.cull_base.specs.Fold.{IsLayered};
+ghost use Rattle.masked_update.specs.SubTile.{KeepsSound, AllBelow, AllHide};
 
 // The mask that an incoming bound t leaves: it drops a working layer that is further behind it than above the reference.
 #[inline(always)]
-fn kept_mask(reference: u32, working: u32, mask: u32, t: u32) -> u32
-    requires reference { reference ≤ 65535 }
-    requires working { working ≤ 65535 }
-    requires t { t ≤ 65535 }
+fn mask_left(reference: u32, working: u32, mask: u32, t: u32) -> u32
+    requires reference { reference ≤ HELD_TOP }
+    requires working { working ≤ HELD_TOP }
+    requires t { t ≤ HELD_TOP }
     ensures { result ≡ cond (not (nat_eq mask 0) && nat_lt (2 * working) (t + reference)) 0 mask }
 {
     if mask != 0 && 2 * working < t + reference {
@@ -55,16 +54,16 @@ fn kept_mask(reference: u32, working: u32, mask: u32, t: u32) -> u32
 }
 
 #[inline(always)]
-fn lowered_working(working: u32, kept: u32, t: u32) -> u32
-    ensures { result ≡ cond (nat_eq kept 0) t (min working t) }
+fn lowered_depth(working: u32, left: u32, t: u32) -> u32
+    ensures { result ≡ cond (nat_eq left 0) t (min working t) }
 {
-    if kept == 0 { t } else { working.min(t) }
+    if left == 0 { t } else { working.min(t) }
 }
 
 // Whether q is below a depth that holds at each of the samples, if there are any.
 #[inline(always)]
 fn is_hidden_by(depth: u32, samples: u32, q: u32) -> bool
-    ensures { IsTrue result ↔ ((k : ℕ) → k < 32 → has (samples_of samples) k ≡ true → q < depth) }
+    ensures { IsTrue result ↔ AllBelow (samples_of samples) q depth }
 {
     samples == 0 || q < depth
 }
@@ -81,19 +80,19 @@ impl SubTile {
         }
     }
 
-    /// The reference depth, a nearness from 0 to 65535: it holds at the samples that aren't in the mask.
+    /// The reference depth, a nearness: it holds at the samples that aren't in the mask.
     pub fn reference(&self) -> u32
         ensures value { result ≡ self.now.reference }
-        ensures within { result ≤ 65535 }
+        ensures within { result ≤ HELD_TOP }
         ensures layered { IsLayered self.now }
     {
         self.reference
     }
 
-    /// The working depth, a nearness from 0 to 65535: it holds at the samples of the mask.
+    /// The working depth, a nearness: it holds at the samples of the mask.
     pub fn working(&self) -> u32
         ensures value { result ≡ self.now.working }
-        ensures within { result ≤ 65535 }
+        ensures within { result ≤ HELD_TOP }
         ensures layered { IsLayered self.now }
     {
         self.working
@@ -108,21 +107,21 @@ impl SubTile {
         self.mask
     }
 
-    /// Merges the bound t at the samples of the mask c. Condition: t is at most 65535.
-    /// Where t and c are a piece's least bound and its covered samples, a sound state stays sound.
+    /// Merges the bound t at the samples of the mask c. Condition: t is at most the top that subtiles hold.
+    /// Where t and c are a piece's low bound and its covered samples, a sound state stays sound.
     pub fn merge(&mut self, t: u32, c: u32)
-        requires { t ≤ 65535 }
+        requires { t ≤ HELD_TOP }
         ensures step { self.new ≡ step_with self.old t (samples_of c) }
         ensures never_falls { self.old.reference ≤ self.new.reference }
         ensures layered { IsLayered self.new }
-        ensures sound { (u : Sub) (pieces : List Piece) (x : Piece) → All IsPiece pieces → IsPiece x → t ≡ low_of x u → samples_of c ≡ covered x u → IsSound u pieces self.old → IsSound u (pieces ++ x ∷ []) self.new }
+        ensures sound { KeepsSound t (samples_of c) self.old self.new }
     {
         if c == 0 || t <= self.reference {
             return;
         }
-        let kept = kept_mask(self.reference, self.working, self.mask, t);
-        let working = lowered_working(self.working, kept, t);
-        let mask = kept | c;
+        let left = mask_left(self.reference, self.working, self.mask, t);
+        let working = lowered_depth(self.working, left, t);
+        let mask = left | c;
         if mask == ALL_SAMPLES {
             self.reference = working;
             self.working = 0;
@@ -135,7 +134,7 @@ impl SubTile {
 
     /// Whether every sample of the mask `samples` has a bound strictly greater than the nearness q.
     pub fn hides(&self, samples: u32, q: u32) -> bool
-        ensures { IsTrue result ↔ ((k : ℕ) → k < 32 → has (samples_of samples) k ≡ true → IsTrue (hides self.now k q)) }
+        ensures { IsTrue result ↔ AllHide self.now (samples_of samples) q }
     {
         is_hidden_by(self.working, samples & self.mask, q)
             && is_hidden_by(self.reference, samples & !self.mask, q)

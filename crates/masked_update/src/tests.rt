@@ -1,8 +1,9 @@
 //! Worked values of the update, from outside.
 ghost use Rattle.std.specs.Prelude.{◌≤◌};
+ghost use Rattle.cull_base.specs.declared.nearness.TheConstants.{HELD_TOP};
 
-use crate::{PlainView, SubTile, TileState, TileView, draw_plain};
-use cull_base::{FrameList, ScreenTri, Size};
+use crate::{PlainView, SubTile, TileState, TileView, draw_plain, next_member};
+use cull_base::{FrameList, HELD_TOP, ScreenTri, Size};
 use std::test::Fail;
 
 const EVERY_SAMPLE: u32 = 0xFFFF_FFFF;
@@ -13,8 +14,8 @@ fn layers(sub: &SubTile) -> (u32, u32, u32) {
 }
 
 fn after_two(first: (u32, u32), second: (u32, u32)) -> (u32, u32, u32)
-    requires first { first.0 ≤ 65535 }
-    requires second { second.0 ≤ 65535 }
+    requires first { first.0 ≤ HELD_TOP }
+    requires second { second.0 ≤ HELD_TOP }
 {
     let mut sub = SubTile::empty();
     sub.merge(first.0, first.1);
@@ -50,7 +51,7 @@ fn equal_nearness_is_not_hidden(rt: HostRuntime) {
     assert!(rt; !sub.hides(0xFF, 150));
     assert!(rt; sub.hides(EVERY_SAMPLE, 99));
     assert!(rt; !sub.hides(0x1FF, 100));
-    assert!(rt; sub.hides(0, 65535));
+    assert!(rt; sub.hides(0, HELD_TOP));
 }
 
 // The two halves of a quad over the whole screen of 32 by 8 pixels.
@@ -71,6 +72,7 @@ fn two_halves_of_a_quad_fill_each_reference(rt: HostRuntime) -> Result<(), Fail>
     for j in 0..8 {
         assert_eq!(rt; layers(&tile.sub(j)), (32767, 0, 0), "subtile {j}");
     }
+    next_member();
     Ok(())
 }
 

@@ -1,11 +1,9 @@
 //! A tile: eight subtiles, and how many pieces it took.
-ghost use Rattle.std.specs.Prelude.{◌≡◌, ℕ, ◌<◌, ◌+◌, length, replicate, true, false};
-ghost use Rattle.cull_base.specs.State.{empty_state};
-ghost use Rattle.cull_base.specs.Fold.{step};
+ghost use Rattle.std.specs.Prelude.{◌≡◌, ◌<◌, length};
 ghost use Rattle.cull_base.specs.Piece.{IsPiece};
-ghost use Rattle.cull_base.specs.Screen.{IsSize, tile_count_of, tile_sub, is_on_screen};
+ghost use Rattle.cull_base.specs.Screen.{IsSize, tile_count_of};
 
-use crate::merging::{Prepared, merge_into_tile};
+use crate::piece_setup::PieceSetup;
 use crate::sub_tile::SubTile;
 use cull_base::{ScreenTri, Size};
 use std::marker::Model;
@@ -28,11 +26,12 @@ impl Model for TileState {
 }
 
 impl TileState {
-    ghost use Rattle.masked_update.specs.TileOf.{sub_at};
+    ghost use Rattle.masked_update.specs.TileOf.{sub_at, empty_tile};
+    ghost use Rattle.masked_update.specs.Taken.{taken_by};
 
     /// Eight empty subtiles, and no piece taken.
     pub fn empty() -> TileState
-        ensures { result ≡ record { subs = replicate 8 empty_state; count = 0 } }
+        ensures { result ≡ empty_tile }
     {
         TileState {
             subs: [SubTile::empty(); 8],
@@ -69,28 +68,21 @@ impl TileState {
     pub fn take(&mut self, tri: &ScreenTri, size: Size, tile: u32)
         requires count { self.old.count < 131072 }
         requires tile { tile < tile_count_of size }
-        ensures merged { (j : ℕ) → j < 8 → is_on_screen size (tile_sub size tile j) ≡ true → sub_at self.new j ≡ step (tile_sub size tile j) (sub_at self.old j) tri.now }
-        ensures others { (j : ℕ) → j < 8 → is_on_screen size (tile_sub size tile j) ≡ false → sub_at self.new j ≡ sub_at self.old j }
-        ensures eight { length self.new.subs ≡ 8 }
-        ensures counted { self.new.count ≡ self.old.count + 1 }
+        ensures taken { self.new ≡ taken_by size tile tri.now self.old }
         ensures valid { IsPiece tri.now }
         ensures sized { IsSize size.width size.height }
     {
         let _width = size.width();
-        let _x = tri.x();
-        self.take_prepared(&Prepared::of(tri), size, tile);
+        self.take_set_up(&PieceSetup::of(tri), size, tile);
     }
 
     /// As `take`, of a piece that is set up already.
-    pub(crate) fn take_prepared(&mut self, piece: &Prepared, size: Size, tile: u32)
+    pub fn take_set_up(&mut self, piece: &PieceSetup, size: Size, tile: u32)
         requires count { self.old.count < 131072 }
         requires tile { tile < tile_count_of size }
-        ensures merged { (j : ℕ) → j < 8 → is_on_screen size (tile_sub size tile j) ≡ true → sub_at self.new j ≡ step (tile_sub size tile j) (sub_at self.old j) piece.now.tri }
-        ensures others { (j : ℕ) → j < 8 → is_on_screen size (tile_sub size tile j) ≡ false → sub_at self.new j ≡ sub_at self.old j }
-        ensures eight { length self.new.subs ≡ 8 }
-        ensures counted { self.new.count ≡ self.old.count + 1 }
+        ensures { self.new ≡ taken_by size tile piece.now self.old }
     {
-        merge_into_tile(&mut self.subs, piece, size, tile);
+        piece.merge_into(&mut self.subs, size, tile);
         self.count += 1;
     }
 }

@@ -19,22 +19,25 @@ returns-then-c-eq0-clause-layered c = layered_of _ _ _ _ c.self.view_is c.self.i
 
 pub invariant_of-self-else-mask : goal.invariant_of-self-else-mask
 invariant_of-self-else-mask c =
-    next_layers _ _ _ c.args.t _ _ _ c.self.invariant c.requires (omega (arith, c.ranges.c)) c.kept_mask-kept.type_inv c.if-c-eq0.false c.if-t-self.false c.kept_mask-kept.ensures c.lowered_working-working.ensures c.if-mask.false
+    next_layers _ _ _ c.args.t _ _ _ c.self.invariant c.requires (omega (arith, c.ranges.c)) c.mask_left-left.type_inv c.if-c-eq0.false c.if-t-self.false c.mask_left-left.ensures c.lowered_depth-working.ensures c.if-mask.false
 
 pub returns-then-mask-clause-step : goal.returns-then-mask-clause-step
 returns-then-mask-clause-step c =
-    step_filled c.self.inside.reference c.self.inside.working c.self.inside.mask c.args.t c.args.c c.kept_mask-kept.result c.lowered_working-working.result _ c.self.view_is c.self.invariant
-    (omega (arith, c.ranges.c)) c.kept_mask-kept.type_inv c.if-c-eq0.false c.if-t-self.false c.kept_mask-kept.ensures c.lowered_working-working.ensures c.if-mask.true
+    step_filled c.self.inside.reference c.self.inside.working c.self.inside.mask c.args.t c.args.c c.mask_left-left.result c.lowered_depth-working.result _ c.self.view_is c.self.invariant
+    (omega (arith, c.ranges.c)) c.mask_left-left.type_inv c.if-c-eq0.false c.if-t-self.false c.mask_left-left.ensures c.lowered_depth-working.ensures c.if-mask.true
 
 pub returns-then-mask-clause-layered : goal.returns-then-mask-clause-layered
 returns-then-mask-clause-layered c =
-    layered_of c.lowered_working-working.result 0 0 _ refl (filled_layers c.lowered_working-working.result
-    (lowered_within c.self.inside.working c.args.t c.kept_mask-kept.result _ c.self.invariant.working_within c.requires c.lowered_working-working.ensures))
+    layered_of c.lowered_depth-working.result 0 0 _ refl (filled_layers c.lowered_depth-working.result
+    (lowered_within c.self.inside.working c.args.t c.mask_left-left.result _ c.self.invariant.working_within c.requires c.lowered_depth-working.ensures))
+
+pub returns-else-mask-clause-layered : goal.returns-else-mask-clause-layered
+returns-else-mask-clause-layered c = layered_of _ _ _ _ refl (invariant_of-self-else-mask c)
 
 pub returns-else-mask-clause-step : goal.returns-else-mask-clause-step
 returns-else-mask-clause-step c =
-    step_more c.self.inside.reference c.self.inside.working c.self.inside.mask c.args.t c.args.c c.kept_mask-kept.result c.lowered_working-working.result _ c.self.view_is c.self.invariant
-    (omega (arith, c.ranges.c)) c.kept_mask-kept.type_inv c.if-c-eq0.false c.if-t-self.false c.kept_mask-kept.ensures c.lowered_working-working.ensures c.if-mask.false
+    step_more c.self.inside.reference c.self.inside.working c.self.inside.mask c.args.t c.args.c c.mask_left-left.result c.lowered_depth-working.result _ c.self.view_is c.self.invariant
+    (omega (arith, c.ranges.c)) c.mask_left-left.type_inv c.if-c-eq0.false c.if-t-self.false c.mask_left-left.ensures c.lowered_depth-working.ensures c.if-mask.false
 
 pub returns-then-c-eq0-clause-sound : goal.returns-then-c-eq0-clause-sound
 returns-then-c-eq0-clause-sound c =

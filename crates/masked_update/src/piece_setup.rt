@@ -1,33 +1,38 @@
-//! A piece merged into the subtiles of a tile, and the short cuts that change nothing.
-ghost use Rattle.std.specs.Prelude.{◌≡◌, ℕ, ◌<◌, length};
+//! A piece set up for the tiles that take it, and the short cuts that change nothing.
+ghost use Rattle.std.specs.Prelude.{◌≡◌, ℕ, ◌<◌};
 ghost use Rattle.cull_base.specs.State.{samples_of};
 ghost use Rattle.cull_base.specs.Fold.{step};
 ghost use Rattle.cull_base.specs.Piece.{IsPiece, covered, box_of};
 ghost use Rattle.cull_base.specs.Depth.{greatest_nearness};
-ghost use Rattle.cull_base.specs.Screen.{IsSize, tile_count_of};
-ghost use Rattle.cull_base.specs.declared.place.Sub.{Sub};
-ghost use Rattle.depth_plane.specs.Plane.{plane_of};
-ghost use Rattle.edge_lanes.specs.Inside.{inside_of};
-ghost use Rattle.masked_update.specs.Merged.{IsMerged, sub_rect_of};
+ghost use Rattle.cull_base.specs.Screen.{tile_count_of};
+ghost use Rattle.masked_update.specs.Merged.{sub_rect_of, merged_by};
 
 use crate::sub_tile::SubTile;
 use cull_base::{Rect, ScreenTri, Side, Size, Sub};
 use depth_plane::Plane;
 use edge_lanes::Edges;
+use std::marker::Model;
 
-/// A piece with what each tile asks of it, set up once.
-#[derive(Clone, Copy)]
-pub struct Prepared {
+/// A piece with what each tile asks of it: its edges, its plane, its box and its greatest nearness.
+#[derive(Drop)]
+pub struct PieceSetup {
     tri: ScreenTri,
     edges: Edges,
     plane: Plane,
     reached: Rect,
     nearest: u32,
-    ghost valid: { IsPiece tri },
-    ghost edges_cover: { (u : Sub) → inside_of edges u ≡ covered tri u },
-    ghost plane_is: { plane ≡ plane_of tri },
-    ghost reached_is: { reached ≡ box_of tri },
-    ghost nearest_is: { nearest ≡ greatest_nearness tri },
+}
+
+impl Model for PieceSetup {
+    ghost use Rattle.cull_base.specs.Piece.{Piece};
+
+    ghost Value = { Piece };
+
+    ghost use Rattle.masked_update.specs.Setup.{IsSetUp};
+
+    ghost view = { λ s. s.tri };
+
+    ghost invariant = { IsSetUp };
 }
 
 fn greatest_nearness(tri: &ScreenTri) -> u32
@@ -55,11 +60,12 @@ fn sub_rect(sub: Sub) -> Rect
     }
 }
 
-impl Prepared {
-    pub fn of(tri: &ScreenTri) -> Prepared
-        ensures { result.tri ≡ tri.now }
+impl PieceSetup {
+    pub fn of(tri: &ScreenTri) -> PieceSetup
+        ensures value { result ≡ tri.now }
+        ensures valid { IsPiece tri.now }
     {
-        Prepared {
+        PieceSetup {
             tri: *tri,
             edges: Edges::of(tri, Side::Occluder),
             plane: Plane::of(tri),
@@ -68,12 +74,20 @@ impl Prepared {
         }
     }
 
+    /// The pixels that the piece may reach, not cut to the screen.
+    pub fn boxed(&self) -> Rect
+        ensures value { result ≡ box_of self.now }
+        ensures valid { IsPiece self.now }
+    {
+        self.reached
+    }
+
     // The samples of a subtile that the piece covers. The edges are asked only where its box has a pixel there.
     #[inline(always)]
     fn covered_mask(&self, sub: Sub) -> u32
         requires column { sub.column < 256 }
         requires row { sub.row < 512 }
-        ensures { samples_of result ≡ covered self.now.tri sub }
+        ensures { samples_of result ≡ covered self.now sub }
     {
         if self.reached.meets(&sub_rect(sub)) {
             self.edges.mask(sub)
@@ -87,7 +101,7 @@ impl Prepared {
     fn merge(&self, sub_tile: &mut SubTile, sub: Sub)
         requires column { sub.column < 256 }
         requires row { sub.row < 512 }
-        ensures { sub_tile.new ≡ step sub sub_tile.old self.now.tri }
+        ensures { sub_tile.new ≡ step sub sub_tile.old self.now }
     {
         if sub_tile.reference() < self.nearest {
             let mask = self.covered_mask(sub);
@@ -96,18 +110,17 @@ impl Prepared {
             }
         }
     }
-}
 
-/// Merges a piece into each of a tile's subtiles that is on the screen. Condition: the tile is below the tile count.
-pub fn merge_into_tile(subs: &mut [SubTile; 8], piece: &Prepared, size: Size, tile: u32)
-    requires tile { tile < tile_count_of size }
-    ensures merged { IsMerged size tile piece.now.tri subs.old subs.new }
-    ensures eight { length subs.new ≡ 8 }
-{
-    for j in 0..8u8 {
-        let sub = size.sub_of(tile, j);
-        if size.on_screen(sub) {
-            piece.merge(&mut subs[j as usize], sub);
+    // Merges the piece into each of a tile's subtiles that is on the screen.
+    pub(crate) fn merge_into(&self, subs: &mut [SubTile; 8], size: Size, tile: u32)
+        requires { tile < tile_count_of size }
+        ensures { subs.new ≡ merged_by size tile self.now subs.old }
+    {
+        for j in 0..8u8 {
+            let sub = size.sub_of(tile, j);
+            if size.on_screen(sub) {
+                self.merge(&mut subs[j as usize], sub);
+            }
         }
     }
 }

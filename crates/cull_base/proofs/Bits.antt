@@ -1,9 +1,11 @@
--- Tests of a mask are tests of its samples.
-use Rattle.std.proofs.Common.{◌≡◌, ℕ, zero, suc, ◌+◌, ◌-◌, ◌*◌, ◌/◌, ◌%◌, ◌<◌, ◌^◌, List, [], ◌∷◌, Bool, true, false, ◌&&◌, ◌||◌, not, length, nat_eq, arith, refl, ◌∙◌, sym, bit_and, bit_or, min, max, ◌≢◌}
+-- Masks as lists: tests of a mask are tests of its samples, and a mask is given back by them.
+use Rattle.std.proofs.Common.{◌≡◌, ℕ, zero, suc, ◌+◌, ◌-◌, ◌*◌, ◌/◌, ◌%◌, ◌<◌, ◌^◌, List, [], ◌∷◌, Bool, true, false, ◌&&◌, ◌||◌, not, cond, length, nat_eq, arith, refl, ap, ◌∙◌, sym, bit_and, bit_or, min, max, ◌≢◌}
+use Rattle.std.specs.Simd.Lanes.{mask_l}
+use Rattle.std.proofs.lemmas.Bool.{both_ways}
 use Rattle.std.proofs.lemmas.Bool.Decides.{nat_tests}
 use Rattle.std.proofs.lemmas.Nat.{or_shr, and_shr}
 use Rattle.std.proofs.lemmas.Nat.Bits.{bit_at_or, bit_at_and, bit_at_lowest}
-use Rattle.cull_base.specs.State.{bits, is_none, is_all, union, has, samples_of}
+use Rattle.cull_base.specs.State.{bits, is_none, is_all, union, has, samples_of, no_samples}
 
 or_low : (a b c : ℕ) → c ≡ max a b → a < 2 → b < 2 → nat_eq c 1 ≡ (nat_eq a 1 || nat_eq b 1)
 or_low a b c e p q = grind (arith, nat_tests)
@@ -110,3 +112,62 @@ some_has m h ne =
     let r = one_of (samples_of m) (n ∙ z) in
     let len = length-samples_of m in
     (r.0, omega arith, r.2)
+
+pub has-all : (xs : List Bool) (k : ℕ) → is_all xs ≡ true → k < length xs → has xs k ≡ true
+has-all [] k e l = absurd (omega arith)
+has-all (true ∷ xs) zero e l = refl
+has-all (true ∷ xs) (suc k) e l = has-all xs k e (omega arith)
+has-all (false ∷ xs) k e l = cc
+
+pub has-union : (xs ys : List Bool) (k : ℕ) → length xs ≡ length ys → has (union xs ys) k ≡ (has xs k || has ys k)
+has-union [] [] k e = refl
+has-union [] (y ∷ ys) k e = absurd (omega arith)
+has-union (x ∷ xs) [] k e = absurd (omega arith)
+has-union (x ∷ xs) (y ∷ ys) zero e = refl
+has-union (x ∷ xs) (y ∷ ys) (suc k) e = has-union xs ys k (omega arith)
+
+pub length-union : (xs ys : List Bool) → length xs ≡ length ys → length (union xs ys) ≡ length xs
+length-union [] [] e = refl
+length-union [] (y ∷ ys) e = absurd (omega arith)
+length-union (x ∷ xs) [] e = absurd (omega arith)
+length-union (x ∷ xs) (y ∷ ys) e = ap suc (length-union xs ys (omega arith))
+
+-- of two sets of 32 samples, the joined one isn't empty where the second isn't
+pub union_some : (xs ys : List Bool) → length xs ≡ length ys → is_none ys ≡ false → is_none (union xs ys) ≡ false
+union_some [] [] e some = some
+union_some [] (y ∷ ys) e some = absurd (omega arith)
+union_some (x ∷ xs) [] e some = absurd (omega arith)
+union_some (true ∷ xs) (y ∷ ys) e some = refl
+union_some (false ∷ xs) (true ∷ ys) e some = refl
+union_some (false ∷ xs) (false ∷ ys) e some = union_some xs ys (omega arith) some
+
+-- a set that has a sample isn't empty
+pub some-has : (xs : List Bool) (k : ℕ) → has xs k ≡ true → is_none xs ≡ false
+some-has xs k e = by (is_none xs) refl
+  where
+    by : (b : Bool) → is_none xs ≡ b → b ≡ false
+    by true n = absurd (both_ways (has xs k) (has-none xs k n) e)
+    by false n = refl
+
+pub none-no_samples : is_none no_samples ≡ true
+none-no_samples = none-samples_of 0 (omega arith)
+
+pub has-no_samples : (k : ℕ) → has no_samples k ≡ false
+has-no_samples k = has-none no_samples k none-no_samples
+
+pub length-no_samples : length no_samples ≡ 32
+length-no_samples = length-samples_of 0
+
+lowest_bit : (n m : ℕ) → n % 2 ≡ m → m < 2 → cond (nat_eq m 1) 1 0 + 2 * (n / 2) ≡ n
+lowest_bit n m e h = grind (arith, nat_tests)
+
+mask_l-bits : (k n : ℕ) → n < 2 ^ k → mask_l (bits k n) ≡ n
+mask_l-bits zero n h = omega arith
+mask_l-bits (suc k) n h =
+    let half : n / 2 < 2 ^ k = omega arith in
+    ap (λ t. cond (nat_eq (n % 2) 1) 1 0 + 2 * t) (mask_l-bits k (n / 2) half) ∙ lowest_bit n (n % 2) refl (omega arith)
+
+-- a mask is given back by its samples
+pub mask_l-samples_of : (m : ℕ) → m < 2 ^ 32 → mask_l (samples_of m) ≡ m
+unfolding samples_of
+mask_l-samples_of m h = mask_l-bits 32 m h
