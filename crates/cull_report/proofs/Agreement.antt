@@ -38,7 +38,7 @@ hidden_alike : (size : Dimensions) (f g : Sub → State) (shape : Shape) → Agr
 unfolding is_hidden
 hidden_alike size f g shape same =
     let e = same_test (at_each_pixel size (λ i j. not (has_sample shape i j) || is_hidden_at f shape i j)) (at_each_pixel size (λ i j. not (has_sample shape i j) || is_hidden_at g shape i j))
-      (each_alike size f g shape same) (each_alike size g f shape (agrees_back size f g same)) in
+    (each_alike size f g shape same) (each_alike size g f shape (agrees_back size f g same)) in
     rw e refl
 
 pub shape_alike : (size : Dimensions) (f g : Sub → State) (shape : Shape) → Agrees size f g → verdict_of size f shape ≡ verdict_of size g shape

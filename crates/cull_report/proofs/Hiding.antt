@@ -50,9 +50,9 @@ each_from size test h =
 any_from : (p : ℕ → Bool) (a n k : ℕ) → a ≤ k → k < a + n → p k ≡ true → list_any p (range_with_len a n) ≡ true
 any_from p a zero k le lt t = absurd (omega arith)
 any_from p a (suc n) k le lt t = elim (cases_lt a k) [
-      | inl later ↦ let rest = any_from p (a + 1) n k (omega arith) (omega arith) t in rw rest (or_true (p a))
-      | inr first ↦ let here : a ≡ k = omega arith in let found : p a ≡ true = rw here t in rw found refl
-    ]
+  | inl later ↦ let rest = any_from p (a + 1) n k (omega arith) (omega arith) t in rw rest (or_true (p a))
+  | inr first ↦ let here : a ≡ k = omega arith in let found : p a ≡ true = rw here t in rw found refl
+]
   where
     or_true : (b : Bool) → (b || true) ≡ true
     or_true true = refl

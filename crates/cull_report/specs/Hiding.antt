@@ -15,6 +15,6 @@ HasNearerPiece pieces p nearness = (t : Piece) × Contains pieces t × (covers t
 -- In each frame, an object that is called occluded has at each of its samples in the screen a piece of the frame strictly nearer than it is there.
 pub record HidesTruly (s : Parts) : Type 0 where
   pub at_each_sample : (frame o : ℕ) (object : Object) (px py : ℕ) → frame < length s.cameras
-    → slice_get s.objects o ≡ Some object → slice_get (frame_verdicts s frame) o ≡ Some Occluded
-    → object_samples s frame object px py ≡ true
-    → HasNearerPiece (frame_pieces s frame) (middle px py) (object_near s frame object px py)
+      → slice_get s.objects o ≡ Some object → slice_get (frame_verdicts s frame) o ≡ Some Occluded
+      → object_samples s frame object px py ≡ true
+      → HasNearerPiece (frame_pieces s frame) (middle px py) (object_near s frame object px py)

@@ -44,7 +44,13 @@ pub fn rect_test<V: TileView>(view: &V, size: Size, rect: Rect, q: u32) -> Verdi
 
 /// The verdict of a rectangle at distance w: as by its nearness, but visible before the near distance where it has a
 /// pixel in the screen. Conditions: `near` is 1 to 1024, and the view holds each tile that the rectangle meets.
-pub fn rectangle_verdict<V: TileView>(view: &V, size: Size, near: u16, rect: Rect, w: i32) -> Verdict
+pub fn rectangle_verdict<V: TileView>(
+    view: &V,
+    size: Size,
+    near: u16,
+    rect: Rect,
+    w: i32,
+) -> Verdict
     requires least { 1 ≤ near }
     requires most { near ≤ 1024 }
     requires holds { HoldsMet (V.held view.now) size rect }
