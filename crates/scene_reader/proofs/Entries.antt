@@ -1,11 +1,9 @@
 -- Tables, entry after entry.
-use Rattle.std.proofs.Common.{◌≡◌, ℕ, zero, suc, ◌+◌, ◌*◌, ◌<◌, ◌≤◌, ◌++◌, ◌∷◌, List, [], length, take, drop, map, arith, refl, ap, ◌∙◌, Option, add-one}
-use Rattle.std.proofs.Math.Nat.{mul-le-mul_left}
+use Rattle.std.proofs.Common.{◌≡◌, ℕ, zero, suc, ◌+◌, ◌*◌, ◌≤◌, ◌++◌, ◌∷◌, List, [], length, take, drop, map, arith, refl, ap, add-one}
 use Rattle.std.proofs.lemmas.List.{length-drop, length-append, take_all, take-append-le, drop-append-le, nil_from_length, map-append}
-use Rattle.scene_reader.specs.declared.error.SceneError.{SceneError}
-use Rattle.scene_reader.specs.declared.error.SceneError.TheVariants.{Truncated}
+use Rattle.cull_base.specs.Stream.{SourceSays}
 use Rattle.scene_reader.specs.Fault.{entries}
-use Rattle.scene_reader.specs.Reading.{Takes, EndsWithin, TakesTable}
+use Rattle.scene_reader.specs.Reading.{Takes, TakesTable}
 use Rattle.scene_reader.proofs.Takes.{takes_nothing, takes_then}
 
 -- one entry more
@@ -19,31 +17,18 @@ entries_suc size (suc n) bytes piece len one =
     let rest : length (drop size bytes) ≡ size * n = omega (arith, length-drop size bytes, len) in
     rw (take-append-le size bytes piece fits, drop-append-le size bytes piece fits) (ap (λ (t : List (List ℕ)). take size bytes ∷ t) (entries_suc size n (drop size bytes) piece rest one))
 
-pub table_none : {X : Type 0} (size : ℕ) (read : List ℕ → X) (a : Option (List ℕ)) (items : List X) → items ≡ [] → TakesTable size 0 read a a items
+pub table_none : {X : Type 0} (size : ℕ) (read : List ℕ → X) (a : SourceSays) (items : List X) → items ≡ [] → TakesTable size 0 read a a items
 unfolding entries
-table_none size read a items e = record { bytes = []; takes = takes_nothing a; whole = omega arith; each = e }
+table_none size read a items e = record { bytes = []; takes = takes_nothing a.left; whole = omega arith; each = e }
 
-pub table_more : {X : Type 0} (size i : ℕ) (read : List ℕ → X) (a b c : Option (List ℕ)) (items : List X) (piece : List ℕ) (item : X)
-    → length piece ≡ size → item ≡ read piece → TakesTable size i read a b items → Takes b c piece → TakesTable size (i + 1) read a c (items ++ item ∷ [])
+pub table_more : {X : Type 0} (size i : ℕ) (read : List ℕ → X) (a b c : SourceSays) (items : List X) (piece : List ℕ) (item : X)
+    → length piece ≡ size → item ≡ read piece → TakesTable size i read a b items → Takes b.left c.left piece → TakesTable size (i + 1) read a c (items ++ item ∷ [])
 table_more {X} size i read a b c items piece item one is t p = record {
   bytes = t.bytes ++ piece;
-  takes = takes_then a b c t.bytes piece t.takes p;
+  takes = takes_then a.left b.left c.left t.bytes piece t.takes p;
   whole = omega (arith, length-append t.bytes piece, t.whole, one);
   each = joined;
 }
   where
     joined : items ++ item ∷ [] ≡ map read (entries size (i + 1) (t.bytes ++ piece))
     joined = rw (add-one, entries_suc size i t.bytes piece t.whole one, map-append read (entries size i t.bytes) (piece ∷ []), ← t.each, is) refl
-
-pub table_ends : {X : Type 0} (size wanted i count need taken : ℕ) (read : List ℕ → X) (a b c : Option (List ℕ)) (items : List X) (e : SceneError)
-    → wanted ≡ size → i < count → TakesTable size i read a b items → EndsWithin wanted need (taken + size * i) b c e → EndsWithin (size * count) need taken a c e
-table_ends size wanted i count need taken read a b c items e one lt t s = record {
-  bytes = t.bytes ++ s.bytes;
-  takes = takes_then a b c t.bytes s.bytes t.takes s.takes;
-  few = omega (arith, length-append t.bytes s.bytes, t.whole, s.few, one, mul-le-mul_left size up);
-  ended = s.ended;
-  told = s.told ∙ ap (Truncated need) (omega (arith, length-append t.bytes s.bytes, t.whole));
-}
-  where
-    up : i + 1 ≤ count
-    up = omega arith

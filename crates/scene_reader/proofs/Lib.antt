@@ -1,9 +1,10 @@
 pub mod Takes
+pub mod Turns
 pub mod Entries
 pub mod Shapes
 pub mod Valid
 pub mod First
-pub mod Kept
+pub mod ObjectTable
 pub mod Codes
 pub mod Headers
 pub mod Pieces

@@ -5,6 +5,7 @@ use Rattle.std.specs.Option.{option_or, option_map}
 use Rattle.std.proofs.lemmas.Bool.{le-ltb, lt-ltb}
 use Rattle.std.proofs.lemmas.List.{length-append, append-nil, drop_at, drop_all, length-map}
 use Rattle.std.proofs.lemmas.Option.{same_Some}
+use Rattle.cull_base.specs.Stream.{SourceSays}
 use Rattle.cull_base.specs.declared.scene_types.Tri.{Tri}
 use Rattle.scene_reader.specs.declared.error.SceneError.{SceneError}
 use Rattle.scene_reader.specs.declared.error.SceneError.TheVariants.{Truncated, Trailing, Read, BadVertex, BadIndex, BadCamera}
@@ -66,12 +67,12 @@ short_fault b few = rw (lt-ltb (length b) 32 few) refl
 at_end : (after : Option (List ℕ)) (rest : List ℕ) → IsAtEnd after → after ≡ Some rest → rest ≡ []
 at_end after rest h e = subst (λ (o : Option (List ℕ)). IfSome o (λ r. r ≡ [])) e h
 
-pub refuses_short : (before after : Option (List ℕ)) (wanted : ℕ) (e : SceneError) → wanted ≡ 32 → EndsWithin wanted 32 0 before after e → Refuses before after e
-refuses_short before after wanted e all s = refuse_told before after s.bytes e s.takes.front (λ rest told.
-    let none = at_end after rest s.ended told in
+pub refuses_short : (before after : SourceSays) (wanted : ℕ) (e : SceneError) → wanted ≡ 32 → EndsWithin wanted 32 0 before after e → Refuses before.left after.left e
+refuses_short before after wanted e all s = refuse_told before.left after.left s.bytes e s.takes.front (λ rest told.
+    let none = at_end after.left rest s.ended told in
     let whole : s.bytes ++ rest ≡ s.bytes = ap (λ (r : List ℕ). s.bytes ++ r) none ∙ append-nil s.bytes in
     let few : length s.bytes < 32 = omega (arith, s.few, all) in
-    let is : e ≡ Truncated 32 (length s.bytes) = s.told ∙ ap (Truncated 32) (omega arith) in
+    let is : e ≡ Truncated 32 (length s.bytes) = s.truncated ∙ ap (Truncated 32) (omega arith) in
     (rw (whole, is) (short_fault s.bytes few), λ f. none ∙ sym (drop_all 32 (s.bytes ++ rest) (omega (arith, few, ap length whole)))))
 
 first_of_header : (b : List ℕ) (e : SceneError) → header_fault b ≡ Some e → first_fault b ≡ Some e
@@ -110,15 +111,15 @@ too_long h rest n len counts lt =
 no_header_fault : {P : Type 0} (h rest : List ℕ) (e : SceneError) → length h ≡ 32 → header_fault h ≡ None → header_fault (h ++ rest) ≡ Some e → P
 no_header_fault h rest e len fine f = let no : ◌≡◌ {A = Option SceneError} None (Some e) = sym fine ∙ sym (header_front h rest len) ∙ f in absurd cc
 
-pub refuses_body : (before mid after : Option (List ℕ)) (h : List ℕ) (n : Counts) (e : SceneError) → length h ≡ 32 → header_fault h ≡ None → counts_at h ≡ n
-    → Takes before mid h → EndsWithin (scene_length n - 32) (scene_length n) 32 mid after e → Refuses before after e
+pub refuses_body : (before : Option (List ℕ)) (mid after : SourceSays) (h : List ℕ) (n : Counts) (e : SceneError) → length h ≡ 32 → header_fault h ≡ None → counts_at h ≡ n
+    → Takes before mid.left h → EndsWithin (scene_length n - 32) (scene_length n) 32 mid after e → Refuses before after.left e
 refuses_body before mid after h n e len fine counts t s =
-    let both = takes_then before mid after h s.bytes t s.takes in
-    refuse_told before after (h ++ s.bytes) e both.front (λ rest told.
-    let none = at_end after rest s.ended told in
+    let both = takes_then before mid.left after.left h s.bytes t s.takes in
+    refuse_told before after.left (h ++ s.bytes) e both.front (λ rest told.
+    let none = at_end after.left rest s.ended told in
     let whole : (h ++ s.bytes) ++ rest ≡ h ++ s.bytes = ap (λ (r : List ℕ). (h ++ s.bytes) ++ r) none ∙ append-nil (h ++ s.bytes) in
     let few : length (h ++ s.bytes) < scene_length n = omega (arith, s.few, length-append h s.bytes, len) in
-    let is : e ≡ Truncated (scene_length n) (length (h ++ s.bytes)) = s.told ∙ ap (Truncated (scene_length n)) (omega (arith, length-append h s.bytes, len)) in
+    let is : e ≡ Truncated (scene_length n) (length (h ++ s.bytes)) = s.truncated ∙ ap (Truncated (scene_length n)) (omega (arith, length-append h s.bytes, len)) in
     (rw (whole, is) (first_of_length h s.bytes n _ len fine counts (too_short h s.bytes n len counts few)), λ f. no_header_fault h (s.bytes ++ rest) e len fine (subst (λ (b : List ℕ). header_fault b ≡ Some e) (append_assoc h s.bytes rest) f)))
 
 pub refuses_trailing : (before mid last after : Option (List ℕ)) (h body more : List ℕ) (n : Counts) → length h ≡ 32 → header_fault h ≡ None → counts_at h ≡ n → length (h ++ body) ≡ scene_length n
@@ -132,7 +133,7 @@ refuses_trailing before mid last after h body more n len fine counts size th tb 
 
 -- ---- a whole body
 
-module _ (before mid last : Option (List ℕ)) (h : List ℕ) (hd : Header) (p : Parts) (fault : Option SceneError) (len : length h ≡ 32) (th : Takes before mid h) (is : IsHeaderOf h hd) (t : TakesParts hd mid last p fault) where
+module _ {before : Option (List ℕ)} {mid last : SourceSays} {h : List ℕ} {hd : Header} {p : Parts} {fault : Option SceneError} (len : length h ≡ 32) (th : Takes before mid.left h) (is : IsHeaderOf h hd) (t : TakesParts hd mid last p fault) where
   body : List ℕ
   body = t.vertex_bytes ++ (t.occluder_bytes ++ (t.object_tri_bytes ++ (t.object_bytes ++ t.camera_bytes)))
 
@@ -150,15 +151,18 @@ module _ (before mid last : Option (List ℕ)) (h : List ℕ) (hd : Header) (p :
   pub whole_length : length (h ++ (t.vertex_bytes ++ (t.occluder_bytes ++ (t.object_tri_bytes ++ (t.object_bytes ++ t.camera_bytes))))) ≡ scene_length hd.counts
   whole_length = joined_length hd.counts h t.vertex_bytes t.occluder_bytes t.object_tri_bytes t.object_bytes t.camera_bytes sized
 
-  pub tris_count : length p.object_tris ≡ hd.counts.object_tris
+  tris_count : length p.object_tris ≡ hd.counts.object_tris
   tris_count = table_count _ _ _ _ _ t.object_tris
 
-  pub whole_first : first_fault (h ++ (t.vertex_bytes ++ (t.occluder_bytes ++ (t.object_tri_bytes ++ (t.object_bytes ++ t.camera_bytes))))) ≡ tables_fault p.vertices p.occluders p.object_tris t.raws p.cameras
+  pub objects_first : fault ≡ first_among (object_fault (length p.object_tris)) 0 t.raws
+  objects_first = t.first ∙ ap (λ (m : ℕ). first_among (object_fault m) 0 t.raws) (sym tris_count)
+
+  whole_first : first_fault (h ++ (t.vertex_bytes ++ (t.occluder_bytes ++ (t.object_tri_bytes ++ (t.object_bytes ++ t.camera_bytes))))) ≡ tables_fault p.vertices p.occluders p.object_tris t.raws p.cameras
   whole_first = joined_first hd.counts h t.vertex_bytes t.occluder_bytes t.object_tri_bytes t.object_bytes t.camera_bytes sized p.vertices p.occluders p.object_tris t.raws p.cameras is.accepted t.vertices t.occluders t.object_tris t.objects t.cameras
 
-  pub refuses_tables : (after : Option (List ℕ)) (e : SceneError) → Takes last after [] → IsAtEnd after → tables_fault p.vertices p.occluders p.object_tris t.raws p.cameras ≡ Some e → Refuses before after e
+  pub refuses_tables : (after : Option (List ℕ)) (e : SceneError) → Takes last.left after [] → IsAtEnd after → tables_fault p.vertices p.occluders p.object_tris t.raws p.cameras ≡ Some e → Refuses before after e
   refuses_tables after e te ended f =
-      let all = takes_then before mid after h _ th (takes_then mid last after _ [] t.takes te) in
+      let all = takes_then before mid.left after h _ th (takes_then mid.left last.left after _ [] t.takes te) in
       refuse_told before after _ e all.front (λ rest told.
       let none = at_end after rest ended told in
       let bare = t.vertex_bytes ++ (t.occluder_bytes ++ (t.object_tri_bytes ++ (t.object_bytes ++ t.camera_bytes))) in
@@ -175,10 +179,10 @@ module _ (before mid last : Option (List ℕ)) (h : List ℕ) (hd : Header) (p :
   pub parts_scene : AreTables p → fault ≡ None → IsScene p
   parts_scene tables clear = scene_from h p (parts_fit clear) tables (subst (λ (m : ℕ). All (IsObject m) p.objects) (sym tris_count) t.valid)
 
-  pub reads : (after : Option (List ℕ)) → Takes last after [] → IsAtEnd after → AreTables p → fault ≡ None → tables_fault p.vertices p.occluders p.object_tris t.raws p.cameras ≡ None → ReadsScene before after p
+  pub reads : (after : Option (List ℕ)) → Takes last.left after [] → IsAtEnd after → AreTables p → fault ≡ None → tables_fault p.vertices p.occluders p.object_tris t.raws p.cameras ≡ None → ReadsScene before after p
   reads after te ended tables clear fine =
       let bare = t.vertex_bytes ++ (t.occluder_bytes ++ (t.object_tri_bytes ++ (t.object_bytes ++ t.camera_bytes))) in
-      let all = takes_then before mid after h (bare ++ []) th (takes_then mid last after bare [] t.takes te) in
+      let all = takes_then before mid.left after h (bare ++ []) th (takes_then mid.left last.left after bare [] t.takes te) in
       let takes : Takes before after (h ++ bare) = subst (λ (b : List ℕ). Takes before after (h ++ b)) (append-nil bare) all in
       record {
         bytes = h ++ bare;

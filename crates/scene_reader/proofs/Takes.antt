@@ -7,7 +7,7 @@ use Rattle.std.proofs.lemmas.List.{length-take, length-append, take-take, take_a
 use Rattle.std.proofs.lemmas.List.Elements.{All-append, All-take, All-nil, All-from_get_or}
 use Rattle.std.proofs.lemmas.Slice.{take-put_mid}
 use borrow.Rule.Slice.PartMut.{put_mid, post_of}
-use Rattle.cull_base.specs.Stream.{TakesFront}
+use Rattle.cull_base.specs.Stream.{SourceSays, TakesFront}
 use Rattle.scene_reader.specs.declared.error.SceneError.{SceneError}
 use Rattle.scene_reader.specs.declared.error.SceneError.TheVariants.{Truncated}
 use Rattle.scene_reader.specs.Reading.{Takes, EndsWithin}
@@ -68,21 +68,21 @@ takes_more a b c k m n buffer part in_buffer in_part fits before now =
     rw (front_put k m n buffer part in_buffer in_part) (takes_then a b c (take k buffer) (take n part) before (takes_front b c part n fits now))
 
 -- an end that came after more was taken
-pub ends_later : (a b c : Option (List ℕ)) (x : List ℕ) (n wanted need taken later : ℕ) (e : SceneError) → length x ≡ n → taken + n ≡ later
-    → Takes a b x → EndsWithin wanted need later b c e → EndsWithin (n + wanted) need taken a c e
+pub ends_later : (a b c : SourceSays) (x : List ℕ) (n wanted need taken later : ℕ) (e : SceneError) → length x ≡ n → taken + n ≡ later
+    → Takes a.left b.left x → EndsWithin wanted need later b c e → EndsWithin (n + wanted) need taken a c e
 ends_later a b c x n wanted need taken later e len is p s = record {
   bytes = x ++ s.bytes;
-  takes = takes_then a b c x s.bytes p s.takes;
+  takes = takes_then a.left b.left c.left x s.bytes p s.takes;
   few = omega (arith, length-append x s.bytes, len, s.few);
   ended = s.ended;
-  told = s.told ∙ ap (Truncated need) (omega (arith, length-append x s.bytes, len, is));
+  truncated = s.truncated ∙ ap (Truncated need) (omega (arith, length-append x s.bytes, len, is));
 }
 
-pub ends_wider : (a c : Option (List ℕ)) (wanted more need taken : ℕ) (e : SceneError) → wanted ≤ more → EndsWithin wanted need taken a c e → EndsWithin more need taken a c e
+pub ends_wider : (a c : SourceSays) (wanted more need taken : ℕ) (e : SceneError) → wanted ≤ more → EndsWithin wanted need taken a c e → EndsWithin more need taken a c e
 ends_wider a c wanted more need taken e le s = record {
   bytes = s.bytes;
   takes = s.takes;
   few = omega (arith, s.few, le);
   ended = s.ended;
-  told = s.told;
+  truncated = s.truncated;
 }

@@ -21,7 +21,7 @@ use Rattle.scene_reader.specs.Layout.{Parts, IsScene, IsRow, IsTri, IsObject, ma
 use Rattle.scene_reader.specs.Fault.{first_among, short_at, word_at, counts_at, entries, row_of, tri_of, raw_of, header_fault, length_fault, tables_fault, first_fault, scene_length, vertices_in, occluders_in, object_tris_in, objects_in, cameras_in, vertex_fault, index_fault, object_fault, camera_fault, is_bad_object}
 use Rattle.scene_reader.specs.Header.{AreCounts}
 use Rattle.scene_reader.specs.PartsFault.{AreTables, told, counts_of_parts, first_fault_of_parts}
-use Rattle.scene_reader.proofs.Kept.{length_entries}
+use Rattle.scene_reader.proofs.ObjectTable.{length_entries}
 use Rattle.scene_reader.specs.Reading.{IsTable}
 use Rattle.scene_reader.proofs.Takes.{IsByte}
 use Rattle.scene_reader.proofs.Valid.{row_good, indices_good, area_good, block_good, mesh_good}

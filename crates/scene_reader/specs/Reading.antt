@@ -1,12 +1,14 @@
 -- What reading takes from a source.
-use Rattle.std.specs.Prelude.{ℕ, ℤ, ◌≡◌, ◌+◌, ◌*◌, ◌<◌, List, [], ◌++◌, length, map, drop, Option, None, Some, option_map, IfSome}
+use Rattle.std.specs.Prelude.{ℕ, ℤ, ◌≡◌, ◌+◌, ◌*◌, ◌<◌, ◌≤◌, List, [], ◌++◌, length, map, ◌-◌, drop, Option, None, Some, option_map, IfSome, Result, IfErr, IsErrOf}
 use Rattle.std.specs.List.{All}
-use Rattle.cull_base.specs.declared.scene_types.Object.{Object}
+use Rattle.cull_base.specs.Stream.{SourceSays, Rose}
 use Rattle.scene_reader.specs.declared.header.Header.{Header}
+use Rattle.scene_reader.specs.declared.header.Counts.{Counts}
+use Rattle.scene_reader.specs.declared.objects.Objects.{Objects}
 use Rattle.scene_reader.specs.Layout.{Parts, IsScene, layout, IsObject, stored}
-use Rattle.scene_reader.specs.Fault.{entries, raw_of, row_of, tri_of, first_among, object_fault, first_fault, header_fault}
+use Rattle.scene_reader.specs.Fault.{IsRefusal, entries, raw_of, row_of, tri_of, first_among, object_fault, first_fault, header_fault, scene_length}
 use Rattle.scene_reader.specs.declared.error.SceneError.{SceneError}
-use Rattle.scene_reader.specs.declared.error.SceneError.TheVariants.{Truncated}
+use Rattle.scene_reader.specs.declared.error.SceneError.TheVariants.{Truncated, Trailing, Read}
 
 -- these bytes were taken from the front of what was left, where that is told
 pub record Takes (before after : Option (List ℕ)) (bytes : List ℕ) : Type 0 where
@@ -17,28 +19,57 @@ pub record Takes (before after : Option (List ℕ)) (bytes : List ℕ) : Type 0 
 abbrev pub IsAtEnd : Option (List ℕ) → Type 0
 IsAtEnd after = IfSome after (λ rest. rest ≡ [])
 
--- the end came before so many bytes, and the answer tells it, with what was taken before
-pub record EndsWithin (wanted need taken : ℕ) (before after : Option (List ℕ)) (e : SceneError) : Type 0 where
+-- the end came before so many bytes, and the answer has what is needed and what there was, with what was taken before
+pub record EndsWithin (wanted need taken : ℕ) (before after : SourceSays) (e : SceneError) : Type 0 where
   pub bytes : List ℕ
-  pub takes : Takes before after bytes
+  pub takes : Takes before.left after.left bytes
   pub few : length bytes < wanted
-  pub ended : IsAtEnd after
-  pub told : e ≡ Truncated need (taken + length bytes)
+  pub ended : IsAtEnd after.left
+  pub truncated : e ≡ Truncated need (taken + length bytes)
+
+-- some bytes were taken, and all turns but one took a byte or more
+pub record TakesInTurns (before after : SourceSays) : Type 0 where
+  pub bytes : List ℕ
+  pub takes : Takes before.left after.left bytes
+  pub turns : after.turns ≤ before.turns + length bytes + 1
+
+-- What a call that reads owes after every answer, in at most so many turns. Read comes only where the source failed.
+pub record Reads {T : Type 0} (most : ℕ) (before after : SourceSays) (result : Result T SceneError) : Type 0 where
+  pub read : IsErrOf result Read → Rose before.faults after.faults
+  pub faults_stay : before.faults ≤ after.faults
+  pub turns : after.turns ≤ before.turns + most
+  pub takes : TakesInTurns before after
+
+-- the same of a call that wants so many bytes, and tells an end that comes before them
+pub record Fetches {T : Type 0} (wanted need taken : ℕ) (before after : SourceSays) (result : Result T SceneError) : Type 0 where
+  pub short : IfErr result (λ e. IsRefusal e → EndsWithin wanted need taken before after e)
+  pub reads : Reads wanted before after result
 
 -- a table was taken: so many entries of so many bytes each, every one read as an item
-pub record TakesTable {X : Type 0} (size count : ℕ) (read : List ℕ → X) (before after : Option (List ℕ)) (items : List X) : Type 0 where
+pub record TakesTable {X : Type 0} (size count : ℕ) (read : List ℕ → X) (before after : SourceSays) (items : List X) : Type 0 where
   pub bytes : List ℕ
-  pub takes : Takes before after bytes
+  pub takes : Takes before.left after.left bytes
   pub whole : length bytes ≡ size * count
   pub each : items ≡ map read (entries size count bytes)
 
 -- the objects of a table up to its first fault, which is kept
-pub record TakesObjects (count object_tris : ℕ) (before after : Option (List ℕ)) (items : List Object) (fault : Option SceneError) : Type 0 where
+pub record TakesObjects (count object_tris : ℕ) (before after : SourceSays) (objects : Objects) : Type 0 where
   pub raws : List (ℕ × List ℤ)
   pub table : TakesTable 25 count raw_of before after raws
-  pub first : fault ≡ first_among (object_fault object_tris) 0 raws
-  pub whole : fault ≡ None → map stored items ≡ raws
-  pub valid : All (IsObject object_tris) items
+  pub first : objects.fault ≡ first_among (object_fault object_tris) 0 raws
+  pub whole : objects.fault ≡ None → map stored objects.items.items ≡ raws
+  pub valid : All (IsObject object_tris) objects.items.items
+
+-- the same of the five tables behind a header
+abbrev pub FetchesTables : {T : Type 0} → Counts → SourceSays → SourceSays → Result T SceneError → Type 0
+FetchesTables n before after result = Fetches (scene_length n - 32) (scene_length n) 32 before after result
+
+-- more bytes came where the end was wanted
+pub record IsTrailing (before after : SourceSays) (e : SceneError) : Type 0 where
+  pub trailing : e ≡ Trailing
+  pub bytes : List ℕ
+  pub takes : Takes before.left after.left bytes
+  pub some : 0 < length bytes
 
 -- bytes that are a table, every entry of so many bytes
 pub record IsTable {X : Type 0} (size count : ℕ) (read : List ℕ → X) (bytes : List ℕ) (items : List X) : Type 0 where
@@ -46,14 +77,14 @@ pub record IsTable {X : Type 0} (size count : ℕ) (read : List ℕ → X) (byte
   pub each : items ≡ map read (entries size count bytes)
 
 -- the five tables behind a header were taken, with the first fault among the objects
-pub record TakesParts (h : Header) (before after : Option (List ℕ)) (p : Parts) (fault : Option SceneError) : Type 0 where
+pub record TakesParts (h : Header) (before after : SourceSays) (p : Parts) (fault : Option SceneError) : Type 0 where
   pub vertex_bytes : List ℕ
   pub occluder_bytes : List ℕ
   pub object_tri_bytes : List ℕ
   pub object_bytes : List ℕ
   pub camera_bytes : List ℕ
   pub raws : List (ℕ × List ℤ)
-  pub takes : Takes before after (vertex_bytes ++ (occluder_bytes ++ (object_tri_bytes ++ (object_bytes ++ camera_bytes))))
+  pub takes : Takes before.left after.left (vertex_bytes ++ (occluder_bytes ++ (object_tri_bytes ++ (object_bytes ++ camera_bytes))))
   pub vertices : IsTable 12 h.counts.vertices (row_of 3) vertex_bytes p.vertices
   pub occluders : IsTable 12 h.counts.occluders tri_of occluder_bytes p.occluders
   pub object_tris : IsTable 12 h.counts.object_tris tri_of object_tri_bytes p.object_tris
@@ -76,3 +107,25 @@ pub record ReadsScene (before after : Option (List ℕ)) (s : Parts) : Type 0 wh
   pub scene : IsScene s
   pub whole : bytes ≡ layout s
   pub first : first_fault bytes ≡ None
+
+-- ---- what the bytes were, where they are told
+
+-- this scene's layout, and none are left
+abbrev pub TakesLayout : Option (List ℕ) → Option (List ℕ) → Parts → Type 0
+TakesLayout before after s = IfSome before (λ bytes. (bytes ≡ layout s) × (after ≡ Some []))
+
+-- no other scene's layout
+abbrev pub IsOnlyScene : Option (List ℕ) → Parts → Type 0
+IsOnlyScene before s = IfSome before (λ bytes. (t : Parts) → IsScene t → bytes ≡ layout t → t ≡ s)
+
+-- no scene's layout
+abbrev pub IsNoScene : Option (List ℕ) → Type 0
+IsNoScene before = IfSome before (λ bytes. (t : Parts) → IsScene t → bytes ≡ layout t → ⊥)
+
+-- bytes with this first fault
+abbrev pub HasFirstFault : Option (List ℕ) → Option SceneError → Type 0
+HasFirstFault before fault = IfSome before (λ bytes. first_fault bytes ≡ fault)
+
+-- where the fault is one of the header, only the header was taken
+abbrev pub StopsAtHeader : Option (List ℕ) → Option (List ℕ) → SceneError → Type 0
+StopsAtHeader before after e = IfSome before (λ bytes. header_fault bytes ≡ Some e → after ≡ Some (drop 32 bytes))

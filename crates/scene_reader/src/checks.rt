@@ -7,10 +7,10 @@ ghost use Rattle.scene_reader.specs.Fault.{first_among, vertex_fault, index_faul
 ghost use Rattle.scene_reader.specs.PartsFault.{AreTables, told, counts_of_parts, first_fault_of_parts};
 
 use crate::error::SceneError;
-use crate::header::{Counts, count_fault};
+use crate::header::{Counts, count_fault, screen_fault};
 use crate::objects::{is_bad_object, is_bad_row};
-use crate::scene::SceneParts;
-use cull_base::{Object, Size, Tri};
+use crate::parts::SceneParts;
+use cull_base::{Object, Tri};
 
 /// The first vertex with a coordinate outside the limits.
 pub fn vertex_fault(vertices: &[[i32; 3]]) -> Option<SceneError>
@@ -57,20 +57,6 @@ pub fn camera_fault(cameras: &[[i32; 12]]) -> Option<SceneError>
         if is_bad_row(camera) {
             return Some(SceneError::BadCamera(i as u32));
         }
-    }
-    None
-}
-
-/// What is wrong with the size or the near distance.
-pub fn screen_fault(width: u16, height: u16, near: u16) -> Option<SceneError>
-    ensures value { result ≡ screen_fault width height near }
-    ensures valid { IsNone result → IsSize width height × (1 ≤ near) × (near ≤ 1024) }
-{
-    if Size::new(width, height).is_none() {
-        return Some(SceneError::BadSize(width, height));
-    }
-    if near == 0 || 1024 < near {
-        return Some(SceneError::BadNear(near));
     }
     None
 }

@@ -1,12 +1,12 @@
 //! The header: the first 32 bytes, with all that is told before the tables.
-ghost use Rattle.std.specs.Prelude.{◌≡◌, Some, IsNone, IfOk, MatchResult};
-ghost use Rattle.scene_reader.specs.Fault.{count_fault, counts_at, header_fault};
+ghost use Rattle.std.specs.Prelude.{◌≡◌, ◌≤◌, Some, IsNone, IfOk, MatchResult};
+ghost use Rattle.cull_base.specs.Screen.{IsSize};
+ghost use Rattle.scene_reader.specs.Fault.{screen_fault, count_fault, counts_at, header_fault};
 ghost use Rattle.scene_reader.specs.Header.{IsHeaderOf, AreCounts};
 
-use crate::checks::screen_fault;
 use crate::error::SceneError;
 use crate::numbers::{short_at, word_at};
-use cull_base::Winding;
+use cull_base::{Size, Winding};
 
 /// Bytes of a header.
 pub const HEADER: u32 = 32;
@@ -29,6 +29,20 @@ pub struct Header {
     pub near: u16,
     pub winding: Winding,
     pub counts: Counts,
+}
+
+/// What is wrong with the size or the near distance.
+pub fn screen_fault(width: u16, height: u16, near: u16) -> Option<SceneError>
+    ensures value { result ≡ screen_fault width height near }
+    ensures valid { IsNone result → IsSize width height × (1 ≤ near) × (near ≤ 1024) }
+{
+    if Size::new(width, height).is_none() {
+        return Some(SceneError::BadSize(width, height));
+    }
+    if near == 0 || 1024 < near {
+        return Some(SceneError::BadNear(near));
+    }
+    None
 }
 
 /// The first count that is out of its limits.

@@ -1,8 +1,7 @@
 //! Taking a known number of bytes from a source that gives them in pieces of any size.
-ghost use Rattle.std.specs.Prelude.{◌≡◌, ◌+◌, ◌*◌, ◌^◌, ◌<◌, ◌≤◌, length, take, IfOk, IfErr, OnOk, OnErr, IsErrOf};
+ghost use Rattle.std.specs.Prelude.{◌+◌, ◌^◌, ◌<◌, ◌≤◌, length, take, IfOk, OnOk, OnErr};
 ghost use Rattle.cull_base.specs.Stream.{Rose};
-ghost use Rattle.scene_reader.specs.Fault.{IsRefusal};
-ghost use Rattle.scene_reader.specs.Reading.{Takes, IsAtEnd, EndsWithin};
+ghost use Rattle.scene_reader.specs.Reading.{Takes, IsAtEnd, TakesInTurns, Fetches};
 
 use crate::error::SceneError;
 use cull_base::{Failed, Source};
@@ -10,11 +9,12 @@ use cull_base::{Failed, Source};
 /// Reads until the buffer is full or the source is at its end, and tells how many bytes came.
 pub fn fill<S: Source>(source: &mut S, buffer: &mut [u8]) -> Result<usize, Failed>
     ensures within { IfOk result (λ n. n ≤ length buffer.old) }
-    ensures taken { IfOk result (λ n. Takes (S.left source.old) (S.left source.new) (take n buffer.new)) }
-    ensures ended { IfOk result (λ n. n < length buffer.old → IsAtEnd (S.left source.new)) }
-    ensures failed { OnErr result (Rose (S.faults source.old) (S.faults source.new)) }
-    ensures faults_stay { S.faults source.old ≤ S.faults source.new }
-    ensures turns { S.turns source.new ≤ S.turns source.old + length buffer.old }
+    ensures taken { IfOk result (λ n. Takes (S.says source.old).left (S.says source.new).left (take n buffer.new)) }
+    ensures ended { IfOk result (λ n. n < length buffer.old → IsAtEnd (S.says source.new).left) }
+    ensures failed { OnErr result (Rose (S.says source.old).faults (S.says source.new).faults) }
+    ensures faults_stay { (S.says source.old).faults ≤ (S.says source.new).faults }
+    ensures turns { (S.says source.new).turns ≤ (S.says source.old).turns + length buffer.old }
+    ensures takes { TakesInTurns (S.says source.old) (S.says source.new) }
 {
     let mut filled = 0;
     while filled < buffer.len() {
@@ -36,11 +36,8 @@ pub fn fetch<S: Source>(
     taken: u32,
 ) -> Result<(), SceneError>
     requires { taken + length buffer.old < 2 ^ 32 }
-    ensures taken { OnOk result (Takes (S.left source.old) (S.left source.new) buffer.new) }
-    ensures short { IfErr result (λ e. IsRefusal e → EndsWithin (length buffer.old) need taken (S.left source.old) (S.left source.new) e) }
-    ensures read { IsErrOf result SceneError.Read → Rose (S.faults source.old) (S.faults source.new) }
-    ensures faults_stay { S.faults source.old ≤ S.faults source.new }
-    ensures turns { S.turns source.new ≤ S.turns source.old + length buffer.old }
+    ensures taken { OnOk result (Takes (S.says source.old).left (S.says source.new).left buffer.new) }
+    ensures fetches { Fetches (length buffer.old) need taken (S.says source.old) (S.says source.new) result }
 {
     match fill(source, buffer) {
         Err(_) => Err(SceneError::Read),

@@ -7,8 +7,8 @@ mod header;
 mod intake;
 mod laws;
 mod numbers;
-mod object_table;
 mod objects;
+mod parts;
 mod reading;
 mod scene;
 mod tables;
@@ -16,8 +16,9 @@ mod writing;
 
 pub use error::SceneError;
 pub use laws::one_layout;
+pub use parts::SceneParts;
 pub use reading::read_scene;
-pub use scene::{Scene, SceneParts};
+pub use scene::Scene;
 pub use writing::write_scene;
 
 #[cfg(test)]

@@ -1,10 +1,28 @@
-//! Objects: made from their kind and six numbers, and tested.
-ghost use Rattle.std.specs.Prelude.{◌≡◌, ℕ, ◌+◌, ◌≤◌, ◌^◌, true, false, ◌||◌, int_lt, length, IfSome, IfNone};
+//! Objects: made from their kind and six numbers, tested, and read as a table. The first fault of a table is kept until
+//! the end of the input is known, since that of the length comes before it.
+ghost use Rattle.std.specs.Prelude.{◌≡◌, ℕ, ◌+◌, ◌*◌, ◌^◌, ◌<◌, ◌≤◌, ◌++◌, ◌∷◌, [], None, Some, map, true, false, ◌||◌, int_lt, length, OnOk, IfOk, IfSome, IfNone, MatchResult};
+ghost use Rattle.std.specs.List.{All};
+ghost use Rattle.std.specs.Option.{option_or};
 ghost use Rattle.cull_base.specs.Guard.{is_beyond};
-ghost use Rattle.scene_reader.specs.Layout.{IsObject, kind_of, numbers_of, axis};
-ghost use Rattle.scene_reader.specs.Fault.{is_bad_row, is_bad_object};
+ghost use Rattle.scene_reader.specs.Layout.{IsObject, kind_of, numbers_of, stored, axis};
+ghost use Rattle.scene_reader.specs.Fault.{is_bad_row, is_bad_object, object_fault, raw_of};
+ghost use Rattle.scene_reader.specs.Reading.{TakesObjects, Fetches};
 
-use cull_base::{Object, Rect};
+use crate::error::SceneError;
+use crate::intake::fetch;
+use crate::numbers::row_of;
+use cull_base::{Object, Rect, Source};
+use std::alloc::{AllocError, Global};
+
+/// The kinds of objects, by the first byte of an entry.
+pub const RECTANGLE: u8 = 0;
+
+pub const BOX: u8 = 1;
+
+pub const MESH: u8 = 2;
+
+/// Bytes of an object.
+pub const OBJECT: u32 = 25;
 
 /// Numbers of vertices, cameras and objects lie at most so far from 0.
 const LIMIT: i32 = 1 << 24;
@@ -67,8 +85,8 @@ pub fn object_of(kind: u8, numbers: &[i32; 6]) -> Option<Object>
     ensures refused { IfNone result ((object_tris : ℕ) → is_bad_object object_tris kind numbers.now ≡ true) }
 {
     match kind {
-        0 => area_of(numbers),
-        1 => Some(block_of(numbers)),
+        RECTANGLE => area_of(numbers),
+        BOX => Some(block_of(numbers)),
         _ => mesh_of(numbers),
     }
 }
@@ -112,4 +130,73 @@ pub fn is_bad_object(object: &Object, object_tris: u32) -> bool
         Object::Block { low, high } => is_bad_block(low, high),
         Object::Mesh { first, count } => is_bad_mesh(*first, *count, object_tris),
     }
+}
+
+/// The objects up to the first fault, and that fault.
+#[derive(Drop)]
+pub struct Objects {
+    pub items: Vec<Object>,
+    pub fault: Option<SceneError>,
+}
+
+/// The object number i of a table, beside so many object triangles, or its fault.
+pub fn object_at(entry: &[u8; 25], i: u32, object_tris: u32) -> Result<Object, SceneError>
+    requires { object_tris ≤ 262144 }
+    ensures value { MatchResult result (λ o. (object_fault object_tris i (raw_of entry.now) ≡ None) × (stored o ≡ raw_of entry.now)) (λ e. object_fault object_tris i (raw_of entry.now) ≡ Some e) }
+    ensures valid { IfOk result (λ o. IsObject object_tris o) }
+{
+    let kind = entry[0];
+    // Mesh is the last kind.
+    if MESH < kind {
+        return Err(SceneError::BadKind(i));
+    }
+    let numbers = row_of(&entry[1..]);
+    match object_of(kind, &numbers) {
+        Some(object) if !is_bad_object(&object, object_tris) => Ok(object),
+        _ => Err(SceneError::BadObject(i)),
+    }
+}
+
+impl Objects {
+    /// Keeps the object number i, or its fault where there was none before.
+    fn keep(&mut self, entry: &[u8; 25], i: u32, object_tris: u32) -> Result<(), AllocError>
+        requires { object_tris ≤ 262144 }
+        ensures first { OnOk result (self.new.fault ≡ option_or self.old.fault (object_fault object_tris i (raw_of entry.now))) }
+        ensures items { OnOk result (self.new.fault ≡ None → map stored self.new.items.items ≡ map stored self.old.items.items ++ raw_of entry.now ∷ []) }
+        ensures valid { OnOk result (All (IsObject object_tris) self.old.items.items → All (IsObject object_tris) self.new.items.items) }
+    {
+        if self.fault.is_none() {
+            match object_at(entry, i, object_tris) {
+                Ok(object) => self.items.push(object)?,
+                Err(fault) => self.fault = Some(fault),
+            }
+        }
+        Ok(())
+    }
+}
+
+/// The next table of objects, beside so many object triangles.
+pub fn read_objects<S: Source>(
+    alloc: Global,
+    source: &mut S,
+    count: u32,
+    object_tris: u32,
+    need: u32,
+    taken: u32,
+) -> Result<Objects, SceneError>
+    requires room { taken + 25 * count < 2 ^ 32 }
+    requires few { object_tris ≤ 262144 }
+    ensures taken { IfOk result (λ o. TakesObjects count object_tris (S.says source.old) (S.says source.new) o) }
+    ensures fetches { Fetches (25 * count) need taken (S.says source.old) (S.says source.new) result }
+{
+    let mut objects = Objects {
+        items: Vec::with_capacity(alloc, count as usize)?,
+        fault: None,
+    };
+    let mut entry = [0; 25];
+    for i in 0..count {
+        fetch(source, &mut entry, need, taken + OBJECT * i)?;
+        objects.keep(&entry, i, object_tris)?;
+    }
+    Ok(objects)
 }

@@ -1,17 +1,18 @@
 //! Reading a scene from a source, in pieces of any size.
-ghost use Rattle.std.specs.Prelude.{◌≡◌, ◌+◌, ◌<◌, ◌≤◌, ℕ, List, [], Option, Some, None, drop, length, IfOk, IfErr, IfSome, OnOk, IsErrOf, ◌-◌};
+ghost use Rattle.std.specs.Prelude.{◌+◌, ◌≤◌, [], Some, None, IfOk, IfErr, OnOk, IsErrOf};
 ghost use Rattle.cull_base.specs.Stream.{Rose};
-ghost use Rattle.scene_reader.specs.Layout.{Parts, IsScene, layout};
-ghost use Rattle.scene_reader.specs.Fault.{IsRefusal, first_fault, header_fault, scene_length};
+ghost use Rattle.scene_reader.specs.Layout.{IsScene};
+ghost use Rattle.scene_reader.specs.Fault.{IsRefusal};
 ghost use Rattle.scene_reader.specs.Header.{AreCounts};
-ghost use Rattle.scene_reader.specs.Reading.{Takes, IsAtEnd, EndsWithin, TakesParts, Refuses, ReadsScene};
+ghost use Rattle.scene_reader.specs.Reading.{Takes, IsAtEnd, TakesInTurns, Reads, FetchesTables, IsTrailing, TakesParts, Refuses, ReadsScene, TakesLayout, IsOnlyScene, IsNoScene, HasFirstFault, StopsAtHeader};
 
 use crate::checks::tables_fault;
 use crate::error::SceneError;
 use crate::header::{HEADER, Header, header_of};
 use crate::intake::{fetch, fill};
-use crate::object_table::{OBJECT, read_objects};
-use crate::scene::{Scene, SceneParts};
+use crate::objects::{OBJECT, read_objects};
+use crate::parts::SceneParts;
+use crate::scene::Scene;
 use crate::tables::{CAMERA, TRIANGLE, VERTEX, read_cameras, read_triangles, read_vertices};
 use cull_base::Source;
 use std::alloc::Global;
@@ -26,11 +27,8 @@ struct Draft {
 /// Reads the five tables that a header announces.
 fn read_parts<S: Source>(alloc: Global, source: &mut S, header: Header) -> Result<Draft, SceneError>
     requires { AreCounts header.counts }
-    ensures taken { IfOk result (λ d. TakesParts header (S.left source.old) (S.left source.new) d.parts d.objects_fault) }
-    ensures short { IfErr result (λ e. IsRefusal e → EndsWithin (scene_length header.counts - 32) (scene_length header.counts) 32 (S.left source.old) (S.left source.new) e) }
-    ensures read { IsErrOf result SceneError.Read → Rose (S.faults source.old) (S.faults source.new) }
-    ensures faults_stay { S.faults source.old ≤ S.faults source.new }
-    ensures turns { S.turns source.new + 32 ≤ S.turns source.old + scene_length header.counts }
+    ensures taken { IfOk result (λ d. TakesParts header (S.says source.old) (S.says source.new) d.parts d.objects_fault) }
+    ensures fetches { FetchesTables header.counts (S.says source.old) (S.says source.new) result }
 {
     let Header {
         width,
@@ -75,11 +73,9 @@ fn read_parts<S: Source>(alloc: Global, source: &mut S, header: Header) -> Resul
 
 /// Asks for one byte more, to see that there is none.
 fn read_end<S: Source>(source: &mut S) -> Result<(), SceneError>
-    ensures ended { OnOk result (Takes (S.left source.old) (S.left source.new) [] × IsAtEnd (S.left source.new)) }
-    ensures trailing { IfErr result (λ e. IsRefusal e → (e ≡ SceneError.Trailing) × (bytes : List ℕ) × Takes (S.left source.old) (S.left source.new) bytes × (0 < length bytes)) }
-    ensures read { IsErrOf result SceneError.Read → Rose (S.faults source.old) (S.faults source.new) }
-    ensures faults_stay { S.faults source.old ≤ S.faults source.new }
-    ensures turns { S.turns source.new ≤ S.turns source.old + 1 }
+    ensures ended { OnOk result (Takes (S.says source.old).left (S.says source.new).left [] × IsAtEnd (S.says source.new).left) }
+    ensures trailing { IfErr result (λ e. IsRefusal e → IsTrailing (S.says source.old) (S.says source.new) e) }
+    ensures reads { Reads 1 (S.says source.old) (S.says source.new) result }
 {
     let mut more = [0; 1];
     match fill(source, &mut more) {
@@ -91,11 +87,9 @@ fn read_end<S: Source>(source: &mut S) -> Result<(), SceneError>
 
 /// Reads the header, the tables and the end, and tests what was read.
 fn read_whole<S: Source>(alloc: Global, source: &mut S) -> Result<Scene, SceneError>
-    ensures ok { IfOk result (λ s. ReadsScene (S.left source.old) (S.left source.new) s) }
-    ensures refused { IfErr result (λ e. IsRefusal e → Refuses (S.left source.old) (S.left source.new) e) }
-    ensures read { IsErrOf result SceneError.Read → Rose (S.faults source.old) (S.faults source.new) }
-    ensures faults_stay { S.faults source.old ≤ S.faults source.new }
-    ensures turns { S.turns source.new ≤ S.turns source.old + 8728609 }
+    ensures ok { IfOk result (λ s. ReadsScene (S.says source.old).left (S.says source.new).left s) }
+    ensures refused { IfErr result (λ e. IsRefusal e → Refuses (S.says source.old).left (S.says source.new).left e) }
+    ensures reads { Reads 8728609 (S.says source.old) (S.says source.new) result }
 {
     let mut bytes = [0; 32];
     fetch(source, &mut bytes, HEADER, 0)?;
@@ -112,16 +106,18 @@ fn read_whole<S: Source>(alloc: Global, source: &mut S) -> Result<Scene, SceneEr
 /// behind it is read. Read comes only where the source failed, and Memory at any time.
 pub fn read_scene<S: Source>(alloc: Global, source: &mut S) -> Result<Scene, SceneError>
     ensures ok { IfOk result (λ s. IsScene s) }
-    ensures layout { IfOk result (λ s. IfSome (S.left source.old) (λ bytes. (bytes ≡ layout s) × (S.left source.new ≡ Some []))) }
-    ensures only { IfOk result (λ s. IfSome (S.left source.old) (λ bytes. (t : Parts) → IsScene t → bytes ≡ layout t → t ≡ s)) }
-    ensures ok_first { IfOk result (λ s. IfSome (S.left source.old) (λ bytes. first_fault bytes ≡ None)) }
-    ensures refused { IfErr result (λ e. IsRefusal e → IfSome (S.left source.old) (λ bytes. first_fault bytes ≡ Some e)) }
-    ensures not_a_scene { IfErr result (λ e. IsRefusal e → IfSome (S.left source.old) (λ bytes. (t : Parts) → IsScene t → bytes ≡ layout t → ⊥)) }
-    ensures read { IsErrOf result SceneError.Read → Rose (S.faults source.old) (S.faults source.new) }
-    ensures faults_stay { S.faults source.old ≤ S.faults source.new }
+    ensures layout { IfOk result (λ s. TakesLayout (S.says source.old).left (S.says source.new).left s) }
+    ensures only { IfOk result (λ s. IsOnlyScene (S.says source.old).left s) }
+    ensures ok_first { OnOk result (HasFirstFault (S.says source.old).left None) }
+    ensures refused { IfErr result (λ e. IsRefusal e → HasFirstFault (S.says source.old).left (Some e)) }
+    ensures not_a_scene { IfErr result (λ e. IsRefusal e → IsNoScene (S.says source.old).left) }
+    ensures read { IsErrOf result SceneError.Read → Rose (S.says source.old).faults (S.says source.new).faults }
+    ensures faults_stay { (S.says source.old).faults ≤ (S.says source.new).faults }
     // Of a header that is refused 32 bytes are taken, or all there were.
-    ensures header { IfErr result (λ e. IsRefusal e → IfSome (S.left source.old) (λ bytes. header_fault bytes ≡ Some e → S.left source.new ≡ Some (drop 32 bytes))) }
-    ensures turns { S.turns source.new ≤ S.turns source.old + 8728609 }
+    ensures header { IfErr result (λ e. IsRefusal e → StopsAtHeader (S.says source.old).left (S.says source.new).left e) }
+    ensures turns { (S.says source.new).turns ≤ (S.says source.old).turns + 8728609 }
+    // Each read but one took a byte.
+    ensures takes { TakesInTurns (S.says source.old) (S.says source.new) }
 {
     read_whole(alloc, source)
 }

@@ -1,8 +1,7 @@
 //! The tables of a scene, read entry by entry. Room is taken once for each, by the count of an accepted header.
-ghost use Rattle.std.specs.Prelude.{◌≡◌, ◌+◌, ◌*◌, ◌^◌, ◌<◌, ◌≤◌, IfOk, IfErr, IsErrOf};
-ghost use Rattle.cull_base.specs.Stream.{Rose};
-ghost use Rattle.scene_reader.specs.Fault.{IsRefusal, row_of, tri_of};
-ghost use Rattle.scene_reader.specs.Reading.{TakesTable, EndsWithin};
+ghost use Rattle.std.specs.Prelude.{◌+◌, ◌*◌, ◌^◌, ◌<◌, IfOk};
+ghost use Rattle.scene_reader.specs.Fault.{row_of, tri_of};
+ghost use Rattle.scene_reader.specs.Reading.{TakesTable, Fetches};
 
 use crate::error::SceneError;
 use crate::intake::fetch;
@@ -26,11 +25,8 @@ pub fn read_vertices<S: Source>(
     taken: u32,
 ) -> Result<Vec<[i32; 3]>, SceneError>
     requires { taken + 12 * count < 2 ^ 32 }
-    ensures taken { IfOk result (λ v. TakesTable 12 count (row_of 3) (S.left source.old) (S.left source.new) v.items) }
-    ensures short { IfErr result (λ e. IsRefusal e → EndsWithin (12 * count) need taken (S.left source.old) (S.left source.new) e) }
-    ensures read { IsErrOf result SceneError.Read → Rose (S.faults source.old) (S.faults source.new) }
-    ensures faults_stay { S.faults source.old ≤ S.faults source.new }
-    ensures turns { S.turns source.new ≤ S.turns source.old + 12 * count }
+    ensures taken { IfOk result (λ v. TakesTable 12 count (row_of 3) (S.says source.old) (S.says source.new) v.items) }
+    ensures fetches { Fetches (12 * count) need taken (S.says source.old) (S.says source.new) result }
 {
     let mut vertices = Vec::with_capacity(alloc, count as usize)?;
     let mut entry = [0; 12];
@@ -50,11 +46,8 @@ pub fn read_triangles<S: Source>(
     taken: u32,
 ) -> Result<Vec<Tri>, SceneError>
     requires { taken + 12 * count < 2 ^ 32 }
-    ensures taken { IfOk result (λ v. TakesTable 12 count (tri_of) (S.left source.old) (S.left source.new) v.items) }
-    ensures short { IfErr result (λ e. IsRefusal e → EndsWithin (12 * count) need taken (S.left source.old) (S.left source.new) e) }
-    ensures read { IsErrOf result SceneError.Read → Rose (S.faults source.old) (S.faults source.new) }
-    ensures faults_stay { S.faults source.old ≤ S.faults source.new }
-    ensures turns { S.turns source.new ≤ S.turns source.old + 12 * count }
+    ensures taken { IfOk result (λ v. TakesTable 12 count tri_of (S.says source.old) (S.says source.new) v.items) }
+    ensures fetches { Fetches (12 * count) need taken (S.says source.old) (S.says source.new) result }
 {
     let mut triangles = Vec::with_capacity(alloc, count as usize)?;
     let mut entry = [0; 12];
@@ -74,11 +67,8 @@ pub fn read_cameras<S: Source>(
     taken: u32,
 ) -> Result<Vec<[i32; 12]>, SceneError>
     requires { taken + 48 * count < 2 ^ 32 }
-    ensures taken { IfOk result (λ v. TakesTable 48 count (row_of 12) (S.left source.old) (S.left source.new) v.items) }
-    ensures short { IfErr result (λ e. IsRefusal e → EndsWithin (48 * count) need taken (S.left source.old) (S.left source.new) e) }
-    ensures read { IsErrOf result SceneError.Read → Rose (S.faults source.old) (S.faults source.new) }
-    ensures faults_stay { S.faults source.old ≤ S.faults source.new }
-    ensures turns { S.turns source.new ≤ S.turns source.old + 48 * count }
+    ensures taken { IfOk result (λ v. TakesTable 48 count (row_of 12) (S.says source.old) (S.says source.new) v.items) }
+    ensures fetches { Fetches (48 * count) need taken (S.says source.old) (S.says source.new) result }
 {
     let mut cameras = Vec::with_capacity(alloc, count as usize)?;
     let mut entry = [0; 48];

@@ -4,6 +4,7 @@ ghost use Rattle.std.specs.List.{flat_map};
 ghost use Rattle.cull_base.specs.Stream.{Writes};
 ghost use Rattle.scene_reader.specs.Layout.{layout, header_bytes, word_bytes, row_bytes, tri_bytes, object_bytes, numbers_of, winding_code};
 
+use crate::objects::{BOX, MESH, RECTANGLE};
 use crate::scene::Scene;
 use cull_base::{Object, Sink, SinkError, Tri, Winding, write_whole};
 
@@ -56,15 +57,15 @@ fn write_object<W: Sink>(sink: &mut W, object: &Object) -> Result<(), SinkError>
 {
     match object {
         Object::Area { rect, w } => {
-            write_whole(sink, &[0])?;
+            write_whole(sink, &[RECTANGLE])?;
             write_row(sink, &[rect.x0, rect.y0, rect.x1, rect.y1, *w, 0])
         }
         Object::Block { low, high } => {
-            write_whole(sink, &[1])?;
+            write_whole(sink, &[BOX])?;
             write_corners(sink, low, high)
         }
         Object::Mesh { first, count } => {
-            write_whole(sink, &[2])?;
+            write_whole(sink, &[MESH])?;
             write_words(sink, &[*first, *count, 0, 0, 0, 0])
         }
     }

@@ -1,7 +1,10 @@
-use Rattle.std.proofs.Common.{◌≡◌, ◌-◌, ◌≤◌, length, drop, arith}
+use Rattle.std.proofs.Common.{◌≡◌, ℕ, ◌+◌, ◌-◌, ◌≤◌, List, length, take, drop, arith}
 use Rattle.std.proofs.lemmas.List.{length-take, length-drop}
 use borrow.Rule.Slice.PartMut.{put_mid, same_len_mid}
+use Rattle.cull_base.specs.Stream.{SourceSays}
+use Rattle.scene_reader.specs.Reading.{Takes}
 use Rattle.scene_reader.proofs.Takes.{takes_more, bytes_of_part}
+use Rattle.scene_reader.proofs.Turns.{Progress, turns_of, turn_without, none_taken}
 use Rattle.scene_reader.proofs.intake.fill.Goals as goal
 
 pub loop-filled-preserved : goal.loop-filled-preserved
@@ -21,3 +24,23 @@ loop-filled-preserved g c =
       faults = omega (arith, i.faults, c.in_ok-n.ensures.faults_stay);
       turns = omega (arith, i.turns, c.in_ok-n.ensures.turn, c.if-n-eq0.false);
     }
+
+-- what the loop has filled
+so_far : {a b : SourceSays} (k : ℕ) (buffer : List ℕ) → k ≤ length buffer → Takes a.left b.left (take k buffer) → a.faults ≤ b.faults → b.turns ≤ a.turns + k → Progress k a b
+so_far k buffer within taken faults turns = record { bytes = take k buffer; takes = taken; count = omega (arith, length-take k buffer, within); faults = faults; turns = turns }
+
+pub returns-in_err-n-clause-takes : goal.returns-in_err-n-clause-takes
+returns-in_err-n-clause-takes g c =
+    let i = c.loop-filled.invariant in
+    turn_without (so_far c.loop-filled.filled c.loop-filled.buffer i.within i.taken i.faults i.turns) c.in_err-n.ensures.unchanged c.in_err-n.ensures.turn
+
+pub returns-then-n-eq0-clause-takes : goal.returns-then-n-eq0-clause-takes
+returns-then-n-eq0-clause-takes g c =
+    let i = c.loop-filled.invariant in
+    let same = none_taken _ _ c.read.new.buf (rw c.if-n-eq0.true at c.in_ok-n.ensures.taken) in
+    turn_without (so_far c.loop-filled.filled c.loop-filled.buffer i.within i.taken i.faults i.turns) same c.in_ok-n.ensures.turn
+
+pub returns-clause-takes : goal.returns-clause-takes
+returns-clause-takes g c =
+    let i = c.loop-filled.invariant in
+    turns_of (so_far c.loop-filled.filled c.loop-filled.buffer i.within i.taken i.faults i.turns)

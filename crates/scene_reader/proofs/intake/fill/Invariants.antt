@@ -6,9 +6,9 @@ abbrev pub invariant-loop-filled : goal.invariant-loop-filled
 invariant-loop-filled g l =
     record {
       within : l.filled ≤ length l.buffer;
-      taken : Takes (g.S.Source.left l.fn.source) (g.S.Source.left l.source) (take l.filled l.buffer);
-      faults : g.S.Source.faults l.fn.source ≤ g.S.Source.faults l.source;
-      turns : g.S.Source.turns l.source ≤ g.S.Source.turns l.fn.source + l.filled;
+      taken : Takes (g.S.Source.says l.fn.source).left (g.S.Source.says l.source).left (take l.filled l.buffer);
+      faults : (g.S.Source.says l.fn.source).faults ≤ (g.S.Source.says l.source).faults;
+      turns : (g.S.Source.says l.source).turns ≤ (g.S.Source.says l.fn.source).turns + l.filled;
     }
 
 abbrev pub decreases-loop-filled : goal.decreases-loop-filled

@@ -1,56 +1,62 @@
 use Rattle.std.proofs.Common.{refl, arith}
 use Rattle.std.proofs.lemmas.Result.{err_from_is_err_and}
-use Rattle.scene_reader.proofs.Takes.{takes_then, ends_later, ends_wider}
+use Rattle.scene_reader.proofs.Takes.{takes_then}
+use Rattle.scene_reader.proofs.Turns.{progress_none, table_read, progress_then, fetches_failed, fetches_whole}
 use Rattle.scene_reader.proofs.reading.read_parts.Goals as goal
 
-pub returns-in_err-vertices-clause-short : goal.returns-in_err-vertices-clause-short
-returns-in_err-vertices-clause-short g c =
+pub returns-in_err-vertices-clause-fetches : goal.returns-in_err-vertices-clause-fetches
+returns-in_err-vertices-clause-fetches g c =
     let p = err_from_is_err_and c.from_residual.result c.from_residual.ensures.1 in
-    rw (p.1, p.2) (λ refusal. ends_wider _ _ _ _ _ _ _ (omega arith) (c.in_err-vertices.ensures.short refusal))
+    rw (p.1, p.2) (fetches_failed (progress_none _) (omega arith) refl c.in_err-vertices.ensures.fetches)
 
-pub returns-in_err-occluders-clause-short : goal.returns-in_err-occluders-clause-short
-returns-in_err-occluders-clause-short g c =
+pub returns-in_err-occluders-clause-fetches : goal.returns-in_err-occluders-clause-fetches
+returns-in_err-occluders-clause-fetches g c =
     let p = err_from_is_err_and c.from_residual-in_err-occluders.result c.from_residual-in_err-occluders.ensures.1 in
-    let v = c.in_ok-vertices.ensures.taken in
-    rw (p.1, p.2) (λ refusal.
-    ends_wider _ _ _ _ _ _ _ (omega arith) (ends_later _ _ _ v.bytes _ _ _ _ _ _ v.whole refl v.takes
-    (c.in_err-occluders.ensures.short refusal)))
+    let v = c.in_ok-vertices.ensures in
+    let before = table_read v.taken v.fetches in
+    rw (p.1, p.2) (fetches_failed before (omega arith) refl c.in_err-occluders.ensures.fetches)
 
-pub returns-in_err-object_tris-clause-short : goal.returns-in_err-object_tris-clause-short
-returns-in_err-object_tris-clause-short g c =
+pub returns-in_err-object_tris-clause-fetches : goal.returns-in_err-object_tris-clause-fetches
+returns-in_err-object_tris-clause-fetches g c =
     let p = err_from_is_err_and c.from_residual-in_err-object_tris.result c.from_residual-in_err-object_tris.ensures.1 in
-    let v = c.in_ok-vertices.ensures.taken in
-    let o = c.in_ok-occluders.ensures.taken in
-    rw (p.1, p.2) (λ refusal.
-    ends_wider _ _ _ _ _ _ _ (omega arith) (ends_later _ _ _ v.bytes _ _ _ _ _ _ v.whole refl v.takes
-    (ends_later _ _ _ o.bytes _ _ _ _ _ _ o.whole refl o.takes
-    (c.in_err-object_tris.ensures.short refusal))))
+    let v = c.in_ok-vertices.ensures in
+    let o = c.in_ok-occluders.ensures in
+    let before = progress_then (table_read v.taken v.fetches) (table_read o.taken o.fetches) in
+    rw (p.1, p.2) (fetches_failed before (omega arith) (omega arith) c.in_err-object_tris.ensures.fetches)
 
-pub returns-in_err-objects-clause-short : goal.returns-in_err-objects-clause-short
-returns-in_err-objects-clause-short g c =
+pub returns-in_err-objects-clause-fetches : goal.returns-in_err-objects-clause-fetches
+returns-in_err-objects-clause-fetches g c =
     let p = err_from_is_err_and c.from_residual-in_err-objects.result c.from_residual-in_err-objects.ensures.1 in
-    let v = c.in_ok-vertices.ensures.taken in
-    let o = c.in_ok-occluders.ensures.taken in
-    let t = c.in_ok-object_tris.ensures.taken in
-    rw (p.1, p.2) (λ refusal.
-    ends_wider _ _ _ _ _ _ _ (omega arith) (ends_later _ _ _ v.bytes _ _ _ _ _ _ v.whole refl v.takes
-    (ends_later _ _ _ o.bytes _ _ _ _ _ _ o.whole refl o.takes
-    (ends_later _ _ _ t.bytes _ _ _ _ _ _ t.whole refl t.takes
-    (c.in_err-objects.ensures.short refusal)))))
+    let v = c.in_ok-vertices.ensures in
+    let o = c.in_ok-occluders.ensures in
+    let t = c.in_ok-object_tris.ensures in
+    let first = progress_then (table_read v.taken v.fetches) (table_read o.taken o.fetches) in
+    let before = progress_then first (table_read t.taken t.fetches) in
+    rw (p.1, p.2) (fetches_failed before (omega arith) (omega arith) c.in_err-objects.ensures.fetches)
 
-pub returns-in_err-cameras-clause-short : goal.returns-in_err-cameras-clause-short
-returns-in_err-cameras-clause-short g c =
+pub returns-in_err-cameras-clause-fetches : goal.returns-in_err-cameras-clause-fetches
+returns-in_err-cameras-clause-fetches g c =
     let p = err_from_is_err_and c.from_residual-in_err-cameras.result c.from_residual-in_err-cameras.ensures.1 in
-    let v = c.in_ok-vertices.ensures.taken in
-    let o = c.in_ok-occluders.ensures.taken in
-    let t = c.in_ok-object_tris.ensures.taken in
-    let j = c.in_ok-objects.ensures.taken.table in
-    rw (p.1, p.2) (λ refusal.
-    ends_wider _ _ _ _ _ _ _ (omega arith) (ends_later _ _ _ v.bytes _ _ _ _ _ _ v.whole refl v.takes
-    (ends_later _ _ _ o.bytes _ _ _ _ _ _ o.whole refl o.takes
-    (ends_later _ _ _ t.bytes _ _ _ _ _ _ t.whole refl t.takes
-    (ends_later _ _ _ j.bytes _ _ _ _ _ _ j.whole refl j.takes
-    (c.in_err-cameras.ensures.short refusal))))))
+    let v = c.in_ok-vertices.ensures in
+    let o = c.in_ok-occluders.ensures in
+    let t = c.in_ok-object_tris.ensures in
+    let j = c.in_ok-objects.ensures in
+    let first = progress_then (table_read v.taken v.fetches) (table_read o.taken o.fetches) in
+    let second = progress_then first (table_read t.taken t.fetches) in
+    let before = progress_then second (table_read j.taken.table j.fetches) in
+    rw (p.1, p.2) (fetches_failed before (omega arith) (omega arith) c.in_err-cameras.ensures.fetches)
+
+pub returns-clause-fetches : goal.returns-clause-fetches
+returns-clause-fetches g c =
+    let v = c.in_ok-vertices.ensures in
+    let o = c.in_ok-occluders.ensures in
+    let t = c.in_ok-object_tris.ensures in
+    let j = c.in_ok-objects.ensures in
+    let m = c.in_ok-cameras.ensures in
+    let first = progress_then (table_read v.taken v.fetches) (table_read o.taken o.fetches) in
+    let second = progress_then first (table_read t.taken t.fetches) in
+    let third = progress_then second (table_read j.taken.table j.fetches) in
+    fetches_whole (progress_then third (table_read m.taken m.fetches)) (omega arith)
 
 pub returns-clause-taken : goal.returns-clause-taken
 returns-clause-taken g c =

@@ -1,8 +1,14 @@
 use Rattle.std.proofs.Common.{◌≡◌, refl, arith, length, ap, List, ℕ}
 use Rattle.std.proofs.lemmas.Result.{err_from_is_err_and}
 use Rattle.scene_reader.specs.Fault.{tri_of}
-use Rattle.scene_reader.proofs.Entries.{table_none, table_more, table_ends}
+use Rattle.scene_reader.proofs.Entries.{table_none, table_more}
+use Rattle.scene_reader.proofs.Turns.{progress_none, progress_of, progress_table, progress_then, fetches_failed, fetches_memory, fetches_whole}
 use Rattle.scene_reader.proofs.tables.read_triangles.Goals as goal
+
+pub returns-in_err-triangles-clause-fetches : goal.returns-in_err-triangles-clause-fetches
+returns-in_err-triangles-clause-fetches g c =
+    let p = err_from_is_err_and c.from_residual.result c.from_residual.ensures.1 in
+    rw (p.1, p.2) (fetches_memory (progress_none _) (omega arith))
 
 pub loop-i-init : goal.loop-i-init
 loop-i-init g c = record {
@@ -12,17 +18,30 @@ loop-i-init g c = record {
   turns = omega arith;
 }
 
-pub returns-in_err-fetch-clause-short : goal.returns-in_err-fetch-clause-short
-returns-in_err-fetch-clause-short g c =
+pub returns-in_err-fetch-clause-fetches : goal.returns-in_err-fetch-clause-fetches
+returns-in_err-fetch-clause-fetches g c =
     let p = err_from_is_err_and c.from_residual-in_err-fetch.result c.from_residual-in_err-fetch.ensures.1 in
-    rw (p.1, p.2) (λ refusal. table_ends 12 _ c.loop-i.i c.args.count c.args.need c.args.taken tri_of _ _ _ c.loop-i.triangles.items _ c.loop-i.invariant.buffer c.loop-i-test.true c.loop-i.invariant.taken (c.in_err-fetch.ensures.short refusal))
+    let i = c.loop-i.invariant in
+    rw (p.1, p.2) (fetches_failed (progress_table i.taken i.faults i.turns) (omega arith) refl c.in_err-fetch.ensures.fetches)
+
+pub returns-in_err-push-clause-fetches : goal.returns-in_err-push-clause-fetches
+returns-in_err-push-clause-fetches g c =
+    let p = err_from_is_err_and c.from_residual-in_err-push.result c.from_residual-in_err-push.ensures.1 in
+    let i = c.loop-i.invariant in
+    let one : length c.fetch.new.buffer ≡ length c.loop-i.entry = omega arith in
+    rw (p.1, p.2) (fetches_memory (progress_then (progress_table i.taken i.faults i.turns) (progress_of c.fetch.new.buffer one c.in_ok-fetch.ensures.taken c.in_ok-fetch.ensures.fetches.reads)) (omega arith))
 
 pub loop-i-preserved : goal.loop-i-preserved
-loop-i-preserved g c = let i = c.loop-i.invariant in
+loop-i-preserved g c =
+    let i = c.loop-i.invariant in
     let one : length c.fetch.new.buffer ≡ 12 = omega (arith, c.fetch.auto.buffer, i.buffer) in
+    let reads = c.in_ok-fetch.ensures.fetches.reads in
     record {
       buffer = one;
       taken = rw c.in_ok-push.ensures.items (table_more 12 c.loop-i.i tri_of _ _ _ c.loop-i.triangles.items c.fetch.new.buffer (record { 0 = c.words_of.result }) one (ap (λ (ws : List ℕ). record { 0 = ws }) c.words_of.ensures) i.taken c.in_ok-fetch.ensures.taken);
-      faults = omega (arith, i.faults, c.in_ok-fetch.ensures.faults_stay);
-      turns = omega (arith, i.turns, c.in_ok-fetch.ensures.turns);
+      faults = omega (arith, i.faults, reads.faults_stay);
+      turns = omega (arith, i.turns, reads.turns);
     }
+
+pub returns-clause-fetches : goal.returns-clause-fetches
+returns-clause-fetches g c = let i = c.loop-i.invariant in fetches_whole (progress_table i.taken i.faults i.turns) (omega arith)

@@ -7,7 +7,7 @@ abbrev pub invariant-loop-i : goal.invariant-loop-i
 invariant-loop-i g l =
     record {
       buffer : length l.entry ≡ 12;
-      taken : TakesTable 12 l.i tri_of (g.S.Source.left l.fn.source) (g.S.Source.left l.source) l.triangles.items;
-      faults : g.S.Source.faults l.fn.source ≤ g.S.Source.faults l.source;
-      turns : g.S.Source.turns l.source ≤ g.S.Source.turns l.fn.source + 12 * l.i;
+      taken : TakesTable 12 l.i tri_of (g.S.Source.says l.fn.source) (g.S.Source.says l.source) l.triangles.items;
+      faults : (g.S.Source.says l.fn.source).faults ≤ (g.S.Source.says l.source).faults;
+      turns : (g.S.Source.says l.source).turns ≤ (g.S.Source.says l.fn.source).turns + 12 * l.i;
     }

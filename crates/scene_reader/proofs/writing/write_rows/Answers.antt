@@ -1,6 +1,4 @@
-use Rattle.std.proofs.Common.{List, ℤ, Ok, Err, subst}
 use Rattle.std.proofs.lemmas.Result.{err_from_is_err_and}
-use Rattle.cull_base.specs.Stream.{Writes}
 use Rattle.scene_reader.specs.Layout.{row_bytes}
 use Rattle.scene_reader.proofs.Appending.{stops_at, goes_on}
 use Rattle.scene_reader.proofs.writing.write_rows.Goals as goal

@@ -2,7 +2,7 @@ use Rattle.std.proofs.Common.{◌++◌, List, ℕ}
 use Rattle.std.specs.List.{flat_map}
 use Rattle.std.proofs.lemmas.Result.{err_from_is_err_and}
 use Rattle.cull_base.proofs.Streams.{writes_no_more}
-use Rattle.scene_reader.specs.Layout.{Parts, layout, header_bytes, row_bytes, tri_bytes, object_bytes}
+use Rattle.scene_reader.specs.Layout.{Parts, layout, row_bytes, tri_bytes, object_bytes}
 use Rattle.scene_reader.proofs.Appending.{writes_on}
 use Rattle.scene_reader.proofs.writing.write_scene.Goals as goal
 

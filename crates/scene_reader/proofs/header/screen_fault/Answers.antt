@@ -3,7 +3,7 @@ use Rattle.std.specs.Prelude.{◌||◌, nat_lt}
 use Rattle.std.proofs.lemmas.Bool.{true_from_ne_false, both_ways, or_left, or_right, or_from, lt-ltb, le-ltb}
 use Rattle.scene_reader.specs.Fault.{screen_fault, is_bad_size}
 use Rattle.scene_reader.proofs.Valid.{size_valid, size_good}
-use Rattle.scene_reader.proofs.checks.screen_fault.Goals as goal
+use Rattle.scene_reader.proofs.header.screen_fault.Goals as goal
 
 pub returns-then-is_none-clause-value : goal.returns-then-is_none-clause-value
 unfolding screen_fault

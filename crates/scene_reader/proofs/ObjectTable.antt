@@ -3,7 +3,9 @@ use Rattle.std.proofs.Common.{◌≡◌, ℕ, ℤ, suc, zero, ◌+◌, ◌≤◌
 use Rattle.std.specs.Option.{option_or}
 use Rattle.std.proofs.lemmas.Bool.{le-ltb}
 use Rattle.std.proofs.lemmas.List.{length-map}
+use Rattle.cull_base.specs.Stream.{SourceSays}
 use Rattle.cull_base.specs.declared.scene_types.Object.{Object}
+use Rattle.scene_reader.specs.declared.objects.Objects.{Objects}
 use Rattle.scene_reader.specs.declared.error.SceneError.{SceneError}
 use Rattle.scene_reader.specs.declared.error.SceneError.TheVariants.{BadObject}
 use Rattle.scene_reader.specs.Layout.{IsObject, kind_of, numbers_of, stored}
@@ -53,26 +55,26 @@ unfolding entries
 length_entries size zero bytes = refl
 length_entries size (suc n) bytes = ap suc (length_entries size n (drop size bytes))
 
-pub objects_none : (m : ℕ) (a : Option (List ℕ)) (items : List Object) → items ≡ [] → TakesObjects 0 m a a items None
-objects_none m a items e = record {
+pub objects_none : (m : ℕ) (a : SourceSays) (objects : Objects) → objects.items.items ≡ [] → objects.fault ≡ None → TakesObjects 0 m a a objects
+objects_none m a objects e clear = record {
   raws = [];
   table = table_none 25 raw_of a [] refl;
-  first = refl;
+  first = clear;
   whole = λ _. ap (map stored) e;
   valid = subst (λ (xs : List Object). All (IsObject m) xs) (sym e) (λ k d lt. absurd (omega (arith, lt)));
 }
 
-pub objects_more : (m i : ℕ) (a b c : Option (List ℕ)) (items after : List Object) (fault fault_after : Option SceneError) (piece : List ℕ)
-    → length piece ≡ 25 → TakesObjects i m a b items fault → Takes b c piece
-    → fault_after ≡ option_or fault (object_fault m i (raw_of piece))
-    → (fault_after ≡ None → map stored after ≡ map stored items ++ raw_of piece ∷ [])
-    → (All (IsObject m) items → All (IsObject m) after)
-    → TakesObjects (i + 1) m a c after fault_after
-objects_more m i a b c items after fault fault_after piece one t p first whole valid = record {
+pub objects_more : (m i : ℕ) (a b c : SourceSays) (before after : Objects) (piece : List ℕ)
+    → length piece ≡ 25 → TakesObjects i m a b before → Takes b.left c.left piece
+    → after.fault ≡ option_or before.fault (object_fault m i (raw_of piece))
+    → (after.fault ≡ None → map stored after.items.items ≡ map stored before.items.items ++ raw_of piece ∷ [])
+    → (All (IsObject m) before.items.items → All (IsObject m) after.items.items)
+    → TakesObjects (i + 1) m a c after
+objects_more m i a b c before after piece one t p first whole valid = record {
   raws = t.raws ++ raw_of piece ∷ [];
   table = table_more 25 i raw_of a b c t.raws piece (raw_of piece) one refl t.table p;
   first = first ∙ ap (λ (o : Option SceneError). option_or o (object_fault m i (raw_of piece))) t.first ∙ sym (first_append (object_fault m) 0 i t.raws (raw_of piece) count);
-  whole = λ e. whole e ∙ ap (λ (r : List (ℕ × List ℤ)). r ++ raw_of piece ∷ []) (t.whole (clear fault (object_fault m i (raw_of piece)) (sym first ∙ e)));
+  whole = λ e. whole e ∙ ap (λ (r : List (ℕ × List ℤ)). r ++ raw_of piece ∷ []) (t.whole (clear before.fault (object_fault m i (raw_of piece)) (sym first ∙ e)));
   valid = valid t.valid;
 }
   where

@@ -1,0 +1,47 @@
+use Rattle.std.proofs.Common.{◌≡◌, refl, arith, length}
+use Rattle.std.proofs.lemmas.Result.{err_from_is_err_and}
+use Rattle.scene_reader.proofs.ObjectTable.{objects_none, objects_more}
+use Rattle.scene_reader.proofs.Turns.{progress_none, progress_of, progress_table, progress_then, fetches_failed, fetches_memory, fetches_whole}
+use Rattle.scene_reader.proofs.objects.read_objects.Goals as goal
+
+pub returns-in_err-with_capacity-clause-fetches : goal.returns-in_err-with_capacity-clause-fetches
+returns-in_err-with_capacity-clause-fetches g c =
+    let p = err_from_is_err_and c.from_residual.result c.from_residual.ensures.1 in
+    rw (p.1, p.2) (fetches_memory (progress_none _) (omega arith))
+
+pub loop-i-init : goal.loop-i-init
+loop-i-init g c = record {
+  buffer = refl;
+  taken = objects_none c.args.object_tris _ _ c.in_ok-with_capacity.ensures.items refl;
+  faults = omega arith;
+  turns = omega arith;
+}
+
+pub returns-in_err-fetch-clause-fetches : goal.returns-in_err-fetch-clause-fetches
+returns-in_err-fetch-clause-fetches g c =
+    let p = err_from_is_err_and c.from_residual-in_err-fetch.result c.from_residual-in_err-fetch.ensures.1 in
+    let i = c.loop-i.invariant in
+    rw (p.1, p.2) (fetches_failed (progress_table i.taken.table i.faults i.turns) (omega arith) refl c.in_err-fetch.ensures.fetches)
+
+pub returns-in_err-keep-clause-fetches : goal.returns-in_err-keep-clause-fetches
+returns-in_err-keep-clause-fetches g c =
+    let p = err_from_is_err_and c.from_residual-in_err-keep.result c.from_residual-in_err-keep.ensures.1 in
+    let i = c.loop-i.invariant in
+    let one : length c.fetch.new.buffer ≡ length c.loop-i.entry = omega arith in
+    rw (p.1, p.2) (fetches_memory (progress_then (progress_table i.taken.table i.faults i.turns) (progress_of c.fetch.new.buffer one c.in_ok-fetch.ensures.taken c.in_ok-fetch.ensures.fetches.reads)) (omega arith))
+
+pub loop-i-preserved : goal.loop-i-preserved
+loop-i-preserved g c =
+    let i = c.loop-i.invariant in
+    let one : length c.fetch.new.buffer ≡ 25 = omega (arith, c.fetch.auto.buffer, i.buffer) in
+    let reads = c.in_ok-fetch.ensures.fetches.reads in
+    let after = c.in_ok-keep.ensures in
+    record {
+      buffer = one;
+      taken = objects_more c.args.object_tris c.loop-i.i _ _ _ c.loop-i.objects _ c.fetch.new.buffer one i.taken c.in_ok-fetch.ensures.taken after.first after.items after.valid;
+      faults = omega (arith, i.faults, reads.faults_stay);
+      turns = omega (arith, i.turns, reads.turns);
+    }
+
+pub returns-clause-fetches : goal.returns-clause-fetches
+returns-clause-fetches g c = let i = c.loop-i.invariant in fetches_whole (progress_table i.taken.table i.faults i.turns) (omega arith)
