@@ -1,12 +1,16 @@
 -- The pixels of the screen that a rectangle has.
-use Rattle.std.proofs.Common.{◌≡◌, ℕ, ℤ, pos, ◌≤◌, ◌<◌, ◌≤ℤ◌, ◌<ℤ◌, Bool, true, false, ◌&&◌, cond, arith, refl, ap, ◌∙◌, int_lt, int_le}
-use Rattle.std.specs.Int.{int_min, int_max}
+use Rattle.std.proofs.Common.{◌≡◌, ℕ, ℤ, pos, ◌+◌, ◌*◌, ◌/◌, ◌%◌, ◌≤◌, ◌<◌, ◌≤ℤ◌, ◌<ℤ◌, Bool, true, false, ◌&&◌, cond, arith, refl, ap, ◌∙◌, int_lt, int_le}
+use Rattle.std.specs.Int.{int_min, int_max, div_ceil}
 use Rattle.std.proofs.lemmas.Int.{ints}
+use Rattle.std.proofs.lemmas.Nat.{div-mul-add}
+use Rattle.std.proofs.Math.Nat.{mul-add-mod_self_right, mod-eq_of_lt}
+use Rattle.cull_base.proofs.Rectangles.{meets_pixel}
+use Rattle.cull_report.proofs.Pixels.{tile_below}
 use Rattle.cull_base.specs.declared.rect.Rect.{Rect}
-use Rattle.cull_base.specs.Screen.{Dimensions, IsSize, screen_of}
-use Rattle.cull_base.specs.Rectangle.{meets, cut_of, common, no_pixels}
+use Rattle.cull_base.specs.Screen.{Dimensions, IsSize, screen_of, tile_columns_of, tile_rows_of, tile_rect_of}
+use Rattle.cull_base.specs.Rectangle.{HasPixel, meets, cut_of, common, no_pixels}
 use Rattle.cull_report.specs.declared.area.Area.{Area}
-use Rattle.cull_report.specs.Area.{IsIn, IsAreaOf}
+use Rattle.cull_report.specs.Area.{IsIn, IsAreaOf, HoldsMet, HoldsArea}
 use Rattle.cull_report.specs.Pixels.{has_pixel}
 use Rattle.cull_report.proofs.Hiding.{and_true}
 
@@ -59,3 +63,32 @@ cut_whole r cut screen size m ec es =
   where
     ends : (a0 a1 : ℤ) (w : ℕ) → int_lt (int_max a0 (pos 0)) (int_min a1 (pos w)) ≡ true → (pos 0 ≤ℤ int_max a0 (pos 0)) × (pos 0 ≤ℤ int_min a1 (pos w))
     ends a0 a1 w lt = (grind (arith, ints), grind (arith, ints))
+
+held_axis : (a0 a1 : ℤ) (p : ℕ) → (int_le a0 (pos p) && int_lt (pos p) a1) ≡ true → (a0 ≤ℤ pos p) × (pos p <ℤ a1)
+held_axis a0 a1 p t = (grind (arith, ints), grind (arith, ints))
+
+-- a view that holds the tiles that a rectangle meets holds the tile of each pixel of its area
+pub holds_area : (held : ℕ → Bool) (size : Dimensions) (a : Area) (r : Rect) → IsSize size.width size.height → IsAreaOf a r size → HoldsMet held size r → HoldsArea held size a
+holds_area held size a r valid is holds px py inside =
+    let x : px < size.width = omega (arith, inside.right, is.area.width_within) in let y : py < size.height = omega (arith, inside.below, is.area.height_within) in
+    let columns = tile_columns_of size in
+    let column : px / 32 < columns = column_below size.width px x in
+    let row : py / 8 < tile_rows_of size = row_below size.height py y in
+    let t = py / 8 * columns + px / 32 in
+    let at_row = div-mul-add (py / 8) columns (px / 32) column in
+    let at_column : t % columns ≡ px / 32 = mul-add-mod_self_right (py / 8) columns (px / 32) ∙ mod-eq_of_lt column in
+    let both = and_true (int_le r.x0 (pos px) && int_lt (pos px) r.x1) (int_le r.y0 (pos py) && int_lt (pos py) r.y1) (is.has px py inside) in
+    let h = held_axis r.x0 r.x1 px both.0 in let v = held_axis r.y0 r.y1 py both.1 in
+    let here : HasPixel (tile_rect_of size t) (pos px) (pos py) = rw (at_row, at_column) (
+      omega (arith, ints),
+      omega (arith, ints, x),
+      omega (arith, ints),
+      omega (arith, ints, y),
+    ) in
+    holds t (tile_below (py / 8) (tile_rows_of size) (px / 32) columns row column) ((meets_pixel r (tile_rect_of size t)).1 (pos px, pos py, (h.0, h.1, v.0, v.1), here))
+  where
+    column_below : (w px : ℕ) → px < w → px / 32 < div_ceil w 32
+    column_below w px lt = omega arith
+
+    row_below : (h py : ℕ) → py < h → py / 8 < div_ceil h 8
+    row_below h py lt = omega arith

@@ -12,6 +12,7 @@ use Rattle.cull_base.specs.State.{State, hides}
 use Rattle.cull_report.specs.declared.area.Area.{Area}
 use Rattle.cull_report.specs.Area.{IsIn, IsAreaOf}
 use Rattle.cull_report.specs.Pixels.{sub_of_pixel, sample_of_pixel, at_each_pixel, at_some_pixel, has_pixel}
+use Rattle.cull_report.specs.Shapes.{rectangle_shape}
 use Rattle.cull_report.specs.Shape.{Shape, Flat, flat_shape, has_sample, is_hidden_at, is_hidden, verdict_of}
 
 pub and_true : (p q : Bool) → (p && q) ≡ true → (p ≡ true) × (q ≡ true)
@@ -112,3 +113,10 @@ flat_outside size r q f m = rw m refl
 
 pub flat_tested : (size : Dimensions) (r : Rect) (q : ℕ) (f : Sub → State) (b : Bool) → meets r (screen_of size) ≡ true → is_hidden size f (Flat r q) ≡ b → verdict_of size f (flat_shape size r q) ≡ cond b Occluded Visible
 flat_tested size r q f b m h = rw (m, h) refl
+
+-- a rectangle before the near distance
+pub front_visible : (top near : ℕ) (size : Dimensions) (r : Rect) (w : ℤ) (f : Sub → State) → w <ℤ pos near → meets r (screen_of size) ≡ true → Visible ≡ verdict_of size f (rectangle_shape top near size r w)
+front_visible top near size r w f lt m = let t : int_lt w (pos near) ≡ true = grind (arith, ints) in rw (m, t) refl
+
+pub met : (m b : Bool) (r screen : Rect) (size : Dimensions) → m ≡ meets r screen → screen ≡ screen_of size → m ≡ b → meets r (screen_of size) ≡ b
+met m b r screen size e s t = ap (meets r) (sym s) ∙ sym e ∙ t

@@ -4,6 +4,7 @@ use Rattle.std.specs.Prelude.{slice_get}
 use Rattle.std.specs.List.{All, Contains}
 use Rattle.std.proofs.lemmas.Bool.Decides.{nat_tests}
 use Rattle.std.proofs.lemmas.Int.{ints}
+use Rattle.std.proofs.lemmas.Option.{slice_get_within, get_or_from_slice_get}
 use Rattle.std.proofs.Math.Nat.{mul-le-mul_right}
 use Rattle.cull_base.specs.declared.nearness.TheConstants.{GRADE_TOP}
 use Rattle.cull_base.specs.declared.rect.Rect.{Rect}
@@ -96,9 +97,7 @@ rectangle_is_flat top near size r w = by (int_lt w (pos near)) (meets r (screen_
     by false false = tt
 
 built_there : (near : ℕ) (os : List Object) (o : ℕ) (x : Object) → All (IsBuiltObject near) os → slice_get os o ≡ Some x → IsBuiltObject near x
-built_there near [] o x h e = absurd cc
-built_there near (y ∷ ys) zero x h e = let is : y ≡ x = cc in subst (IsBuiltObject near) is h.0
-built_there near (y ∷ ys) (suc o) x h e = built_there near ys o x h.1 e
+built_there near os o x h e = subst (IsBuiltObject near) (get_or_from_slice_get os o x x e) (h o x (slice_get_within os o x e))
 
 built_is_flat : (s : Parts) (frame : ℕ) (x : Object) → IsBuiltObject s.near x → IsFlat (object_shape s frame x)
 unfolding object_shape

@@ -1,5 +1,5 @@
 -- Pixels by tile, subtile and sample.
-use Rattle.std.proofs.Common.{◌≡◌, ℕ, ◌+◌, ◌*◌, ◌/◌, ◌%◌, ◌<◌, ◌≤◌, ◌&&◌, true, max, suc, arith}
+use Rattle.std.proofs.Common.{◌≡◌, ℕ, ◌+◌, ◌*◌, ◌/◌, ◌%◌, ◌<◌, ◌≤◌, ◌&&◌, true, max, suc, refl, arith}
 use Rattle.std.proofs.Math.Nat.{mul-le-mul_right}
 use Rattle.std.proofs.lemmas.Bool.Decides.{nat_tests}
 use Rattle.cull_base.specs.Span.{is_between}
@@ -52,3 +52,9 @@ column_of_tile x0 column le = omega arith
 
 pub row_of_tile : (y0 row : ℕ) → y0 / 8 ≤ row → max y0 (8 * row) / 8 ≡ row
 row_of_tile y0 row le = omega arith
+
+-- the number of the tile of a pixel's subtile
+pub tile_is : (px py row column columns c : ℕ) → columns ≡ c → px / 32 ≡ column → py / 8 ≡ row → py / 4 / 2 * c + px / 8 / 4 ≡ row * columns + column
+tile_is px py row column columns c e f g =
+    let r : py / 4 / 2 ≡ row = omega arith in let k : px / 8 / 4 ≡ column = omega arith in
+    rw (r, k, e) refl

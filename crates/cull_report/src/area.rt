@@ -3,7 +3,7 @@
 ghost use Rattle.std.specs.Prelude.{◌≡◌, ℕ, pos, ◌≤ℤ◌, ◌+◌, ◌*◌, ◌/◌, ◌%◌, ◌<◌, ◌≤◌, ◌^◌, true, cond, map, IsTrue, ◌↔◌};
 ghost use Rattle.std.specs.List.{range_with_len};
 ghost use Rattle.std.specs.Simd.Lanes.{mask_l};
-ghost use Rattle.cull_base.specs.Screen.{screen_of};
+ghost use Rattle.cull_base.specs.Screen.{IsSize, screen_of};
 ghost use Rattle.cull_base.specs.Rectangle.{meets};
 ghost use Rattle.cull_base.specs.Span.{is_between};
 ghost use Rattle.cull_base.specs.State.{has, samples_of, hides};
@@ -45,8 +45,10 @@ impl Area {
     /// The pixels of a rectangle that are in the screen. Condition: there is one.
     pub fn of(rect: &Rect, size: Size) -> Area
         requires { meets rect.now (screen_of size) ≡ true }
-        ensures { IsAreaOf result rect.now size }
+        ensures pixels { IsAreaOf result rect.now size }
+        ensures sized { IsSize size.width size.height }
     {
+        let _width = size.width();
         let common = rect.cut(&size.screen());
         Area {
             x0: pixel_of(common.x0),

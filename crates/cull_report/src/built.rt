@@ -63,14 +63,20 @@ fn as_clip(vertex: &[i32; 3]) -> ClipVertex
     }
 }
 
+fn as_clips(alloc: Global, vertices: &[[i32; 3]]) -> Result<Vec<ClipVertex>, Memory>
+    ensures { IfOk result (λ v. v.items ≡ map as_clip vertices.now) }
+{
+    match vertices.iter().map(as_clip).collect(alloc) {
+        Ok(clips) => Ok(clips),
+        Err(AllocError) => Err(Memory),
+    }
+}
+
 /// The clip vertices of a built scene's only frame: through the identity camera a vertex keeps its coordinates.
 pub fn identity_clips(alloc: Global, scene: &Scene) -> Result<Vec<ClipVertex>, Memory>
     requires { IsBuilt scene.now }
     ensures { IfOk result (λ v. v.items ≡ frame_clips scene.now 0) }
 {
     identity_keeps();
-    match scene.vertices().iter().map(as_clip).collect(alloc) {
-        Ok(clips) => Ok(clips),
-        Err(AllocError) => Err(Memory),
-    }
+    as_clips(alloc, scene.vertices())
 }

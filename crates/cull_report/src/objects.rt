@@ -18,7 +18,7 @@ fn verdict_of<V: TileView>(scene: &Scene, _frame: u32, object: &Object, view: &V
     ensures { result ≡ object_verdict scene.now _frame (state_in (size_of scene.now) (V.tile_of view.now)) object.now }
 {
     match object {
-        Object::Area { rect, w } => rectangle_verdict(view, scene.size(), scene.near(), *rect, *w),
+        Object::Area { rect, w } => rectangle_verdict(view, scene.size(), scene.near(), rect, *w),
         Object::Block { .. } | Object::Mesh { .. } => unreachable!(),
     }
 }

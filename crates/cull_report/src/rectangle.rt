@@ -25,21 +25,29 @@ pub fn rect_near(w: i32, near: u16) -> Option<u32>
     Some(top.div_ceil(w as u64) as u32)
 }
 
+// The verdict of a rectangle with a nearness.
+fn verdict_at<V: TileView>(view: &V, size: Size, rect: &Rect, q: u32) -> Verdict
+    requires { HoldsMet (V.held view.now) size rect.now }
+    ensures { result ≡ verdict_of size (state_in size (V.tile_of view.now)) (flat_shape size rect.now q) }
+{
+    let screen = size.screen();
+    if !rect.meets(&screen) {
+        return Verdict::Outside;
+    }
+    if is_area_hiding(view, size, &Area::of(rect, size), q) {
+        Verdict::Occluded
+    } else {
+        Verdict::Visible
+    }
+}
+
 /// The verdict of a rectangle with nearness q: outside without a pixel in the screen, else occluded where the sample of
 /// each of its pixels in the screen hides q, else visible. Condition: the view holds each tile that the rectangle meets.
 pub fn rect_test<V: TileView>(view: &V, size: Size, rect: Rect, q: u32) -> Verdict
     requires { HoldsMet (V.held view.now) size rect }
     ensures { result ≡ verdict_of size (state_in size (V.tile_of view.now)) (flat_shape size rect q) }
 {
-    let screen = size.screen();
-    if !rect.meets(&screen) {
-        return Verdict::Outside;
-    }
-    if is_area_hiding(view, size, &Area::of(&rect, size), q) {
-        Verdict::Occluded
-    } else {
-        Verdict::Visible
-    }
+    verdict_at(view, size, &rect, q)
 }
 
 /// The verdict of a rectangle at distance w: as by its nearness, but visible before the near distance where it has a
@@ -48,16 +56,16 @@ pub fn rectangle_verdict<V: TileView>(
     view: &V,
     size: Size,
     near: u16,
-    rect: Rect,
+    rect: &Rect,
     w: i32,
 ) -> Verdict
     requires least { 1 ≤ near }
     requires most { near ≤ 1024 }
-    requires holds { HoldsMet (V.held view.now) size rect }
-    ensures { result ≡ verdict_of size (state_in size (V.tile_of view.now)) (rectangle_shape GRADE_TOP near size rect w) }
+    requires holds { HoldsMet (V.held view.now) size rect.now }
+    ensures { result ≡ verdict_of size (state_in size (V.tile_of view.now)) (rectangle_shape GRADE_TOP near size rect.now w) }
 {
     match rect_near(w, near) {
-        Some(q) => rect_test(view, size, rect, q),
+        Some(q) => verdict_at(view, size, rect, q),
         None => if rect.meets(&size.screen()) {
             Verdict::Visible
         } else {

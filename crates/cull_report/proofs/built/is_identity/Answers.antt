@@ -1,7 +1,7 @@
 use Rattle.std.proofs.Common.{◌≡◌, Bool, ◌∙◌, sym, IsTrue}
 use Rattle.std.specs.Bool.{Decides}
 use Rattle.std.specs.Cmp.Rules.{signed_items}
-use Rattle.cull_report.specs.Scene.{identity_camera}
+use Rattle.camera_path.specs.Clip.{identity_camera}
 use Rattle.cull_report.proofs.built.is_identity.Goals as goal
 
 decided : (P : Type 0) (r b : Bool) → r ≡ b → Decides b P → (IsTrue r → P) × (P → IsTrue r)

@@ -3,8 +3,7 @@ use Rattle.std.proofs.lemmas.List.{take_more, map_push}
 use Rattle.cull_base.specs.declared.scene_types.Object.{Object}
 use Rattle.cull_base.specs.declared.scene_types.Object.TheVariants.{Area}
 use Rattle.cull_base.specs.declared.scene_types.Verdict.{Verdict}
-use Rattle.cull_report.specs.Scene.{object_verdict, size_of}
-use Rattle.cull_report.specs.Rectangle.{state_in}
+use Rattle.cull_report.specs.Scene.{verdict_in}
 use Rattle.cull_report.proofs.objects.verdicts.Goals as goal
 use Rattle.cull_report.proofs.objects.verdicts.Goals.{then-settled-i, else-settled-i}
 
@@ -21,14 +20,14 @@ pub loop-i-preserved : goal.loop-i-preserved
 unfolding some_object
 loop-i-preserved g c =
     let scene = c.args.scene.now in
-    let verdict : Object → Verdict = object_verdict (size_of scene) scene.near (state_in (size_of scene) (g.V.TileView.tile_of c.args.view.now)) in
+    let verdict : Object → Verdict = verdict_in scene c.args.frame (g.V.TileView.tile_of c.args.view.now) in
     let lt : c.loop-i.i < length scene.objects = rw (← c.objects-object-items.ensures) c.loop-i-test.true in
     record {
       tested = elim c.if-settled-i.branch [
         | then-settled-i w ↦ pushed verdict scene.objects c.loop-i.i _ _ c.if-settled-i.verdict some_object c.loop-i.invariant.tested lt
             (w.verdict-is ∙ sym (c.requires.right c.loop-i.i some_object lt w.if-settled-i.true)) c.push_reserved.ensures.items
         | else-settled-i w ↦ pushed verdict scene.objects c.loop-i.i _ _ c.if-settled-i.verdict some_object c.loop-i.invariant.tested lt
-            (w.verdict-is ∙ rw (← c.size-size.ensures, ← c.near-near.ensures.value, ← c.objects-object-items.ensures) w.verdict_of-verdict.ensures) c.push_reserved.ensures.items
+            (w.verdict-is ∙ w.verdict_of-verdict.ensures ∙ ap (λ (os : List Object). verdict (get_or os c.loop-i.i some_object)) c.objects-object-items.ensures) c.push_reserved.ensures.items
       ];
       room = omega (arith, c.loop-i.invariant.room, c.push_reserved.ensures.capacity);
     }

@@ -1,10 +1,9 @@
 use Rattle.std.proofs.Common.{◌≡◌, ◌≤◌, length, map, take, vec_capacity}
-use Rattle.cull_report.specs.Scene.{object_verdict, size_of}
-use Rattle.cull_report.specs.Rectangle.{state_in}
+use Rattle.cull_report.specs.Scene.{verdict_in}
 use Rattle.cull_report.proofs.objects.verdicts.Given as goal
 
 abbrev pub invariant-loop-i : goal.invariant-loop-i
 invariant-loop-i g l = record {
-  tested : l.verdicts.items ≡ map (object_verdict (size_of l.scene) l.scene.near (state_in (size_of l.scene) (g.V.TileView.tile_of l.view))) (take l.i l.scene.objects);
+  tested : l.verdicts.items ≡ map (verdict_in l.scene l.frame (g.V.TileView.tile_of l.view)) (take l.i l.scene.objects);
   room : length l.scene.objects ≤ vec_capacity l.verdicts;
 }
