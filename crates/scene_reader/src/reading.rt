@@ -13,7 +13,7 @@ use crate::intake::{fetch, fill};
 use crate::objects::{OBJECT, read_objects};
 use crate::parts::SceneParts;
 use crate::scene::Scene;
-use crate::tables::{CAMERA, TRIANGLE, VERTEX, read_cameras, read_triangles, read_vertices};
+use crate::tables::{CAMERA, TRIANGLE, VERTEX, read_table};
 use cull_base::Source;
 use std::alloc::Global;
 
@@ -42,9 +42,9 @@ fn read_parts<S: Source>(alloc: Global, source: &mut S, header: Header) -> Resul
     let objects_at = object_tris_at + TRIANGLE * counts.object_tris;
     let cameras_at = objects_at + OBJECT * counts.objects;
     let need = cameras_at + CAMERA * counts.frames;
-    let vertices = read_vertices(alloc, source, counts.vertices, need, HEADER)?;
-    let occluders = read_triangles(alloc, source, counts.occluders, need, occluders_at)?;
-    let object_tris = read_triangles(alloc, source, counts.object_tris, need, object_tris_at)?;
+    let vertices = read_table(alloc, source, counts.vertices, need, HEADER)?;
+    let occluders = read_table(alloc, source, counts.occluders, need, occluders_at)?;
+    let object_tris = read_table(alloc, source, counts.object_tris, need, object_tris_at)?;
     let objects = read_objects(
         alloc,
         source,
@@ -53,7 +53,7 @@ fn read_parts<S: Source>(alloc: Global, source: &mut S, header: Header) -> Resul
         need,
         objects_at,
     )?;
-    let cameras = read_cameras(alloc, source, counts.frames, need, cameras_at)?;
+    let cameras = read_table(alloc, source, counts.frames, need, cameras_at)?;
     let parts = SceneParts {
         width,
         height,

@@ -1,7 +1,8 @@
 //! The tables of a scene, read entry by entry. Room is taken once for each, by the count of an accepted header.
-ghost use Rattle.std.specs.Prelude.{◌+◌, ◌*◌, ◌^◌, ◌<◌, IfOk};
+ghost use Rattle.std.specs.Prelude.{◌≡◌, ℕ, List, ◌+◌, ◌*◌, ◌^◌, ◌<◌, ◌≤◌, length, IfOk};
 ghost use Rattle.scene_reader.specs.Fault.{row_of, tri_of};
 ghost use Rattle.scene_reader.specs.Reading.{TakesTable, Fetches};
+ghost use Rattle.std.proofs.Common.{arith};
 
 use crate::error::SceneError;
 use crate::intake::fetch;
@@ -16,65 +17,82 @@ pub const TRIANGLE: u32 = 12;
 
 pub const CAMERA: u32 = 48;
 
-/// The next table of vertices.
-pub fn read_vertices<S: Source>(
-    alloc: Global,
-    source: &mut S,
-    count: u32,
-    need: u32,
-    taken: u32,
-) -> Result<Vec<[i32; 3]>, SceneError>
-    requires { taken + 12 * count < 2 ^ 32 }
-    ensures taken { IfOk result (λ v. TakesTable 12 count (row_of 3) (S.says source.old) (S.says source.new) v.items) }
-    ensures fetches { Fetches (12 * count) need taken (S.says source.old) (S.says source.new) result }
-{
-    let mut vertices = Vec::with_capacity(alloc, count as usize)?;
-    let mut entry = [0; 12];
-    for i in 0..count {
-        fetch(source, &mut entry, need, taken + VERTEX * i)?;
-        vertices.push(row_of(&entry))?;
-    }
-    Ok(vertices)
+/// What stands in a table, in so many bytes.
+pub trait Entry: Drop {
+    ghost SIZE: { ℕ };
+
+    /// What an entry's bytes are read as.
+    ghost value: { List ℕ → Self };
+
+    const SIZE: u32;
+
+    fn read(bytes: &[u8]) -> Self
+        requires { length bytes.now ≡ SIZE }
+        ensures { result ≡ value bytes.now };
+
+    ghost fits: { SIZE ≤ 48 };
 }
 
-/// The next table of triangles.
-pub fn read_triangles<S: Source>(
-    alloc: Global,
-    source: &mut S,
-    count: u32,
-    need: u32,
-    taken: u32,
-) -> Result<Vec<Tri>, SceneError>
-    requires { taken + 12 * count < 2 ^ 32 }
-    ensures taken { IfOk result (λ v. TakesTable 12 count tri_of (S.says source.old) (S.says source.new) v.items) }
-    ensures fetches { Fetches (12 * count) need taken (S.says source.old) (S.says source.new) result }
-{
-    let mut triangles = Vec::with_capacity(alloc, count as usize)?;
-    let mut entry = [0; 12];
-    for i in 0..count {
-        fetch(source, &mut entry, need, taken + TRIANGLE * i)?;
-        triangles.push(Tri(words_of(&entry)))?;
+impl Entry for [i32; 3] {
+    ghost SIZE = { 12 };
+
+    ghost value = { row_of 3 };
+
+    ghost fits = { Prim.omega arith };
+
+    const SIZE: u32 = VERTEX;
+
+    fn read(bytes: &[u8]) -> [i32; 3] {
+        row_of(bytes)
     }
-    Ok(triangles)
 }
 
-/// The next table of cameras.
-pub fn read_cameras<S: Source>(
+impl Entry for Tri {
+    ghost SIZE = { 12 };
+
+    ghost value = { tri_of };
+
+    ghost fits = { Prim.omega arith };
+
+    const SIZE: u32 = TRIANGLE;
+
+    fn read(bytes: &[u8]) -> Tri {
+        Tri(words_of(bytes))
+    }
+}
+
+impl Entry for [i32; 12] {
+    ghost SIZE = { 48 };
+
+    ghost value = { row_of 12 };
+
+    ghost fits = { Prim.omega arith };
+
+    const SIZE: u32 = CAMERA;
+
+    fn read(bytes: &[u8]) -> [i32; 12] {
+        row_of(bytes)
+    }
+}
+
+/// The next table, of so many entries.
+pub fn read_table<S: Source, E: Entry>(
     alloc: Global,
     source: &mut S,
     count: u32,
     need: u32,
     taken: u32,
-) -> Result<Vec<[i32; 12]>, SceneError>
-    requires { taken + 48 * count < 2 ^ 32 }
-    ensures taken { IfOk result (λ v. TakesTable 48 count (row_of 12) (S.says source.old) (S.says source.new) v.items) }
-    ensures fetches { Fetches (48 * count) need taken (S.says source.old) (S.says source.new) result }
+) -> Result<Vec<E>, SceneError>
+    requires { taken + E.SIZE * count < 2 ^ 32 }
+    ensures taken { IfOk result (λ v. TakesTable E.SIZE count E.value (S.says source.old) (S.says source.new) v.items) }
+    ensures fetches { Fetches (E.SIZE * count) need taken (S.says source.old) (S.says source.new) result }
 {
-    let mut cameras = Vec::with_capacity(alloc, count as usize)?;
-    let mut entry = [0; 48];
+    let mut items = Vec::with_capacity(alloc, count as usize)?;
+    let mut buffer = [0; 48];
+    let entry = &mut buffer[..E::SIZE as usize];
     for i in 0..count {
-        fetch(source, &mut entry, need, taken + CAMERA * i)?;
-        cameras.push(row_of(&entry))?;
+        fetch(source, entry, need, taken + E::SIZE * i)?;
+        items.push(E::read(entry))?;
     }
-    Ok(cameras)
+    Ok(items)
 }
