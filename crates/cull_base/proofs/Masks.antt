@@ -1,8 +1,9 @@
 -- Masks made of tests, one sample after the other.
-use Rattle.std.proofs.Common.{◌≡◌, ℕ, suc, ◌+◌, ◌*◌, ◌/◌, ◌%◌, ◌<◌, ◌^◌, ◌++◌, List, [], ◌∷◌, Bool, true, false, cond, nat_eq, length, map, arith, refl, ap, ◌∙◌}
+use Rattle.std.proofs.Common.{◌≡◌, ℕ, zero, suc, ◌+◌, ◌*◌, ◌/◌, ◌%◌, ◌<◌, ◌^◌, ◌++◌, List, [], ◌∷◌, Bool, true, false, cond, nat_eq, length, map, arith, refl, ap, ap₂, ◌∙◌}
 use Rattle.std.specs.List.{range_with_len}
 use Rattle.std.specs.Simd.Lanes.{mask_l}
 use Rattle.std.proofs.lemmas.List.FromFn.{length-map-range_with_len, get_or-map-range_with_len, map-range_with_len_more}
+use Rattle.cull_base.specs.Piece.{each_sample}
 use Rattle.cull_base.specs.State.{bits, samples_of, has}
 
 pub bits-mask_l : (ms : List Bool) → bits (length ms) (mask_l ms) ≡ ms
@@ -46,3 +47,18 @@ mask_l-more test k =
     let more : map test (range_with_len 0 (k + 1)) ≡ map test (range_with_len 0 k) ++ test k ∷ [] = map-range_with_len_more test 0 k k (omega arith) in
     let n : length (map test (range_with_len 0 k)) ≡ k = length-map-range_with_len test 0 k in
     rw more (mask_l-push (map test (range_with_len 0 k)) (test k) ∙ ap (λ (m : ℕ). mask_l (map test (range_with_len 0 k)) + 2 ^ m * cond (test k) 1 0) n)
+
+-- functions that agree at each number below n
+map-range : {X : Type 0} (f g : ℕ → X) (a n : ℕ) → ((k : ℕ) → k < a + n → f k ≡ g k) → map f (range_with_len a n) ≡ map g (range_with_len a n)
+map-range f g a zero h = refl
+map-range {X} f g a (suc n) h = ap₂ (λ x (xs : List X). x ∷ xs) (h a (omega arith)) (map-range f g (a + 1) n (λ k l. h k (omega arith)))
+
+-- functions that agree at each sample
+pub each_sample-same : {X : Type 0} (f g : ℕ → X) → ((k : ℕ) → k < 32 → f k ≡ g k) → each_sample f ≡ each_sample g
+unfolding each_sample
+each_sample-same f g h = map-range f g 0 32 (λ k l. h k (omega arith))
+
+-- the samples of a mask of 32 tests are those tests
+pub samples_of-mask_l_each : (test : ℕ → Bool) → samples_of (mask_l (each_sample test)) ≡ each_sample test
+unfolding each_sample
+samples_of-mask_l_each test = samples_of-mask_l (map test (range_with_len 0 32)) (length-map-range_with_len test 0 32)

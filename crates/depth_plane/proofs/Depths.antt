@@ -1,5 +1,5 @@
 -- The bounds of a subtile hold at each sample that the piece touches.
-use Rattle.std.proofs.Common.{◌≡◌, ℕ, ℤ, pos, negsuc, ◌≤◌, ◌<◌, ◌*ℤ◌, ◌≤ℤ◌, ◌<ℤ◌, arith, refl, true, false, cond, min, max, List, slice_index, int_lt}
+use Rattle.std.proofs.Common.{◌≡◌, ℕ, ℤ, pos, negsuc, ◌≤◌, ◌<◌, ◌*ℤ◌, ◌≤ℤ◌, ◌<ℤ◌, arith, refl, true, false, cond, int_lt}
 use Rattle.std.specs.Int.{int_min, int_max}
 use Rattle.std.proofs.lemmas.Int.{ints, clamps}
 use Rattle.std.proofs.lemmas.List.Elements.{All-get_or}
@@ -83,18 +83,16 @@ high_of-above t u k h lt e =
     small n z l p = omega (arith, ints)
 
 -- the bounds as they are computed
-pub low_of-computed : (t : Piece) (u : Sub) (v : Coefficients) (qs : List ℕ) (a b r : ℕ) (x l d f m : ℤ) → v ≡ plane_of t → qs ≡ t.qs →
-    a ≡ min (slice_index qs 1) (slice_index qs 2) → b ≡ min (slice_index qs 0) a → x ≡ pos b → l ≡ least_of (each_sample (λ k. numerator_at v (sample u k))) → d ≡ v.area →
-    f ≡ floor_of l d → m ≡ int_max x f → r ≡ cut_to_range HELD_TOP m → r ≡ low_of t u
+pub low_of-computed : (t : Piece) (u : Sub) (v : Coefficients) (q r : ℕ) (l m : ℤ) → v ≡ plane_of t → q ≡ least_nearness t →
+    l ≡ least_of (each_sample (λ k. numerator_at v (sample u k))) → m ≡ int_max (pos q) (floor_of l v.area) → r ≡ cut_to_range HELD_TOP m → r ≡ low_of t u
 unfolding low_of
-low_of-computed t u v qs a b r x l d f m ev eq ea eb ex el ed ef em er =
+low_of-computed t u v q r l m ev eq el em er =
     let s = each_sample-plane_of t u in let n = area-plane_of t in
-    rw (er, em, ef, ex, eb, ea, eq, el, ed, ev, s, n) refl
+    rw (er, em, eq, el, ev, s, n) refl
 
-pub high_of-computed : (t : Piece) (u : Sub) (v : Coefficients) (qs : List ℕ) (a b r : ℕ) (x l d f m : ℤ) → v ≡ plane_of t → qs ≡ t.qs →
-    a ≡ max (slice_index qs 1) (slice_index qs 2) → b ≡ max (slice_index qs 0) a → x ≡ pos b → l ≡ greatest_of (each_sample (λ k. numerator_at v (sample u k))) → d ≡ v.area →
-    f ≡ ceiling_of l d → m ≡ int_min x f → r ≡ cut_to_range HELD_TOP m → r ≡ high_of t u
+pub high_of-computed : (t : Piece) (u : Sub) (v : Coefficients) (q r : ℕ) (x l d f m : ℤ) → v ≡ plane_of t → q ≡ greatest_nearness t →
+    x ≡ pos q → l ≡ greatest_of (each_sample (λ k. numerator_at v (sample u k))) → d ≡ v.area → f ≡ ceiling_of l d → m ≡ int_min x f → r ≡ cut_to_range HELD_TOP m → r ≡ high_of t u
 unfolding high_of
-high_of-computed t u v qs a b r x l d f m ev eq ea eb ex el ed ef em er =
+high_of-computed t u v q r x l d f m ev eq ex el ed ef em er =
     let s = each_sample-plane_of t u in let n = area-plane_of t in
-    rw (er, em, ef, ex, eb, ea, eq, el, ed, ev, s, n) refl
+    rw (er, em, ef, ex, eq, el, ed, ev, s, n) refl

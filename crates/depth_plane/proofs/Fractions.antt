@@ -1,5 +1,5 @@
 -- Two fractions are compared by whole quotients first, and by remainders where these agree.
-use Rattle.std.proofs.Common.{◌≡◌, ◌≢◌, ℤ, pos, negsuc, ◌+ℤ◌, ◌*ℤ◌, ◌≤ℤ◌, ◌<ℤ◌, arith}
+use Rattle.std.proofs.Common.{◌≡◌, ◌≢◌, ℤ, pos, ◌+ℤ◌, ◌*ℤ◌, ◌≤ℤ◌, ◌<ℤ◌, arith}
 use Rattle.std.proofs.lemmas.Int.{ints, by_lt_z}
 use Rattle.cull_base.specs.Depth.{floor_of}
 use Rattle.cull_base.proofs.Ring.{diff-add, diff-mul, diff-same, over3, over4}

@@ -1,4 +1,5 @@
 pub mod Nearness
+pub mod Reciprocals
 pub mod Products
 pub mod Corners
 pub mod Mean

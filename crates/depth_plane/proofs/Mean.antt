@@ -1,7 +1,8 @@
 -- Inside a piece, depth and place are means of the vertices', weighted by the values of the opposite edges.
-use Rattle.std.proofs.Common.{◌≡◌, ℕ, ℤ, pos, negsuc, ◌≤◌, ◌+ℤ◌, ◌-ℤ◌, ◌*ℤ◌, ◌≤ℤ◌, arith, refl, Bool, true, false, ◌&&◌, ◌||◌, int_lt, int_le}
+use Rattle.std.proofs.Common.{◌≡◌, ℕ, ℤ, pos, negsuc, ◌≤◌, ◌+ℤ◌, ◌-ℤ◌, ◌*ℤ◌, ◌≤ℤ◌, arith, refl, Bool, true, ◌&&◌, ◌||◌, int_lt, int_le}
 use Rattle.std.specs.Ordering.{int_eq}
 use Rattle.std.proofs.lemmas.Int.{ints}
+use Rattle.std.proofs.lemmas.Bool.{and_parts}
 use Rattle.std.proofs.lemmas.Bool.Decides.{nat_tests}
 use Rattle.cull_base.specs.Piece.{Piece, Point, vertex, nearness, edge_value, doubled_area, covers, touches, is_top_or_left}
 use Rattle.cull_base.specs.Depth.{numerator, denominator}
@@ -45,20 +46,16 @@ covered_edge : (v : ℤ) (b : Bool) → (int_lt (pos 0) v || (int_eq v (pos 0) &
 covered_edge (pos n) b h = grind (arith, nat_tests)
 covered_edge (negsuc n) b h = cc
 
-both : (a b : Bool) → (a && b) ≡ true → (a ≡ true) × (b ≡ true)
-both true b h = (refl, h)
-both false b h = (cc, cc)
-
 pub weights_of : (t : Piece) (p : Point) → touches t p ≡ true → Weights t p
 unfolding touches
 weights_of t p h =
-    let a = both _ _ h in let b = both _ _ a.1 in
+    let a = and_parts _ _ h in let b = and_parts _ _ a.1 in
     record { third = touched_edge _ a.0; first = touched_edge _ b.0; second = touched_edge _ b.1 }
 
 pub touches_covered : (t : Piece) (p : Point) → covers t p ≡ true → touches t p ≡ true
 unfolding covers touches
 touches_covered t p h =
-    let a = both _ _ h in let b = both _ _ a.1 in
+    let a = and_parts _ _ h in let b = and_parts _ _ a.1 in
     let x = covered_edge (edge_value (vertex t 0) (vertex t 1) p) (is_top_or_left (vertex t 0) (vertex t 1)) a.0 in
     let y = covered_edge (edge_value (vertex t 1) (vertex t 2) p) (is_top_or_left (vertex t 1) (vertex t 2)) b.0 in
     let z = covered_edge (edge_value (vertex t 2) (vertex t 0) p) (is_top_or_left (vertex t 2) (vertex t 0)) b.1 in

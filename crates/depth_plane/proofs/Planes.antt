@@ -1,9 +1,9 @@
 -- The plane of a piece has the piece's depth at each point.
-use Rattle.std.proofs.Common.{◌≡◌, ℕ, ℤ, pos, ◌+ℤ◌, ◌-ℤ◌, ◌*ℤ◌, arith, refl, ap₂, List, [], ◌∷◌, map}
+use Rattle.std.proofs.Common.{◌≡◌, ℕ, ℤ, pos, ◌+ℤ◌, ◌-ℤ◌, ◌*ℤ◌, arith, refl}
 use Rattle.cull_base.specs.Piece.{Piece, Point, vertex, nearness, sample, each_sample}
 use Rattle.cull_base.specs.Depth.{numerator, denominator}
+use Rattle.cull_base.proofs.Masks.{each_sample-same}
 use Rattle.cull_base.proofs.Ring.{diff, diff-add, diff-sub, diff-mul, diff-same, pos_is, over4}
-use Rattle.std.specs.List.{range_with_len}
 use Rattle.cull_base.specs.declared.place.Sub.{Sub}
 use Rattle.depth_plane.specs.Vertices.{IsVertex, across_of, down_of, level_of, area_of}
 use Rattle.depth_plane.specs.declared.vertices.Vertices.{Vertices}
@@ -43,10 +43,5 @@ plane_of-computed t v a d l n ia ib ic ea ed el en =
     let cx = ic.x in let cy = ic.y in let r = ic.q in
     rw (ea, ed, el, en, ax, ay, bx, by, cx, cy, p, q, r) refl
 
-map-same : {X : Type 0} (f g : ℕ → X) → ((k : ℕ) → f k ≡ g k) → (ks : List ℕ) → map f ks ≡ map g ks
-map-same f g h [] = refl
-map-same {X} f g h (k ∷ ks) = ap₂ (λ x (xs : List X). x ∷ xs) (h k) (map-same f g h ks)
-
 pub each_sample-plane_of : (t : Piece) (u : Sub) → each_sample (λ k. numerator_at (plane_of t) (sample u k)) ≡ each_sample (λ k. numerator t (sample u k))
-unfolding each_sample
-each_sample-plane_of t u = map-same (λ k. numerator_at (plane_of t) (sample u k)) (λ k. numerator t (sample u k)) (λ k. numerator_at-plane_of t (sample u k)) (range_with_len 0 32)
+each_sample-plane_of t u = each_sample-same (λ k. numerator_at (plane_of t) (sample u k)) (λ k. numerator t (sample u k)) (λ k l. numerator_at-plane_of t (sample u k))

@@ -4,6 +4,7 @@
 mod corner;
 mod plane;
 mod quotient;
+mod reciprocal;
 #[cfg(test)]
 mod tests;
 mod vertices;

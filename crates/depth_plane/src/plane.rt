@@ -1,13 +1,15 @@
 //! The plane of a piece's depth.
 ghost use Rattle.std.specs.Prelude.{◌≡◌, ℕ, ℤ, pos, true, ◌<◌, ◌≤◌, ◌^◌, ◌<ℤ◌, IsTrue, ◌↔◌, ◌+◌, ◌*◌};
-ghost use Rattle.cull_base.specs.Piece.{least_of, greatest_of, Piece, Point, covers, touches, sample, each_sample};
-ghost use Rattle.cull_base.specs.Depth.{numerator, denominator, low_of, high_of, DepthAtLeast, DepthLess};
+ghost use Rattle.cull_base.specs.Piece.{least_of, greatest_of, Piece, IsPiece, Point, covers, touches, sample, each_sample};
+ghost use Rattle.std.specs.Int.{int_max};
+ghost use Rattle.cull_base.specs.Depth.{floor_of, least_nearness, greatest_nearness, numerator, denominator, low_of, high_of, DepthAtLeast, DepthLess};
 ghost use Rattle.cull_base.specs.Bounds.{Bounded};
 ghost use Rattle.cull_base.specs.declared.nearness.TheConstants.{HELD_TOP};
 ghost use Rattle.depth_plane.specs.Plane.{plane_of, numerator_at, IsNearer, point_of, DepthAtMost};
 
 use crate::corner::{greatest_along, least_along, numerator_at};
 use crate::quotient::{ceiling, cut_to_range, floor, is_greater};
+use crate::reciprocal::{narrow_floor, reciprocal};
 use crate::vertices::Vertices;
 use cull_base::{Sample, ScreenTri, Sub};
 use std::marker::Model;
@@ -25,18 +27,24 @@ pub struct Plane {
     down: i128,
     level: i128,
     area: i64,
+    // of the area, for the divisions of `low`
+    reciprocal: u64,
 }
 
 impl Model for Plane {
+    ghost use Rattle.std.proofs.Common.{ap, sym};
     ghost use Rattle.depth_plane.specs.Plane.{Coefficients, IsPlane};
+    ghost use Rattle.depth_plane.specs.Reciprocal.{reciprocal_of};
 
     ghost Value = { Coefficients };
 
     ghost view = { λ p. record { across = p.across; down = p.down; level = p.level; area = p.area } };
 
-    ghost invariant = { λ p. IsPlane (record { across = p.across; down = p.down; level = p.level; area = p.area }) };
+    ghost invariant = { λ p. IsPlane (record { across = p.across; down = p.down; level = p.level; area = p.area }) p.reciprocal };
 
-    ghost inverse = { λ c. record { across = c.across; down = c.down; level = c.level; area = c.area } };
+    ghost inverse = { λ c. record { across = c.across; down = c.down; level = c.level; area = c.area; reciprocal = reciprocal_of c.area } };
+
+    ghost inverse_ok = { λ p h. ap (λ r. record p { reciprocal = r }) (sym h.is_reciprocal) };
 }
 
 // Where the sample of a pixel stands, in sixteenths of a pixel.
@@ -48,6 +56,24 @@ fn place(pixel: u16) -> u32
     16 * u32::from(pixel) + 8
 }
 
+#[inline(always)]
+fn least_nearness(tri: &ScreenTri) -> u32
+    ensures value { result ≡ least_nearness tri.now }
+    ensures valid { IsPiece tri.now }
+{
+    let [q0, q1, q2] = tri.q();
+    q0.min(q1.min(q2))
+}
+
+#[inline(always)]
+fn greatest_nearness(tri: &ScreenTri) -> u32
+    ensures value { result ≡ greatest_nearness tri.now }
+    ensures valid { IsPiece tri.now }
+{
+    let [q0, q1, q2] = tri.q();
+    q0.max(q1.max(q2))
+}
+
 impl Plane {
     /// At each point the plane's fraction is the piece's depth.
     pub fn of(tri: &ScreenTri) -> Plane
@@ -57,11 +83,13 @@ impl Plane {
         ensures positive { pos 0 <ℤ result.area }
     {
         let vertices = Vertices::of(tri);
+        let area = vertices.area();
         Plane {
             across: vertices.across(),
             down: vertices.down(),
             level: vertices.level(),
-            area: vertices.area(),
+            area,
+            reciprocal: reciprocal(area),
         }
     }
 
@@ -75,9 +103,7 @@ impl Plane {
         ensures within { result ≤ HELD_TOP }
         ensures below { (k : ℕ) → k < 32 → covers tri.now (sample sub k) ≡ true → DepthAtLeast tri.now (sample sub k) result }
     {
-        let [q0, q1, q2] = tri.q();
-        let least_nearness = q0.min(q1.min(q2));
-        cut_to_range(i128::from(least_nearness).max(floor(self.least(sub), self.area)))
+        cut_to_range(self.floor_from(least_nearness(tri), self.least(sub)))
     }
 
     /// The high bound of a subtile: nearness, from 0 to the top that pieces hold, that no touched sample is above.
@@ -90,9 +116,36 @@ impl Plane {
         ensures within { result ≤ HELD_TOP }
         ensures above { (k : ℕ) → k < 32 → touches tri.now (sample sub k) ≡ true → DepthAtMost tri.now (sample sub k) result }
     {
-        let [q0, q1, q2] = tri.q();
-        let greatest_nearness = q0.max(q1.max(q2));
-        cut_to_range(i128::from(greatest_nearness).min(ceiling(self.greatest(sub), self.area)))
+        let nearness = i128::from(greatest_nearness(tri));
+        cut_to_range(nearness.min(ceiling(self.greatest(sub), self.area)))
+    }
+
+    // The floor of a numerator over the area, and no less than a nearness: where the fraction is no greater than that,
+    // nothing is divided.
+    #[inline(always)]
+    fn floor_from(&self, nearness: u32, numerator: i128) -> i128
+        requires { Bounded (2 ^ 88) numerator }
+        ensures { result ≡ int_max (pos nearness) (floor_of numerator self.now.area) }
+    {
+        let least = i128::from(nearness);
+        if numerator <= least * i128::from(self.area) {
+            least
+        } else {
+            least.max(self.floor(numerator))
+        }
+    }
+
+    // Of numerators that fit 64 bits, which most do, by the reciprocal.
+    #[inline(always)]
+    fn floor(&self, numerator: i128) -> i128
+        requires { Bounded (2 ^ 88) numerator }
+        ensures { result ≡ floor_of numerator self.now.area }
+    {
+        if 0 <= numerator && numerator <= i128::from(u64::MAX) {
+            narrow_floor(numerator, self.area, self.reciprocal)
+        } else {
+            floor(numerator, self.area)
+        }
     }
 
     // The numerator at a sample.

@@ -2,7 +2,7 @@
 ghost use Rattle.std.specs.Prelude.{◌<◌};
 
 use crate::plane::Plane;
-use cull_base::{Sample, ScreenTri, Sub};
+use cull_base::{HELD_TOP, Sample, ScreenTri, Sub};
 use std::process::Abort;
 
 fn piece_of(rt: &impl Abort, x: [i32; 3], y: [i32; 3], q: [u32; 3]) -> ScreenTri {
@@ -19,15 +19,52 @@ fn a_sloping_piece_is_bounded_by_its_plane_and_its_vertices(rt: HostRuntime) {
     assert_eq!(rt; plane.low(&tri, Sub { column: 4, row: 0 }), 200);
 }
 
-// The depth goes from 0 at x = -400,000,000 to 65535 at 400,000,000, so it is 32767.5 at x = 0 and rises to the right.
+// The depth goes from 0 at x = -400,000,000 to 1001 at 400,000,000, so it is 500.5 at x = 0 and hardly rises from there.
 #[test]
 fn numerators_beyond_64_bits_are_divided_too(rt: HostRuntime) {
     let far = 400_000_000;
-    let tri = piece_of(&rt, [-far, far, far], [-far, -far, far], [0, 65535, 65535]);
+    let tri = piece_of(&rt, [-far, far, far], [-far, -far, far], [0, 1001, 1001]);
     let plane = Plane::of(&tri);
     let sub = Sub { column: 0, row: 0 };
-    assert_eq!(rt; plane.low(&tri, sub), 32767);
-    assert_eq!(rt; plane.high(&tri, sub), 32768);
+    assert_eq!(rt; plane.low(&tri, sub), 500);
+    assert_eq!(rt; plane.high(&tri, sub), 501);
+}
+
+fn bounds(tri: &ScreenTri, column: u16, row: u16) -> (u32, u32)
+    requires column { column < 256 }
+    requires row { row < 512 }
+{
+    let plane = Plane::of(tri);
+    let sub = Sub { column, row };
+    (plane.low(tri, sub), plane.high(tri, sub))
+}
+
+// The depth is 1000 - 50x: 600 at the first sample, where x is 8, and -5000 at the last in its row.
+#[test]
+fn the_vertices_bound_a_piece_of_one_pixel(rt: HostRuntime) {
+    let falling = piece_of(&rt, [0, 16, 0], [0, 0, 16], [1000, 200, 1000]);
+    assert_eq!(rt; bounds(&falling, 0, 0), (200, 600));
+    assert_eq!(rt; bounds(&falling, 1, 0), (200, 0));
+    assert_eq!(rt; bounds(&falling, 255, 511), (200, 0));
+    assert_eq!(rt; bounds(&falling, 0, 511), (200, 600));
+}
+
+// The depth is half the top times x/8: from half the top at x = 8 on, past the top from x = 24 on.
+#[test]
+fn a_plane_past_the_top_is_cut_to_it(rt: HostRuntime) {
+    let rising = piece_of(&rt, [0, 16, 0], [0, 0, 16], [0, HELD_TOP, 0]);
+    assert_eq!(rt; bounds(&rising, 0, 0), (HELD_TOP / 2, HELD_TOP));
+    assert_eq!(rt; bounds(&rising, 1, 0), (HELD_TOP, HELD_TOP));
+    assert_eq!(rt; bounds(&rising, 255, 511), (HELD_TOP, HELD_TOP));
+}
+
+// The depth is the top less half the top times y/8: half the top at y = 8, below 0 from y = 24 on.
+#[test]
+fn a_plane_below_zero_is_cut_to_it(rt: HostRuntime) {
+    let falling = piece_of(&rt, [0, 16, 0], [0, 0, 16], [HELD_TOP, HELD_TOP, 0]);
+    assert_eq!(rt; bounds(&falling, 0, 0), (0, HELD_TOP / 2 + 1));
+    assert_eq!(rt; bounds(&falling, 0, 1), (0, 0));
+    assert_eq!(rt; bounds(&falling, 255, 511), (0, 0));
 }
 
 // The sloping piece has 987.5 at the first sample: its whole quotient is that of 987, and the remainder decides.
@@ -113,8 +150,8 @@ fn plain_bounds(x: &[i32; 3], y: &[i32; 3], q: &[u32; 3], sub: Sub) -> (i64, i64
     let least_nearness = i64::from(q[0].min(q[1]).min(q[2]));
     let greatest_nearness = i64::from(q[0].max(q[1]).max(q[2]));
     (
-        floor.max(least_nearness).clamp(0, 65535),
-        ceiling.min(greatest_nearness).clamp(0, 65535),
+        floor.max(least_nearness).clamp(0, i64::from(HELD_TOP)),
+        ceiling.min(greatest_nearness).clamp(0, i64::from(HELD_TOP)),
     )
 }
 
@@ -122,14 +159,15 @@ fn plain_bounds(x: &[i32; 3], y: &[i32; 3], q: &[u32; 3], sub: Sub) -> (i64, i64
 fn the_corner_agrees_with_all_samples(rt: HostRuntime) {
     let mut state = 7u64;
     let mut pieces = 0u32;
+    let top = u64::from(HELD_TOP) + 1;
     for i in 0..800u32 {
         state = after(after(state));
         let x = coordinates(state);
         let y = coordinates(after(after(after(state))));
         let q = [
-            number(after(state), 65536) as u32,
-            number(state, 65536) as u32,
-            number(after(after(state)), 65536) as u32,
+            number(after(state), top) as u32,
+            number(state, top) as u32,
+            number(after(after(state)), top) as u32,
         ];
         if let Some(tri) = ScreenTri::new(x, y, q) {
             pieces = pieces.wrapping_add(1);

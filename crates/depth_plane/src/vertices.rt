@@ -36,11 +36,11 @@ impl Vertex {
 
     // The value at the origin of the edge from here to another vertex.
     #[inline(always)]
-    fn origin_value(&self, end: &Vertex) -> i64
-        ensures value { result ≡ from_origin self.now end.now }
+    fn origin_value(&self, other: &Vertex) -> i64
+        ensures value { result ≡ from_origin self.now other.now }
         ensures bounded { Bounded (2 ^ 61) result }
     {
-        edge_value(self.x, self.y, end.x, end.y, 0, 0)
+        edge_value(self.x, self.y, other.x, other.y, 0, 0)
     }
 }
 
@@ -119,12 +119,24 @@ impl Vertices {
         )
     }
 
+    // The same of differences of coordinates, which are smaller.
+    #[inline(always)]
+    fn slope(&self, a: i64, b: i64, c: i64) -> i128
+        requires a { Bounded (2 ^ 30) a }
+        requires b { Bounded (2 ^ 30) b }
+        requires c { Bounded (2 ^ 30) c }
+        ensures value { result ≡ weighted_of self.now a b c }
+        ensures bounded { Bounded (2 ^ 56) result }
+    {
+        self.weighted_sum(a, b, c)
+    }
+
     /// What the depth's numerator rises by for each sixteenth of a pixel to the right.
     pub fn across(&self) -> i128
         ensures value { result ≡ across_of self.now }
         ensures bounded { Bounded (2 ^ 56) result }
     {
-        self.weighted_sum(
+        self.slope(
             y_difference(&self.b, &self.c),
             y_difference(&self.c, &self.a),
             y_difference(&self.a, &self.b),
@@ -136,7 +148,7 @@ impl Vertices {
         ensures value { result ≡ down_of self.now }
         ensures bounded { Bounded (2 ^ 56) result }
     {
-        self.weighted_sum(
+        self.slope(
             x_difference(&self.c, &self.b),
             x_difference(&self.a, &self.c),
             x_difference(&self.b, &self.a),

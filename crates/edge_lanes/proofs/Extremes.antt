@@ -1,12 +1,12 @@
 -- A subtile that an edge rejects or accepts whole.
-use Rattle.std.proofs.Common.{◌≡◌, ℕ, ℤ, pos, negsuc, suc, zero, ◌+◌, ◌/◌, ◌%◌, ◌-◌, ◌^◌, ◌<◌, ◌≤◌, ◌+ℤ◌, ◌*ℤ◌, ◌≤ℤ◌, ◌<ℤ◌, arith, refl, ap, ap₂, Bool, true, false, ◌&&◌, List, ◌∷◌, map, ◌⊎◌, inl, inr}
+use Rattle.std.proofs.Common.{◌≡◌, ℕ, ℤ, pos, negsuc, suc, ◌/◌, ◌%◌, ◌-◌, ◌^◌, ◌<◌, ◌≤◌, ◌+ℤ◌, ◌*ℤ◌, ◌≤ℤ◌, ◌<ℤ◌, arith, refl, ap, Bool, true, false, ◌&&◌, ◌⊎◌, inl, inr}
 use Rattle.std.specs.Int.{int_min, int_max}
-use Rattle.std.specs.List.{range_with_len}
 use Rattle.std.specs.Simd.Lanes.{mask_l}
 use Rattle.std.proofs.Math.Nat.{mul-le-mul_left}
 use Rattle.std.proofs.lemmas.Int.{ints, clamps}
 use Rattle.std.proofs.lemmas.Bool.Decides.{nat_tests}
 use Rattle.cull_base.specs.Piece.{each_sample}
+use Rattle.cull_base.proofs.Masks.{each_sample-same}
 use Rattle.edge_lanes.specs.Lanes.{is_not_negative, highest_of, lowest_of}
 use Rattle.edge_lanes.specs.Inside.{inside_from, inside_all}
 use Rattle.edge_lanes.specs.declared.edge.Edge.{Edge}
@@ -45,20 +45,16 @@ accepts e s k l h =
     above : (s a b x y : ℤ) → x ≤ℤ a → y ≤ℤ b → pos 0 ≤ℤ (s +ℤ (y +ℤ x)) → pos 0 ≤ℤ ((s +ℤ a) +ℤ b)
     above s a b x y p q h = omega (arith, ints)
 
-map-range : {X : Type 0} (f g : ℕ → X) (a n : ℕ) → ((k : ℕ) → k < a + n → f k ≡ g k) → map f (range_with_len a n) ≡ map g (range_with_len a n)
-map-range f g a zero h = refl
-map-range {X} f g a (suc n) h = ap₂ (λ x (xs : List X). x ∷ xs) (h a (omega arith)) (map-range f g (a + 1) n (λ k l. h k (omega arith)))
-
 -- one answer at each sample
 mask_l-none : (p : ℕ → Bool) → ((k : ℕ) → k < 32 → p k ≡ false) → mask_l (each_sample p) ≡ 0
 unfolding each_sample
-mask_l-none p h = ap mask_l (map-range p (λ k. false) 0 32 (λ k l. h k (omega arith)))
+mask_l-none p h = ap mask_l (each_sample-same p (λ k. false) h)
 
 mask_l-all : (p : ℕ → Bool) → ((k : ℕ) → k < 32 → p k ≡ true) → mask_l (each_sample p) ≡ 2 ^ 32 - 1
 unfolding each_sample
-mask_l-all p h = ap mask_l (map-range p (λ k. true) 0 32 (λ k l. h k (omega arith)))
+mask_l-all p h = ap mask_l (each_sample-same p (λ k. true) h)
 
-any_false : (a b c : Bool) → (a ≡ false) ⊎ ((b ≡ false) ⊎ (c ≡ false)) → (a && (b && c)) ≡ false
+pub any_false : (a b c : Bool) → (a ≡ false) ⊎ ((b ≡ false) ⊎ (c ≡ false)) → (a && (b && c)) ≡ false
 any_false false b c h = refl
 any_false true false c h = refl
 any_false true true c (inl e) = cc

@@ -8,7 +8,7 @@ use Rattle.edge_lanes.specs.Lanes.{is_not_negative}
 use Rattle.edge_lanes.specs.Inside.{inside_all, inside_from, inside_of, value_at, is_inside}
 use Rattle.edge_lanes.specs.declared.edge.Edge.{Edge}
 use Rattle.edge_lanes.specs.declared.edges.Edges.{Edges}
-use Rattle.edge_lanes.proofs.Masks.{each_sample-same, samples_of-mask_l}
+use Rattle.cull_base.proofs.Masks.{each_sample-same, samples_of-mask_l_each}
 use Rattle.edge_lanes.proofs.Steps.{value-subtile}
 
 one_inside : (e : Edge) (s : ℤ) (x y k : ℕ) → s ≡ value_at e x y → inside_from e s k ≡ is_not_negative (value_at e (x + k % 8) (y + k / 8))
@@ -20,11 +20,11 @@ pub inside_all-start : (e : Edges) (u : Sub) (s t v : ℤ) →
 unfolding inside_of
 inside_all-start e u s t v es et ev =
     each_sample-same (inside_all e s t v) (λ k. is_inside e (8 * u.column + k % 8) (4 * u.row + k / 8))
-    (λ k. let a = one_inside e.first s (8 * u.column) (4 * u.row) k es in
+    (λ k l. let a = one_inside e.first s (8 * u.column) (4 * u.row) k es in
     let b = one_inside e.second t (8 * u.column) (4 * u.row) k et in
     let d = one_inside e.third v (8 * u.column) (4 * u.row) k ev in
     cc)
 
 pub samples_of-mask_l_inside : (e : Edges) (u : Sub) → samples_of (mask_l (inside_of e u)) ≡ inside_of e u
 unfolding inside_of
-samples_of-mask_l_inside e u = samples_of-mask_l (λ k. is_inside e (8 * u.column + k % 8) (4 * u.row + k / 8))
+samples_of-mask_l_inside e u = samples_of-mask_l_each (λ k. is_inside e (8 * u.column + k % 8) (4 * u.row + k / 8))

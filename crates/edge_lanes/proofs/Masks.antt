@@ -1,11 +1,10 @@
 -- Masks of lists of tests.
-use Rattle.std.proofs.Common.{◌≡◌, ℕ, ◌<◌, ◌*◌, ◌^◌, ◌+◌, ◌/◌, ◌%◌, arith, Bool, true, false, ◌&&◌, cond, refl, ap, ap₂, ◌∙◌, List, [], ◌∷◌, map, length, bit_and, nat_eq}
+use Rattle.std.proofs.Common.{◌≡◌, ℕ, ◌<◌, ◌*◌, ◌^◌, ◌+◌, ◌/◌, ◌%◌, arith, Bool, true, false, ◌&&◌, cond, refl, ap, ap₂, ◌∙◌, List, [], ◌∷◌, map, bit_and}
 use Rattle.std.specs.List.{range_with_len}
 use Rattle.std.proofs.lemmas.Simd.{mask_l-lt}
 use Rattle.std.proofs.lemmas.Nat.{and_block}
 use Rattle.std.specs.Simd.Lanes.{mask_l, Each1}
 use Rattle.cull_base.specs.Piece.{each_sample}
-use Rattle.cull_base.specs.State.{samples_of, bits}
 use Rattle.edge_lanes.specs.Lanes.{columns, row_of}
 
 and_low : (x y : Bool) (m n : ℕ) → bit_and (cond x 1 0 + 2 * m) (cond y 1 0 + 2 * n) ≡ cond (x && y) 1 0 + 2 * bit_and m n
@@ -60,33 +59,3 @@ row_of_test f r =
 pub row_of-lt : (p : ℕ → Bool) (r : ℕ) → row_of p r < 2 ^ 8
 unfolding row_of
 row_of-lt p r = mask_l-lt (map (λ c. p (8 * r + c)) columns)
-
-map-same : {X : Type 0} (f g : ℕ → X) → ((k : ℕ) → f k ≡ g k) → (ks : List ℕ) → map f ks ≡ map g ks
-map-same f g h [] = refl
-map-same {X} f g h (k ∷ ks) = ap₂ (λ x (xs : List X). x ∷ xs) (h k) (map-same f g h ks)
-
--- two tests that agree at each sample give one list
-pub each_sample-same : {X : Type 0} (f g : ℕ → X) → ((k : ℕ) → f k ≡ g k) → each_sample f ≡ each_sample g
-unfolding each_sample
-each_sample-same f g h = map-same f g h (range_with_len 0 32)
-
-bits-mask_l : (ms : List Bool) → bits (length ms) (mask_l ms) ≡ ms
-bits-mask_l [] = refl
-bits-mask_l (b ∷ bs) =
-    let low = low_is b (mask_l bs) in
-    let half = half_is b (mask_l bs) in
-    let rest = bits-mask_l bs in
-    rw (low, half, rest)
-  where
-    low_is : (x : Bool) (m : ℕ) → nat_eq ((cond x 1 0 + 2 * m) % 2) 1 ≡ x
-    low_is true m = let e : (1 + 2 * m) % 2 ≡ 1 = omega arith in rw e refl
-    low_is false m = let e : (0 + 2 * m) % 2 ≡ 0 = omega arith in rw e refl
-
-    half_is : (x : Bool) (m : ℕ) → (cond x 1 0 + 2 * m) / 2 ≡ m
-    half_is true m = omega arith
-    half_is false m = omega arith
-
--- the samples of a mask of 32 tests are those tests
-pub samples_of-mask_l : (p : ℕ → Bool) → samples_of (mask_l (each_sample p)) ≡ each_sample p
-unfolding samples_of each_sample
-samples_of-mask_l p = bits-mask_l (map p (range_with_len 0 32))

@@ -1,10 +1,13 @@
 -- An edge and its reverse.
-use Rattle.std.proofs.Common.{◌≡◌, ◌≢◌, ℕ, ℤ, pos, ◌-ℤ◌, ◌*ℤ◌, neg_ℤ, ◌<ℤ◌, ◌≤ℤ◌, arith, refl, ap, ap₂, sym, ◌∙◌, Bool, true, false, not, ◌&&◌, ◌||◌, int_lt, ◌⊎◌, inl, inr}
+use Rattle.std.proofs.Common.{◌≡◌, ◌≢◌, ℤ, pos, ◌-ℤ◌, ◌*ℤ◌, neg_ℤ, ◌<ℤ◌, ◌≤ℤ◌, arith, refl, ap, ap₂, sym, ◌∙◌, Bool, true, false, not, ◌&&◌, ◌||◌, int_lt, inl, inr}
 use Rattle.std.specs.Ordering.{int_eq}
 use Rattle.std.proofs.lemmas.Int.{ints, by_lt_z}
+use Rattle.std.proofs.lemmas.Bool.{and_parts}
 use Rattle.cull_base.specs.Piece.{Piece, Point, vertex, edge_value, is_top_or_left, edge_covers, covers}
 use Rattle.cull_base.proofs.Ring.{diff, diff-add, diff-mul, diff-same, over2, over4}
 use Rattle.edge_lanes.specs.Shared.{HasEdge}
+use Rattle.edge_lanes.proofs.Extremes.{any_false}
+use Rattle.edge_lanes.proofs.Steps.{diff-neg}
 
 int_lt-true : (x y : ℤ) → x <ℤ y → int_lt x y ≡ true
 int_lt-true x y h = grind (arith, ints)
@@ -41,10 +44,6 @@ is_top_or_left-reversed a b ne = reversed a.x a.y b.x b.y (λ ex ey. ne (ap₂ (
     at : ℤ → ℤ → Point
     at x y = record { x = x; y = y }
 
-diff-neg : (a b : ℕ) → neg_ℤ (diff a b) ≡ diff b a
-unfolding diff
-diff-neg a b = omega (arith, ints)
-
 edge_reversed : (ax ay bx by x y : ℤ) → ((ax -ℤ bx) *ℤ (y -ℤ by)) -ℤ ((ay -ℤ by) *ℤ (x -ℤ bx)) ≡ neg_ℤ (((bx -ℤ ax) *ℤ (y -ℤ ay)) -ℤ ((by -ℤ ay) *ℤ (x -ℤ ax)))
 edge_reversed ax ay bx by x y =
     over2 (λ x y. ((ax -ℤ bx) *ℤ (y -ℤ by)) -ℤ ((ay -ℤ by) *ℤ (x -ℤ bx)) ≡ neg_ℤ (((bx -ℤ ax) *ℤ (y -ℤ ay)) -ℤ ((by -ℤ ay) *ℤ (x -ℤ ax))))
@@ -77,16 +76,7 @@ pub edge_covers-reversed : (a b p : Point) → a ≢ b → edge_covers b a p ≡
 edge_covers-reversed a b p ne = opposite (edge_value a b p) (edge_value b a p) (is_top_or_left a b) (is_top_or_left b a) (edge_reversed a.x a.y b.x b.y p.x p.y) (is_top_or_left-reversed a b ne)
 
 all_three : (x y z : Bool) → (x && (y && z)) ≡ true → (x ≡ true) × (y ≡ true) × (z ≡ true)
-all_three true true z h = (refl, refl, h)
-all_three true false z h = (cc, cc, cc)
-all_three false y z h = (cc, cc, cc)
-
-one_false : (x y z : Bool) → (x ≡ false) ⊎ ((y ≡ false) ⊎ (z ≡ false)) → (x && (y && z)) ≡ false
-one_false false y z h = refl
-one_false true false z h = refl
-one_false true true z (inl e) = cc
-one_false true true z (inr (inl e)) = cc
-one_false true true z (inr (inr e)) = e
+all_three x y z h = let a = and_parts _ _ h in let b = and_parts _ _ a.1 in (a.0, b.0, b.1)
 
 same_edge : (c d a b p : Point) → c ≡ a → d ≡ b → edge_covers c d p ≡ edge_covers a b p
 same_edge c d a b p e f = ap₂ (λ x y. edge_covers x y p) e f
@@ -105,7 +95,7 @@ edge_of_covers t a b p g h =
 not_covers : (t : Piece) (a b p : Point) → HasEdge t a b → edge_covers a b p ≡ false → covers t p ≡ false
 unfolding covers
 not_covers t a b p g h =
-    one_false (edge_covers (vertex t 0) (vertex t 1) p) (edge_covers (vertex t 1) (vertex t 2) p) (edge_covers (vertex t 2) (vertex t 0) p)
+    any_false (edge_covers (vertex t 0) (vertex t 1) p) (edge_covers (vertex t 1) (vertex t 2) p) (edge_covers (vertex t 2) (vertex t 0) p)
     (elim g [
       | inl (e, f) ↦ inl (same_edge (vertex t 0) (vertex t 1) a b p e f ∙ h)
       | inr (inl (e, f)) ↦ inr (inl (same_edge (vertex t 1) (vertex t 2) a b p e f ∙ h))

@@ -1,11 +1,11 @@
 -- One test for both sides: the bias of an edge's value.
-use Rattle.std.proofs.Common.{List, length, slice_index_or, ◌<◌, ◌+◌, ◌*◌, ◌/◌, ◌%◌, w32, FitsSigned, to_z, of_z, ◌≡◌, ℕ, ℤ, pos, negsuc, zero, suc, ◌+ℤ◌, arith, refl, Bool, true, false, cond, ◌&&◌, ◌||◌, int_lt, int_le, ap, ◌∙◌}
+use Rattle.std.proofs.Common.{List, length, slice_index_or, ◌<◌, ◌+◌, ◌*◌, ◌/◌, ◌%◌, ◌≡◌, ℕ, ℤ, pos, negsuc, zero, suc, ◌+ℤ◌, arith, refl, Bool, true, false, cond, ◌&&◌, ◌||◌, int_lt, int_le, ap, ◌∙◌}
 use Rattle.std.specs.Ordering.{int_eq}
 use Rattle.std.specs.List.{All}
-use Rattle.std.proofs.lemmas.Int.{ints, to_z-of_z}
+use Rattle.std.proofs.lemmas.Int.{ints}
 use Rattle.std.proofs.lemmas.Bool.Decides.{nat_tests}
 use Rattle.std.proofs.lemmas.List.Elements.{All-get_or}
-use Rattle.cull_base.specs.Piece.{Piece, Point, IsCoordinate, edge_value, middle, is_top_or_left, edge_covers, edge_touches, covers, touches, covered, touched, sample, each_sample}
+use Rattle.cull_base.specs.Piece.{Piece, Point, IsCoordinate, edge_value, middle, is_top_or_left, edge_covers, edge_touches, covers, touches, covered, touched, sample, vertex}
 use Rattle.cull_base.specs.declared.triangle.Side.{Side}
 use Rattle.cull_base.specs.declared.triangle.Side.TheVariants.{Occluder, Object}
 use Rattle.cull_base.specs.declared.place.Sub.{Sub}
@@ -13,7 +13,7 @@ use Rattle.edge_lanes.specs.Lanes.{is_not_negative}
 use Rattle.edge_lanes.specs.Inside.{value_at, is_inside, inside_of, IsEdge}
 use Rattle.edge_lanes.specs.declared.edge.Edge.{Edge}
 use Rattle.edge_lanes.specs.declared.edges.Edges.{Edges}
-use Rattle.edge_lanes.proofs.Masks.{each_sample-same}
+use Rattle.cull_base.proofs.Masks.{each_sample-same}
 
 not_negative : (n : ℕ) → int_le (pos 0) (pos n) ≡ true
 not_negative n = grind (arith, nat_tests)
@@ -40,12 +40,9 @@ is_not_negative-biased v false = lowered v (v +ℤ negsuc 0) refl
 pub is_not_negative-plain : (v : ℤ) → is_not_negative (v +ℤ pos 0) ≡ int_le (pos 0) v
 is_not_negative-plain v = let e : v +ℤ pos 0 ≡ v = omega (arith, ints) in rw e refl
 
--- a coordinate of a piece, as the code reads it
-pub within_read : (xs : List ℤ) (k : ℕ) → All IsCoordinate xs → length xs ≡ 3 → k < 3 → FitsSigned w32 (slice_index_or xs k (pos 0)) → IsCoordinate (to_z w32 (of_z w32 (slice_index_or xs k (pos 0))))
-within_read xs k h l lt f = simp to_z-of_z (All-get_or IsCoordinate xs k (pos 0) (omega arith) h)
-
-abbrev pub corner : List ℤ → List ℤ → ℕ → Point
-corner xs ys k = record { x = slice_index_or xs k (pos 0); y = slice_index_or ys k (pos 0) }
+-- a coordinate of a piece
+pub coordinate_at : (xs : List ℤ) (k : ℕ) → All IsCoordinate xs → length xs ≡ 3 → k < 3 → IsCoordinate (slice_index_or xs k (pos 0))
+coordinate_at xs k h l lt = All-get_or IsCoordinate xs k (pos 0) (omega arith) h
 
 edge_of_occluder : (e : Edge) (a b : Point) → IsEdge e Occluder a b → (x y : ℕ) → is_not_negative (value_at e x y) ≡ edge_covers a b (middle x y)
 edge_of_occluder e a b h x y = ap is_not_negative (h x y) ∙ is_not_negative-biased (edge_value a b (middle x y)) (is_top_or_left a b)
@@ -53,42 +50,36 @@ edge_of_occluder e a b h x y = ap is_not_negative (h x y) ∙ is_not_negative-bi
 edge_of_object : (e : Edge) (a b : Point) → IsEdge e Object a b → (x y : ℕ) → is_not_negative (value_at e x y) ≡ edge_touches a b (middle x y)
 edge_of_object e a b h x y = ap is_not_negative (h x y) ∙ is_not_negative-plain (edge_value a b (middle x y))
 
-occluder_at : (e : Edges) (t : Piece) → IsEdge e.first Occluder (corner t.xs t.ys 0) (corner t.xs t.ys 1) → IsEdge e.second Occluder (corner t.xs t.ys 1) (corner t.xs t.ys 2) → IsEdge e.third Occluder (corner t.xs t.ys 2) (corner t.xs t.ys 0)
-    → (x y : ℕ) → is_inside e x y ≡ covers t (middle x y)
+-- the edges are those of a piece, for one side
+pub record AreEdges (e : Edges) (side : Side) (t : Piece) : Type 0 where
+  pub first : IsEdge e.first side (vertex t 0) (vertex t 1)
+  pub second : IsEdge e.second side (vertex t 1) (vertex t 2)
+  pub third : IsEdge e.third side (vertex t 2) (vertex t 0)
+
+occluder_at : (e : Edges) (t : Piece) → AreEdges e Occluder t → (x y : ℕ) → is_inside e x y ≡ covers t (middle x y)
 unfolding covers
-occluder_at e t f s d x y =
-    let a = edge_of_occluder e.first (corner t.xs t.ys 0) (corner t.xs t.ys 1) f x y in let b = edge_of_occluder e.second (corner t.xs t.ys 1) (corner t.xs t.ys 2) s x y in let c = edge_of_occluder e.third (corner t.xs t.ys 2) (corner t.xs t.ys 0) d x y in
+occluder_at e t h x y =
+    let a = edge_of_occluder e.first (vertex t 0) (vertex t 1) h.first x y in
+    let b = edge_of_occluder e.second (vertex t 1) (vertex t 2) h.second x y in
+    let c = edge_of_occluder e.third (vertex t 2) (vertex t 0) h.third x y in
     rw (a, b, c) refl
 
-object_at : (e : Edges) (t : Piece) → IsEdge e.first Object (corner t.xs t.ys 0) (corner t.xs t.ys 1) → IsEdge e.second Object (corner t.xs t.ys 1) (corner t.xs t.ys 2) → IsEdge e.third Object (corner t.xs t.ys 2) (corner t.xs t.ys 0)
-    → (x y : ℕ) → is_inside e x y ≡ touches t (middle x y)
+object_at : (e : Edges) (t : Piece) → AreEdges e Object t → (x y : ℕ) → is_inside e x y ≡ touches t (middle x y)
 unfolding touches
-object_at e t f s d x y =
-    let a = edge_of_object e.first (corner t.xs t.ys 0) (corner t.xs t.ys 1) f x y in let b = edge_of_object e.second (corner t.xs t.ys 1) (corner t.xs t.ys 2) s x y in let c = edge_of_object e.third (corner t.xs t.ys 2) (corner t.xs t.ys 0) d x y in
+object_at e t h x y =
+    let a = edge_of_object e.first (vertex t 0) (vertex t 1) h.first x y in
+    let b = edge_of_object e.second (vertex t 1) (vertex t 2) h.second x y in
+    let c = edge_of_object e.third (vertex t 2) (vertex t 0) h.third x y in
     rw (a, b, c) refl
 
-abbrev same_piece : (t : Piece) (xs ys : List ℤ) → Piece
-same_piece t xs ys = record { xs = xs; ys = ys; qs = t.qs }
-
-is_same_piece : (t : Piece) (xs ys : List ℤ) → xs ≡ t.xs → ys ≡ t.ys → same_piece t xs ys ≡ t
-is_same_piece t xs ys ex ey = rw (ex, ey) refl
-
-pub inside_of-covered : (e : Edges) (side : Side) (t : Piece) (xs ys : List ℤ) → xs ≡ t.xs → ys ≡ t.ys →
-    IsEdge e.first side (corner xs ys 0) (corner xs ys 1) → IsEdge e.second side (corner xs ys 1) (corner xs ys 2) → IsEdge e.third side (corner xs ys 2) (corner xs ys 0) →
-    side ≡ Occluder → (u : Sub) → inside_of e u ≡ covered t u
+pub inside_of-covered : (e : Edges) (side : Side) (t : Piece) → AreEdges e side t → side ≡ Occluder → (u : Sub) → inside_of e u ≡ covered t u
 unfolding inside_of covered
-inside_of-covered e side t xs ys ex ey f s d is u =
-    let p = same_piece t xs ys in
-    let f' = rw is at f in let s' = rw is at s in let d' = rw is at d in
-    each_sample-same (λ k. is_inside e (8 * u.column + k % 8) (4 * u.row + k / 8)) (λ k. covers p (sample u k)) (λ k. occluder_at e p f' s' d' (8 * u.column + k % 8) (4 * u.row + k / 8))
-    ∙ ap (λ v. each_sample (λ k. covers v (sample u k))) (is_same_piece t xs ys ex ey)
+inside_of-covered e side t h is u =
+    let g = rw is at h in
+    each_sample-same (λ k. is_inside e (8 * u.column + k % 8) (4 * u.row + k / 8)) (λ k. covers t (sample u k)) (λ k l. occluder_at e t g (8 * u.column + k % 8) (4 * u.row + k / 8))
 
-pub inside_of-touched : (e : Edges) (side : Side) (t : Piece) (xs ys : List ℤ) → xs ≡ t.xs → ys ≡ t.ys →
-    IsEdge e.first side (corner xs ys 0) (corner xs ys 1) → IsEdge e.second side (corner xs ys 1) (corner xs ys 2) → IsEdge e.third side (corner xs ys 2) (corner xs ys 0) →
-    side ≡ Object → (u : Sub) → inside_of e u ≡ touched t u
+pub inside_of-touched : (e : Edges) (side : Side) (t : Piece) → AreEdges e side t → side ≡ Object → (u : Sub) → inside_of e u ≡ touched t u
 unfolding inside_of touched
-inside_of-touched e side t xs ys ex ey f s d is u =
-    let p = same_piece t xs ys in
-    let f' = rw is at f in let s' = rw is at s in let d' = rw is at d in
-    each_sample-same (λ k. is_inside e (8 * u.column + k % 8) (4 * u.row + k / 8)) (λ k. touches p (sample u k)) (λ k. object_at e p f' s' d' (8 * u.column + k % 8) (4 * u.row + k / 8))
-    ∙ ap (λ v. each_sample (λ k. touches v (sample u k))) (is_same_piece t xs ys ex ey)
+inside_of-touched e side t h is u =
+    let g = rw is at h in
+    each_sample-same (λ k. is_inside e (8 * u.column + k % 8) (4 * u.row + k / 8)) (λ k. touches t (sample u k)) (λ k l. object_at e t g (8 * u.column + k % 8) (4 * u.row + k / 8))

@@ -3,7 +3,7 @@ use Rattle.std.proofs.Common.{◌≡◌, ℕ, ℤ, pos, ◌+◌, ◌*◌, ◌+�
 use Rattle.std.proofs.lemmas.Int.{ints}
 use Rattle.cull_base.proofs.Ring.{diff, diff-add, diff-sub, diff-mul, diff-same, pos_is, over1, over4}
 
-diff-neg : (a b : ℕ) → neg_ℤ (diff a b) ≡ diff b a
+pub diff-neg : (a b : ℕ) → neg_ℤ (diff a b) ≡ diff b a
 unfolding diff
 diff-neg a b = omega (arith, ints)
 

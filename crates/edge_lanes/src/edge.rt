@@ -5,9 +5,8 @@ ghost use Rattle.cull_base.specs.Piece.{IsCoordinate, Point, middle, edge_value,
 ghost use Rattle.cull_base.specs.Bounds.{Bounded};
 ghost use Rattle.edge_lanes.specs.Lanes.{offsets_of, columns, is_not_negative, bias_of, highest_of, lowest_of, row_of};
 
-use crate::arithmetic::{
-    difference, fall, minus, opposite, pixel_step, product, rise, steps, total,
-};
+use crate::arithmetic::{fall, opposite, pixel_step, rise, steps, total};
+use cull_base::arithmetic::{difference, edge_value};
 use cull_base::{Side, Sub};
 use std::simd::prelude::*;
 
@@ -53,29 +52,13 @@ fn bias(side: Side, top_or_left: bool) -> i64
 }
 
 #[inline(always)]
-fn biased(value: i64, bias: i64) -> i64
+fn with_bias(value: i64, bias: i64) -> i64
     requires value { Bounded (2 ^ 61) value }
     requires bias { Bounded 1 bias }
     ensures value { result ≡ value +ℤ bias }
     ensures bounded { Bounded (2 ^ 61 + 1) result }
 {
     value + bias
-}
-
-// The value at the sample of the first pixel.
-#[inline(always)]
-fn first_value(across: i64, down: i64, ax: i32, ay: i32) -> i64
-    requires across { Bounded (2 ^ 30) across }
-    requires down { Bounded (2 ^ 30) down }
-    requires ax { IsCoordinate ax }
-    requires ay { IsCoordinate ay }
-    ensures value { result ≡ (across *ℤ (pos 8 -ℤ ay)) -ℤ (down *ℤ (pos 8 -ℤ ax)) }
-    ensures bounded { Bounded (2 ^ 61) result }
-{
-    minus(
-        product(across, difference(8, ay)),
-        product(down, difference(8, ax)),
-    )
 }
 
 // The most and the least that a subtile's samples add.
@@ -117,7 +100,7 @@ fn from_steps(start: i64, column: i64, row: i64) -> Edge
 }
 
 #[inline(always)]
-fn moved(start: i64, across: i64, down: i64) -> i64
+fn shift(start: i64, across: i64, down: i64) -> i64
     requires start { Bounded (2 ^ 61 + 1) start }
     requires across { Bounded (2 ^ 45) across }
     requires down { Bounded (2 ^ 45) down }
@@ -128,13 +111,13 @@ fn moved(start: i64, across: i64, down: i64) -> i64
 }
 
 #[inline(always)]
-fn lowered(start: i64, by: i64) -> i64
+fn row_start(start: i64, down: i64) -> i64
     requires start { Bounded (2 ^ 61 + 2 ^ 47) start }
-    requires by { Bounded (2 ^ 45) by }
-    ensures value { result ≡ start +ℤ by }
+    requires down { Bounded (2 ^ 45) down }
+    ensures value { result ≡ start +ℤ down }
     ensures bounded { Bounded (2 ^ 62) result }
 {
-    start + by
+    start + down
 }
 
 impl Edge {
@@ -152,7 +135,7 @@ impl Edge {
         let down = difference(by, ay);
         let bias = bias(side, is_top_or_left(ax, ay, bx, by));
         from_steps(
-            biased(first_value(across, down, ax, ay), bias),
+            with_bias(edge_value(ax, ay, bx, by, 8, 8), bias),
             opposite(pixel_step(down)),
             pixel_step(across),
         )
@@ -166,7 +149,7 @@ impl Edge {
         ensures value { result ≡ value_at self.now (8 * sub.column) (4 * sub.row) }
         ensures bounded { Bounded (2 ^ 61 + 2 ^ 47) result }
     {
-        moved(
+        shift(
             self.start,
             steps(self.column, 8 * u32::from(sub.column)),
             steps(self.row, 4 * u32::from(sub.row)),
@@ -175,7 +158,7 @@ impl Edge {
 
     /// Whether no sample of a subtile that begins with this value is inside.
     #[inline(always)]
-    pub fn is_outside(&self, start: i64) -> bool
+    pub fn rejects_all(&self, start: i64) -> bool
         requires { Bounded (2 ^ 61 + 2 ^ 47) start }
         ensures { IsTrue result ↔ ((start +ℤ highest_of self.now.column self.now.row) <ℤ pos 0) }
     {
@@ -184,7 +167,7 @@ impl Edge {
 
     /// Whether each sample of such a subtile is inside.
     #[inline(always)]
-    fn is_whole(&self, start: i64) -> bool
+    fn accepts_all(&self, start: i64) -> bool
         requires { Bounded (2 ^ 61 + 2 ^ 47) start }
         ensures { IsTrue result ↔ (pos 0 ≤ℤ (start +ℤ lowest_of self.now.column self.now.row)) }
     {
@@ -211,7 +194,7 @@ impl Edge {
         ensures value { result ≡ row_of (inside_from self.now start) row }
         ensures byte { result < 2 ^ 8 }
     {
-        self.columns(lowered(start, steps(self.row, row)))
+        self.columns(row_start(start, steps(self.row, row)))
     }
 
     // The mask of a subtile that begins with this value, row by row.
@@ -231,7 +214,7 @@ impl Edge {
         requires { Bounded (2 ^ 61 + 2 ^ 47) start }
         ensures { result ≡ mask_l (each_sample (inside_from self.now start)) }
     {
-        if self.is_whole(start) {
+        if self.accepts_all(start) {
             u32::MAX
         } else {
             self.rows(start)

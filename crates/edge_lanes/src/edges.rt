@@ -1,14 +1,16 @@
 //! The three edges of a piece, and the masks of the samples inside all of them.
 ghost use Rattle.std.specs.Prelude.{◌≡◌, ℕ, ℤ, ◌+◌, ◌*◌, ◌/◌, ◌%◌, ◌<◌, ◌^◌, slice_index, IsTrue};
 ghost use Rattle.std.specs.Simd.Lanes.{mask_l};
-ghost use Rattle.cull_base.specs.Piece.{covered, touched, each_sample};
+ghost use Rattle.cull_base.specs.Piece.{covered, touched, each_sample, vertex};
 ghost use Rattle.cull_base.specs.Bounds.{Bounded};
 ghost use Rattle.cull_base.specs.State.{samples_of};
 ghost use Rattle.cull_base.specs.declared.place.Sub.{Sub};
 ghost use Rattle.cull_base.specs.declared.triangle.Side.{Side};
+ghost use Rattle.edge_lanes.specs.Inside.{IsEdge};
 
 use crate::edge::Edge;
 use cull_base::{ScreenTri, Side, Sub, Tile};
+use std::array;
 
 /// The edges of a piece, for the samples that it covers as an occluder or touches as an object.
 #[derive(Clone, Copy)]
@@ -18,6 +20,18 @@ pub struct Edges {
     third: Edge,
 }
 
+// The edge from one vertex of a piece to another.
+#[inline(always)]
+fn edge_between(tri: &ScreenTri, from: usize, to: usize, side: Side) -> Edge
+    requires from { from < 3 }
+    requires to { to < 3 }
+    ensures { IsEdge result side (vertex tri.now from) (vertex tri.now to) }
+{
+    let x = tri.x();
+    let y = tri.y();
+    Edge::of(x[from], y[from], x[to], y[to], side)
+}
+
 impl Edges {
     ghost use Rattle.edge_lanes.specs.Inside.{inside_of, inside_all, sub_of};
 
@@ -25,26 +39,24 @@ impl Edges {
         ensures covered { side ≡ Side.Occluder → (u : Sub) → inside_of result u ≡ covered tri.now u }
         ensures touched { side ≡ Side.Object → (u : Sub) → inside_of result u ≡ touched tri.now u }
     {
-        let [x0, x1, x2] = tri.x();
-        let [y0, y1, y2] = tri.y();
         Edges {
-            first: Edge::of(x0, y0, x1, y1, side),
-            second: Edge::of(x1, y1, x2, y2, side),
-            third: Edge::of(x2, y2, x0, y0, side),
+            first: edge_between(tri, 0, 1, side),
+            second: edge_between(tri, 1, 2, side),
+            third: edge_between(tri, 2, 0, side),
         }
     }
 
     // Whether an edge rejects each sample of a subtile that begins with these values.
     #[inline(always)]
-    fn is_outside(&self, first: i64, second: i64, third: i64) -> bool
+    fn rejects_all(&self, first: i64, second: i64, third: i64) -> bool
         requires first { Bounded (2 ^ 61 + 2 ^ 47) first }
         requires second { Bounded (2 ^ 61 + 2 ^ 47) second }
         requires third { Bounded (2 ^ 61 + 2 ^ 47) third }
         ensures { IsTrue result → mask_l (each_sample (inside_all self.now first second third)) ≡ 0 }
     {
-        self.first.is_outside(first)
-            || self.second.is_outside(second)
-            || self.third.is_outside(third)
+        self.first.rejects_all(first)
+            || self.second.rejects_all(second)
+            || self.third.rejects_all(third)
     }
 
     /// The samples of a subtile that lie inside: bit 8r + c is column c of row r. Condition: the subtile lies within
@@ -59,7 +71,7 @@ impl Edges {
         let first = self.first.start_at(sub);
         let second = self.second.start_at(sub);
         let third = self.third.start_at(sub);
-        if self.is_outside(first, second, third) {
+        if self.rejects_all(first, second, third) {
             0
         } else {
             self.first.mask(first) & self.second.mask(second) & self.third.mask(third)
@@ -89,15 +101,6 @@ impl Edges {
         ensures value { (j : ℕ) → j < 8 → slice_index result j ≡ mask_l (inside_of self.now (sub_of tile j)) }
         ensures samples { (j : ℕ) → j < 8 → samples_of (slice_index result j) ≡ inside_of self.now (sub_of tile j) }
     {
-        [
-            self.mask_of(tile, 0),
-            self.mask_of(tile, 1),
-            self.mask_of(tile, 2),
-            self.mask_of(tile, 3),
-            self.mask_of(tile, 4),
-            self.mask_of(tile, 5),
-            self.mask_of(tile, 6),
-            self.mask_of(tile, 7),
-        ]
+        array::from_fn(|j| self.mask_of(tile, j as u16))
     }
 }

@@ -40,7 +40,7 @@ fn value(ax: i64, ay: i64, bx: i64, by: i64, x: i64, y: i64) -> i64 {
     right.wrapping_sub(down)
 }
 
-fn is_inside(ax: i32, ay: i32, bx: i32, by: i32, side: Side, x: i64, y: i64) -> bool {
+fn counts(ax: i32, ay: i32, bx: i32, by: i32, side: Side, x: i64, y: i64) -> bool {
     let v = value(
         i64::from(ax),
         i64::from(ay),
@@ -58,9 +58,9 @@ fn plain_mask(x: &[i32; 3], y: &[i32; 3], side: Side, sub: Sub) -> u32 {
     for k in 0..32u32 {
         let px = 16 * (8 * i64::from(sub.column) + i64::from(k % 8)) + 8;
         let py = 16 * (4 * i64::from(sub.row) + i64::from(k / 8)) + 8;
-        if is_inside(x[0], y[0], x[1], y[1], side, px, py)
-            && is_inside(x[1], y[1], x[2], y[2], side, px, py)
-            && is_inside(x[2], y[2], x[0], y[0], side, px, py)
+        if counts(x[0], y[0], x[1], y[1], side, px, py)
+            && counts(x[1], y[1], x[2], y[2], side, px, py)
+            && counts(x[2], y[2], x[0], y[0], side, px, py)
         {
             mask |= 1 << k;
         }

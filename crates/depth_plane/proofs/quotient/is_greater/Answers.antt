@@ -1,4 +1,4 @@
-use Rattle.std.proofs.Common.{◌≡◌, ℤ, pos, ◌<ℤ◌, ◌*ℤ◌, rules, FitsSigned, w64, IsTrue, Bool, true, false, of_z, to_z, ap, sym, ◌∙◌}
+use Rattle.std.proofs.Common.{◌≡◌, ℤ, ◌<ℤ◌, rules, FitsSigned, w64, IsTrue, Bool, true, false, of_z, to_z, ap, sym, ◌∙◌}
 use Rattle.std.specs.Int.{w128}
 use lib.Signed.{lt_z}
 use lib.Dec.{T}

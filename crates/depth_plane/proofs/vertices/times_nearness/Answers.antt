@@ -1,4 +1,4 @@
-use Rattle.std.proofs.Common.{ℤ, ◌≡◌, ◌*ℤ◌, ◌^◌, pos, FitsSigned, w64, arith, rules, refl}
+use Rattle.std.proofs.Common.{◌*ℤ◌, ◌^◌, FitsSigned, w64, arith, rules, refl}
 use Rattle.std.specs.Int.{w128}
 use Rattle.std.proofs.lemmas.Int.{ints, to_z-of_z}
 use Rattle.depth_plane.proofs.Nearness.{bounded-times_nearness}

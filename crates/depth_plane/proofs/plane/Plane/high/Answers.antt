@@ -10,13 +10,13 @@ returns-clause-value c =
     let fa : FitsSigned w64 c.self.inside.area = search rules in
     let fl : FitsSigned w128 c.greatest.result = search rules in
     let ff : FitsSigned w128 c.ceiling.result = search rules in
-    let fx : FitsSigned w128 c.from.result = search rules in
+    let fx : FitsSigned w128 c.from-nearness.result = search rules in
     let fm : FitsSigned w128 c.min.result = search rules in
-    high_of-computed c.args.tri.now c.args.sub c.args.self.now c.q.result c.max.result c.max-greatest_nearness.result c.cut_to_range.result c.from.result c.greatest.result c.self.inside.area c.ceiling.result c.min.result
-    c.requires.plane c.q.ensures.value c.max.ensures c.max-greatest_nearness.ensures c.from.ensures c.greatest.ensures.value (ap (λ (v : Coefficients). v.area) c.self.view_is)
+    high_of-computed c.args.tri.now c.args.sub c.args.self.now c.greatest_nearness.result c.cut_to_range.result c.from-nearness.result c.greatest.result c.self.inside.area c.ceiling.result c.min.result
+    c.requires.plane c.greatest_nearness.ensures.value c.from-nearness.ensures c.greatest.ensures.value (ap (λ (v : Coefficients). v.area) c.self.view_is)
     (simp to_z-of_z at c.ceiling.ensures) (simp to_z-of_z at c.min.ensures.value) (simp to_z-of_z at c.cut_to_range.ensures.value)
 
 pub returns-clause-above : goal.returns-clause-above
 returns-clause-above c k lt e =
     let v = returns-clause-value c in
-    rw v (high_of-above c.args.tri.now c.args.sub k c.q.ensures.valid lt e)
+    rw v (high_of-above c.args.tri.now c.args.sub k c.greatest_nearness.ensures.valid lt e)

@@ -18,24 +18,25 @@ returns-clause-value c =
     let fa : FitsSigned w128 c.across.result = search rules in
     let fd : FitsSigned w128 c.down.result = search rules in
     let fl : FitsSigned w128 c.level.result = search rules in
-    let fn : FitsSigned w64 c.area.result = search rules in
-    simp to_z-of_z (plane_of-computed c.args.tri.now c.of-vertices.result c.across.result c.down.result c.level.result c.area.result
+    let fn : FitsSigned w64 c.area-area.result = search rules in
+    simp to_z-of_z (plane_of-computed c.args.tri.now c.of-vertices.result c.across.result c.down.result c.level.result c.area-area.result
     c.of-vertices.ensures.a c.of-vertices.ensures.b c.of-vertices.ensures.c
-    c.across.ensures.value c.down.ensures.value c.level.ensures.value c.area.ensures.value)
+    c.across.ensures.value c.down.ensures.value c.level.ensures.value c.area-area.ensures.value)
 
 pub invariant_of-result : goal.invariant_of-result
 invariant_of-result c =
     let fa : FitsSigned w128 c.across.result = search rules in
     let fd : FitsSigned w128 c.down.result = search rules in
     let fl : FitsSigned w128 c.level.result = search rules in
-    let fn : FitsSigned w64 c.area.result = search rules in
+    let fn : FitsSigned w64 c.area-area.result = search rules in
     let is = simp to_z-of_z at (returns-clause-value c) in
     simp to_z-of_z (record {
       across = c.across.ensures.bounded;
       down = c.down.ensures.bounded;
       level = c.level.ensures.bounded;
-      positive_area = positive c.area.result _ c.args.tri.now is c.of-vertices.ensures.valid.positive_area refl;
-      area_within = within c.area.result c.area.ensures.bounded;
+      positive_area = positive c.area-area.result _ c.args.tri.now is c.of-vertices.ensures.valid.positive_area refl;
+      is_reciprocal = simp to_z-of_z at c.reciprocal.ensures;
+      area_within = within c.area-area.result c.area-area.ensures.bounded;
     })
 
 pub returns-clause-numerator : goal.returns-clause-numerator

@@ -17,7 +17,7 @@ sum-requires c =
     simp to_z-of_z (record { a = s (2 ^ 61) c.requires.a; b = t (2 ^ 61) c.requires.b; c = u (2 ^ 61) c.requires.c })
 
 pub returns-clause-bounded : goal.returns-clause-bounded
-returns-clause-bounded c n na nb nc = 
+returns-clause-bounded c n na nb nc =
     let fa : FitsSigned w64 c.args.a = c.ranges.a in let fb : FitsSigned w64 c.args.b = c.ranges.b in let fc : FitsSigned w64 c.args.c = c.ranges.c in
     let fs : FitsSigned w128 c.times_nearness.result = search rules in let ft : FitsSigned w128 c.times_nearness-2.result = search rules in
     let fu : FitsSigned w128 c.times_nearness-3.result = search rules in let fr : FitsSigned w128 c.sum.result = search rules in

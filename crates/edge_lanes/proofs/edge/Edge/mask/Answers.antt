@@ -3,13 +3,13 @@ use Rattle.std.proofs.lemmas.Int.{to_z-of_z}
 use Rattle.edge_lanes.proofs.Extremes.{accepted}
 use Rattle.edge_lanes.proofs.edge.Edge.mask.Goals as goal
 
-pub returns-then-is_whole : goal.returns-then-is_whole
-returns-then-is_whole c =
+pub returns-then-accepts_all : goal.returns-then-accepts_all
+returns-then-accepts_all c =
     let fs : FitsSigned w64 c.args.start = c.ranges.start in
-    let h = simp to_z-of_z at c.is_whole.ensures in
-    sym (accepted c.args.self.now c.args.start (h.0 c.if-is_whole.true))
+    let h = simp to_z-of_z at c.accepts_all.ensures in
+    sym (accepted c.args.self.now c.args.start (h.0 c.if-accepts_all.true))
 
-pub returns-else-is_whole : goal.returns-else-is_whole
-returns-else-is_whole c =
+pub returns-else-accepts_all : goal.returns-else-accepts_all
+returns-else-accepts_all c =
     let fs : FitsSigned w64 c.args.start = c.ranges.start in
     simp to_z-of_z at c.rows.ensures

@@ -13,6 +13,6 @@ returns-clause-value c =
     let fr : FitsSigned w64 e.row = search rules in
     let fa : FitsSigned w64 c.steps.result = search rules in
     let fb : FitsSigned w64 c.steps-2.result = search rules in
-    let fm : FitsSigned w64 c.moved.result = search rules in
-    simp to_z-of_z (joined e.start e.column e.row c.steps.result c.steps-2.result c.moved.result _ _ _ _
-    (simp to_z-of_z at c.moved.ensures.value) (simp to_z-of_z at c.steps.ensures.value) (simp to_z-of_z at c.steps-2.ensures.value) (search rules) (search rules))
+    let fm : FitsSigned w64 c.shift.result = search rules in
+    simp to_z-of_z (joined e.start e.column e.row c.steps.result c.steps-2.result c.shift.result _ _ _ _
+    (simp to_z-of_z at c.shift.ensures.value) (simp to_z-of_z at c.steps.ensures.value) (simp to_z-of_z at c.steps-2.ensures.value) (search rules) (search rules))

@@ -19,25 +19,25 @@ all_three : (e : Edges) (s t v : ℤ) (l m n : ℕ) → l ≡ mask_l (each_sampl
     mask_l (each_sample (inside_all e s t v)) ≡ bit_and (bit_and l m) n
 all_three e s t v l m n el em en = rw (el, em, en) (sym (mask_l-and_samples (inside_from e.first s) (inside_from e.second t) (inside_from e.third v)))
 
-pub returns-then-is_outside-clause-value : goal.returns-then-is_outside-clause-value
-returns-then-is_outside-clause-value c =
+pub returns-then-rejects_all-clause-value : goal.returns-then-rejects_all-clause-value
+returns-then-rejects_all-clause-value c =
     let fs : FitsSigned w64 c.start_at-first.result = search rules in
     let ft : FitsSigned w64 c.start_at-second.result = search rules in
     let fu : FitsSigned w64 c.start_at-third.result = search rules in
-    let h = simp to_z-of_z at c.is_outside.ensures in
-    joined c.args.self.now c.args.sub 0 c.start_at-first.result c.start_at-second.result c.start_at-third.result (h c.if-is_outside.true) c.start_at-first.ensures.value c.start_at-second.ensures.value c.start_at-third.ensures.value
+    let h = simp to_z-of_z at c.rejects_all.ensures in
+    joined c.args.self.now c.args.sub 0 c.start_at-first.result c.start_at-second.result c.start_at-third.result (h c.if-rejects_all.true) c.start_at-first.ensures.value c.start_at-second.ensures.value c.start_at-third.ensures.value
 
-pub returns-then-is_outside-clause-samples : goal.returns-then-is_outside-clause-samples
-returns-then-is_outside-clause-samples c = ap samples_of (returns-then-is_outside-clause-value c) ∙ samples_of-mask_l_inside c.args.self.now c.args.sub
+pub returns-then-rejects_all-clause-samples : goal.returns-then-rejects_all-clause-samples
+returns-then-rejects_all-clause-samples c = ap samples_of (returns-then-rejects_all-clause-value c) ∙ samples_of-mask_l_inside c.args.self.now c.args.sub
 
-pub returns-else-is_outside-clause-value : goal.returns-else-is_outside-clause-value
-returns-else-is_outside-clause-value c =
+pub returns-else-rejects_all-clause-value : goal.returns-else-rejects_all-clause-value
+returns-else-rejects_all-clause-value c =
     let fs : FitsSigned w64 c.start_at-first.result = search rules in
     let ft : FitsSigned w64 c.start_at-second.result = search rules in
     let fu : FitsSigned w64 c.start_at-third.result = search rules in
     joined c.args.self.now c.args.sub _ c.start_at-first.result c.start_at-second.result c.start_at-third.result
-    (all_three c.args.self.now c.start_at-first.result c.start_at-second.result c.start_at-third.result c.mask.result c.mask-else-is_outside.result c.mask-else-is_outside-2.result (simp to_z-of_z at c.mask.ensures) (simp to_z-of_z at c.mask-else-is_outside.ensures) (simp to_z-of_z at c.mask-else-is_outside-2.ensures))
+    (all_three c.args.self.now c.start_at-first.result c.start_at-second.result c.start_at-third.result c.mask.result c.mask-else-rejects_all.result c.mask-else-rejects_all-2.result (simp to_z-of_z at c.mask.ensures) (simp to_z-of_z at c.mask-else-rejects_all.ensures) (simp to_z-of_z at c.mask-else-rejects_all-2.ensures))
     c.start_at-first.ensures.value c.start_at-second.ensures.value c.start_at-third.ensures.value
 
-pub returns-else-is_outside-clause-samples : goal.returns-else-is_outside-clause-samples
-returns-else-is_outside-clause-samples c = ap samples_of (returns-else-is_outside-clause-value c) ∙ samples_of-mask_l_inside c.args.self.now c.args.sub
+pub returns-else-rejects_all-clause-samples : goal.returns-else-rejects_all-clause-samples
+returns-else-rejects_all-clause-samples c = ap samples_of (returns-else-rejects_all-clause-value c) ∙ samples_of-mask_l_inside c.args.self.now c.args.sub
