@@ -45,6 +45,10 @@ exchanged t = record { xs = swap t.xs 1 2; ys = swap t.ys 1 2; qs = swap t.qs 1 
 abbrev pub turned : Piece → Piece
 turned t = cond (int_lt (doubled_area t) (pos 0)) (exchanged t) t
 
+-- the piece of a triangle, if it has one
+abbrev pub piece_if : Winding → Piece → Option Piece
+piece_if winding t = cond (is_left_out winding t) None (Some (turned t))
+
 -- the pieces of a snapped polygon: each of its triangles is judged by itself
 unfoldable pub kept_of : List Snapped → Winding → List Piece
 kept_of points winding = map turned (filter (λ t. not (is_left_out winding t)) (triangles_of points))
