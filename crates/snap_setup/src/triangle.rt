@@ -6,7 +6,8 @@ ghost use Rattle.cull_base.specs.declared.nearness.TheConstants.{GRADE_TOP};
 ghost use Rattle.cull_base.specs.Guard.{is_past_guard};
 ghost use Rattle.cull_base.specs.Piece.{IsCoordinate, doubled_area};
 ghost use Rattle.near_clip.specs.NearPart.{corner};
-ghost use Rattle.snap_setup.specs.Pieces.{triangle, is_dropped, piece_if, pieces_of, kept_of, snapped_part, is_any_past_guard, GivesNone};
+ghost use Rattle.snap_setup.specs.Pieces.{triangle, is_dropped, piece_if, kept_of, is_any_past_guard};
+ghost use Rattle.snap_setup.specs.Triangles.{part_of_triangle, pieces_of_triangle, TriangleGivesNone};
 ghost use Rattle.snap_setup.specs.Snapping.{IsSnapped};
 
 use crate::pieces::Pieces;
@@ -66,7 +67,7 @@ fn outline(tri: &[ClipVertex; 3], near: u16, size: Size, winding: Winding, side:
     requires near_least { 1 ≤ near }
     requires near_most { near ≤ 1024 }
     requires guarded { All (λ v. is_past_guard v near ≡ false) tri.now }
-    ensures { result ≡ kept_of (snapped_part (corner tri.now 0) (corner tri.now 1) (corner tri.now 2) GRADE_TOP near size side) winding }
+    ensures { result ≡ kept_of (part_of_triangle tri.now GRADE_TOP near size side) winding }
 {
     let polygon = clip_near(tri, near);
     if polygon.len() == 0 {
@@ -99,9 +100,9 @@ fn is_any_past_guard(tri: &[ClipVertex; 3], near: u16) -> bool
 pub fn set_up(tri: &[ClipVertex; 3], near: u16, size: Size, winding: Winding, side: Side) -> Pieces
     requires near_least { 1 ≤ near }
     requires near_most { near ≤ 1024 }
-    ensures value { result ≡ pieces_of (corner tri.now 0) (corner tri.now 1) (corner tri.now 2) GRADE_TOP near size winding side }
+    ensures value { result ≡ pieces_of_triangle tri.now GRADE_TOP near size winding side }
     ensures most { length result ≤ 2 }
-    ensures none { (result ≡ []) ↔ GivesNone (corner tri.now 0) (corner tri.now 1) (corner tri.now 2) GRADE_TOP near size winding side }
+    ensures none { (result ≡ []) ↔ TriangleGivesNone tri.now GRADE_TOP near size winding side }
 {
     if is_any_past_guard(tri, near) {
         return Pieces::none();
