@@ -20,7 +20,12 @@ abbrev pub cut_point : ClipVertex → ClipVertex → ℕ → HomPoint
 cut_point a b near =
     let p = a.w -ℤ pos near in
     let q = pos near -ℤ b.w in
-    record { x = (p *ℤ b.x) +ℤ (q *ℤ a.x); y = (p *ℤ b.y) +ℤ (q *ℤ a.y); w = (p *ℤ b.w) +ℤ (q *ℤ a.w); scale = a.w -ℤ b.w }
+    record {
+      x = (p *ℤ b.x) +ℤ (q *ℤ a.x);
+      y = (p *ℤ b.y) +ℤ (q *ℤ a.y);
+      w = (p *ℤ b.w) +ℤ (q *ℤ a.w);
+      scale = a.w -ℤ b.w;
+    }
 
 -- the polygon by which of the three vertices are inside
 abbrev pub part_by : Bool → Bool → Bool → ClipVertex → ClipVertex → ClipVertex → ℕ → List HomPoint

@@ -25,7 +25,7 @@ const B: [i8; 3] = [0, 4, 6];
 
 const C: [i8; 3] = [4, 0, 0];
 
-fn clipped(v0: [i8; 3], v1: [i8; 3], v2: [i8; 3]) -> Polygon {
+fn polygon_of(v0: [i8; 3], v1: [i8; 3], v2: [i8; 3]) -> Polygon {
     clip_near(
         &[
             vertex(v0[0], v0[1], v0[2]),
@@ -47,7 +47,7 @@ fn one_vertex_behind_leaves_four_points(rt: HostRuntime) {
         ([B, C, A], [whole_b, cut_b, cut_a, whole_a]),
         ([C, A, B], [cut_a, whole_a, whole_b, cut_b]),
     ] {
-        let polygon = clipped(tri[0], tri[1], tri[2]);
+        let polygon = polygon_of(tri[0], tri[1], tri[2]);
         assert_eq!(rt; polygon.len(), 4);
         assert_eq!(rt;
             [
@@ -71,7 +71,7 @@ fn two_vertices_behind_leave_three_points(rt: HostRuntime) {
         ([[4, 0, 6], [0, 0, 0], [0, 4, 0]], [inside, first, second]),
         ([[0, 4, 0], [4, 0, 6], [0, 0, 0]], [second, inside, first]),
     ] {
-        let polygon = clipped(tri[0], tri[1], tri[2]);
+        let polygon = polygon_of(tri[0], tri[1], tri[2]);
         assert_eq!(rt; polygon.len(), 3);
         assert_eq!(rt; [polygon.get(0), polygon.get(1), polygon.get(2)], points);
     }
@@ -79,12 +79,12 @@ fn two_vertices_behind_leave_three_points(rt: HostRuntime) {
 
 #[test]
 fn all_behind_leaves_nothing(rt: HostRuntime) {
-    assert_eq!(rt; clipped([0, 0, 0], [0, 4, 0], [4, 0, 0]).len(), 0);
+    assert_eq!(rt; polygon_of([0, 0, 0], [0, 4, 0], [4, 0, 0]).len(), 0);
 }
 
 #[test]
 fn on_the_plane_is_in_front(rt: HostRuntime) {
-    let polygon = clipped([0, 0, 2], [0, 4, 2], [4, 0, 2]);
+    let polygon = polygon_of([0, 0, 2], [0, 4, 2], [4, 0, 2]);
     assert_eq!(rt; polygon.len(), 3);
     assert_eq!(rt; polygon.get(2), point(4, 0, 2, 1));
 }

@@ -4,6 +4,7 @@ use Rattle.std.proofs.lemmas.Int.{ints}
 use Rattle.std.proofs.Math.Nat.{mul-le-mul_left, div-lt_iff_lt-mul, div-eq_of_lt-le, div-add-mod, mod-lt, zero-div, mod-eq_of_lt}
 use Rattle.std.specs.Int.RustNames.{unsigned_abs}
 use Rattle.cull_base.specs.Bounds.{Bounded}
+use Rattle.cull_base.proofs.Bounds.{times-bounded}
 use Rattle.cull_base.specs.Depth.{floor_of, ceiling_of}
 use Rattle.snap_setup.specs.Snapping.{round_half}
 
@@ -55,16 +56,11 @@ doubled_twice p (negsuc b) = omega (arith, ints)
 pub rounded_is : (p : ℕ) (o w d s e q : ℤ) → d ≡ pos (16 * p) *ℤ o → s ≡ d +ℤ w → e ≡ pos 2 *ℤ w → q ≡ floor_of s e → q ≡ round_half (pos (8 * p) *ℤ o) w
 rounded_is p o w d s e q ed es ee eq = let t = doubled_twice p o in rw (eq, es, ee, ed, t) refl
 
--- a natural times a number that is at most g away from 0
-times_near : (g m : ℕ) (b : ℤ) → Bounded g b → Bounded (g * m) (pos m *ℤ b)
-times_near g m (pos b) h = let le : b ≤ g = omega (arith, ints, h) in let k = mul-le-mul_left m le in (omega (arith, ints, k), omega (arith, ints, k))
-times_near g m (negsuc b) h = let le : suc b ≤ g = omega (arith, ints, h) in let k = mul-le-mul_left m le in (omega (arith, ints, k), omega (arith, ints, k))
-
 -- 8 * 2048 * 16385, which is below 2^29
 pub rounded_near : (p : ℕ) (o w : ℤ) → p ≤ 2048 → pos 1 ≤ℤ w → neg_ℤ (pos 16385 *ℤ w) ≤ℤ o → o ≤ℤ (pos 16385 *ℤ w) → Bounded 268451840 (round_half (pos (8 * p) *ℤ o) w)
 rounded_near p o (pos b) hp h low high =
     let near : Bounded (16385 * b) o = (omega (arith, ints, low), omega (arith, ints, high)) in
-    let t = times_near (16385 * b) (8 * p) o near in
+    let t = times-bounded (16385 * b) (8 * p) o near in
     let le : 8 * p ≤ 16384 = omega arith in
     let m = mul-le-mul_left (16385 * b) le in
     round_half_near 268451840 (pos (8 * p) *ℤ o) (pos b) h (omega (arith, ints, t, m)) (omega (arith, ints, t, m))

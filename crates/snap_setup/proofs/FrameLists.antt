@@ -9,10 +9,7 @@ use Rattle.cull_base.specs.declared.scene_types.Tri.{Tri}
 use Rattle.cull_base.specs.Screen.{Dimensions}
 use Rattle.cull_base.specs.Piece.{Piece}
 use Rattle.near_clip.specs.NearPart.{corner}
-use Rattle.snap_setup.specs.Pieces.{pieces_of, clip_at, list_of_clips}
-
-abbrev pub pieces_at : List ClipVertex → ℕ → ℕ → Dimensions → Winding → Tri → List Piece
-pieces_at clips top near size winding t = pieces_of (clip_at clips t 0) (clip_at clips t 1) (clip_at clips t 2) top near size winding Occluder
+use Rattle.snap_setup.specs.Pieces.{pieces_of, pieces_at, clip_at, list_of_clips}
 
 pub list_none : (clips : List ClipVertex) (top near : ℕ) (size : Dimensions) (winding : Winding) → [] ≡ list_of_clips clips [] top near size winding
 unfolding list_of_clips

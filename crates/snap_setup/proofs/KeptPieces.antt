@@ -1,5 +1,5 @@
 -- The pieces that a snapped polygon keeps.
-use Rattle.std.proofs.Common.{◌≡◌, ℕ, suc, List, [], ◌∷◌, ◌++◌, map, filter, length, get_or, Bool, true, false, not, cond, ◌||◌, Option, Some, None, inl, inr, ◌↔◌, append-nil, arith, refl, sym, ◌∙◌}
+use Rattle.std.proofs.Common.{◌≡◌, ℕ, suc, List, [], ◌∷◌, ◌++◌, map, filter, length, get_or, Bool, true, false, not, cond, ◌||◌, Option, Some, None, option_to_list, inl, inr, ◌↔◌, append-nil, arith, refl, sym, ◌∙◌}
 use Rattle.std.specs.List.{All}
 use Rattle.std.proofs.lemmas.List.Elements.{All-nil, All-cons}
 use Rattle.cull_base.specs.declared.clip.ClipVertex.{ClipVertex}
@@ -13,17 +13,16 @@ use Rattle.near_clip.specs.NearPart.{near_part, corner}
 use Rattle.near_clip.proofs.Reaches.{all_corners, near_part-outside}
 use Rattle.snap_setup.specs.declared.snapping.Snapped.{Snapped}
 use Rattle.snap_setup.specs.Snapping.{snapped}
-use Rattle.snap_setup.specs.Pieces.{triangle, triangles_of, is_left_out, turned, kept_of, snapped_part, is_any_past_guard, pieces_of, GivesNone}
-use Rattle.snap_setup.specs.Judged.{piece_if, listed}
+use Rattle.snap_setup.specs.Pieces.{triangle, triangles_of, piece_if, is_left_out, turned, kept_of, snapped_part, is_any_past_guard, pieces_of, GivesNone}
 
 abbrev kept_from : Winding → List Piece → List Piece
 kept_from winding ts = map turned (filter (λ t. not (is_left_out winding t)) ts)
 
-kept_cons : (winding : Winding) (t : Piece) (ts : List Piece) → kept_from winding (t ∷ ts) ≡ listed (piece_if winding t) ++ kept_from winding ts
+kept_cons : (winding : Winding) (t : Piece) (ts : List Piece) → kept_from winding (t ∷ ts) ≡ option_to_list (piece_if winding t) ++ kept_from winding ts
 kept_cons winding t ts =
     by_test (is_left_out winding t)
   where
-    by_test : (b : Bool) → map turned (cond (not b) (t ∷ filter (λ t. not (is_left_out winding t)) ts) (filter (λ t. not (is_left_out winding t)) ts)) ≡ listed (cond b None (Some (turned t))) ++ kept_from winding ts
+    by_test : (b : Bool) → map turned (cond (not b) (t ∷ filter (λ t. not (is_left_out winding t)) ts) (filter (λ t. not (is_left_out winding t)) ts)) ≡ option_to_list (cond b None (Some (turned t))) ++ kept_from winding ts
     by_test true = refl
     by_test false = refl
 
@@ -55,7 +54,7 @@ part_none v0 v1 v2 top near size winding side ps e h = let n : near_part v0 v1 v
 pub part_three : (v0 v1 v2 : ClipVertex) (top near : ℕ) (size : Dimensions) (winding : Winding) (side : Side) (ps : List HomPoint) (p0 p1 p2 : HomPoint) (s0 s1 s2 : Snapped) (first : Option Piece) (r : List Piece) →
     ps ≡ near_part v0 v1 v2 near → length ps ≡ 3 → p0 ≡ get_or ps 0 p0 → p1 ≡ get_or ps 1 p1 → p2 ≡ get_or ps 2 p2 →
     s0 ≡ snapped p0 top near size side → s1 ≡ snapped p1 top near size side → s2 ≡ snapped p2 top near size side →
-    first ≡ piece_if winding (triangle s0 s1 s2) → r ≡ listed first ++ [] → r ≡ kept_of (snapped_part v0 v1 v2 top near size side) winding
+    first ≡ piece_if winding (triangle s0 s1 s2) → r ≡ option_to_list first ++ [] → r ≡ kept_of (snapped_part v0 v1 v2 top near size side) winding
 unfolding kept_of snapped_part
 part_three v0 v1 v2 top near size winding side ps p0 p1 p2 s0 s1 s2 first r e h e0 e1 e2 f0 f1 f2 ef er =
     let n : near_part v0 v1 v2 near ≡ p0 ∷ p1 ∷ p2 ∷ [] = sym e ∙ list_three ps p0 p1 p2 h e0 e1 e2 in
@@ -65,13 +64,13 @@ part_three v0 v1 v2 top near size winding side ps p0 p1 p2 s0 s1 s2 first r e h 
 pub part_four : (v0 v1 v2 : ClipVertex) (top near : ℕ) (size : Dimensions) (winding : Winding) (side : Side) (ps : List HomPoint) (p0 p1 p2 p3 : HomPoint) (s0 s1 s2 s3 : Snapped) (first second : Option Piece) (r : List Piece) →
     ps ≡ near_part v0 v1 v2 near → length ps ≡ 4 → p0 ≡ get_or ps 0 p0 → p1 ≡ get_or ps 1 p1 → p2 ≡ get_or ps 2 p2 → p3 ≡ get_or ps 3 p3 →
     s0 ≡ snapped p0 top near size side → s1 ≡ snapped p1 top near size side → s2 ≡ snapped p2 top near size side → s3 ≡ snapped p3 top near size side →
-    first ≡ piece_if winding (triangle s0 s1 s2) → second ≡ piece_if winding (triangle s0 s2 s3) → r ≡ listed first ++ listed second → r ≡ kept_of (snapped_part v0 v1 v2 top near size side) winding
+    first ≡ piece_if winding (triangle s0 s1 s2) → second ≡ piece_if winding (triangle s0 s2 s3) → r ≡ option_to_list first ++ option_to_list second → r ≡ kept_of (snapped_part v0 v1 v2 top near size side) winding
 unfolding kept_of snapped_part
 part_four v0 v1 v2 top near size winding side ps p0 p1 p2 p3 s0 s1 s2 s3 first second r e h e0 e1 e2 e3 f0 f1 f2 f3 ef es er =
     let n : near_part v0 v1 v2 near ≡ p0 ∷ p1 ∷ p2 ∷ p3 ∷ [] = sym e ∙ list_four ps p0 p1 p2 p3 h e0 e1 e2 e3 in
     let k = kept_cons winding (triangle s0 s1 s2) (triangle s0 s2 s3 ∷ []) in
     let l = kept_cons winding (triangle s0 s2 s3) [] in
-    let z = append-nil (listed (piece_if winding (triangle s0 s2 s3))) in
+    let z = append-nil (option_to_list (piece_if winding (triangle s0 s2 s3))) in
     rw (n, ← f0, ← f1, ← f2, ← f3, k, l, z, er, ef, es) refl
 
 -- nothing is kept exactly where each triangle is left out
@@ -79,7 +78,7 @@ kept_nothing : (winding : Winding) (ts : List Piece) → kept_from winding ts �
 kept_nothing winding [] e = All-nil _
 kept_nothing winding (t ∷ ts) e = by_test (λ k. kept_nothing winding ts k) (is_left_out winding t) refl (sym (kept_cons winding t ts) ∙ e)
   where
-    by_test : (kept_from winding ts ≡ [] → All (λ u. is_left_out winding u ≡ true) ts) → (b : Bool) → is_left_out winding t ≡ b → listed (cond b None (Some (turned t))) ++ kept_from winding ts ≡ [] →
+    by_test : (kept_from winding ts ≡ [] → All (λ u. is_left_out winding u ≡ true) ts) → (b : Bool) → is_left_out winding t ≡ b → option_to_list (cond b None (Some (turned t))) ++ kept_from winding ts ≡ [] →
         All (λ u. is_left_out winding u ≡ true) (t ∷ ts)
     by_test rest true h k = All-cons (λ u. is_left_out winding u ≡ true) t ts h (rest k)
     by_test rest false h k = absurd (cc)

@@ -45,6 +45,10 @@ exchanged t = record { xs = swap t.xs 1 2; ys = swap t.ys 1 2; qs = swap t.qs 1 
 abbrev pub turned : Piece → Piece
 turned t = cond (int_lt (doubled_area t) (pos 0)) (exchanged t) t
 
+-- the piece of a triangle, if it has one
+abbrev pub piece_if : Winding → Piece → Option Piece
+piece_if winding t = cond (is_left_out winding t) None (Some (turned t))
+
 -- the pieces of a snapped polygon: each of its triangles is judged by itself
 unfoldable pub kept_of : List Snapped → Winding → List Piece
 kept_of points winding = map turned (filter (λ t. not (is_left_out winding t)) (triangles_of points))
@@ -65,7 +69,8 @@ pieces_of v0 v1 v2 top near size winding side =
 abbrev pub IsBehind : ClipVertex → ClipVertex → ClipVertex → ℕ → Type 0
 IsBehind v0 v1 v2 near = (is_in_front v0 near ≡ false) × (is_in_front v1 near ≡ false) × (is_in_front v2 near ≡ false)
 
--- why a triangle gives no piece: a vertex is past the guard, all of it is behind the near plane, or each triangle of the polygon is left out
+-- Why a triangle gives no piece: a vertex is past the guard, all of it is behind the near plane, or each triangle of the
+-- polygon is left out.
 abbrev pub GivesNone : ClipVertex → ClipVertex → ClipVertex → ℕ → ℕ → Dimensions → Winding → Side → Type 0
 GivesNone v0 v1 v2 top near size winding side =
     IsTrue (is_any_past_guard v0 v1 v2 near)
@@ -75,7 +80,8 @@ GivesNone v0 v1 v2 top near size winding side =
 -- the pixels that a polygon may reach on the screen, whatever its area; none if it has no points
 abbrev pub polygon_box : List HomPoint → Dimensions → Option Rect
 polygon_box [] size = None
-polygon_box (p ∷ ps) size = Some (box_around (map (λ p. screen_x p size) (p ∷ ps)) (map (λ p. screen_y p size) (p ∷ ps)))
+polygon_box (p ∷ ps) size =
+    Some (box_around (map (λ p. screen_x p size) (p ∷ ps)) (map (λ p. screen_y p size) (p ∷ ps)))
 
 -- the box of the polygon in front of the near plane; none where all of the triangle is behind it
 unfoldable pub near_box_of : ClipVertex → ClipVertex → ClipVertex → ℕ → Dimensions → Option Rect
@@ -89,7 +95,11 @@ clip_at clips t k = corner clips (slice_index t.0 k)
 abbrev pub HasClips : ℕ → Tri → Type 0
 HasClips n t = All (λ i. i < n) t.0
 
--- the occluder pieces of the triangles, one triangle after another
+-- the occluder pieces of one of the triangles
+abbrev pub pieces_at : List ClipVertex → ℕ → ℕ → Dimensions → Winding → Tri → List Piece
+pieces_at clips top near size winding t =
+    pieces_of (clip_at clips t 0) (clip_at clips t 1) (clip_at clips t 2) top near size winding Occluder
+
+-- those of all triangles, one triangle after another
 unfoldable pub list_of_clips : List ClipVertex → List Tri → ℕ → ℕ → Dimensions → Winding → List Piece
-list_of_clips clips tris top near size winding =
-    flat_map (λ t. pieces_of (clip_at clips t 0) (clip_at clips t 1) (clip_at clips t 2) top near size winding Occluder) tris
+list_of_clips clips tris top near size winding = flat_map (pieces_at clips top near size winding) tris

@@ -10,6 +10,7 @@ use Rattle.cull_base.specs.Piece.{IsCoordinate}
 use Rattle.cull_base.specs.Depth.{floor_of, ceiling_of}
 use Rattle.near_clip.specs.declared.hom_point.HomPoint.{HomPoint}
 use Rattle.near_clip.specs.Reach.{WithinScaled}
+use Rattle.snap_setup.specs.declared.snapping.Place.{Place}
 use Rattle.snap_setup.specs.declared.snapping.Snapped.{Snapped}
 
 -- The floor of n/d + 1/2, where d is positive. It is that of (2n + d)/2d.
@@ -32,6 +33,9 @@ rounded_by Object n d = ceiling_of n d
 -- top * near * scale / w, in whole numbers: the top is the nearness of the near distance
 abbrev pub nearness_of : HomPoint → ℕ → ℕ → Side → ℕ
 nearness_of p top near side = unsigned_abs (rounded_by side (pos (top * near) *ℤ p.scale) p.w)
+
+abbrev pub place_of : HomPoint → Dimensions → Place
+place_of p size = record { x = screen_x p size; y = screen_y p size }
 
 unfoldable pub snapped : HomPoint → ℕ → ℕ → Dimensions → Side → Snapped
 snapped p top near size side = record { x = screen_x p size; y = screen_y p size; q = nearness_of p top near side }

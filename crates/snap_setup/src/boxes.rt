@@ -1,85 +1,33 @@
 //! The pixels that a triangle's part in front of the near plane may reach.
-ghost use Rattle.std.specs.Prelude.{◌≡◌, ◌≤◌, false, ◌↔◌, IsNone};
+ghost use Rattle.std.specs.Prelude.{◌≡◌, ◌≤◌, [], ◌∷◌, false, ◌↔◌, IsNone};
 ghost use Rattle.std.specs.List.{All};
-ghost use Rattle.std.specs.Int.{int_min, int_max};
 ghost use Rattle.cull_base.specs.Guard.{is_past_guard};
-ghost use Rattle.cull_base.specs.Piece.{first_pixel, end_pixel};
+ghost use Rattle.cull_base.specs.Piece.{least_of, greatest_of};
 ghost use Rattle.near_clip.specs.NearPart.{corner, is_in_front};
-ghost use Rattle.snap_setup.specs.Snapping.{screen_x, screen_y, IsInSight};
+ghost use Rattle.snap_setup.specs.Boxes.{rect_between};
 ghost use Rattle.snap_setup.specs.Pieces.{near_box_of};
 
-use crate::snapping::{place_x, place_y};
-use cull_base::{ClipVertex, Rect, Size};
-use near_clip::{HomPoint, clip_near};
+use crate::snapping::place_of;
+use cull_base::{ClipVertex, Extent, Rect, Size};
+use near_clip::clip_near;
 
-fn lesser(a: i32, b: i32) -> i32
-    ensures { result ≡ int_min a b }
+// How far three coordinates reach.
+#[inline(always)]
+fn extent(a: i32, b: i32, c: i32) -> Extent
+    ensures least { result.least ≡ least_of (a ∷ b ∷ c ∷ []) }
+    ensures greatest { result.greatest ≡ greatest_of (a ∷ b ∷ c ∷ []) }
 {
-    a.min(b)
+    Extent::of(a).with(b).with(c)
 }
 
-fn greater(a: i32, b: i32) -> i32
-    ensures { result ≡ int_max a b }
+fn rect_between(across: Extent, down: Extent) -> Rect
+    ensures { result ≡ rect_between across down }
 {
-    a.max(b)
-}
-
-fn first_of(least: i32) -> i32
-    ensures { result ≡ first_pixel least }
-{
-    least.div_euclid(16)
-}
-
-fn behind(greatest: i32) -> i32
-    ensures { result ≡ end_pixel greatest }
-{
-    greatest.div_euclid(16) + 1
-}
-
-// The least and the greatest coordinates so far.
-#[derive(Clone, Copy)]
-struct Extent {
-    left: i32,
-    top: i32,
-    right: i32,
-    bottom: i32,
-}
-
-impl Extent {
-    fn of(point: &HomPoint, size: Size) -> Extent
-        requires { IsInSight point.now }
-        ensures { result ≡ record { left = screen_x point.now size; top = screen_y point.now size; right = screen_x point.now size; bottom = screen_y point.now size } }
-    {
-        let x = place_x(point, size);
-        let y = place_y(point, size);
-        Extent {
-            left: x,
-            top: y,
-            right: x,
-            bottom: y,
-        }
-    }
-
-    fn with(self, other: Extent) -> Extent
-        ensures { result ≡ record { left = int_min self.left other.left; top = int_min self.top other.top; right = int_max self.right other.right; bottom = int_max self.bottom other.bottom } }
-    {
-        Extent {
-            left: lesser(self.left, other.left),
-            top: lesser(self.top, other.top),
-            right: greater(self.right, other.right),
-            bottom: greater(self.bottom, other.bottom),
-        }
-    }
-
-    fn boxed(self) -> Rect
-        ensures { result ≡ record { x0 = first_pixel self.left; y0 = first_pixel self.top; x1 = end_pixel self.right; y1 = end_pixel self.bottom } }
-    {
-        Rect {
-            x0: first_of(self.left),
-            y0: first_of(self.top),
-            x1: behind(self.right),
-            y1: behind(self.bottom),
-        }
+    Rect {
+        x0: across.first_pixel(),
+        y0: down.first_pixel(),
+        x1: across.end_pixel(),
+        y1: down.end_pixel(),
     }
 }
 
@@ -96,12 +44,14 @@ pub fn near_box(tri: &[ClipVertex; 3], near: u16, size: Size) -> Option<Rect>
     if polygon.len() == 0 {
         return None;
     }
-    let extent = Extent::of(&polygon.get(0), size)
-        .with(Extent::of(&polygon.get(1), size))
-        .with(Extent::of(&polygon.get(2), size));
+    let p0 = place_of(&polygon.get(0), near, size);
+    let p1 = place_of(&polygon.get(1), near, size);
+    let p2 = place_of(&polygon.get(2), near, size);
+    let across = extent(p0.x, p1.x, p2.x);
+    let down = extent(p0.y, p1.y, p2.y);
     if polygon.len() == 3 {
-        return Some(extent.boxed());
+        return Some(rect_between(across, down));
     }
-    let all = extent.with(Extent::of(&polygon.get(3), size));
-    Some(all.boxed())
+    let p3 = place_of(&polygon.get(3), near, size);
+    Some(rect_between(across.with(p3.x), down.with(p3.y)))
 }

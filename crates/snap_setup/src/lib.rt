@@ -4,14 +4,13 @@
 
 mod boxes;
 mod frame;
-mod kept;
-mod quotient;
+mod pieces;
 mod snapping;
 mod triangle;
 
 pub use boxes::near_box;
 pub use frame::frame_list;
-pub use kept::Pieces;
+pub use pieces::Pieces;
 pub use snapping::{Snapped, snap};
 pub use triangle::set_up;
 

@@ -4,9 +4,9 @@ ghost use Rattle.cull_base.specs.Bounds.{Bounded};
 ghost use Rattle.cull_base.specs.Piece.{IsCoordinate};
 ghost use Rattle.cull_base.specs.declared.nearness.TheConstants.{GRADE_TOP};
 ghost use Rattle.near_clip.specs.Reach.{IsInReach};
-ghost use Rattle.snap_setup.specs.Snapping.{round_half, screen_x, screen_y, nearness_of, snapped, IsInSight, IsSnapped};
+ghost use Rattle.snap_setup.specs.Snapping.{round_half, screen_x, screen_y, nearness_of, snapped, place_of, IsInSight, IsSnapped};
 
-use crate::quotient::floor_quotient;
+use cull_base::arithmetic::floor_quotient;
 use cull_base::{GRADE_TOP, Side, Size};
 use near_clip::HomPoint;
 
@@ -37,7 +37,7 @@ fn wide_sum(a: i128, b: i64) -> i128
 }
 
 // So many pixels are reached by offsets from 0 to twice w. The place of an offset in sixteenths of a pixel, rounded.
-fn rounded(pixels: u16, offset: i64, w: i64) -> i32
+fn place_of_offset(pixels: u16, offset: i64, w: i64) -> i32
     requires pixels { pixels ≤ 2048 }
     requires low { neg_ℤ (pos 16385 *ℤ w) ≤ℤ offset }
     requires high { offset ≤ℤ (pos 16385 *ℤ w) }
@@ -51,21 +51,44 @@ fn rounded(pixels: u16, offset: i64, w: i64) -> i32
 }
 
 #[inline(always)]
-pub(crate) fn place_x(point: &HomPoint, size: Size) -> i32
+fn place_x(point: &HomPoint, size: Size) -> i32
     requires { IsInSight point.now }
     ensures value { result ≡ screen_x point.now size }
     ensures within { IsCoordinate result }
 {
-    rounded(size.width(), point.x + point.w, point.w)
+    place_of_offset(size.width(), point.x + point.w, point.w)
 }
 
 #[inline(always)]
-pub(crate) fn place_y(point: &HomPoint, size: Size) -> i32
+fn place_y(point: &HomPoint, size: Size) -> i32
     requires { IsInSight point.now }
     ensures value { result ≡ screen_y point.now size }
     ensures within { IsCoordinate result }
 {
-    rounded(size.height(), point.w - point.y, point.w)
+    place_of_offset(size.height(), point.w - point.y, point.w)
+}
+
+/// Where a point stands: in sixteenths of a pixel, y downwards.
+#[derive(Clone, Copy)]
+pub(crate) struct Place {
+    pub(crate) x: i32,
+    pub(crate) y: i32,
+}
+
+/// The place of a point that is in reach.
+#[inline(always)]
+pub(crate) fn place_of(point: &HomPoint, near: u16, size: Size) -> Place
+    requires near_least { 1 ≤ near }
+    requires near_most { near ≤ 1024 }
+    requires reach { IsInReach near point.now }
+    ensures value { result ≡ place_of point.now size }
+    ensures x_within { IsCoordinate result.x }
+    ensures y_within { IsCoordinate result.y }
+{
+    Place {
+        x: place_x(point, size),
+        y: place_y(point, size),
+    }
 }
 
 #[inline(always)]
@@ -102,9 +125,10 @@ pub fn snap(point: &HomPoint, near: u16, size: Size, side: Side) -> Snapped
     ensures value { result ≡ snapped point.now GRADE_TOP near size side }
     ensures within { IsSnapped result }
 {
+    let place = place_of(point, near, size);
     Snapped {
-        x: place_x(point, size),
-        y: place_y(point, size),
+        x: place.x,
+        y: place.y,
         q: nearness(point, near, side),
     }
 }

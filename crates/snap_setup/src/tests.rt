@@ -14,14 +14,14 @@ fn vertex(x: i64, y: i64, w: i64) -> ClipVertex {
     ClipVertex { x, y, w }
 }
 
-fn guarded(rt: &impl Abort, v: ClipVertex) -> ClipVertex
+fn within_guard(rt: &impl Abort, v: ClipVertex) -> ClipVertex
     ensures { is_past_guard result 1 ≡ false }
 {
     assert!(rt; !past_guard(&v, 1));
     v
 }
 
-fn snapped(rt: &impl Abort, x: i64, y: i64, w: i64, size: Size, side: Side) -> Snapped {
+fn point_at(rt: &impl Abort, x: i64, y: i64, w: i64, size: Size, side: Side) -> Snapped {
     assert!(rt; -16384 <= x && x <= 16384);
     assert!(rt; -16384 <= y && y <= 16384);
     assert!(rt; 1 <= w && w <= 16384);
@@ -29,16 +29,24 @@ fn snapped(rt: &impl Abort, x: i64, y: i64, w: i64, size: Size, side: Side) -> S
     snap(&point, 1, size, side)
 }
 
-fn boxed(rt: &impl Abort, corners: [ClipVertex; 3], size: Size) -> Option<Rect> {
+fn box_of_triangle(rt: &impl Abort, corners: [ClipVertex; 3], size: Size) -> Option<Rect> {
     let [a, b, c] = corners;
-    near_box(&[guarded(rt, a), guarded(rt, b), guarded(rt, c)], 1, size)
+    near_box(
+        &[
+            within_guard(rt, a),
+            within_guard(rt, b),
+            within_guard(rt, c),
+        ],
+        1,
+        size,
+    )
 }
 
 #[test]
 fn halves_go_up_and_below_zero_too(rt: HostRuntime) -> Result<(), Fail> {
     let size = Size::new(32, 8).ok_or("size")?;
     for (x, y, at) in [(-511, 508, 1), (-513, 516, 0), (-515, 524, -1)] {
-        let point = snapped(&rt, x, y, 512, size, Side::Object);
+        let point = point_at(&rt, x, y, 512, size, Side::Object);
         assert_eq!(rt; (point.x, point.y), (at, at));
     }
     Ok(())
@@ -48,8 +56,8 @@ fn halves_go_up_and_below_zero_too(rt: HostRuntime) -> Result<(), Fail> {
 fn nearness_goes_down_for_occluders_and_up_for_objects(rt: HostRuntime) -> Result<(), Fail> {
     let size = Size::new(32, 8).ok_or("size")?;
     for (w, occluder, object) in [(1, 65535, 65535), (2, 32767, 32768), (16384, 3, 4)] {
-        assert_eq!(rt; snapped(&rt, 0, 0, w, size, Side::Occluder).q, occluder);
-        assert_eq!(rt; snapped(&rt, 0, 0, w, size, Side::Object).q, object);
+        assert_eq!(rt; point_at(&rt, 0, 0, w, size, Side::Occluder).q, occluder);
+        assert_eq!(rt; point_at(&rt, 0, 0, w, size, Side::Object).q, object);
     }
     Ok(())
 }
@@ -143,7 +151,7 @@ fn near_boxes_hold_what_has_no_area(rt: HostRuntime) -> Result<(), Fail> {
         x1: 1,
         y1: 1,
     };
-    assert_eq!(rt; boxed(&rt, small, size), Some(pixel));
+    assert_eq!(rt; box_of_triangle(&rt, small, size), Some(pixel));
     let line = [vertex(-2, 2, 2), vertex(-2, 2, 2), vertex(2, 2, 2)];
     let row = Rect {
         x0: 0,
@@ -151,9 +159,9 @@ fn near_boxes_hold_what_has_no_area(rt: HostRuntime) -> Result<(), Fail> {
         x1: 33,
         y1: 1,
     };
-    assert_eq!(rt; boxed(&rt, line, size), Some(row));
+    assert_eq!(rt; box_of_triangle(&rt, line, size), Some(row));
     let behind = [vertex(0, 0, 0), vertex(1, 1, 0), vertex(1, 0, -3)];
-    assert_eq!(rt; boxed(&rt, behind, size), None);
+    assert_eq!(rt; box_of_triangle(&rt, behind, size), None);
     Ok(())
 }
 

@@ -6,44 +6,16 @@ ghost use Rattle.cull_base.specs.declared.nearness.TheConstants.{GRADE_TOP};
 ghost use Rattle.cull_base.specs.Guard.{is_past_guard};
 ghost use Rattle.cull_base.specs.Piece.{IsCoordinate, doubled_area};
 ghost use Rattle.near_clip.specs.NearPart.{corner};
-ghost use Rattle.snap_setup.specs.Pieces.{triangle, is_dropped, pieces_of, kept_of, snapped_part, is_any_past_guard, GivesNone};
-ghost use Rattle.snap_setup.specs.Judged.{piece_if};
+ghost use Rattle.snap_setup.specs.Pieces.{triangle, is_dropped, piece_if, kept_of, is_any_past_guard};
+ghost use Rattle.snap_setup.specs.Triangles.{part_of_triangle, pieces_of_triangle, TriangleGivesNone};
 ghost use Rattle.snap_setup.specs.Snapping.{IsSnapped};
 
-use crate::kept::Pieces;
+use crate::pieces::Pieces;
 use crate::snapping::{Snapped, snap};
 use camera_path::past_guard;
+use cull_base::arithmetic::edge_value;
 use cull_base::{ClipVertex, ScreenTri, Side, Size, Winding};
 use near_clip::clip_near;
-
-#[inline(always)]
-fn difference(a: i32, b: i32) -> i64
-    requires a_within { IsCoordinate a }
-    requires b_within { IsCoordinate b }
-    ensures value { result ≡ a -ℤ b }
-    ensures bounded { Bounded (2 ^ 30) result }
-{
-    i64::from(a) - i64::from(b)
-}
-
-#[inline(always)]
-fn product(a: i64, b: i64) -> i64
-    requires a_bounded { Bounded (2 ^ 30) a }
-    requires b_bounded { Bounded (2 ^ 30) b }
-    ensures value { result ≡ a *ℤ b }
-    ensures bounded { Bounded (2 ^ 60) result }
-{
-    a * b
-}
-
-#[inline(always)]
-fn minus(a: i64, b: i64) -> i64
-    requires a_bounded { Bounded (2 ^ 60) a }
-    requires b_bounded { Bounded (2 ^ 60) b }
-    ensures { result ≡ a -ℤ b }
-{
-    a - b
-}
 
 // Positive where the points run clockwise on the screen.
 fn doubled_area(a: &Snapped, b: &Snapped, c: &Snapped) -> i64
@@ -52,10 +24,7 @@ fn doubled_area(a: &Snapped, b: &Snapped, c: &Snapped) -> i64
     requires c { IsSnapped c.now }
     ensures { result ≡ doubled_area (triangle a.now b.now c.now) }
 {
-    minus(
-        product(difference(b.x, a.x), difference(c.y, a.y)),
-        product(difference(b.y, a.y), difference(c.x, a.x)),
-    )
+    edge_value(a.x, a.y, b.x, b.y, c.x, c.y)
 }
 
 fn is_dropped(winding: Winding, area: i64) -> bool
@@ -68,14 +37,14 @@ fn is_dropped(winding: Winding, area: i64) -> bool
     }
 }
 
-fn screen_tri(a: &Snapped, b: &Snapped, c: &Snapped) -> Option<ScreenTri>
+fn screen_tri(a: &Snapped, b: &Snapped, c: &Snapped) -> ScreenTri
     requires a { IsSnapped a.now }
     requires b { IsSnapped b.now }
     requires c { IsSnapped c.now }
     requires area { pos 0 <ℤ doubled_area (triangle a.now b.now c.now) }
-    ensures { result ≡ Some (triangle a.now b.now c.now) }
+    ensures { result ≡ triangle a.now b.now c.now }
 {
-    ScreenTri::new([a.x, b.x, c.x], [a.y, b.y, c.y], [a.q, b.q, c.q])
+    ScreenTri::known([a.x, b.x, c.x], [a.y, b.y, c.y], [a.q, b.q, c.q])
 }
 
 fn piece(a: &Snapped, b: &Snapped, c: &Snapped, winding: Winding) -> Option<ScreenTri>
@@ -88,9 +57,9 @@ fn piece(a: &Snapped, b: &Snapped, c: &Snapped, winding: Winding) -> Option<Scre
     if area == 0 || is_dropped(winding, area) {
         None
     } else if area < 0 {
-        screen_tri(a, c, b)
+        Some(screen_tri(a, c, b))
     } else {
-        screen_tri(a, b, c)
+        Some(screen_tri(a, b, c))
     }
 }
 
@@ -98,7 +67,7 @@ fn outline(tri: &[ClipVertex; 3], near: u16, size: Size, winding: Winding, side:
     requires near_least { 1 ≤ near }
     requires near_most { near ≤ 1024 }
     requires guarded { All (λ v. is_past_guard v near ≡ false) tri.now }
-    ensures { result ≡ kept_of (snapped_part (corner tri.now 0) (corner tri.now 1) (corner tri.now 2) GRADE_TOP near size side) winding }
+    ensures { result ≡ kept_of (part_of_triangle tri.now GRADE_TOP near size side) winding }
 {
     let polygon = clip_near(tri, near);
     if polygon.len() == 0 {
@@ -131,9 +100,9 @@ fn is_any_past_guard(tri: &[ClipVertex; 3], near: u16) -> bool
 pub fn set_up(tri: &[ClipVertex; 3], near: u16, size: Size, winding: Winding, side: Side) -> Pieces
     requires near_least { 1 ≤ near }
     requires near_most { near ≤ 1024 }
-    ensures value { result ≡ pieces_of (corner tri.now 0) (corner tri.now 1) (corner tri.now 2) GRADE_TOP near size winding side }
+    ensures value { result ≡ pieces_of_triangle tri.now GRADE_TOP near size winding side }
     ensures most { length result ≤ 2 }
-    ensures none { (result ≡ []) ↔ GivesNone (corner tri.now 0) (corner tri.now 1) (corner tri.now 2) GRADE_TOP near size winding side }
+    ensures none { (result ≡ []) ↔ TriangleGivesNone tri.now GRADE_TOP near size winding side }
 {
     if is_any_past_guard(tri, near) {
         return Pieces::none();

@@ -6,7 +6,7 @@ use Rattle.cull_base.specs.Piece.{IsCoordinate}
 use Rattle.cull_base.specs.Depth.{floor_of}
 use Rattle.snap_setup.specs.Snapping.{round_half}
 use Rattle.snap_setup.proofs.Floors.{rounded_is, rounded_near}
-use Rattle.snap_setup.proofs.snapping.rounded.Goals as goal
+use Rattle.snap_setup.proofs.snapping.place_of_offset.Goals as goal
 
 fits32 : (q r : ℤ) → q ≡ r → Bounded 268451840 r → FitsSigned w32 q
 fits32 q r e h = rw e (omega (arith, ints, h))

@@ -1,11 +1,11 @@
 //! What a triangle leaves on the screen.
-ghost use Rattle.std.specs.Prelude.{◌≡◌, List, [], ◌++◌, ◌<◌, ◌≤◌, ◌+◌, length, slice_index_or};
+ghost use Rattle.std.specs.Prelude.{◌≡◌, List, [], ◌++◌, ◌<◌, ◌≤◌, ◌+◌, length, slice_index_or, option_to_list};
 
 use cull_base::{FrameList, ScreenTri};
 use std::marker::Model;
 
 #[derive(Clone, Copy)]
-enum Kept {
+enum Members {
     Nothing,
     One(ScreenTri),
     Two(ScreenTri, ScreenTri),
@@ -14,40 +14,39 @@ enum Kept {
 /// The pieces of a triangle: at most two, in order.
 #[derive(Drop)]
 pub struct Pieces {
-    kept: Kept,
+    members: Members,
 }
 
 impl Model for Pieces {
     ghost use Rattle.std.specs.Prelude.{List};
     ghost use Rattle.cull_base.specs.Piece.{Piece};
-    ghost use Rattle.snap_setup.specs.Kept.{kept_in};
+    ghost use Rattle.snap_setup.specs.Members.{members_in};
 
     ghost Value = { List Piece };
 
-    ghost view = { λ p. kept_in p.kept };
+    ghost view = { λ p. members_in p.members };
 }
 
 impl Pieces {
-    ghost use Rattle.snap_setup.specs.Judged.{listed};
-    ghost use Rattle.snap_setup.specs.Kept.{with_pieces};
+    ghost use Rattle.snap_setup.specs.Members.{with_pieces};
 
     pub(crate) fn none() -> Pieces
         ensures { result ≡ [] }
     {
         Pieces {
-            kept: Kept::Nothing,
+            members: Members::Nothing,
         }
     }
 
     pub(crate) fn of(first: Option<ScreenTri>, second: Option<ScreenTri>) -> Pieces
-        ensures { result ≡ listed first ++ listed second }
+        ensures { result ≡ option_to_list first ++ option_to_list second }
     {
-        let kept = match (first, second) {
-            (None, None) => Kept::Nothing,
-            (Some(one), None) | (None, Some(one)) => Kept::One(one),
-            (Some(one), Some(two)) => Kept::Two(one, two),
+        let members = match (first, second) {
+            (None, None) => Members::Nothing,
+            (Some(one), None) | (None, Some(one)) => Members::One(one),
+            (Some(one), Some(two)) => Members::Two(one, two),
         };
-        Pieces { kept }
+        Pieces { members }
     }
 
     /// 0 to 2.
@@ -55,10 +54,10 @@ impl Pieces {
         ensures value { result ≡ length self.now }
         ensures most { result ≤ 2 }
     {
-        match &self.kept {
-            Kept::Nothing => 0,
-            Kept::One(_) => 1,
-            Kept::Two(_, _) => 2,
+        match &self.members {
+            Members::Nothing => 0,
+            Members::One(_) => 1,
+            Members::Two(_, _) => 2,
         }
     }
 
@@ -67,10 +66,10 @@ impl Pieces {
         requires { i < length self.now }
         ensures { result ≡ slice_index_or self.now i result }
     {
-        match &self.kept {
-            Kept::One(one) => *one,
-            Kept::Two(one, two) => if i == 0 { *one } else { *two },
-            Kept::Nothing => unreachable!(),
+        match &self.members {
+            Members::One(one) => *one,
+            Members::Two(one, two) => if i == 0 { *one } else { *two },
+            Members::Nothing => unreachable!(),
         }
     }
 
@@ -78,10 +77,10 @@ impl Pieces {
         requires { length list.old.list.members + 2 ≤ list.old.room }
         ensures { list.new ≡ with_pieces list.old self.now }
     {
-        match &self.kept {
-            Kept::Nothing => {}
-            Kept::One(one) => list.push(*one),
-            Kept::Two(one, two) => {
+        match &self.members {
+            Members::Nothing => {}
+            Members::One(one) => list.push(*one),
+            Members::Two(one, two) => {
                 list.push(*one);
                 list.push(*two);
             }
