@@ -1,19 +1,20 @@
 -- A piece whose box has no pixel in a tile changes nothing there.
-use Rattle.std.proofs.Common.{◌≡◌, ℕ, pos, ◌+◌, ◌*◌, ◌<◌, ◌≤◌, ◌/◌, ◌%◌, arith, refl, ◌∙◌, sym, Bool, true, false, min, nat_lt}
+use Rattle.std.proofs.Common.{◌≡◌, ℕ, pos, ◌+◌, ◌*◌, ◌<◌, ◌≤◌, ◌/◌, ◌%◌, arith, ◌∙◌, sym, true, false, min, nat_lt}
 use Rattle.std.proofs.lemmas.Int.{ints}
-use Rattle.std.proofs.lemmas.Bool.{both_ways, and_parts, ltb-true}
-use Rattle.cull_base.specs.Piece.{Piece, IsPiece, covered, box_of}
+use Rattle.std.proofs.lemmas.Bool.{both_ways, and_parts, ltb-true, false_from_ne_true}
+use Rattle.cull_base.specs.Piece.{Piece, IsPiece, covered, covers, sample, box_of}
 use Rattle.cull_base.specs.Rectangle.{HasPixel, meets}
 use Rattle.cull_base.specs.Screen.{Dimensions, IsSize, tile_place, tile_rect_of, tile_sub, is_on_screen}
-use Rattle.cull_base.specs.State.{State, is_none, has, samples_of}
+use Rattle.cull_base.specs.State.{State, samples_of}
 use Rattle.masked_update.specs.Merged.{sub_rect_of}
 use Rattle.std.proofs.lemmas.List.{ext_get_or}
 use Rattle.cull_base.specs.Fold.{step}
 use Rattle.cull_base.specs.declared.place.Sub.{Sub}
-use Rattle.cull_base.proofs.Bits.{one_of, length-samples_of, zero_has}
+use Rattle.cull_base.specs.declared.rect.Rect.{Rect}
+use Rattle.cull_base.proofs.Bits.{length-samples_of, has-no_samples}
 use Rattle.cull_base.proofs.Rectangles.{meets_pixel}
 use Rattle.depth_plane.proofs.Boxes.{covers-in_box}
-use Rattle.masked_update.proofs.Unchanged.{step_none, length-covered, has-covered}
+use Rattle.masked_update.proofs.Unchanged.{step_unless_covered, length-covered, has-covered}
 
 -- a sample of a subtile on the screen lies in the tile's rectangle
 in_tile : (size : Dimensions) (tile j k : ℕ) → IsSize size.width size.height → j < 8 → k < 32 → is_on_screen size (tile_sub size tile j) ≡ true
@@ -31,39 +32,26 @@ in_tile size tile j k valid hj hk on =
     down : (r h j k : ℕ) → j < 8 → k < 32 → h % 4 ≡ 0 → 4 * (2 * r + j / 4) < h → (8 * r ≤ 4 * (2 * r + j / 4) + k / 8) × (4 * (2 * r + j / 4) + k / 8 < min (8 * r + 8) h)
     down r h j k hj hk e lt = (omega arith, omega arith)
 
+-- a piece whose box shares no pixel with a rectangle covers no sample there
+uncovered : (t : Piece) (r : Rect) (u : Sub) (k : ℕ) → IsPiece t → meets (box_of t) r ≡ false → HasPixel r (pos (8 * u.column + k % 8)) (pos (4 * u.row + k / 8)) → covers t (sample u k) ≡ false
+uncovered t r u k piece off within =
+    let x = 8 * u.column + k % 8 in
+    let y = 4 * u.row + k / 8 in
+    false_from_ne_true _ (λ c. both_ways (meets (box_of t) r) off ((meets_pixel (box_of t) r).1 (pos x, pos y, covers-in_box t x y piece c, within)))
+
 -- a piece whose box has no pixel in the tile changes none of its subtiles on the screen
 pub step_outside : (size : Dimensions) (tile j : ℕ) (s : State) (t : Piece) → IsSize size.width size.height → IsPiece t → meets (box_of t) (tile_rect_of size tile) ≡ false
     → j < 8 → is_on_screen size (tile_sub size tile j) ≡ true → step (tile_sub size tile j) s t ≡ s
-step_outside size tile j s t valid piece off hj on = by (is_none (covered t (tile_sub size tile j))) refl
-  where
-    u : Sub
-    u = tile_sub size tile j
-
-    by : (b : Bool) → is_none (covered t u) ≡ b → step u s t ≡ s
-    by true e = step_none u s t e
-    by false e =
-        let o = one_of (covered t u) e in
-        let n = length-covered t u in
-        let below : o.0 < 32 = omega (arith, o.1) in
-        let c = sym (has-covered t u o.0 below) ∙ o.2 in
-        let x = 8 * u.column + o.0 % 8 in
-        let y = 4 * u.row + o.0 / 8 in
-        let m = (meets_pixel (box_of t) (tile_rect_of size tile)).1 (pos x, pos y, covers-in_box t x y piece c, in_tile size tile j o.0 valid hj below on) in
-        absurd (both_ways (meets (box_of t) (tile_rect_of size tile)) off m)
+step_outside size tile j s t valid piece off hj on =
+    let u = tile_sub size tile j in
+    step_unless_covered u s t
+    (λ k below c. absurd (both_ways (covers t (sample u k)) (uncovered t (tile_rect_of size tile) u k piece off (in_tile size tile j k valid hj below on)) c))
 
 -- a piece whose box has no pixel in a subtile covers none of its samples
 pub none_covered : (t : Piece) (u : Sub) → IsPiece t → meets (box_of t) (sub_rect_of u) ≡ false → samples_of 0 ≡ covered t u
 none_covered t u piece off =
     ext_get_or false (samples_of 0) (covered t u) (length-samples_of 0 ∙ sym (length-covered t u))
-    (λ k h. let below : k < 32 = omega (arith, h, length-samples_of 0) in zero_has 0 k refl ∙ sym (by (has (covered t u) k) k below refl))
+    (λ k h. let below : k < 32 = omega (arith, h, length-samples_of 0) in has-no_samples k ∙ sym (has-covered t u k below ∙ uncovered t (sub_rect_of u) u k piece off (in_sub k below)))
   where
     in_sub : (k : ℕ) → k < 32 → HasPixel (sub_rect_of u) (pos (8 * u.column + k % 8)) (pos (4 * u.row + k / 8))
     in_sub k h = (omega (arith, ints), omega (arith, ints), omega (arith, ints), omega (arith, ints))
-
-    by : (b : Bool) (k : ℕ) → k < 32 → has (covered t u) k ≡ b → has (covered t u) k ≡ false
-    by false k h e = e
-    by true k h e =
-        let c = sym (has-covered t u k h) ∙ e in
-        let x = 8 * u.column + k % 8 in
-        let y = 4 * u.row + k / 8 in
-        absurd (both_ways (meets (box_of t) (sub_rect_of u)) off ((meets_pixel (box_of t) (sub_rect_of u)).1 (pos x, pos y, covers-in_box t x y piece c, in_sub k h)))

@@ -50,9 +50,9 @@ low_le_greatest t u k piece h c =
     third : (a b c : ℕ) → c ≤ max a (max b c)
     third a b c = omega arith
 
--- a piece that is nowhere nearer than the reference
-pub step_behind : (u : Sub) (s : State) (t : Piece) → IsPiece t → greatest_nearness t ≤ s.reference → step u s t ≡ s
-step_behind u s t p le = by (is_none (covered t u)) refl
+-- a step changes nothing if it changes nothing wherever a sample is covered
+pub step_unless_covered : (u : Sub) (s : State) (t : Piece) → ((k : ℕ) → k < 32 → covers t (sample u k) ≡ true → step u s t ≡ s) → step u s t ≡ s
+step_unless_covered u s t stays = by (is_none (covered t u)) refl
   where
     by : (b : Bool) → is_none (covered t u) ≡ b → step u s t ≡ s
     by true e = step_none u s t e
@@ -60,8 +60,11 @@ step_behind u s t p le = by (is_none (covered t u)) refl
         let o = one_of (covered t u) e in
         let n = length-covered t u in
         let below : o.0 < 32 = omega (arith, o.1) in
-        let c = sym (has-covered t u o.0 below) ∙ o.2 in
-        step_not_nearer u s t (omega (arith, low_le_greatest t u o.0 p below c))
+        stays o.0 below (sym (has-covered t u o.0 below) ∙ o.2)
+
+-- a piece that is nowhere nearer than the reference
+pub step_behind : (u : Sub) (s : State) (t : Piece) → IsPiece t → greatest_nearness t ≤ s.reference → step u s t ≡ s
+step_behind u s t p le = step_unless_covered u s t (λ k below c. step_not_nearer u s t (omega (arith, le, low_le_greatest t u k p below c)))
 
 -- a piece that covers none of its samples
 pub step_empty : (u : Sub) (s : State) (t : Piece) (mask : ℕ) → samples_of mask ≡ covered t u → mask ≡ 0 → step u s t ≡ s

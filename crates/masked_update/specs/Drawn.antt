@@ -5,6 +5,7 @@ use Rattle.cull_base.specs.Screen.{Dimensions, tile_columns_of, tile_count_of, t
 use Rattle.cull_base.specs.Span.{has_column}
 use Rattle.cull_base.specs.Tiles.{PieceList, tile_list, tile_after}
 use Rattle.cull_base.specs.Fold.{after, IsSound, IsLayered}
+use Rattle.cull_base.specs.declared.place.Sub.{Sub}
 use Rattle.cull_base.specs.declared.tile_span.TileSpan.{TileSpan}
 use Rattle.masked_update.specs.TileOf.{TileOf, sub_at, tile_at}
 use Rattle.masked_update.specs.Taken.{taken_where}
@@ -19,17 +20,22 @@ MayTake test size tiles = (t : ℕ) → t < tile_count_of size → test t ≡ tr
 
 -- each tile where the test holds took the piece, and the others stay
 abbrev pub TookWhere : (ℕ → Bool) → Dimensions → Piece → List TileOf → List TileOf → Type 0
-TookWhere test size x old new = (t : ℕ) → t < tile_count_of size → tile_at new t ≡ taken_where (test t) size t x (tile_at old t)
+TookWhere test size x old new =
+    (t : ℕ) → t < tile_count_of size → tile_at new t ≡ taken_where (test t) size t x (tile_at old t)
+
+-- each subtile of the tile that is on the screen
+abbrev pub EachOnScreen : Dimensions → ℕ → (ℕ → Sub → Type 0) → Type 0
+EachOnScreen size tile P =
+    (j : ℕ) → j < 8 → is_on_screen size (tile_sub size tile j) ≡ true → P j (tile_sub size tile j)
 
 -- The states are those of the list, and the count is the length of the tile's own list, which gives the same states.
 -- Each subtile on the screen is sound and layered.
 pub record IsDrawn (list : PieceList) (tile : ℕ) (t : TileOf) : Type 0 where
   pub states : t.subs ≡ tile_after list.size tile list.members
   pub count : t.count ≡ length (tile_list tile list)
-  pub sound : (j : ℕ) → j < 8 → is_on_screen list.size (tile_sub list.size tile j) ≡ true → IsSound (tile_sub list.size tile j) list.members (sub_at t j)
-  pub layered : (j : ℕ) → j < 8 → is_on_screen list.size (tile_sub list.size tile j) ≡ true → IsLayered (sub_at t j)
-  pub own_list : (j : ℕ) → j < 8 → is_on_screen list.size (tile_sub list.size tile j) ≡ true
-      → after (tile_sub list.size tile j) (tile_list tile list) ≡ after (tile_sub list.size tile j) list.members
+  pub sound : EachOnScreen list.size tile (λ j u. IsSound u list.members (sub_at t j))
+  pub layered : EachOnScreen list.size tile (λ j u. IsLayered (sub_at t j))
+  pub own_list : EachOnScreen list.size tile (λ j u. after u (tile_list tile list) ≡ after u list.members)
 
 -- each tile of the screen is drawn
 abbrev pub AreDrawn : PieceList → List TileOf → Type 0

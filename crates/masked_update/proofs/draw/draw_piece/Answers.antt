@@ -24,6 +24,6 @@ returns-clause-taken c =
     let end : c.loop-row.row ≡ span.end_row = omega (arith, c.loop-row-test.false, c.loop-row.auto.row-end, c.of-span.ensures.span.rows) in
     let drawn = subst (λ n. TookWhere (λ t. is_between span.first_row n (t / columns) && has_column span (t % columns)) c.args.size c.of-piece.result c.args.states.now c.loop-row.states) end c.loop-row.invariant in
     let same : (t : ℕ) → t < tile_count_of c.args.size → has_tile span (tile_place c.args.size t) ≡ meets (box_of c.of-piece.result) (tile_rect_of c.args.size t) =
-        λ t h. c.of-span.ensures.tiles t h ∙ ap (λ (r : Rect). meets r (tile_rect_of c.args.size t)) c.boxed.ensures.value in
+    λ t h. c.of-span.ensures.tiles t h ∙ ap (λ (r : Rect). meets r (tile_rect_of c.args.size t)) c.boxed.ensures.value in
     subst (λ (x : Piece). TookWhere (λ t. meets (box_of x) (tile_rect_of c.args.size t)) c.args.size x c.args.states.now c.loop-row.states) c.of-piece.ensures.value
     (λ t h. drawn t h ∙ ap (λ b. taken_where b c.args.size t c.of-piece.result (tile_at c.args.states.now t)) (same t h))

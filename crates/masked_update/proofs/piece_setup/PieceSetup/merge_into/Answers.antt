@@ -10,4 +10,4 @@ pub returns : goal.returns
 returns c =
     merged_all _ c.args.size c.args.tile c.args.self.now c.args.subs.now c.loop-j.subs c.loop-j.invariant
     (λ k h. let s = get_or c.args.subs.now k empty_state in let u = tile_sub c.args.size c.args.tile k in
-        ap (λ b. cond (b && is_on_screen c.args.size u) (step u s c.args.self.now) s) (lt-ltb k c.loop-j.j (omega (arith, h, c.loop-j-test.false))))
+    ap (λ b. cond (b && is_on_screen c.args.size u) (step u s c.args.self.now) s) (lt-ltb k c.loop-j.j (omega (arith, h, c.loop-j-test.false))))
