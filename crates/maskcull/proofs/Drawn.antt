@@ -11,7 +11,7 @@ use Rattle.cull_base.specs.State.{State, empty_state}
 use Rattle.cull_base.specs.Fold.{after}
 use Rattle.cull_base.specs.Tiles.{tile_after}
 use Rattle.masked_update.specs.TileOf.{TileOf, tile_at}
-use Rattle.cull_report.specs.Rectangle.{state_in, sub_of_pixel}
+use Rattle.cull_report.specs.Pixels.{state_in, sub_of_pixel}
 use Rattle.cull_report.proofs.Agreement.{Agrees}
 use Rattle.cull_report.proofs.Pixels.{tile_below}
 

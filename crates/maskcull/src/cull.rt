@@ -11,7 +11,7 @@ ghost use Rattle.cull_report.specs.Scene.{IsBuilt, size_of, frame_clips, frame_l
 ghost use Rattle.maskcull.specs.Culling.{IsSceneOf, IsOnlyScene, IfBytes, IfScene, EndsAs, IsCulled, HasFault, IsUndrawn, EachFault, EachDrawable, EachUndrawn, GainsFront, WithoutScene, CanDraw};
 
 use crate::failure::Failure;
-use cull_base::{ClipVertex, Memory, Sink, SinkError, Source, Verdict};
+use cull_base::{ClipVertex, FrameList, Memory, Sink, SinkError, Source, Verdict};
 use cull_report::{identity_clips, is_built, verdicts, write_frame, write_header};
 use masked_update::{PlainView, TileState, draw_plain};
 use scene_reader::{Scene, read_scene};
@@ -69,13 +69,21 @@ fn verdicts_over(
     ensures { IfOk result (λ v. v.items ≡ frame_verdicts scene.now 0) }
 {
     let settled = unset_marks(alloc, scene.objects().len())?;
-    verdicts(
+    verdicts(alloc, scene, 0, clips, &PlainView::new(states), &settled)
+}
+
+// The pieces of a scene's frame, in submission order.
+fn pieces_of(alloc: Global, scene: &Scene, clips: &[ClipVertex]) -> Result<FrameList, Memory>
+    requires { clips.now ≡ frame_clips scene.now 0 }
+    ensures { IfOk result (λ f. f.list ≡ frame_list scene.now 0) }
+{
+    frame_list(
         alloc,
-        scene,
-        0,
         clips,
-        &PlainView::new(states),
-        &settled,
+        scene.occluders(),
+        scene.near(),
+        scene.size(),
+        scene.winding(),
     )
 }
 
@@ -87,14 +95,7 @@ fn draw(alloc: Global, scene: &Scene) -> Result<Frame, Memory>
     ensures hidden { OnOk result (HidesTruly scene.now) }
 {
     let clips = identity_clips(alloc, scene)?;
-    let list = frame_list(
-        alloc,
-        &clips,
-        scene.occluders(),
-        scene.near(),
-        scene.size(),
-        scene.winding(),
-    )?;
+    let list = pieces_of(alloc, scene, &clips)?;
     let states = draw_plain(alloc, &list)?;
     let verdicts = verdicts_over(alloc, scene, &clips, &states)?;
     Ok(Frame {

@@ -14,7 +14,7 @@ pub use failure::Status;
 pub use run::run;
 use std::alloc::Global;
 use std::env;
-use std::io::{BufReader, ErrorKind, Stderr};
+use std::io::{BufReader, ErrorKind, Stdin};
 use std::process::ExitCode;
 
 // The words that the program was started with; none where one isn't UTF-8, which is no command.
@@ -28,20 +28,21 @@ fn words_of(rt: &HostRuntime, alloc: Global) -> Result<Vec<String>, Memory> {
     }
 }
 
-// Runs the command of the words over the standard streams.
-fn start(rt: &HostRuntime, notes: &mut Output<Stderr>) -> Result<Status, Memory> {
-    let alloc = rt.alloc();
+// The words and standard input.
+fn open(rt: &HostRuntime, alloc: Global) -> Result<(Vec<String>, Input<BufReader<Stdin>>), Memory> {
     let words = words_of(rt, alloc)?;
     let reader = BufReader::new(alloc, rt.stdin()).map_err(|_| Memory)?;
-    let mut input = Input::new(reader);
-    let mut report = Output::new(rt.stdout());
-    Ok(run(rt, alloc, &words, &mut input, &mut report, notes))
+    Ok((words, Input::new(reader)))
 }
 
 fn main(rt: HostRuntime) -> ExitCode {
+    let alloc = rt.alloc();
     let mut notes = Output::new(rt.stderr());
-    let status = match start(&rt, &mut notes) {
-        Ok(status) => status,
+    let status = match open(&rt, alloc) {
+        Ok((words, mut input)) => {
+            let mut report = Output::new(rt.stdout());
+            run(&rt, alloc, &words, &mut input, &mut report, &mut notes)
+        }
         Err(Memory) => Failure::Memory.end(&mut notes),
     };
     ExitCode::from(status.code())

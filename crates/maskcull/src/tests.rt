@@ -1,6 +1,7 @@
 use super::*;
 use crate::failure::Status;
 use cull_base::{BytesSink, BytesSource, SureSink};
+use std::alloc::AllocError;
 use std::process::Abort;
 use std::sync::Wait;
 use std::test::*;
@@ -139,6 +140,18 @@ fn assert_refused<R: Threads + Wait + Sync + Abort>(
     let ended = culled(rt, alloc, bytes)?;
     assert_eq!(rt; ended.notes.as_slice(), note.as_bytes());
     assert_eq!(rt; ended.status, Status::Scene);
+    assert_eq!(rt; ended.report.len(), 0);
+    Ok(())
+}
+
+fn assert_not_built<R: Threads + Wait + Sync + Abort>(
+    rt: &R,
+    alloc: Global,
+    bytes: Vec<u8>,
+) -> Result<(), Fail> {
+    let ended = culled(rt, alloc, bytes)?;
+    assert_eq!(rt; ended.notes.as_slice(), b"not built\n".as_slice());
+    assert_eq!(rt; ended.status.code(), 8);
     assert_eq!(rt; ended.report.len(), 0);
     Ok(())
 }
@@ -361,10 +374,35 @@ fn words_that_are_no_command_are_refused(rt: HostRuntime) -> Result<(), Fail> {
 }
 
 #[test]
-fn a_scene_with_a_box_is_not_built(rt: HostRuntime) -> Result<(), Fail> {
+fn a_scene_that_cannot_be_drawn_yet_is_not_built(rt: HostRuntime) -> Result<(), Fail> {
     let alloc = rt.alloc();
-    let ended = culled(&rt, alloc, changed(alloc, &[(104, 1), (113, 0)])?)?;
-    assert_eq!(rt; ended.notes.as_slice(), b"not built\n".as_slice());
-    assert_eq!(rt; ended.status.code(), 8);
-    Ok(())
+    let a_box = [(104, 1), (113, 0)].as_slice();
+    let another_camera = [(129, 1)].as_slice();
+    let before_the_near_distance = [(121, 0)].as_slice();
+    for changes in [a_box, another_camera, before_the_near_distance] {
+        assert_not_built(&rt, alloc, changed(alloc, changes)?)?;
+    }
+    let mut two_frames = changed(alloc, &[(14, 2)])?;
+    two_frames.extend_from_slice(&FIRST[129..])?;
+    assert_not_built(&rt, alloc, two_frames)?;
+    let one_triangle = changed(alloc, &[(24, 1)])?;
+    let mut object_triangles = Vec::from_slice(alloc, &one_triangle[..104])?;
+    object_triangles.extend_from_slice(&[0; 12])?;
+    object_triangles.extend_from_slice(&FIRST[104..])?;
+    assert_not_built(&rt, alloc, object_triangles)
+}
+
+// The screen's right column of tiles is 8 pixels wide, its lower row 4 pixels high.
+#[test]
+fn tiles_that_the_screen_cuts_are_drawn_and_asked(rt: HostRuntime) -> Result<(), Fail> {
+    let alloc = rt.alloc();
+    let rectangles = [[0, 0, 40, 12, 3], [32, 8, 64, 64, 3], [40, 8, 64, 64, 3]];
+    let mut bytes = scene(alloc, 0, &QUAD, &TWO, &rectangles)?;
+    if bytes.len() > 8 {
+        bytes[6] = 40;
+        bytes[8] = 12;
+    }
+    let text =
+        "msoc-report 1 40 12 1 3\nframe 0 pieces 2\n0 occluded\n1 occluded\n2 outside\nend 0 visible 0 occluded 2 outside 1\n";
+    assert_reports(&rt, alloc, bytes, text)
 }

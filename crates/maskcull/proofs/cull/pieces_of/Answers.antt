@@ -1,13 +1,42 @@
-use Rattle.std.proofs.Common.{◌≡◌, refl, subst, List}
+use Rattle.std.proofs.Common.{◌≡◌, ◌<◌, ℕ, List, length, subst, sym, ap, ◌∙◌, refl, Result, Ok, Err}
 use Rattle.std.specs.Prelude.{IfOk}
+use Rattle.std.specs.List.{All}
+use Rattle.std.proofs.lemmas.List.{length-map}
 use Rattle.cull_base.specs.Piece.{Piece}
-use Rattle.cull_report.specs.Scene.{frame_pieces}
-use Rattle.snap_setup.specs.Pieces.{list_of_clips}
+use Rattle.cull_base.specs.Screen.{Dimensions}
+use Rattle.cull_base.specs.Tiles.{PieceList, FrameListOf}
+use Rattle.cull_base.specs.declared.memory.Memory.{Memory}
+use Rattle.cull_base.specs.declared.scene_types.Tri.{Tri}
+use Rattle.snap_setup.specs.Pieces.{HasClips, list_of_clips}
+use Rattle.cull_base.specs.declared.nearness.TheConstants.{GRADE_TOP}
+use Rattle.camera_path.specs.Clip.{clip_of}
+use Rattle.scene_reader.specs.Layout.{Parts}
+use Rattle.cull_report.specs.Scene.{frame_clips, frame_list, size_of, camera_at}
 use Rattle.maskcull.proofs.cull.pieces_of.Goals as goal
 
-pub returns-clause-members : goal.returns-clause-members
-unfolding frame_pieces
-returns-clause-members c =
-    let is : list_of_clips c.deref.result.now c.occluders.result.now c.near.result c.size.result c.winding.result ≡ frame_pieces c.args.scene.now =
-    rw (c.deref.ensures.value, c.in_ok-clips.ensures, c.vertices.ensures, c.occluders.ensures, c.near.ensures.value, c.size.ensures, c.winding.ensures) refl in
-    subst (λ (pieces : List Piece). IfOk c.frame_list.result (λ f. f.members ≡ pieces)) is c.frame_list.ensures.members
+clip_count : (s : Parts) → length (frame_clips s 0) ≡ length s.vertices
+unfolding frame_clips
+clip_count s = simp length-map
+
+has_clips : (n m : ℕ) (t : Tri) → n ≡ m → All (λ v. v < m) t.0 → HasClips n t
+has_clips n m t e h = rw e h
+
+pub frame_list-requires-clause-indices : goal.frame_list-requires-clause-indices
+frame_list-requires-clause-indices c =
+    let s = c.args.scene.now in
+    let n : length c.args.clips.now ≡ length s.vertices = ap length c.requires ∙ clip_count s in
+    let all : All (HasClips (length c.args.clips.now)) s.occluders = λ k d lt. has_clips (length c.args.clips.now) (length s.vertices) _ n ((c.near.ensures.valid).occluders k d lt).1 in
+    subst (All (HasClips (length c.args.clips.now))) (sym c.occluders.ensures) all
+
+listed : (r : Result FrameListOf Memory) (l : PieceList) → IfOk r (λ f. f.list.members ≡ l.members) → IfOk r (λ f. f.list.size ≡ l.size) → IfOk r (λ f. f.list ≡ l)
+listed (Ok f) l m d = rw (← m, ← d) refl
+listed (Err e) l m d = tt
+
+pub returns : goal.returns
+unfolding frame_list
+returns c =
+    let s = c.args.scene.now in
+    let is : list_of_clips c.args.clips.now c.occluders.result.now GRADE_TOP c.near.result c.size.result c.winding.result ≡ (frame_list s 0).members =
+    rw (c.requires, c.occluders.ensures, c.near.ensures.value, c.size.ensures, c.winding.ensures) refl in
+    listed c.frame_list.result (frame_list s 0) (subst (λ (ps : List Piece). IfOk c.frame_list.result (λ f. f.list.members ≡ ps)) is c.frame_list.ensures.members)
+    (subst (λ (d : Dimensions). IfOk c.frame_list.result (λ f. f.list.size ≡ d)) c.size.ensures c.frame_list.ensures.size)

@@ -7,19 +7,19 @@ use Rattle.cull_base.specs.State.{State}
 use Rattle.cull_base.specs.Fold.{after}
 use Rattle.cull_base.specs.Tiles.{tile_after}
 use Rattle.masked_update.specs.TileOf.{tile_at}
-use Rattle.cull_report.specs.Rectangle.{state_in}
-use Rattle.cull_report.specs.Scene.{scene_verdicts, frame_pieces, size_of, object_verdict}
+use Rattle.cull_report.specs.Pixels.{state_in}
+use Rattle.cull_report.specs.Scene.{frame_verdicts, frame_pieces, size_of, object_verdict, verdict_in}
 use Rattle.cull_report.proofs.Agreement.{objects_alike}
 use Rattle.maskcull.proofs.Drawn.{drawn_agrees}
 use Rattle.maskcull.proofs.cull.verdicts_over.Goals as goal
 
 pub returns : goal.returns
-unfolding scene_verdicts
+unfolding frame_verdicts
 returns c =
     let s = c.args.scene.now in
     let tiles = c.new.result.states.now in
-    let drawn : (t : ℕ) → t < tile_count_of (size_of s) → (tile_at tiles t).subs ≡ tile_after (size_of s) t (frame_pieces s) = rw (c.new.ensures) c.requires.drawn in
+    let drawn : (t : ℕ) → t < tile_count_of (size_of s) → (tile_at tiles t).subs ≡ tile_after (size_of s) t (frame_pieces s 0) = rw (c.new.ensures) c.requires.drawn in
     let f : Sub → State = state_in (size_of s) (tile_at tiles) in
-    let g : Sub → State = λ u. after u (frame_pieces s) in
-    let is : map (object_verdict (size_of s) s.near f) s.objects ≡ scene_verdicts s = objects_alike (size_of s) s.near f g (drawn_agrees (size_of s) (frame_pieces s) tiles drawn) s.objects in
+    let g : Sub → State = λ u. after u (frame_pieces s 0) in
+    let is : map (object_verdict s 0 f) s.objects ≡ frame_verdicts s 0 = objects_alike s 0 f g (drawn_agrees (size_of s) (frame_pieces s 0) tiles drawn) s.objects in
     subst (λ (vs : List Verdict). IfOk c.verdicts.result (λ v. v.items ≡ vs)) is c.verdicts.ensures
