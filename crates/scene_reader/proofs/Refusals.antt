@@ -18,7 +18,11 @@ use Rattle.scene_reader.specs.PartsFault.{AreTables}
 use Rattle.scene_reader.specs.Reading.{Takes, IsAtEnd, EndsWithin, TakesParts, Refuses, ReadsScene}
 use Rattle.scene_reader.proofs.Takes.{takes_then}
 use Rattle.scene_reader.proofs.Headers.{or_first, or_second, or_refusal, fault_refusal, header_front, header_accepted, counts_front, fault_none_from}
-use Rattle.scene_reader.proofs.Wholes.{Sized, joined_first, joined_length, joined_layout, table_count, Fits, fits_from, scene_from, scene_first, layout_one}
+use Rattle.scene_reader.proofs.SixPieces.{Sized, joined_first, joined_length}
+use Rattle.scene_reader.proofs.BytesToLayout.{joined_layout}
+use Rattle.scene_reader.proofs.SceneFrom.{table_count, Fits, fits_from, scene_from}
+use Rattle.scene_reader.proofs.LayoutFirst.{scene_first}
+use Rattle.scene_reader.proofs.OnlyScene.{layout_one}
 
 -- ---- refusals aren't faults of the source
 

@@ -6,7 +6,7 @@ use Rattle.cull_base.specs.declared.scene_types.Object.TheVariants.{Area}
 use Rattle.scene_reader.specs.Fault.{first_among, object_fault}
 use Rattle.scene_reader.specs.Layout.{IsObject, stored}
 use Rattle.scene_reader.proofs.First.{or_none}
-use Rattle.scene_reader.proofs.Wholes.{fine_object}
+use Rattle.scene_reader.proofs.NoFault.{fine_object}
 use Rattle.scene_reader.proofs.checks.objects_fault.Goals as goal
 
 pub loop-i-preserved : goal.loop-i-preserved

@@ -3,7 +3,7 @@ use Rattle.std.proofs.lemmas.Result.{err_from_is_err_and}
 use Rattle.scene_reader.proofs.Refusals.{refuses_short, refuses_header, refuses_body, refuses_trailing, refuses_tables, reads, parts_scene, objects_first, whole_length, not_read, tables_refusal, err_is, refuses_same}
 use Rattle.scene_reader.proofs.Headers.{header_refusal}
 use Rattle.scene_reader.proofs.Turns.{progress_none, progress_of, progress_then, parts_read, most_turns, reads_then, reads_failed}
-use Rattle.scene_reader.proofs.Wholes.{table_count}
+use Rattle.scene_reader.proofs.SceneFrom.{table_count}
 use Rattle.scene_reader.proofs.reading.read_whole.Goals as goal
 
 pub returns-in_err-fetch-clause-refused : goal.returns-in_err-fetch-clause-refused
