@@ -4,7 +4,7 @@ use Rattle.std.specs.List.{flat_map}
 use Rattle.std.proofs.lemmas.List.{take_at, drop_at}
 use Rattle.std.proofs.lemmas.List.Elements.{All-take, All-drop}
 use Rattle.scene_reader.specs.declared.header.Counts.{Counts}
-use Rattle.scene_reader.specs.Layout.{Parts, row_bytes, tri_bytes, object_bytes, stored, header_bytes, layout}
+use Rattle.scene_reader.specs.Layout.{Parts, row_bytes, tri_bytes, object_bytes, raw_object, header_bytes, layout}
 use Rattle.scene_reader.specs.Fault.{row_of, tri_of, raw_of, header_fault}
 use Rattle.scene_reader.specs.Reading.{IsTable}
 use Rattle.scene_reader.proofs.Takes.{IsByte}
@@ -17,7 +17,7 @@ use Rattle.scene_reader.proofs.SixPieces.{Sized, joined}
 -- bytes whose pieces are read as these parts are their layout
 pub joined_layout : (n : Counts) (h v o t j c : List ℕ) (p : Parts) (raws : List (ℕ × List ℤ)) → Sized n h v o t j c → All IsByte (joined h v o t j c) → header_fault h ≡ None → HeaderSays h p
     → IsTable 12 n.vertices (row_of 3) v p.vertices → IsTable 12 n.occluders tri_of o p.occluders → IsTable 12 n.object_tris tri_of t p.object_tris → IsTable 25 n.objects raw_of j raws → IsTable 48 n.frames (row_of 12) c p.cameras
-    → map stored p.objects ≡ raws → joined h v o t j c ≡ layout p
+    → map raw_object p.objects ≡ raws → joined h v o t j c ≡ layout p
 unfolding layout
 joined_layout n h v o t j c p raws s fits fine says tv to tt tj tc objects =
     let f1 = split h _ fits in

@@ -9,7 +9,7 @@ use Rattle.cull_base.specs.declared.triangle.Winding.{Winding}
 use Rattle.cull_base.specs.declared.triangle.Winding.TheVariants.{Both, DropClockwise, DropCounter}
 use Rattle.cull_base.specs.declared.scene_types.Object.{Object}
 use Rattle.cull_base.specs.declared.scene_types.Object.TheVariants.{Area, Block, Mesh}
-use Rattle.scene_reader.specs.Layout.{IsObject, numbers_of, stored, winding_code, axis}
+use Rattle.scene_reader.specs.Layout.{IsObject, numbers_of, raw_object, winding_code, axis}
 use Rattle.scene_reader.specs.Fault.{is_bad_row, is_bad_object, is_not_zero}
 use Rattle.scene_reader.proofs.Valid.{area_valid, block_valid, mesh_valid, le_from_lt}
 use Rattle.scene_reader.proofs.Shapes.{six, not_zero}
@@ -23,7 +23,7 @@ natural_of (pos k) h = (k, refl)
 natural_of (negsuc k) h = absurd (omega (arith, ints, h))
 
 Made : ℕ → ℕ → List ℤ → Type 0
-Made m kind ns = (o : Object) × (stored o ≡ (kind, ns)) × IsObject m o
+Made m kind ns = (o : Object) × (raw_object o ≡ (kind, ns)) × IsObject m o
 
 made_area : (m : ℕ) (ns : List ℤ) → is_bad_object m 0 ns ≡ false → length ns ≡ 6 → Made m 0 ns
 unfolding is_bad_object Made
@@ -68,17 +68,17 @@ made_kind m (suc (suc zero)) ns small good len = made_mesh m ns good len
 made_kind m (suc (suc (suc k))) ns small good len = absurd (omega (arith, small))
 
 -- an object from its kind and numbers
-made : (m : ℕ) (raw : ℕ × List ℤ) → raw.0 ≤ 2 → is_bad_object m raw.0 raw.1 ≡ false → length raw.1 ≡ 6 → (o : Object) × (stored o ≡ raw) × IsObject m o
+made : (m : ℕ) (raw : ℕ × List ℤ) → raw.0 ≤ 2 → is_bad_object m raw.0 raw.1 ≡ false → length raw.1 ≡ 6 → (o : Object) × (raw_object o ≡ raw) × IsObject m o
 unfolding Made
 made m raw small good len = made_kind m raw.0 raw.1 small good len
 
 pub objects_made : (m : ℕ) (raws : List (ℕ × List ℤ)) → AllByRecursion (λ raw. (raw.0 ≤ 2) × (is_bad_object m raw.0 raw.1 ≡ false)) raws → AllByRecursion (λ raw. length raw.1 ≡ 6) raws
-    → (xs : List Object) × (map stored xs ≡ raws) × AllByRecursion (IsObject m) xs
+    → (xs : List Object) × (map raw_object xs ≡ raws) × AllByRecursion (IsObject m) xs
 objects_made m [] good len = ([], refl, tt)
 objects_made m (raw ∷ raws) good len =
     let x = made m raw good.0.0 good.0.1 len.0 in
     let xs = objects_made m raws good.1 len.1 in
-    (x.0 ∷ xs.0, ap (λ (r : ℕ × List ℤ). r ∷ map stored xs.0) x.1 ∙ ap (λ (rs : List (ℕ × List ℤ)). raw ∷ rs) xs.1, (x.2, xs.2))
+    (x.0 ∷ xs.0, ap (λ (r : ℕ × List ℤ). r ∷ map raw_object xs.0) x.1 ∙ ap (λ (rs : List (ℕ × List ℤ)). raw ∷ rs) xs.1, (x.2, xs.2))
 
 pub winding_of : ℕ → Winding
 winding_of zero = Both

@@ -10,7 +10,7 @@ use Rattle.cull_base.specs.declared.scene_types.Tri.{Tri}
 use Rattle.scene_reader.specs.declared.error.SceneError.{SceneError}
 use Rattle.scene_reader.specs.declared.error.SceneError.TheVariants.{Truncated, Trailing}
 use Rattle.scene_reader.specs.declared.header.Counts.{Counts}
-use Rattle.scene_reader.specs.Layout.{Parts, IsScene, IsRow, IsTri, IsObject, stored, layout}
+use Rattle.scene_reader.specs.Layout.{Parts, IsScene, IsRow, IsTri, IsObject, raw_object, layout}
 use Rattle.scene_reader.specs.Fault.{fault_if, first_among, short_at, counts_at, entries, row_of, tri_of, raw_of, words_in, scene_length, header_fault, length_fault, tables_fault, first_fault, vertex_fault, index_fault, object_fault, camera_fault, is_bad_row, is_bad_object}
 use Rattle.scene_reader.specs.Law.{IsLayoutOf}
 use Rattle.scene_reader.specs.PartsFault.{AreTables}
@@ -83,7 +83,7 @@ module _ (n : Counts) (h v o t j c : List ℕ) (s : Sized n h v o t j c) (fits :
         cameras = rows_valid 12 cs (first_valid (λ row. is_bad_row row ≡ false) camera_fault (λ i row f. fault_none _ _ f) 0 cs p4.1) (each_of (λ row. length row ≡ 12) (row_of 12) (λ e. row_len 12 e) (entries 48 n.frames c));
       } in
       let f : Fits h p = fits_from h n p a s.counts refl refl refl (winding_is (slice_index h 12) a.winding) (table_count 48 n.frames (row_of 12) c cs tc) (table_count 12 n.vertices (row_of 3) v vs tv) (table_count 12 n.occluders tri_of o os to) (table_count 12 n.object_tris tri_of t ts tt')
-      (sym (length-map objects.0 stored) ∙ ap length objects.1 ∙ table_count 25 n.objects raw_of j raws tj) in
+      (sym (length-map objects.0 raw_object) ∙ ap length objects.1 ∙ table_count 25 n.objects raw_of j raws tj) in
       let scene : IsScene p = scene_from h p f tables (All-from_recursion (IsObject (length ts)) objects.0 objects.2) in
       let whole : joined h v o t j c ≡ layout p = joined_layout n h v o t j c p raws s fits fine f.says tv to tt' tj tc objects.1 in
       (p, record { scene = scene; whole = whole; only = λ q sq is. layout_one q p sq scene (sym is ∙ whole) })

@@ -10,7 +10,7 @@ use Rattle.cull_base.specs.declared.triangle.Winding.TheVariants.{Both, DropCloc
 use Rattle.cull_base.specs.declared.scene_types.Tri.{Tri}
 use Rattle.cull_base.specs.declared.scene_types.Object.{Object}
 use Rattle.cull_base.specs.declared.scene_types.Object.TheVariants.{Area, Block, Mesh}
-use Rattle.scene_reader.specs.Layout.{Parts, IsScene, IsObject, row_bytes, tri_bytes, object_bytes, stored, winding_code, header_bytes, layout, axis}
+use Rattle.scene_reader.specs.Layout.{Parts, IsScene, IsObject, row_bytes, tri_bytes, object_bytes, raw_object, winding_code, header_bytes, layout, axis}
 use Rattle.scene_reader.specs.Fault.{short_at, vertices_in, occluders_in, object_tris_in, objects_in, cameras_in}
 use Rattle.scene_reader.proofs.Shapes.{three}
 use Rattle.scene_reader.proofs.HeaderBytes.{counts_of, header_length, header_says}
@@ -43,7 +43,7 @@ same_rect r q e0 e1 e2 e3 =
     let make : ℤ → ℤ → ℤ → ℤ → Rect = λ a b c d. record { x0 = a; y0 = b; x1 = c; y1 = d } in
     ap (λ (a : ℤ). make a r.y0 r.x1 r.y1) e0 ∙ ap (λ (b : ℤ). make q.x0 b r.x1 r.y1) e1 ∙ ap (λ (c : ℤ). make q.x0 q.y0 c r.y1) e2 ∙ ap (λ (d : ℤ). make q.x0 q.y0 q.x1 d) e3
 
-stored_one : (m : ℕ) (a b : Object) → IsObject m a → IsObject m b → stored a ≡ stored b → a ≡ b
+stored_one : (m : ℕ) (a b : Object) → IsObject m a → IsObject m b → raw_object a ≡ raw_object b → a ≡ b
 unfolding natural
 stored_one m (Area r w) (Area q u) ha hb e =
     let e0 = row_axis 0 _ _ e in let e1 = row_axis 1 _ _ e in let e2 = row_axis 2 _ _ e in let e3 = row_axis 3 _ _ e in let e4 = row_axis 4 _ _ e in
@@ -63,13 +63,13 @@ stored_one m (Mesh first count) (Mesh first2 count2) ha hb e =
     let ec : count ≡ count2 = ap (λ (r : ℕ × List ℤ). natural (axis r.1 1)) e in
     rw (ef, ec) refl
 
-stored_each : (m : ℕ) (xs ys : List Object) → AllByRecursion (IsObject m) xs → AllByRecursion (IsObject m) ys → map stored xs ≡ map stored ys → xs ≡ ys
+stored_each : (m : ℕ) (xs ys : List Object) → AllByRecursion (IsObject m) xs → AllByRecursion (IsObject m) ys → map raw_object xs ≡ map raw_object ys → xs ≡ ys
 stored_each m [] [] hx hy e = refl
 stored_each m [] (y ∷ ys) hx hy e = absurd cc
 stored_each m (x ∷ xs) [] hx hy e = absurd cc
 stored_each m (x ∷ xs) (y ∷ ys) hx hy e =
-    let first : stored x ≡ stored y = cc in
-    let rest : map stored xs ≡ map stored ys = cc in
+    let first : raw_object x ≡ raw_object y = cc in
+    let rest : map raw_object xs ≡ map raw_object ys = cc in
     ap (λ (z : Object). z ∷ xs) (stored_one m x y hx.0 hy.0 first) ∙ ap (λ (zs : List Object). y ∷ zs) (stored_each m xs ys hx.1 hy.1 rest)
 
 same_parts : (p q : Parts) → p.width ≡ q.width → p.height ≡ q.height → p.near ≡ q.near → p.winding ≡ q.winding → p.vertices ≡ q.vertices → p.occluders ≡ q.occluders → p.object_tris ≡ q.object_tris → p.objects ≡ q.objects → p.cameras ≡ q.cameras → p ≡ q
@@ -91,7 +91,7 @@ record Reads (b : List ℕ) (p : Parts) : Type 0 where
   vertices : vertices_in b ≡ p.vertices
   occluders : occluders_in b ≡ p.occluders
   object_tris : object_tris_in b ≡ p.object_tris
-  objects : objects_in b ≡ map stored p.objects
+  objects : objects_in b ≡ map raw_object p.objects
   cameras : cameras_in b ≡ p.cameras
 
 layout_reads : (p : Parts) → IsScene p → Reads (layout p) p
@@ -122,7 +122,7 @@ layout_one p q sp sq e =
     let hq = header_says q sq in
     let eh : header_bytes p ≡ header_bytes q = sym rp.header ∙ ap (take 32) e ∙ rq.header in
     let et : p.object_tris ≡ q.object_tris = sym rp.object_tris ∙ ap object_tris_in e ∙ rq.object_tris in
-    let ej : map stored p.objects ≡ map stored q.objects = sym rp.objects ∙ ap objects_in e ∙ rq.objects in
+    let ej : map raw_object p.objects ≡ map raw_object q.objects = sym rp.objects ∙ ap objects_in e ∙ rq.objects in
     let valid : All (IsObject (length p.object_tris)) q.objects = subst (λ (ts : List Tri). All (IsObject (length ts)) q.objects) (sym et) sq.objects in
     same_parts p q
     (sym hp.width ∙ ap (short_at 6) eh ∙ hq.width)
