@@ -12,6 +12,7 @@ use Rattle.scene_reader.specs.declared.error.SceneError.TheVariants.{BadObject}
 use Rattle.scene_reader.specs.Layout.{IsObject, kind_of, numbers_of, raw_object}
 use Rattle.scene_reader.specs.Fault.{entries, first_among, object_fault, is_bad_object, raw_of, fault_if}
 use Rattle.scene_reader.specs.Reading.{Takes, IsObjectOf, TakesObject, TakesObjects}
+use Rattle.scene_reader.proofs.Headers.{option_or_assoc}
 use Rattle.scene_reader.proofs.Entries.{table_none, table_more}
 
 fault_of : (m i kind : ℕ) (numbers : List ℤ) (b : Bool) → kind ≤ 2 → is_bad_object m kind numbers ≡ b → object_fault m i (kind, numbers) ≡ fault_if b (BadObject i)
@@ -38,10 +39,6 @@ never_made m i raw small bad = fault_of m i raw.0 raw.1 true small bad
 
 -- ---- the table
 
-option_or_assoc : (a b c : Option SceneError) → option_or a (option_or b c) ≡ option_or (option_or a b) c
-option_or_assoc None b c = refl
-option_or_assoc (Some e) b c = refl
-
 option_or_none : (o : Option SceneError) → option_or o None ≡ o
 option_or_none None = refl
 option_or_none (Some e) = refl
@@ -49,7 +46,7 @@ option_or_none (Some e) = refl
 first_append : {X : Type 0} (fault : ℕ → X → Option SceneError) (i j : ℕ) (xs : List X) (x : X) → i + length xs ≡ j → first_among fault i (xs ++ x ∷ []) ≡ option_or (first_among fault i xs) (fault j x)
 first_append fault i j [] x e = option_or_none (fault i x) ∙ ap (λ (k : ℕ). fault k x) (omega (arith, e))
 first_append fault i j (y ∷ xs) x e =
-    ap (option_or (fault i y)) (first_append fault (i + 1) j xs x (omega (arith, e))) ∙ option_or_assoc (fault i y) (first_among fault (i + 1) xs) (fault j x)
+    ap (option_or (fault i y)) (first_append fault (i + 1) j xs x (omega (arith, e))) ∙ sym (option_or_assoc (fault i y) (first_among fault (i + 1) xs) (fault j x))
 
 pub length_entries : (size n : ℕ) (bytes : List ℕ) → length (entries size n bytes) ≡ n
 unfolding entries

@@ -205,54 +205,29 @@ refuses_same before after e f is h = subst (λ (x : SceneError). Refuses before 
 
 -- ---- the promises about told bytes
 
-bytes_layout : (before after : Option (List ℕ)) (s : Parts) → ReadsScene before after s → IfSome before (λ bytes. (bytes ≡ layout s) × (after ≡ Some []))
+pub bytes_layout : (before after : Option (List ℕ)) (s : Parts) → ReadsScene before after s → IfSome before (λ bytes. (bytes ≡ layout s) × (after ≡ Some []))
 bytes_layout None after s r = tt
 bytes_layout (Some b) None s r = let no = r.takes.front in absurd cc
 bytes_layout (Some b) (Some rest) s r =
     let none : rest ≡ [] = r.ended in
     (same_Some b (r.bytes ++ rest) r.takes.front ∙ ap (λ (x : List ℕ). r.bytes ++ x) none ∙ append-nil r.bytes ∙ r.whole, ap Some none)
 
-bytes_first : (before after : Option (List ℕ)) (s : Parts) → ReadsScene before after s → IfSome before (λ bytes. first_fault bytes ≡ None)
+pub bytes_first : (before after : Option (List ℕ)) (s : Parts) → ReadsScene before after s → IfSome before (λ bytes. first_fault bytes ≡ None)
 bytes_first None after s r = tt
 bytes_first (Some b) after s r = let l = bytes_layout (Some b) after s r in ap first_fault (l.0 ∙ sym r.whole) ∙ r.first
 
-bytes_only : (before after : Option (List ℕ)) (s : Parts) → ReadsScene before after s → IfSome before (λ bytes. (t : Parts) → IsScene t → bytes ≡ layout t → t ≡ s)
+pub bytes_only : (before after : Option (List ℕ)) (s : Parts) → ReadsScene before after s → IfSome before (λ bytes. (t : Parts) → IsScene t → bytes ≡ layout t → t ≡ s)
 bytes_only None after s r = tt
 bytes_only (Some b) after s r = λ t scene is. let l = bytes_layout (Some b) after s r in layout_one t s scene r.scene (sym is ∙ l.0)
 
-bytes_refused : (before after : Option (List ℕ)) (e : SceneError) → Refuses before after e → IfSome before (λ bytes. first_fault bytes ≡ Some e)
+pub bytes_refused : (before after : Option (List ℕ)) (e : SceneError) → Refuses before after e → IfSome before (λ bytes. first_fault bytes ≡ Some e)
 bytes_refused None after e h = tt
 bytes_refused (Some b) after e h = h.0
 
-bytes_header : (before after : Option (List ℕ)) (e : SceneError) → Refuses before after e → IfSome before (λ bytes. header_fault bytes ≡ Some e → after ≡ Some (drop 32 bytes))
+pub bytes_header : (before after : Option (List ℕ)) (e : SceneError) → Refuses before after e → IfSome before (λ bytes. header_fault bytes ≡ Some e → after ≡ Some (drop 32 bytes))
 bytes_header None after e h = tt
 bytes_header (Some b) after e h = h.1
 
-bytes_never : (before after : Option (List ℕ)) (e : SceneError) → Refuses before after e → IfSome before (λ bytes. (t : Parts) → IsScene t → bytes ≡ layout t → ⊥)
+pub bytes_never : (before after : Option (List ℕ)) (e : SceneError) → Refuses before after e → IfSome before (λ bytes. (t : Parts) → IsScene t → bytes ≡ layout t → ⊥)
 bytes_never None after e h = tt
 bytes_never (Some b) after e h = λ t scene is. let no : ◌≡◌ {A = Option SceneError} None (Some e) = sym (scene_first t scene) ∙ ap first_fault (sym is) ∙ h.0 in cc
-
-module _ (before after : Option (List ℕ)) where
-  pub ok_layout : (r : Result Parts SceneError) → IfOk r (λ s. ReadsScene before after s) → IfOk r (λ s. IfSome before (λ bytes. (bytes ≡ layout s) × (after ≡ Some [])))
-  ok_layout (Ok s) h = bytes_layout before after s h
-  ok_layout (Err e) h = tt
-
-  pub ok_only : (r : Result Parts SceneError) → IfOk r (λ s. ReadsScene before after s) → IfOk r (λ s. IfSome before (λ bytes. (t : Parts) → IsScene t → bytes ≡ layout t → t ≡ s))
-  ok_only (Ok s) h = bytes_only before after s h
-  ok_only (Err e) h = tt
-
-  pub ok_first : (r : Result Parts SceneError) → IfOk r (λ s. ReadsScene before after s) → IfOk r (λ s. IfSome before (λ bytes. first_fault bytes ≡ None))
-  ok_first (Ok s) h = bytes_first before after s h
-  ok_first (Err e) h = tt
-
-  pub err_refused : (r : Result Parts SceneError) → IfErr r (λ e. IsRefusal e → Refuses before after e) → IfErr r (λ e. IsRefusal e → IfSome before (λ bytes. first_fault bytes ≡ Some e))
-  err_refused (Ok s) h = tt
-  err_refused (Err e) h = λ k. bytes_refused before after e (h k)
-
-  pub err_header : (r : Result Parts SceneError) → IfErr r (λ e. IsRefusal e → Refuses before after e) → IfErr r (λ e. IsRefusal e → IfSome before (λ bytes. header_fault bytes ≡ Some e → after ≡ Some (drop 32 bytes)))
-  err_header (Ok s) h = tt
-  err_header (Err e) h = λ k. bytes_header before after e (h k)
-
-  pub err_never : (r : Result Parts SceneError) → IfErr r (λ e. IsRefusal e → Refuses before after e) → IfErr r (λ e. IsRefusal e → IfSome before (λ bytes. (t : Parts) → IsScene t → bytes ≡ layout t → ⊥))
-  err_never (Ok s) h = tt
-  err_never (Err e) h = λ k. bytes_never before after e (h k)
