@@ -30,9 +30,6 @@ module _ {X : Type 0} (enc : X → List ℕ) (xs : List X) (i : ℕ) (d : X) (lt
       ap (flat_map enc) (sym (take-append-drop i xs)) ∙ flat_map-append enc (take i xs) (drop i xs) ∙ ap (λ (t : List ℕ). flat_map enc (take i xs) ++ t) (ap (flat_map enc) (drop_more xs i d lt)) in
       rw whole (writes_on before (writes_no_more s1 s2 e (enc (get_or xs i d)) (flat_map enc (drop (i + 1) xs)) now))
 
-pub ends_at : {X : Type 0} (enc : X → List ℕ) (xs : List X) (i : ℕ) {s0 s1 : SinkSays} {x : Unit {0}} → length xs ≤ i → Writes s0 s1 (Ok x) (flat_map enc (take i xs)) → Writes s0 s1 (Ok x) (flat_map enc xs)
-ends_at enc xs i le w = let all : take i xs ≡ xs = take_all i xs le in rw all at w
-
 -- ---- objects and headers
 
 pub block_bytes : (low high : List ℤ) → length low ≡ 3 → length high ≡ 3 → row_bytes low ++ row_bytes high ≡ row_bytes (numbers_of (Block low high))

@@ -4,19 +4,9 @@ use Rattle.std.specs.Option.{option_or}
 use Rattle.std.proofs.lemmas.List.{drop_more, drop_all}
 use Rattle.scene_reader.specs.declared.error.SceneError.{SceneError}
 use Rattle.scene_reader.specs.Fault.{first_among}
-
-pub or_none : {X : Type 0} (o p : Option X) → o ≡ None → option_or o p ≡ p
-or_none o p e = rw e refl
+use Rattle.scene_reader.proofs.Headers.{or_second}
 
 -- a member without a fault is passed
 pub first_step : {X : Type 0} (fault : ℕ → X → Option SceneError) (xs : List X) (i : ℕ) (d : X) → i < length xs → fault i (get_or xs i d) ≡ None
     → first_among fault (i + 1) (drop (i + 1) xs) ≡ first_among fault i (drop i xs)
-first_step fault xs i d lt e = sym (ap (first_among fault i) (drop_more xs i d lt) ∙ or_none (fault i (get_or xs i d)) (first_among fault (i + 1) (drop (i + 1) xs)) e)
-
--- a member with one ends the search
-pub first_here : {X : Type 0} (fault : ℕ → X → Option SceneError) (xs : List X) (i : ℕ) (d : X) (e : SceneError) → i < length xs → fault i (get_or xs i d) ≡ Some e
-    → Some e ≡ first_among fault i (drop i xs)
-first_here fault xs i d e lt h = sym (ap (first_among fault i) (drop_more xs i d lt) ∙ ap (λ (o : Option SceneError). option_or o (first_among fault (i + 1) (drop (i + 1) xs))) h)
-
-pub first_none : {X : Type 0} (fault : ℕ → X → Option SceneError) (xs : List X) (i : ℕ) → length xs ≤ i → None ≡ first_among fault i (drop i xs)
-first_none fault xs i le = sym (ap (first_among fault i) (drop_all i xs le))
+first_step fault xs i d lt e = sym (ap (first_among fault i) (drop_more xs i d lt) ∙ or_second (fault i (get_or xs i d)) (first_among fault (i + 1) (drop (i + 1) xs)) e)

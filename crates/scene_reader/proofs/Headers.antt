@@ -21,6 +21,10 @@ pub or_parts_none : (o p : Option SceneError) → option_or o p ≡ None → (o 
 or_parts_none None p e = (refl, e)
 or_parts_none (Some x) p e = absurd cc
 
+pub option_or_assoc : (a b c : Option SceneError) → option_or (option_or a b) c ≡ option_or a (option_or b c)
+option_or_assoc None b c = refl
+option_or_assoc (Some e) b c = refl
+
 pub or_none_from : (o p : Option SceneError) → o ≡ None → p ≡ None → option_or o p ≡ None
 or_none_from o p e f = rw (e, f) refl
 

@@ -8,7 +8,14 @@ pub mod ObjectTable
 pub mod Codes
 pub mod Headers
 pub mod Pieces
-pub mod Wholes
+pub mod HeaderBytes
+pub mod SixPieces
+pub mod NoFault
+pub mod LayoutFirst
+pub mod BytesToLayout
+pub mod OnlyScene
+pub mod SceneFrom
 pub mod Refusals
+pub mod ObjectsFrom
 pub mod OneLayout
 pub mod Appending

@@ -9,7 +9,7 @@ use Rattle.std.proofs.lemmas.List.Folds.{flat_map-map}
 use Rattle.cull_base.specs.declared.scene_types.Tri.{Tri}
 use Rattle.cull_base.specs.declared.scene_types.Object.{Object}
 use Rattle.cull_base.specs.declared.scene_types.Object.TheVariants.{Area, Block, Mesh}
-use Rattle.scene_reader.specs.Layout.{IsRow, IsTri, IsObject, InLimits, word_bytes, row_bytes, tri_bytes, object_bytes, kind_of, numbers_of, stored, axis}
+use Rattle.scene_reader.specs.Layout.{IsRow, IsTri, IsObject, InLimits, word_bytes, row_bytes, tri_bytes, object_bytes, kind_of, numbers_of, raw_object, axis}
 use Rattle.scene_reader.specs.Fault.{entries, raw_of}
 use Rattle.scene_reader.specs.Reading.{IsTable}
 use Rattle.scene_reader.proofs.Takes.{IsByte}
@@ -72,9 +72,9 @@ entries_front size (suc n) front rest len =
 pub raw_bytes : ℕ × List ℤ → List ℕ
 raw_bytes raw = raw.0 ∷ row_bytes raw.1
 
-pub objects_raw : (xs : List Object) → flat_map object_bytes xs ≡ flat_map raw_bytes (map stored xs)
+pub objects_raw : (xs : List Object) → flat_map object_bytes xs ≡ flat_map raw_bytes (map raw_object xs)
 unfolding raw_bytes
-objects_raw xs = sym (flat_map-map raw_bytes stored xs)
+objects_raw xs = sym (flat_map-map raw_bytes raw_object xs)
 
 pub raw_back : (e : List ℕ) → length e ≡ 25 → All IsByte e → raw_bytes (raw_of e) ≡ e
 unfolding raw_bytes
@@ -101,7 +101,7 @@ numbers_row m (Block low high) few h =
 numbers_row m (Mesh first count) few h =
     six_in (pos first) (pos count) (pos 0) (pos 0) (pos 0) (pos 0) (small_in first m (omega (arith, h)) few) (small_in count m (omega (arith, h)) few) zero_in zero_in zero_in zero_in
 
-pub raw_again : (object_tris : ℕ) (o : Object) → object_tris ≤ 262144 → IsObject object_tris o → raw_of (object_bytes o) ≡ stored o
+pub raw_again : (object_tris : ℕ) (o : Object) → object_tris ≤ 262144 → IsObject object_tris o → raw_of (object_bytes o) ≡ raw_object o
 raw_again m o few h = ap (λ (n : List ℤ). (kind_of o, n)) (row_again 6 (numbers_of o) (numbers_row m o few h))
 
 pub row_length : (n : ℕ) (row : List ℤ) → IsRow n row → length (row_bytes row) ≡ 4 * n

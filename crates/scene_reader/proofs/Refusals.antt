@@ -11,14 +11,18 @@ use Rattle.scene_reader.specs.declared.error.SceneError.{SceneError}
 use Rattle.scene_reader.specs.declared.error.SceneError.TheVariants.{Truncated, Trailing, Read, BadVertex, BadIndex, BadCamera}
 use Rattle.scene_reader.specs.declared.header.Header.{Header}
 use Rattle.scene_reader.specs.declared.header.Counts.{Counts}
-use Rattle.scene_reader.specs.Layout.{Parts, IsScene, IsObject, stored, layout, winding_code}
+use Rattle.scene_reader.specs.Layout.{Parts, IsScene, IsObject, raw_object, layout, winding_code}
 use Rattle.scene_reader.specs.Fault.{IsRefusal, fault_if, first_among, counts_at, scene_length, header_fault, length_fault, tables_fault, first_fault, vertex_fault, index_fault, object_fault, camera_fault}
 use Rattle.scene_reader.specs.Header.{IsHeaderOf}
 use Rattle.scene_reader.specs.PartsFault.{AreTables}
 use Rattle.scene_reader.specs.Reading.{Takes, IsAtEnd, EndsWithin, TakesParts, Refuses, ReadsScene}
 use Rattle.scene_reader.proofs.Takes.{takes_then}
 use Rattle.scene_reader.proofs.Headers.{or_first, or_second, or_refusal, fault_refusal, header_front, header_accepted, counts_front, fault_none_from}
-use Rattle.scene_reader.proofs.Wholes.{Sized, joined_first, joined_length, joined_layout, table_count, Fits, fits_from, scene_from, scene_first, layout_one}
+use Rattle.scene_reader.proofs.SixPieces.{Sized, joined_first, joined_length}
+use Rattle.scene_reader.proofs.BytesToLayout.{joined_layout}
+use Rattle.scene_reader.proofs.SceneFrom.{table_count, Fits, fits_from, scene_from}
+use Rattle.scene_reader.proofs.LayoutFirst.{scene_first}
+use Rattle.scene_reader.proofs.OnlyScene.{layout_one}
 
 -- ---- refusals aren't faults of the source
 
@@ -49,11 +53,11 @@ tables_refusal vs os ts raws cs =
 -- ---- bytes that are told
 
 -- what holds of the bytes that were taken and those that are left is a refusal of the bytes
-refuse_told : (before after : Option (List ℕ)) (x : List ℕ) (e : SceneError) → before ≡ option_map (λ rest. x ++ rest) after
+refuses_bytes : (before after : Option (List ℕ)) (x : List ℕ) (e : SceneError) → before ≡ option_map (λ rest. x ++ rest) after
     → ((rest : List ℕ) → after ≡ Some rest → (first_fault (x ++ rest) ≡ Some e) × (header_fault (x ++ rest) ≡ Some e → rest ≡ drop 32 (x ++ rest))) → Refuses before after e
-refuse_told None after x e h k = tt
-refuse_told (Some b) None x e h k = absurd cc
-refuse_told (Some b) (Some r) x e h k =
+refuses_bytes None after x e h k = tt
+refuses_bytes (Some b) None x e h k = absurd cc
+refuses_bytes (Some b) (Some r) x e h k =
     let same : x ++ r ≡ b = sym (same_Some b (x ++ r) h) in
     let both = k r refl in
     subst (λ (y : List ℕ). (first_fault y ≡ Some e) × (header_fault y ≡ Some e → Some r ≡ Some (drop 32 y))) same (both.0, λ f. ap Some (both.1 f))
@@ -68,7 +72,7 @@ at_end : (after : Option (List ℕ)) (rest : List ℕ) → IsAtEnd after → aft
 at_end after rest h e = subst (λ (o : Option (List ℕ)). IfSome o (λ r. r ≡ [])) e h
 
 pub refuses_short : (before after : SourceSays) (wanted : ℕ) (e : SceneError) → wanted ≡ 32 → EndsWithin wanted 32 0 before after e → Refuses before.left after.left e
-refuses_short before after wanted e all s = refuse_told before.left after.left s.bytes e s.takes.front (λ rest told.
+refuses_short before after wanted e all s = refuses_bytes before.left after.left s.bytes e s.takes.front (λ rest told.
     let none = at_end after.left rest s.ended told in
     let whole : s.bytes ++ rest ≡ s.bytes = ap (λ (r : List ℕ). s.bytes ++ r) none ∙ append-nil s.bytes in
     let few : length s.bytes < 32 = omega (arith, s.few, all) in
@@ -80,7 +84,7 @@ unfolding first_fault
 first_of_header b e h = or_first (header_fault b) _ e h
 
 pub refuses_header : (before after : Option (List ℕ)) (h : List ℕ) (e : SceneError) → length h ≡ 32 → Takes before after h → header_fault h ≡ Some e → Refuses before after e
-refuses_header before after h e len t f = refuse_told before after h e t.front (λ rest told.
+refuses_header before after h e len t f = refuses_bytes before after h e t.front (λ rest told.
     let fault = header_front h rest len ∙ f in
     (first_of_header (h ++ rest) e fault, λ g. sym (drop_at h rest 32 len)))
 
@@ -115,7 +119,7 @@ pub refuses_body : (before : Option (List ℕ)) (mid after : SourceSays) (h : Li
     → Takes before mid.left h → EndsWithin (scene_length n - 32) (scene_length n) 32 mid after e → Refuses before after.left e
 refuses_body before mid after h n e len fine counts t s =
     let both = takes_then before mid.left after.left h s.bytes t s.takes in
-    refuse_told before after.left (h ++ s.bytes) e both.front (λ rest told.
+    refuses_bytes before after.left (h ++ s.bytes) e both.front (λ rest told.
     let none = at_end after.left rest s.ended told in
     let whole : (h ++ s.bytes) ++ rest ≡ h ++ s.bytes = ap (λ (r : List ℕ). (h ++ s.bytes) ++ r) none ∙ append-nil (h ++ s.bytes) in
     let few : length (h ++ s.bytes) < scene_length n = omega (arith, s.few, length-append h s.bytes, len) in
@@ -126,7 +130,7 @@ pub refuses_trailing : (before mid last after : Option (List ℕ)) (h body more 
     → Takes before mid h → Takes mid last body → Takes last after more → 0 < length more → Refuses before after Trailing
 refuses_trailing before mid last after h body more n len fine counts size th tb tm some =
     let all = takes_then before mid after h (body ++ more) th (takes_then mid last after body more tb tm) in
-    refuse_told before after (h ++ (body ++ more)) Trailing all.front (λ rest told.
+    refuses_bytes before after (h ++ (body ++ more)) Trailing all.front (λ rest told.
     let whole : (h ++ (body ++ more)) ++ rest ≡ h ++ ((body ++ more) ++ rest) = append_assoc h (body ++ more) rest in
     let long : scene_length n < length (h ++ ((body ++ more) ++ rest)) = omega (arith, length-append h ((body ++ more) ++ rest), length-append (body ++ more) rest, length-append body more, length-append h body, size, some) in
     (rw whole (first_of_length h ((body ++ more) ++ rest) n Trailing len fine counts (too_long h ((body ++ more) ++ rest) n len counts long)), λ f. no_header_fault h ((body ++ more) ++ rest) Trailing len fine (subst (λ (b : List ℕ). header_fault b ≡ Some Trailing) whole f)))
@@ -163,7 +167,7 @@ module _ {before : Option (List ℕ)} {mid last : SourceSays} {h : List ℕ} {hd
   pub refuses_tables : (after : Option (List ℕ)) (e : SceneError) → Takes last.left after [] → IsAtEnd after → tables_fault p.vertices p.occluders p.object_tris t.raws p.cameras ≡ Some e → Refuses before after e
   refuses_tables after e te ended f =
       let all = takes_then before mid.left after h _ th (takes_then mid.left last.left after _ [] t.takes te) in
-      refuse_told before after _ e all.front (λ rest told.
+      refuses_bytes before after _ e all.front (λ rest told.
       let none = at_end after rest ended told in
       let bare = t.vertex_bytes ++ (t.occluder_bytes ++ (t.object_tri_bytes ++ (t.object_bytes ++ t.camera_bytes))) in
       let whole : (h ++ (bare ++ [])) ++ rest ≡ h ++ bare = ap (λ (r : List ℕ). (h ++ (bare ++ [])) ++ r) none ∙ append-nil (h ++ (bare ++ [])) ∙ ap (λ (r : List ℕ). h ++ r) (append-nil bare) in
@@ -174,7 +178,7 @@ module _ {before : Option (List ℕ)} {mid last : SourceSays} {h : List ℕ} {hd
       fits_from h hd.counts p (header_accepted h is.accepted) (sym is.counts)
       (sym is.width ∙ sym t.header.0) (sym is.height ∙ sym t.header.1) (sym is.near ∙ sym t.header.2) (sym is.winding ∙ ap winding_code (sym t.header.3))
       (table_count _ _ _ _ _ t.cameras) (table_count _ _ _ _ _ t.vertices) (table_count _ _ _ _ _ t.occluders) (table_count _ _ _ _ _ t.object_tris)
-      (sym (length-map p.objects stored) ∙ ap length (t.whole clear) ∙ table_count _ _ _ _ _ t.objects)
+      (sym (length-map p.objects raw_object) ∙ ap length (t.whole clear) ∙ table_count _ _ _ _ _ t.objects)
 
   pub parts_scene : AreTables p → fault ≡ None → IsScene p
   parts_scene tables clear = scene_from h p (parts_fit clear) tables (subst (λ (m : ℕ). All (IsObject m) p.objects) (sym tris_count) t.valid)
@@ -201,58 +205,29 @@ refuses_same before after e f is h = subst (λ (x : SceneError). Refuses before 
 
 -- ---- the promises about told bytes
 
-told_layout : (before after : Option (List ℕ)) (s : Parts) → ReadsScene before after s → IfSome before (λ bytes. (bytes ≡ layout s) × (after ≡ Some []))
-told_layout None after s r = tt
-told_layout (Some b) None s r = let no = r.takes.front in absurd cc
-told_layout (Some b) (Some rest) s r =
+pub bytes_layout : (before after : Option (List ℕ)) (s : Parts) → ReadsScene before after s → IfSome before (λ bytes. (bytes ≡ layout s) × (after ≡ Some []))
+bytes_layout None after s r = tt
+bytes_layout (Some b) None s r = let no = r.takes.front in absurd cc
+bytes_layout (Some b) (Some rest) s r =
     let none : rest ≡ [] = r.ended in
     (same_Some b (r.bytes ++ rest) r.takes.front ∙ ap (λ (x : List ℕ). r.bytes ++ x) none ∙ append-nil r.bytes ∙ r.whole, ap Some none)
 
-told_first : (before after : Option (List ℕ)) (s : Parts) → ReadsScene before after s → IfSome before (λ bytes. first_fault bytes ≡ None)
-told_first None after s r = tt
-told_first (Some b) after s r = let l = told_layout (Some b) after s r in ap first_fault (l.0 ∙ sym r.whole) ∙ r.first
+pub bytes_first : (before after : Option (List ℕ)) (s : Parts) → ReadsScene before after s → IfSome before (λ bytes. first_fault bytes ≡ None)
+bytes_first None after s r = tt
+bytes_first (Some b) after s r = let l = bytes_layout (Some b) after s r in ap first_fault (l.0 ∙ sym r.whole) ∙ r.first
 
-told_only : (before after : Option (List ℕ)) (s : Parts) → ReadsScene before after s → IfSome before (λ bytes. (t : Parts) → IsScene t → bytes ≡ layout t → t ≡ s)
-told_only None after s r = tt
-told_only (Some b) after s r = λ t scene is. let l = told_layout (Some b) after s r in layout_one t s scene r.scene (sym is ∙ l.0)
+pub bytes_only : (before after : Option (List ℕ)) (s : Parts) → ReadsScene before after s → IfSome before (λ bytes. (t : Parts) → IsScene t → bytes ≡ layout t → t ≡ s)
+bytes_only None after s r = tt
+bytes_only (Some b) after s r = λ t scene is. let l = bytes_layout (Some b) after s r in layout_one t s scene r.scene (sym is ∙ l.0)
 
-told_refused : (before after : Option (List ℕ)) (e : SceneError) → Refuses before after e → IfSome before (λ bytes. first_fault bytes ≡ Some e)
-told_refused None after e h = tt
-told_refused (Some b) after e h = h.0
+pub bytes_refused : (before after : Option (List ℕ)) (e : SceneError) → Refuses before after e → IfSome before (λ bytes. first_fault bytes ≡ Some e)
+bytes_refused None after e h = tt
+bytes_refused (Some b) after e h = h.0
 
-told_header : (before after : Option (List ℕ)) (e : SceneError) → Refuses before after e → IfSome before (λ bytes. header_fault bytes ≡ Some e → after ≡ Some (drop 32 bytes))
-told_header None after e h = tt
-told_header (Some b) after e h = h.1
+pub bytes_header : (before after : Option (List ℕ)) (e : SceneError) → Refuses before after e → IfSome before (λ bytes. header_fault bytes ≡ Some e → after ≡ Some (drop 32 bytes))
+bytes_header None after e h = tt
+bytes_header (Some b) after e h = h.1
 
-told_never : (before after : Option (List ℕ)) (e : SceneError) → Refuses before after e → IfSome before (λ bytes. (t : Parts) → IsScene t → bytes ≡ layout t → ⊥)
-told_never None after e h = tt
-told_never (Some b) after e h = λ t scene is. let no : ◌≡◌ {A = Option SceneError} None (Some e) = sym (scene_first t scene) ∙ ap first_fault (sym is) ∙ h.0 in cc
-
-module _ (before after : Option (List ℕ)) where
-  pub ok_scene : (r : Result Parts SceneError) → IfOk r (λ s. ReadsScene before after s) → IfOk r (λ s. IsScene s)
-  ok_scene (Ok s) h = h.scene
-  ok_scene (Err e) h = tt
-
-  pub ok_layout : (r : Result Parts SceneError) → IfOk r (λ s. ReadsScene before after s) → IfOk r (λ s. IfSome before (λ bytes. (bytes ≡ layout s) × (after ≡ Some [])))
-  ok_layout (Ok s) h = told_layout before after s h
-  ok_layout (Err e) h = tt
-
-  pub ok_only : (r : Result Parts SceneError) → IfOk r (λ s. ReadsScene before after s) → IfOk r (λ s. IfSome before (λ bytes. (t : Parts) → IsScene t → bytes ≡ layout t → t ≡ s))
-  ok_only (Ok s) h = told_only before after s h
-  ok_only (Err e) h = tt
-
-  pub ok_first : (r : Result Parts SceneError) → IfOk r (λ s. ReadsScene before after s) → IfOk r (λ s. IfSome before (λ bytes. first_fault bytes ≡ None))
-  ok_first (Ok s) h = told_first before after s h
-  ok_first (Err e) h = tt
-
-  pub err_refused : (r : Result Parts SceneError) → IfErr r (λ e. IsRefusal e → Refuses before after e) → IfErr r (λ e. IsRefusal e → IfSome before (λ bytes. first_fault bytes ≡ Some e))
-  err_refused (Ok s) h = tt
-  err_refused (Err e) h = λ k. told_refused before after e (h k)
-
-  pub err_header : (r : Result Parts SceneError) → IfErr r (λ e. IsRefusal e → Refuses before after e) → IfErr r (λ e. IsRefusal e → IfSome before (λ bytes. header_fault bytes ≡ Some e → after ≡ Some (drop 32 bytes)))
-  err_header (Ok s) h = tt
-  err_header (Err e) h = λ k. told_header before after e (h k)
-
-  pub err_never : (r : Result Parts SceneError) → IfErr r (λ e. IsRefusal e → Refuses before after e) → IfErr r (λ e. IsRefusal e → IfSome before (λ bytes. (t : Parts) → IsScene t → bytes ≡ layout t → ⊥))
-  err_never (Ok s) h = tt
-  err_never (Err e) h = λ k. told_never before after e (h k)
+pub bytes_never : (before after : Option (List ℕ)) (e : SceneError) → Refuses before after e → IfSome before (λ bytes. (t : Parts) → IsScene t → bytes ≡ layout t → ⊥)
+bytes_never None after e h = tt
+bytes_never (Some b) after e h = λ t scene is. let no : ◌≡◌ {A = Option SceneError} None (Some e) = sym (scene_first t scene) ∙ ap first_fault (sym is) ∙ h.0 in cc

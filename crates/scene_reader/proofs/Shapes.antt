@@ -6,20 +6,14 @@ use Rattle.std.proofs.lemmas.Int.{ints}
 use Rattle.std.proofs.lemmas.Bool.{or_left, or_right, le-ltb, lt-ltb}
 use Rattle.std.proofs.lemmas.List.{length-drop, get_or-drop}
 use Rattle.std.proofs.lemmas.List.Recursion.{or_at}
+use Rattle.std.proofs.lemmas.List.Folds.{list_any-append}
+use Rattle.std.proofs.Math.Bool.{or_assoc, or-false}
 use mir.Val.{SFits, of_z}
 use Rattle.cull_base.specs.Guard.{is_beyond}
 use Rattle.cull_base.specs.declared.rect.Rect.{Rect}
 use Rattle.cull_base.specs.declared.scene_types.Object.TheVariants.{Area, Block}
 use Rattle.scene_reader.specs.Layout.{numbers_of, axis}
 use Rattle.scene_reader.specs.Fault.{is_bad_row, is_bad_object, is_not_zero}
-
-or_false : (b : Bool) → (b || false) ≡ b
-or_false true = refl
-or_false false = refl
-
-pub or_assoc : (a b c : Bool) → (a || (b || c)) ≡ ((a || b) || c)
-or_assoc true b c = refl
-or_assoc false b c = refl
 
 -- the value of a test that was decided by its first part, and of one that wasn't
 pub or_then : (a b v : Bool) → a ≡ true → v ≡ a → v ≡ (a || b)
@@ -35,7 +29,7 @@ pub area_is : (object_tris : ℕ) (r : Rect) (w : ℤ) → is_bad_object object_
 unfolding is_bad_object
 area_is object_tris r w =
     let row = is_bad_row (r.x0 ∷ r.y0 ∷ r.x1 ∷ r.y1 ∷ w ∷ []) in
-    ap (λ (b : Bool). row || b) (or_false (int_lt r.x1 r.x0 || int_lt r.y1 r.y0)) ∙ or_assoc row (int_lt r.x1 r.x0) (int_lt r.y1 r.y0)
+    ap (λ (b : Bool). row || b) (or-false (int_lt r.x1 r.x0 || int_lt r.y1 r.y0)) ∙ sym (or_assoc row (int_lt r.x1 r.x0) (int_lt r.y1 r.y0))
 
 -- three elements
 pub three : (xs : List ℤ) → length xs ≡ 3 → axis xs 0 ∷ axis xs 1 ∷ axis xs 2 ∷ [] ≡ xs
@@ -44,10 +38,6 @@ three (a ∷ []) e = absurd (omega (arith, e))
 three (a ∷ b ∷ []) e = absurd (omega (arith, e))
 three (a ∷ b ∷ c ∷ []) e = refl
 three (a ∷ b ∷ c ∷ d ∷ xs) e = absurd (omega (arith, e))
-
-any_append : (p : ℤ → Bool) (xs ys : List ℤ) → list_any p (xs ++ ys) ≡ (list_any p xs || list_any p ys)
-any_append p [] ys = refl
-any_append p (x ∷ xs) ys = ap (λ (b : Bool). p x || b) (any_append p xs ys) ∙ or_assoc (p x) (list_any p xs) (list_any p ys)
 
 -- a box, by its two corners
 pub block_is : (object_tris : ℕ) (low high : List ℤ) → length low ≡ 3 → length high ≡ 3
@@ -58,8 +48,8 @@ block_is object_tris low high l h =
     let y = int_lt (axis high 1) (axis low 1) in
     let z = int_lt (axis high 2) (axis low 2) in
     let rows : is_bad_row (numbers_of (Block low high)) ≡ (is_bad_row low || is_bad_row high) =
-    any_append (is_beyond (2 ^ 24)) (axis low 0 ∷ axis low 1 ∷ axis low 2 ∷ []) (axis high 0 ∷ axis high 1 ∷ axis high 2 ∷ []) ∙ ap (λ (t : List ℤ). is_bad_row t || is_bad_row (axis high 0 ∷ axis high 1 ∷ axis high 2 ∷ [])) (three low l) ∙ ap (λ (t : List ℤ). is_bad_row low || is_bad_row t) (three high h) in
-    ap (λ (b : Bool). b || ((x || y) || z)) rows ∙ or_assoc (is_bad_row low || is_bad_row high) (x || y) z ∙ ap (λ (b : Bool). b || z) (or_assoc (is_bad_row low || is_bad_row high) x y)
+    list_any-append (is_beyond (2 ^ 24)) (axis low 0 ∷ axis low 1 ∷ axis low 2 ∷ []) (axis high 0 ∷ axis high 1 ∷ axis high 2 ∷ []) ∙ ap (λ (t : List ℤ). is_bad_row t || is_bad_row (axis high 0 ∷ axis high 1 ∷ axis high 2 ∷ [])) (three low l) ∙ ap (λ (t : List ℤ). is_bad_row low || is_bad_row t) (three high h) in
+    ap (λ (b : Bool). b || ((x || y) || z)) rows ∙ sym (or_assoc (is_bad_row low || is_bad_row high) (x || y) z) ∙ ap (λ (b : Bool). b || z) (sym (or_assoc (is_bad_row low || is_bad_row high) x y))
 
 -- six elements
 pub six : (xs : List ℤ) → length xs ≡ 6 → axis xs 0 ∷ axis xs 1 ∷ axis xs 2 ∷ axis xs 3 ∷ axis xs 4 ∷ axis xs 5 ∷ [] ≡ xs
@@ -80,7 +70,7 @@ block_parts low high rows v l h e f =
     let x = int_lt (axis high 0) (axis low 0) in
     let y = int_lt (axis high 1) (axis low 1) in
     let z = int_lt (axis high 2) (axis low 2) in
-    f ∙ ap (λ (b : Bool). b || ((x || y) || z)) e ∙ or_assoc (is_bad_row low || is_bad_row high) (x || y) z ∙ ap (λ (b : Bool). b || z) (or_assoc (is_bad_row low || is_bad_row high) x y) ∙ sym (block_is 0 low high l h)
+    f ∙ ap (λ (b : Bool). b || ((x || y) || z)) e ∙ sym (or_assoc (is_bad_row low || is_bad_row high) (x || y) z) ∙ ap (λ (b : Bool). b || z) (sym (or_assoc (is_bad_row low || is_bad_row high) x y)) ∙ sym (block_is 0 low high l h)
 
 pub not_zero : (z : ℤ) → (of_z w32 z ≡ 0 → ⊥) → is_not_zero z ≡ true
 not_zero (pos n) ne = let some : 0 < n = omega (arith, ne) in rw (le-ltb n 0 (omega arith), lt-ltb 0 n some) refl

@@ -30,7 +30,7 @@ progress_of x len t r = record { bytes = x; takes = t; count = len; faults = r.f
 pub progress_table : {X : Type 0} {size i : ℕ} {read : List ℕ → X} {a b : SourceSays} {items : List X} → TakesTable size i read a b items → a.faults ≤ b.faults → b.turns ≤ a.turns + size * i → Progress (size * i) a b
 progress_table t faults turns = record { bytes = t.bytes; takes = t.takes; count = t.whole; faults = faults; turns = turns }
 
-pub table_read : {X T : Type 0} {size count need taken : ℕ} {read : List ℕ → X} {a b : SourceSays} {items : List X} {t : T} → TakesTable size count read a b items → Fetches (size * count) need taken a b (Ok t) → Progress (size * count) a b
+table_read : {X T : Type 0} {size count need taken : ℕ} {read : List ℕ → X} {a b : SourceSays} {items : List X} {t : T} → TakesTable size count read a b items → Fetches (size * count) need taken a b (Ok t) → Progress (size * count) a b
 table_read t f = progress_table t f.reads.faults_stay f.reads.turns
 
 pub progress_then : {n m : ℕ} {a b c : SourceSays} → Progress n a b → Progress m b c → Progress (n + m) a c
@@ -41,6 +41,9 @@ progress_then {n} {m} {a} {b} {c} p q = record {
   faults = omega (arith, p.faults, q.faults);
   turns = omega (arith, p.turns, q.turns);
 }
+
+pub then_table : {X T : Type 0} {n size count need taken : ℕ} {read : List ℕ → X} {a b c : SourceSays} {items : List X} {t : T} → Progress n a b → TakesTable size count read b c items → Fetches (size * count) need taken b c (Ok t) → Progress (n + size * count) a c
+then_table p t f = progress_then p (table_read t f)
 
 pub parts_read : {T : Type 0} {h : Header} {a b : SourceSays} {p : Parts} {fault : Option SceneError} {t : T} → TakesParts h a b p fault → FetchesTables h.counts a b (Ok t) → Progress (scene_length h.counts - 32) a b
 parts_read t f =

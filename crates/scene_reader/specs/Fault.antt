@@ -10,7 +10,7 @@ use Rattle.cull_base.specs.declared.scene_types.Tri.{Tri}
 use Rattle.scene_reader.specs.declared.error.SceneError.{SceneError}
 use Rattle.scene_reader.specs.declared.error.SceneError.TheVariants.{Truncated, BadMagic, BadVersion, BadSize, BadNear, BadWinding, BadReserved, BadCount, Trailing, BadVertex, BadIndex, BadKind, BadObject, BadCamera, Read, Memory}
 use Rattle.scene_reader.specs.declared.header.Counts.{Counts}
-use Rattle.scene_reader.specs.Layout.{magic}
+use Rattle.scene_reader.specs.Layout.{magic, axis}
 
 -- an answer that speaks of the bytes: neither of a source that failed nor of want of memory
 abbrev pub IsRefusal : SceneError → Type 0
@@ -35,7 +35,14 @@ abbrev pub word_at : ℕ → List ℕ → ℕ
 word_at place bytes = from_le_bytes w32 (take 4 (drop place bytes))
 
 abbrev pub counts_at : List ℕ → Counts
-counts_at bytes = record { frames = short_at 14 bytes; vertices = word_at 16 bytes; occluders = word_at 20 bytes; object_tris = word_at 24 bytes; objects = word_at 28 bytes }
+counts_at bytes =
+    record {
+      frames = short_at 14 bytes;
+      vertices = word_at 16 bytes;
+      occluders = word_at 20 bytes;
+      object_tris = word_at 24 bytes;
+      objects = word_at 28 bytes;
+    }
 
 abbrev pub start_fault : List ℕ → Option SceneError
 start_fault bytes =
@@ -116,7 +123,9 @@ abbrev pub occluders_in : List ℕ → List Tri
 occluders_in bytes = let n = counts_at bytes in map tri_of (entries 12 n.occluders (drop (32 + 12 * n.vertices) bytes))
 
 abbrev pub object_tris_in : List ℕ → List Tri
-object_tris_in bytes = let n = counts_at bytes in map tri_of (entries 12 n.object_tris (drop (32 + 12 * n.vertices + 12 * n.occluders) bytes))
+object_tris_in bytes =
+    let n = counts_at bytes in
+    map tri_of (entries 12 n.object_tris (drop (32 + 12 * n.vertices + 12 * n.occluders) bytes))
 
 abbrev pub objects_in : List ℕ → List (ℕ × List ℤ)
 objects_in bytes =
@@ -151,6 +160,10 @@ is_not_zero z = not (int_eq z (pos 0))
 
 abbrev pub is_bad_area : List ℤ → Bool
 is_bad_area n = int_lt (number_at n 2) (number_at n 0) || int_lt (number_at n 3) (number_at n 1) || is_not_zero (number_at n 5)
+
+-- a box that runs back from its first corner to its second
+abbrev pub runs_back : List ℤ → List ℤ → Bool
+runs_back low high = int_lt (axis high 0) (axis low 0) || int_lt (axis high 1) (axis low 1) || int_lt (axis high 2) (axis low 2)
 
 abbrev pub is_bad_block : List ℤ → Bool
 is_bad_block n = int_lt (number_at n 3) (number_at n 0) || int_lt (number_at n 4) (number_at n 1) || int_lt (number_at n 5) (number_at n 2)

@@ -40,8 +40,10 @@ axis corner k = slice_index_or corner k (pos 0)
 
 -- a rectangle runs from its first corner on, a box from its least corner to its greatest, a mesh within the object triangles
 abbrev pub IsObject : ℕ → Object → Type 0
-IsObject object_tris (Area r w) = (r.x0 ≤ℤ r.x1) × (r.y0 ≤ℤ r.y1) × InLimits r.x0 × InLimits r.y0 × InLimits r.x1 × InLimits r.y1 × InLimits w
-IsObject object_tris (Block low high) = IsRow 3 low × IsRow 3 high × (axis low 0 ≤ℤ axis high 0) × (axis low 1 ≤ℤ axis high 1) × (axis low 2 ≤ℤ axis high 2)
+IsObject object_tris (Area r w) =
+    (r.x0 ≤ℤ r.x1) × (r.y0 ≤ℤ r.y1) × InLimits r.x0 × InLimits r.y0 × InLimits r.x1 × InLimits r.y1 × InLimits w
+IsObject object_tris (Block low high) =
+    IsRow 3 low × IsRow 3 high × (axis low 0 ≤ℤ axis high 0) × (axis low 1 ≤ℤ axis high 1) × (axis low 2 ≤ℤ axis high 2)
 IsObject object_tris (Mesh first count) = first + count ≤ object_tris
 
 -- the parts are a valid scene
@@ -85,8 +87,12 @@ numbers_of (Area r w) = r.x0 ∷ r.y0 ∷ r.x1 ∷ r.y1 ∷ w ∷ pos 0 ∷ []
 numbers_of (Block low high) = axis low 0 ∷ axis low 1 ∷ axis low 2 ∷ axis high 0 ∷ axis high 1 ∷ axis high 2 ∷ []
 numbers_of (Mesh first count) = pos first ∷ pos count ∷ pos 0 ∷ pos 0 ∷ pos 0 ∷ pos 0 ∷ []
 
-abbrev pub stored : Object → ℕ × List ℤ
-stored o = (kind_of o, numbers_of o)
+abbrev pub raw_object : Object → ℕ × List ℤ
+raw_object o = (kind_of o, numbers_of o)
+
+-- the numbers of a box, by its two corners
+abbrev pub corner_bytes : List ℤ → List ℤ → List ℕ
+corner_bytes low high = row_bytes (numbers_of (Block low high))
 
 abbrev pub object_bytes : Object → List ℕ
 object_bytes o = kind_of o ∷ row_bytes (numbers_of o)

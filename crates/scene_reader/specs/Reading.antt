@@ -1,11 +1,13 @@
 -- What reading takes from a source.
-use Rattle.std.specs.Prelude.{ℕ, ℤ, ◌≡◌, ◌+◌, ◌*◌, ◌<◌, ◌≤◌, List, [], ◌++◌, length, map, ◌-◌, drop, Option, None, Some, option_map, IfSome, Result, IfErr, IsErrOf}
+use Rattle.std.specs.Prelude.{ℕ, ℤ, ◌≡◌, ◌+◌, ◌*◌, ◌<◌, ◌≤◌, List, [], ◌∷◌, ◌++◌, length, map, ◌-◌, drop, Option, None, Some, option_map, IfSome, Result, IfErr, IsErrOf}
 use Rattle.std.specs.List.{All}
+use Rattle.std.specs.Option.{option_or}
 use Rattle.cull_base.specs.Stream.{SourceSays, Rose}
+use Rattle.cull_base.specs.declared.scene_types.Object.{Object}
 use Rattle.scene_reader.specs.declared.header.Header.{Header}
 use Rattle.scene_reader.specs.declared.header.Counts.{Counts}
 use Rattle.scene_reader.specs.declared.objects.Objects.{Objects}
-use Rattle.scene_reader.specs.Layout.{Parts, IsScene, layout, IsObject, stored}
+use Rattle.scene_reader.specs.Layout.{Parts, IsScene, layout, IsObject, raw_object}
 use Rattle.scene_reader.specs.Fault.{IsRefusal, entries, raw_of, row_of, tri_of, first_among, object_fault, first_fault, header_fault, scene_length}
 use Rattle.scene_reader.specs.declared.error.SceneError.{SceneError}
 use Rattle.scene_reader.specs.declared.error.SceneError.TheVariants.{Truncated, Trailing, Read}
@@ -52,17 +54,31 @@ pub record TakesTable {X : Type 0} (size count : ℕ) (read : List ℕ → X) (b
   pub whole : length bytes ≡ size * count
   pub each : items ≡ map read (entries size count bytes)
 
--- the objects of a table up to its first fault, which is kept
+-- an object whose entry has no fault
+abbrev pub IsObjectOf : ℕ → ℕ → ℕ × List ℤ → Object → Type 0
+IsObjectOf object_tris i raw o = (object_fault object_tris i raw ≡ None) × (raw_object o ≡ raw)
+
+-- one entry more of a table of objects: the object, or its fault where there was none before
+pub record TakesObject (object_tris i : ℕ) (raw : ℕ × List ℤ) (before after : Objects) : Type 0 where
+  pub first : after.fault ≡ option_or before.fault (object_fault object_tris i raw)
+  pub items : after.fault ≡ None → map raw_object after.items.items ≡ map raw_object before.items.items ++ raw ∷ []
+  pub valid : All (IsObject object_tris) before.items.items → All (IsObject object_tris) after.items.items
+
+-- the objects of a table up to its first fault, and that fault
 pub record TakesObjects (count object_tris : ℕ) (before after : SourceSays) (objects : Objects) : Type 0 where
   pub raws : List (ℕ × List ℤ)
   pub table : TakesTable 25 count raw_of before after raws
   pub first : objects.fault ≡ first_among (object_fault object_tris) 0 raws
-  pub whole : objects.fault ≡ None → map stored objects.items.items ≡ raws
+  pub whole : objects.fault ≡ None → map raw_object objects.items.items ≡ raws
   pub valid : All (IsObject object_tris) objects.items.items
 
 -- the same of the five tables behind a header
 abbrev pub FetchesTables : {T : Type 0} → Counts → SourceSays → SourceSays → Result T SceneError → Type 0
 FetchesTables n before after result = Fetches (scene_length n - 32) (scene_length n) 32 before after result
+
+-- the end came, where it was wanted
+abbrev pub TakesEnd : SourceSays → SourceSays → Type 0
+TakesEnd before after = Takes before.left after.left [] × IsAtEnd after.left
 
 -- more bytes came where the end was wanted
 pub record IsTrailing (before after : SourceSays) (e : SceneError) : Type 0 where
@@ -91,13 +107,14 @@ pub record TakesParts (h : Header) (before after : SourceSays) (p : Parts) (faul
   pub objects : IsTable 25 h.counts.objects raw_of object_bytes raws
   pub cameras : IsTable 48 h.counts.frames (row_of 12) camera_bytes p.cameras
   pub first : fault ≡ first_among (object_fault h.counts.object_tris) 0 raws
-  pub whole : fault ≡ None → map stored p.objects ≡ raws
+  pub whole : fault ≡ None → map raw_object p.objects ≡ raws
   pub valid : All (IsObject h.counts.object_tris) p.objects
   pub header : (p.width ≡ h.width) × (p.height ≡ h.height) × (p.near ≡ h.near) × (p.winding ≡ h.winding)
 
 -- an error is the first fault of the bytes, where they are told; of a header that is refused nothing behind it is taken
 abbrev pub Refuses : Option (List ℕ) → Option (List ℕ) → SceneError → Type 0
-Refuses before after e = IfSome before (λ bytes. (first_fault bytes ≡ Some e) × (header_fault bytes ≡ Some e → after ≡ Some (drop 32 bytes)))
+Refuses before after e =
+    IfSome before (λ bytes. (first_fault bytes ≡ Some e) × (header_fault bytes ≡ Some e → after ≡ Some (drop 32 bytes)))
 
 -- the scene's layout was taken, and nothing is left
 pub record ReadsScene (before after : Option (List ℕ)) (s : Parts) : Type 0 where
@@ -111,21 +128,21 @@ pub record ReadsScene (before after : Option (List ℕ)) (s : Parts) : Type 0 wh
 -- ---- what the bytes were, where they are told
 
 -- this scene's layout, and none are left
-abbrev pub TakesLayout : Option (List ℕ) → Option (List ℕ) → Parts → Type 0
-TakesLayout before after s = IfSome before (λ bytes. (bytes ≡ layout s) × (after ≡ Some []))
+abbrev pub TakesLayout : SourceSays → SourceSays → Parts → Type 0
+TakesLayout before after s = IfSome before.left (λ bytes. (bytes ≡ layout s) × (after.left ≡ Some []))
 
 -- no other scene's layout
-abbrev pub IsOnlyScene : Option (List ℕ) → Parts → Type 0
-IsOnlyScene before s = IfSome before (λ bytes. (t : Parts) → IsScene t → bytes ≡ layout t → t ≡ s)
+abbrev pub IsOnlyScene : SourceSays → Parts → Type 0
+IsOnlyScene before s = IfSome before.left (λ bytes. (t : Parts) → IsScene t → bytes ≡ layout t → t ≡ s)
 
 -- no scene's layout
-abbrev pub IsNoScene : Option (List ℕ) → Type 0
-IsNoScene before = IfSome before (λ bytes. (t : Parts) → IsScene t → bytes ≡ layout t → ⊥)
+abbrev pub IsNoScene : SourceSays → Type 0
+IsNoScene before = IfSome before.left (λ bytes. (t : Parts) → IsScene t → bytes ≡ layout t → ⊥)
 
 -- bytes with this first fault
-abbrev pub HasFirstFault : Option (List ℕ) → Option SceneError → Type 0
-HasFirstFault before fault = IfSome before (λ bytes. first_fault bytes ≡ fault)
+abbrev pub HasFirstFault : SourceSays → Option SceneError → Type 0
+HasFirstFault before fault = IfSome before.left (λ bytes. first_fault bytes ≡ fault)
 
 -- where the fault is one of the header, only the header was taken
-abbrev pub StopsAtHeader : Option (List ℕ) → Option (List ℕ) → SceneError → Type 0
-StopsAtHeader before after e = IfSome before (λ bytes. header_fault bytes ≡ Some e → after ≡ Some (drop 32 bytes))
+abbrev pub StopsAtHeader : SourceSays → SourceSays → SceneError → Type 0
+StopsAtHeader before after e = IfSome before.left (λ bytes. header_fault bytes ≡ Some e → after.left ≡ Some (drop 32 bytes))

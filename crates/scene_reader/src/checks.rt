@@ -2,9 +2,9 @@
 ghost use Rattle.std.specs.Prelude.{◌≡◌, ℕ, ◌≤◌, ◌^◌, ◌<◌, ℤ, List, None, Some, length, map, not, nat_lt, IsNone};
 ghost use Rattle.std.specs.List.{All, list_any};
 ghost use Rattle.cull_base.specs.Screen.{IsSize};
-ghost use Rattle.scene_reader.specs.Layout.{IsScene, IsRow, IsTri, IsObject, stored};
+ghost use Rattle.scene_reader.specs.Layout.{IsScene, IsRow, IsTri, IsObject, raw_object};
 ghost use Rattle.scene_reader.specs.Fault.{first_among, vertex_fault, index_fault, object_fault, camera_fault, screen_fault, tables_fault};
-ghost use Rattle.scene_reader.specs.PartsFault.{AreTables, told, counts_of_parts, first_fault_of_parts};
+ghost use Rattle.scene_reader.specs.PartsFault.{AreTables, IsTablesFault, count_in_32_bits, counts_of_parts, first_fault_of_parts};
 
 use crate::error::SceneError;
 use crate::header::{Counts, count_fault, screen_fault};
@@ -68,8 +68,7 @@ pub fn tables_fault(parts: &SceneParts, objects: Option<SceneError>) -> Option<S
     requires occluders { length parts.now.occluders ≤ 65536 }
     requires object_tris { length parts.now.object_tris ≤ 262144 }
     requires cameras { length parts.now.cameras ≤ 256 }
-    ensures value { (raws : List (ℕ × List ℤ)) → objects ≡ first_among (object_fault (length parts.now.object_tris)) 0 raws
-        → result ≡ tables_fault parts.now.vertices parts.now.occluders parts.now.object_tris raws parts.now.cameras }
+    ensures value { IsTablesFault parts.now objects result }
     ensures valid { IsNone result → AreTables parts.now × (objects ≡ None) }
 {
     let vertices = parts.vertices.len() as u32;
@@ -92,7 +91,7 @@ pub fn tables_fault(parts: &SceneParts, objects: Option<SceneError>) -> Option<S
 fn objects_fault(objects: &[Object], object_tris: u32) -> Option<SceneError>
     requires some { length objects.now < 2 ^ 32 }
     requires few { object_tris ≤ 262144 }
-    ensures value { result ≡ first_among (object_fault object_tris) 0 (map stored objects.now) }
+    ensures value { result ≡ first_among (object_fault object_tris) 0 (map raw_object objects.now) }
     ensures valid { IsNone result → All (IsObject object_tris) objects.now }
 {
     for (i, object) in objects.iter().enumerate() {
@@ -103,9 +102,9 @@ fn objects_fault(objects: &[Object], object_tris: u32) -> Option<SceneError>
     None
 }
 
-// A count that is too large for 32 bits is told as the greatest number of 32 bits.
-fn told(len: usize) -> u32
-    ensures { result ≡ told len }
+// A count, or the greatest number of 32 bits where it is too large for 32 bits.
+fn count_in_32_bits(len: usize) -> u32
+    ensures { result ≡ count_in_32_bits len }
 {
     len.min(u32::MAX as usize) as u32
 }
@@ -115,11 +114,11 @@ fn counts_of(parts: &SceneParts) -> Counts
     ensures { result ≡ counts_of_parts parts.now }
 {
     Counts {
-        frames: told(parts.cameras.len()),
-        vertices: told(parts.vertices.len()),
-        occluders: told(parts.occluders.len()),
-        object_tris: told(parts.object_tris.len()),
-        objects: told(parts.objects.len()),
+        frames: count_in_32_bits(parts.cameras.len()),
+        vertices: count_in_32_bits(parts.vertices.len()),
+        occluders: count_in_32_bits(parts.occluders.len()),
+        object_tris: count_in_32_bits(parts.object_tris.len()),
+        objects: count_in_32_bits(parts.objects.len()),
     }
 }
 

@@ -1,7 +1,7 @@
 //! The header: the first 32 bytes, with all that is told before the tables.
-ghost use Rattle.std.specs.Prelude.{◌≡◌, ◌≤◌, Some, IsNone, IfOk, MatchResult};
+ghost use Rattle.std.specs.Prelude.{◌≡◌, ◌≤◌, nat_lt, Some, IsNone, IfOk, MatchResult};
 ghost use Rattle.cull_base.specs.Screen.{IsSize};
-ghost use Rattle.scene_reader.specs.Fault.{screen_fault, count_fault, counts_at, header_fault};
+ghost use Rattle.scene_reader.specs.Fault.{fault_if, screen_fault, count_fault, counts_at, header_fault};
 ghost use Rattle.scene_reader.specs.Header.{IsHeaderOf, AreCounts};
 
 use crate::error::SceneError;
@@ -45,43 +45,29 @@ pub fn screen_fault(width: u16, height: u16, near: u16) -> Option<SceneError>
     None
 }
 
+// The fault of a count that is above its limit.
+fn limit_fault(field: u8, value: u32, limit: u32) -> Option<SceneError>
+    ensures { result ≡ fault_if (nat_lt limit value) (SceneError.BadCount field value) }
+{
+    if limit < value {
+        return Some(SceneError::BadCount { field, value });
+    }
+    None
+}
+
 /// The first count that is out of its limits.
-#[tactic(auto, unfolding(crate::specs::Fault::count_fault))]
 pub fn count_fault(counts: &Counts) -> Option<SceneError>
     ensures value { result ≡ count_fault counts.now }
     ensures valid { IsNone result → AreCounts counts.now }
 {
-    if counts.frames == 0 || 256 < counts.frames {
-        return Some(SceneError::BadCount {
-            field: 0,
-            value: counts.frames,
-        });
+    if counts.frames == 0 {
+        return Some(SceneError::BadCount { field: 0, value: 0 });
     }
-    if 262_144 < counts.vertices {
-        return Some(SceneError::BadCount {
-            field: 1,
-            value: counts.vertices,
-        });
-    }
-    if 65_536 < counts.occluders {
-        return Some(SceneError::BadCount {
-            field: 2,
-            value: counts.occluders,
-        });
-    }
-    if 262_144 < counts.object_tris {
-        return Some(SceneError::BadCount {
-            field: 3,
-            value: counts.object_tris,
-        });
-    }
-    if 65_536 < counts.objects {
-        return Some(SceneError::BadCount {
-            field: 4,
-            value: counts.objects,
-        });
-    }
-    None
+    limit_fault(0, counts.frames, 256)
+        .or(limit_fault(1, counts.vertices, 262_144))
+        .or(limit_fault(2, counts.occluders, 65_536))
+        .or(limit_fault(3, counts.object_tris, 262_144))
+        .or(limit_fault(4, counts.objects, 65_536))
 }
 
 /// What the bytes of a header say, or the first fault in them.

@@ -25,12 +25,7 @@ pub fn signed_at(bytes: &[u8], place: usize) -> i32
     requires { place + 4 ≤ length bytes.now }
     ensures { result ≡ signed_at place bytes.now }
 {
-    i32::from_le_bytes([
-        bytes[place],
-        bytes[place + 1],
-        bytes[place + 2],
-        bytes[place + 3],
-    ])
+    word_at(bytes, place).cast_signed()
 }
 
 /// The numbers of a triangle.

@@ -1,12 +1,12 @@
 //! Objects: made from their kind and six numbers, tested, and read as a table. The first fault of a table is kept until
 //! the end of the input is known, since that of the length comes before it.
-ghost use Rattle.std.specs.Prelude.{◌≡◌, ℕ, ◌+◌, ◌*◌, ◌^◌, ◌<◌, ◌≤◌, ◌++◌, ◌∷◌, [], None, Some, map, true, false, ◌||◌, int_lt, length, OnOk, IfOk, IfSome, IfNone, MatchResult};
+ghost use Rattle.std.specs.Prelude.{◌≡◌, ℕ, ◌+◌, ◌*◌, ◌^◌, ◌<◌, ◌≤◌, ◌++◌, ◌∷◌, [], None, Some, map, true, false, ◌||◌, int_lt, length, OnOk, IfOk, IfErr, IfSome, IfNone};
 ghost use Rattle.std.specs.List.{All};
 ghost use Rattle.std.specs.Option.{option_or};
 ghost use Rattle.cull_base.specs.Guard.{is_beyond};
-ghost use Rattle.scene_reader.specs.Layout.{IsObject, kind_of, numbers_of, stored, axis};
-ghost use Rattle.scene_reader.specs.Fault.{is_bad_row, is_bad_object, object_fault, raw_of};
-ghost use Rattle.scene_reader.specs.Reading.{TakesObjects, Fetches};
+ghost use Rattle.scene_reader.specs.Layout.{IsObject, kind_of, numbers_of};
+ghost use Rattle.scene_reader.specs.Fault.{is_bad_row, runs_back, is_bad_object, object_fault, raw_of};
+ghost use Rattle.scene_reader.specs.Reading.{IsObjectOf, TakesObject, TakesObjects, Fetches};
 
 use crate::error::SceneError;
 use crate::intake::fetch;
@@ -98,7 +98,7 @@ fn is_bad_area(rect: &Rect, w: i32) -> bool
 }
 
 fn runs_back(low: &[i32; 3], high: &[i32; 3]) -> bool
-    ensures { result ≡ (int_lt (axis high.now 0) (axis low.now 0) || int_lt (axis high.now 1) (axis low.now 1) || int_lt (axis high.now 2) (axis low.now 2)) }
+    ensures { result ≡ runs_back low.now high.now }
 {
     high[0] < low[0] || high[1] < low[1] || high[2] < low[2]
 }
@@ -142,7 +142,8 @@ pub struct Objects {
 /// The object number i of a table, beside so many object triangles, or its fault.
 pub fn object_at(entry: &[u8; 25], i: u32, object_tris: u32) -> Result<Object, SceneError>
     requires { object_tris ≤ 262144 }
-    ensures value { MatchResult result (λ o. (object_fault object_tris i (raw_of entry.now) ≡ None) × (stored o ≡ raw_of entry.now)) (λ e. object_fault object_tris i (raw_of entry.now) ≡ Some e) }
+    ensures value { IfOk result (λ o. IsObjectOf object_tris i (raw_of entry.now) o) }
+    ensures fault { IfErr result (λ e. object_fault object_tris i (raw_of entry.now) ≡ Some e) }
     ensures valid { IfOk result (λ o. IsObject object_tris o) }
 {
     let kind = entry[0];
@@ -161,9 +162,7 @@ impl Objects {
     /// Keeps the object number i, or its fault where there was none before.
     fn keep(&mut self, entry: &[u8; 25], i: u32, object_tris: u32) -> Result<(), AllocError>
         requires { object_tris ≤ 262144 }
-        ensures first { OnOk result (self.new.fault ≡ option_or self.old.fault (object_fault object_tris i (raw_of entry.now))) }
-        ensures items { OnOk result (self.new.fault ≡ None → map stored self.new.items.items ≡ map stored self.old.items.items ++ raw_of entry.now ∷ []) }
-        ensures valid { OnOk result (All (IsObject object_tris) self.old.items.items → All (IsObject object_tris) self.new.items.items) }
+        ensures { OnOk result (TakesObject object_tris i (raw_of entry.now) self.old self.new) }
     {
         if self.fault.is_none() {
             match object_at(entry, i, object_tris) {

@@ -4,7 +4,7 @@ ghost use Rattle.cull_base.specs.Stream.{Rose};
 ghost use Rattle.scene_reader.specs.Layout.{IsScene};
 ghost use Rattle.scene_reader.specs.Fault.{IsRefusal};
 ghost use Rattle.scene_reader.specs.Header.{AreCounts};
-ghost use Rattle.scene_reader.specs.Reading.{Takes, IsAtEnd, TakesInTurns, Reads, FetchesTables, IsTrailing, TakesParts, Refuses, ReadsScene, TakesLayout, IsOnlyScene, IsNoScene, HasFirstFault, StopsAtHeader};
+ghost use Rattle.scene_reader.specs.Reading.{TakesEnd, TakesInTurns, Reads, FetchesTables, IsTrailing, TakesParts, Refuses, ReadsScene, TakesLayout, IsOnlyScene, IsNoScene, HasFirstFault, StopsAtHeader};
 
 use crate::checks::tables_fault;
 use crate::error::SceneError;
@@ -21,13 +21,13 @@ use std::alloc::Global;
 #[derive(Drop)]
 struct Draft {
     parts: SceneParts,
-    objects_fault: Option<SceneError>,
+    fault: Option<SceneError>,
 }
 
 /// Reads the five tables that a header announces.
 fn read_parts<S: Source>(alloc: Global, source: &mut S, header: Header) -> Result<Draft, SceneError>
     requires { AreCounts header.counts }
-    ensures taken { IfOk result (λ d. TakesParts header (S.says source.old) (S.says source.new) d.parts d.objects_fault) }
+    ensures taken { IfOk result (λ d. TakesParts header (S.says source.old) (S.says source.new) d.parts d.fault) }
     ensures fetches { FetchesTables header.counts (S.says source.old) (S.says source.new) result }
 {
     let Header {
@@ -67,13 +67,13 @@ fn read_parts<S: Source>(alloc: Global, source: &mut S, header: Header) -> Resul
     };
     Ok(Draft {
         parts,
-        objects_fault: objects.fault,
+        fault: objects.fault,
     })
 }
 
 /// Asks for one byte more, to see that there is none.
 fn read_end<S: Source>(source: &mut S) -> Result<(), SceneError>
-    ensures ended { OnOk result (Takes (S.says source.old).left (S.says source.new).left [] × IsAtEnd (S.says source.new).left) }
+    ensures ended { OnOk result (TakesEnd (S.says source.old) (S.says source.new)) }
     ensures trailing { IfErr result (λ e. IsRefusal e → IsTrailing (S.says source.old) (S.says source.new) e) }
     ensures reads { Reads 1 (S.says source.old) (S.says source.new) result }
 {
@@ -96,9 +96,9 @@ fn read_whole<S: Source>(alloc: Global, source: &mut S) -> Result<Scene, SceneEr
     let header = header_of(&bytes)?;
     let draft = read_parts(alloc, source, header)?;
     read_end(source)?;
-    match tables_fault(&draft.parts, draft.objects_fault) {
+    match tables_fault(&draft.parts, draft.fault) {
         Some(fault) => Err(fault),
-        None => Ok(Scene::sealed(draft.parts)),
+        None => Ok(Scene::from_valid(draft.parts)),
     }
 }
 
@@ -106,15 +106,15 @@ fn read_whole<S: Source>(alloc: Global, source: &mut S) -> Result<Scene, SceneEr
 /// behind it is read. Read comes only where the source failed, and Memory at any time.
 pub fn read_scene<S: Source>(alloc: Global, source: &mut S) -> Result<Scene, SceneError>
     ensures ok { IfOk result (λ s. IsScene s) }
-    ensures layout { IfOk result (λ s. TakesLayout (S.says source.old).left (S.says source.new).left s) }
-    ensures only { IfOk result (λ s. IsOnlyScene (S.says source.old).left s) }
-    ensures ok_first { OnOk result (HasFirstFault (S.says source.old).left None) }
-    ensures refused { IfErr result (λ e. IsRefusal e → HasFirstFault (S.says source.old).left (Some e)) }
-    ensures not_a_scene { IfErr result (λ e. IsRefusal e → IsNoScene (S.says source.old).left) }
+    ensures layout { IfOk result (λ s. TakesLayout (S.says source.old) (S.says source.new) s) }
+    ensures only { IfOk result (λ s. IsOnlyScene (S.says source.old) s) }
+    ensures ok_first { OnOk result (HasFirstFault (S.says source.old) None) }
+    ensures refused { IfErr result (λ e. IsRefusal e → HasFirstFault (S.says source.old) (Some e)) }
+    ensures not_a_scene { IfErr result (λ e. IsRefusal e → IsNoScene (S.says source.old)) }
     ensures read { IsErrOf result SceneError.Read → Rose (S.says source.old).faults (S.says source.new).faults }
     ensures faults_stay { (S.says source.old).faults ≤ (S.says source.new).faults }
     // Of a header that is refused 32 bytes are taken, or all there were.
-    ensures header { IfErr result (λ e. IsRefusal e → StopsAtHeader (S.says source.old).left (S.says source.new).left e) }
+    ensures header { IfErr result (λ e. IsRefusal e → StopsAtHeader (S.says source.old) (S.says source.new) e) }
     ensures turns { (S.says source.new).turns ≤ (S.says source.old).turns + 8728609 }
     // Each read but one took a byte.
     ensures takes { TakesInTurns (S.says source.old) (S.says source.new) }

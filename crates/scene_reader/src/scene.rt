@@ -25,22 +25,23 @@ impl Model for Scene {
 
 impl Scene {
     ghost use Rattle.scene_reader.specs.Layout.{IsScene};
-    ghost use Rattle.scene_reader.specs.PartsFault.{first_fault_of_parts};
+    ghost use Rattle.scene_reader.specs.PartsFault.{IsFaultless, first_fault_of_parts};
 
-    /// A scene of these parts. It takes no memory; a refusal drops the parts. Too large a count is told as 4294967295.
+    /// A scene of these parts. It takes no memory; a refusal drops the parts. A count that is too large for 32 bits is
+    /// answered as 4294967295.
     pub fn new(parts: SceneParts) -> Result<Scene, SceneError>
-        ensures value { MatchResult result (λ s. (s ≡ parts) × (first_fault_of_parts parts ≡ None)) (λ e. first_fault_of_parts parts ≡ Some e) }
+        ensures value { MatchResult result (λ s. (s ≡ parts) × IsFaultless parts) (λ e. first_fault_of_parts parts ≡ Some e) }
         ensures given { IsScene parts → IsOk result }
         ensures valid { IsOk result → IsScene parts }
     {
         match parts_fault(&parts) {
             Some(fault) => Err(fault),
-            None => Ok(Scene::sealed(parts)),
+            None => Ok(Scene::from_valid(parts)),
         }
     }
 
     /// A scene of parts that are known to be valid.
-    pub(crate) fn sealed(parts: SceneParts) -> Scene
+    pub(crate) fn from_valid(parts: SceneParts) -> Scene
         requires { IsScene parts }
         ensures { result ≡ parts }
     {

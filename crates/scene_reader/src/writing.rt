@@ -2,7 +2,7 @@
 ghost use Rattle.std.specs.Prelude.{◌≡◌};
 ghost use Rattle.std.specs.List.{flat_map};
 ghost use Rattle.cull_base.specs.Stream.{Writes};
-ghost use Rattle.scene_reader.specs.Layout.{layout, header_bytes, word_bytes, row_bytes, tri_bytes, object_bytes, numbers_of, winding_code};
+ghost use Rattle.scene_reader.specs.Layout.{layout, header_bytes, word_bytes, row_bytes, tri_bytes, corner_bytes, object_bytes, winding_code};
 
 use crate::objects::{BOX, MESH, RECTANGLE};
 use crate::scene::Scene;
@@ -45,7 +45,7 @@ fn write_tris<W: Sink>(sink: &mut W, triangles: &[Tri]) -> Result<(), SinkError>
 }
 
 fn write_corners<W: Sink>(sink: &mut W, low: &[i32; 3], high: &[i32; 3]) -> Result<(), SinkError>
-    ensures { Writes (W.says sink.old) (W.says sink.new) result (row_bytes (numbers_of (Object.Block low.now high.now))) }
+    ensures { Writes (W.says sink.old) (W.says sink.new) result (corner_bytes low.now high.now) }
 {
     write_row(sink, low)?;
     write_row(sink, high)

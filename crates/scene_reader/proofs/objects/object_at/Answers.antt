@@ -15,14 +15,14 @@ returns-in-Some-clause-value c =
     let numbers = numbers_whole c.args.entry.now c.told-entry in
     made_fine c.args.object_tris c.args.i (raw_of c.args.entry.now) c.in-Some.object c.if-kind-gt-MESH.false (made.0, made.1 ∙ c.row_of-numbers.ensures ∙ numbers) c.if-not-is_bad_object.ensures.value
 
-pub returns-in_default-clause-value : goal.returns-in_default-clause-value
-returns-in_default-clause-value c =
+pub returns-in_default-clause-fault : goal.returns-in_default-clause-fault
+returns-in_default-clause-fault c =
     let made = c.in-Some.ensures.made in
     let numbers = numbers_whole c.args.entry.now c.told-entry in
     made_bad c.args.object_tris c.args.i (raw_of c.args.entry.now) c.in-Some.object c.if-kind-gt-MESH.false (made.0, made.1 ∙ c.row_of-numbers.ensures ∙ numbers) c.if-not-is_bad_object.ensures.value
 
-pub returns-in_default-2-clause-value : goal.returns-in_default-2-clause-value
-returns-in_default-2-clause-value c =
+pub returns-in_default-2-clause-fault : goal.returns-in_default-2-clause-fault
+returns-in_default-2-clause-fault c =
     let kind = slice_index c.args.entry.now 0 in
     let numbers = c.row_of-numbers.ensures ∙ numbers_whole c.args.entry.now c.told-entry in
     let refused = MatchOption-at_none _ _ c.in_default.is c.object_of.ensures.refused in

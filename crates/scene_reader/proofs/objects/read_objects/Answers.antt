@@ -35,10 +35,9 @@ loop-i-preserved g c =
     let i = c.loop-i.invariant in
     let one : length c.fetch.new.buffer ≡ 25 = omega (arith, c.fetch.auto.buffer, i.buffer) in
     let reads = c.in_ok-fetch.ensures.fetches.reads in
-    let after = c.in_ok-keep.ensures in
     record {
       buffer = one;
-      taken = objects_more c.args.object_tris c.loop-i.i _ _ _ c.loop-i.objects _ c.fetch.new.buffer one i.taken c.in_ok-fetch.ensures.taken after.first after.items after.valid;
+      taken = objects_more c.args.object_tris c.loop-i.i _ _ _ c.loop-i.objects _ c.fetch.new.buffer one i.taken c.in_ok-fetch.ensures.taken c.in_ok-keep.ensures;
       faults = omega (arith, i.faults, reads.faults_stay);
       turns = omega (arith, i.turns, reads.turns);
     }

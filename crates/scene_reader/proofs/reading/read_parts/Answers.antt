@@ -1,62 +1,41 @@
 use Rattle.std.proofs.Common.{refl, arith}
 use Rattle.std.proofs.lemmas.Result.{err_from_is_err_and}
 use Rattle.scene_reader.proofs.Takes.{takes_then}
-use Rattle.scene_reader.proofs.Turns.{progress_none, table_read, progress_then, fetches_failed, fetches_whole}
+use Rattle.scene_reader.proofs.Turns.{progress_none, then_table, fetches_failed, fetches_whole}
 use Rattle.scene_reader.proofs.reading.read_parts.Goals as goal
 
 pub returns-in_err-vertices-clause-fetches : goal.returns-in_err-vertices-clause-fetches
 returns-in_err-vertices-clause-fetches g c =
     let p = err_from_is_err_and c.from_residual.result c.from_residual.ensures.1 in
-    rw (p.1, p.2) (fetches_failed (progress_none _) (omega arith) refl c.in_err-vertices.ensures.fetches)
+    let before = progress_none _ in
+    rw (p.1, p.2) (fetches_failed before (omega arith) (omega arith) c.in_err-vertices.ensures.fetches)
 
 pub returns-in_err-occluders-clause-fetches : goal.returns-in_err-occluders-clause-fetches
 returns-in_err-occluders-clause-fetches g c =
     let p = err_from_is_err_and c.from_residual-in_err-occluders.result c.from_residual-in_err-occluders.ensures.1 in
-    let v = c.in_ok-vertices.ensures in
-    let before = table_read v.taken v.fetches in
-    rw (p.1, p.2) (fetches_failed before (omega arith) refl c.in_err-occluders.ensures.fetches)
+    let before = then_table (progress_none _) c.in_ok-vertices.ensures.taken c.in_ok-vertices.ensures.fetches in
+    rw (p.1, p.2) (fetches_failed before (omega arith) (omega arith) c.in_err-occluders.ensures.fetches)
 
 pub returns-in_err-object_tris-clause-fetches : goal.returns-in_err-object_tris-clause-fetches
 returns-in_err-object_tris-clause-fetches g c =
     let p = err_from_is_err_and c.from_residual-in_err-object_tris.result c.from_residual-in_err-object_tris.ensures.1 in
-    let v = c.in_ok-vertices.ensures in
-    let o = c.in_ok-occluders.ensures in
-    let before = progress_then (table_read v.taken v.fetches) (table_read o.taken o.fetches) in
+    let before = then_table (then_table (progress_none _) c.in_ok-vertices.ensures.taken c.in_ok-vertices.ensures.fetches) c.in_ok-occluders.ensures.taken c.in_ok-occluders.ensures.fetches in
     rw (p.1, p.2) (fetches_failed before (omega arith) (omega arith) c.in_err-object_tris.ensures.fetches)
 
 pub returns-in_err-objects-clause-fetches : goal.returns-in_err-objects-clause-fetches
 returns-in_err-objects-clause-fetches g c =
     let p = err_from_is_err_and c.from_residual-in_err-objects.result c.from_residual-in_err-objects.ensures.1 in
-    let v = c.in_ok-vertices.ensures in
-    let o = c.in_ok-occluders.ensures in
-    let t = c.in_ok-object_tris.ensures in
-    let first = progress_then (table_read v.taken v.fetches) (table_read o.taken o.fetches) in
-    let before = progress_then first (table_read t.taken t.fetches) in
+    let before = then_table (then_table (then_table (progress_none _) c.in_ok-vertices.ensures.taken c.in_ok-vertices.ensures.fetches) c.in_ok-occluders.ensures.taken c.in_ok-occluders.ensures.fetches) c.in_ok-object_tris.ensures.taken c.in_ok-object_tris.ensures.fetches in
     rw (p.1, p.2) (fetches_failed before (omega arith) (omega arith) c.in_err-objects.ensures.fetches)
 
 pub returns-in_err-cameras-clause-fetches : goal.returns-in_err-cameras-clause-fetches
 returns-in_err-cameras-clause-fetches g c =
     let p = err_from_is_err_and c.from_residual-in_err-cameras.result c.from_residual-in_err-cameras.ensures.1 in
-    let v = c.in_ok-vertices.ensures in
-    let o = c.in_ok-occluders.ensures in
-    let t = c.in_ok-object_tris.ensures in
-    let j = c.in_ok-objects.ensures in
-    let first = progress_then (table_read v.taken v.fetches) (table_read o.taken o.fetches) in
-    let second = progress_then first (table_read t.taken t.fetches) in
-    let before = progress_then second (table_read j.taken.table j.fetches) in
+    let before = then_table (then_table (then_table (then_table (progress_none _) c.in_ok-vertices.ensures.taken c.in_ok-vertices.ensures.fetches) c.in_ok-occluders.ensures.taken c.in_ok-occluders.ensures.fetches) c.in_ok-object_tris.ensures.taken c.in_ok-object_tris.ensures.fetches) c.in_ok-objects.ensures.taken.table c.in_ok-objects.ensures.fetches in
     rw (p.1, p.2) (fetches_failed before (omega arith) (omega arith) c.in_err-cameras.ensures.fetches)
 
 pub returns-clause-fetches : goal.returns-clause-fetches
-returns-clause-fetches g c =
-    let v = c.in_ok-vertices.ensures in
-    let o = c.in_ok-occluders.ensures in
-    let t = c.in_ok-object_tris.ensures in
-    let j = c.in_ok-objects.ensures in
-    let m = c.in_ok-cameras.ensures in
-    let first = progress_then (table_read v.taken v.fetches) (table_read o.taken o.fetches) in
-    let second = progress_then first (table_read t.taken t.fetches) in
-    let third = progress_then second (table_read j.taken.table j.fetches) in
-    fetches_whole (progress_then third (table_read m.taken m.fetches)) (omega arith)
+returns-clause-fetches g c = fetches_whole (then_table (then_table (then_table (then_table (then_table (progress_none _) c.in_ok-vertices.ensures.taken c.in_ok-vertices.ensures.fetches) c.in_ok-occluders.ensures.taken c.in_ok-occluders.ensures.fetches) c.in_ok-object_tris.ensures.taken c.in_ok-object_tris.ensures.fetches) c.in_ok-objects.ensures.taken.table c.in_ok-objects.ensures.fetches) c.in_ok-cameras.ensures.taken c.in_ok-cameras.ensures.fetches) (omega arith)
 
 pub returns-clause-taken : goal.returns-clause-taken
 returns-clause-taken g c =

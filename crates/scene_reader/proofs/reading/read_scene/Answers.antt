@@ -1,20 +1,21 @@
-use Rattle.scene_reader.proofs.Refusals.{ok_layout, ok_only, ok_first, err_refused, err_header, err_never}
+use Rattle.std.proofs.lemmas.Result.{IfOk-weaker, IfErr-weaker}
+use Rattle.scene_reader.proofs.Refusals.{bytes_layout, bytes_first, bytes_only, bytes_refused, bytes_header, bytes_never}
 use Rattle.scene_reader.proofs.reading.read_scene.Goals as goal
 
 pub returns-clause-layout : goal.returns-clause-layout
-returns-clause-layout g c = ok_layout _ _ c.read_whole.result c.read_whole.ensures.ok
+returns-clause-layout g c = IfOk-weaker c.read_whole.result _ _ (λ s h. bytes_layout _ _ s h) c.read_whole.ensures.ok
 
 pub returns-clause-only : goal.returns-clause-only
-returns-clause-only g c = ok_only _ _ c.read_whole.result c.read_whole.ensures.ok
+returns-clause-only g c = IfOk-weaker c.read_whole.result _ _ (λ s h. bytes_only _ _ s h) c.read_whole.ensures.ok
 
 pub returns-clause-ok_first : goal.returns-clause-ok_first
-returns-clause-ok_first g c = ok_first _ _ c.read_whole.result c.read_whole.ensures.ok
+returns-clause-ok_first g c = IfOk-weaker c.read_whole.result _ _ (λ s h. bytes_first _ _ s h) c.read_whole.ensures.ok
 
 pub returns-clause-refused : goal.returns-clause-refused
-returns-clause-refused g c = err_refused _ _ c.read_whole.result c.read_whole.ensures.refused
+returns-clause-refused g c = IfErr-weaker c.read_whole.result _ _ (λ e h refusal. bytes_refused _ _ e (h refusal)) c.read_whole.ensures.refused
 
 pub returns-clause-not_a_scene : goal.returns-clause-not_a_scene
-returns-clause-not_a_scene g c = err_never _ _ c.read_whole.result c.read_whole.ensures.refused
+returns-clause-not_a_scene g c = IfErr-weaker c.read_whole.result _ _ (λ e h refusal. bytes_never _ _ e (h refusal)) c.read_whole.ensures.refused
 
 pub returns-clause-header : goal.returns-clause-header
-returns-clause-header g c = err_header _ _ c.read_whole.result c.read_whole.ensures.refused
+returns-clause-header g c = IfErr-weaker c.read_whole.result _ _ (λ e h refusal. bytes_header _ _ e (h refusal)) c.read_whole.ensures.refused

@@ -3,7 +3,7 @@ use Rattle.std.proofs.lemmas.Result.{err_from_is_err_and}
 use Rattle.scene_reader.proofs.Refusals.{refuses_short, refuses_header, refuses_body, refuses_trailing, refuses_tables, reads, parts_scene, objects_first, whole_length, not_read, tables_refusal, err_is, refuses_same}
 use Rattle.scene_reader.proofs.Headers.{header_refusal}
 use Rattle.scene_reader.proofs.Turns.{progress_none, progress_of, progress_then, parts_read, most_turns, reads_then, reads_failed}
-use Rattle.scene_reader.proofs.Wholes.{table_count}
+use Rattle.scene_reader.proofs.SceneFrom.{table_count}
 use Rattle.scene_reader.proofs.reading.read_whole.Goals as goal
 
 pub returns-in_err-fetch-clause-refused : goal.returns-in_err-fetch-clause-refused
@@ -84,8 +84,8 @@ tables_fault-requires g c =
       cameras = omega (arith, table_count _ _ _ _ _ t.cameras, n.few_frames);
     }
 
-pub sealed-requires : goal.sealed-requires
-sealed-requires g c =
+pub from_valid-requires : goal.from_valid-requires
+from_valid-requires g c =
     let h = c.in_ok-header.ensures.value in
     let t = c.in_ok-draft.ensures.taken in
     let valid = c.in-None.ensures.valid refl in
@@ -106,4 +106,4 @@ returns-in-None-clause-ok g c =
     let first = objects_first c.fetch.auto.buffer c.in_ok-fetch.ensures.taken h t in
     let valid = c.in-None.ensures.valid refl in
     let ended = c.in_ok-read_end.ensures.ended in
-    rw c.sealed.ensures (reads c.fetch.auto.buffer c.in_ok-fetch.ensures.taken h t _ ended.0 ended.1 valid.0 valid.1 (sym (c.in-None.ensures.value t.raws first)))
+    rw c.from_valid.ensures (reads c.fetch.auto.buffer c.in_ok-fetch.ensures.taken h t _ ended.0 ended.1 valid.0 valid.1 (sym (c.in-None.ensures.value t.raws first)))

@@ -1,6 +1,6 @@
 use Rattle.std.proofs.Common.{◌≡◌, ◌∙◌, None, Some, Option}
 use Rattle.scene_reader.specs.declared.error.SceneError.{SceneError}
-use Rattle.scene_reader.proofs.Wholes.{parts_fine}
+use Rattle.scene_reader.proofs.NoFault.{parts_fine}
 use Rattle.scene_reader.proofs.scene.Scene.new.Goals as goal
 
 pub returns-in-Some-clause-given : goal.returns-in-Some-clause-given

@@ -1,0 +1,136 @@
+-- Only one scene has a layout.
+use Rattle.std.proofs.Common.{◌≡◌, ℕ, ℤ, pos, negsuc, ◌++◌, ◌∷◌, List, [], length, take, map, arith, refl, sym, ap, ◌∙◌, subst, All}
+use Rattle.std.specs.Prelude.{slice_index}
+use Rattle.std.specs.List.{AllByRecursion, flat_map}
+use Rattle.std.proofs.lemmas.List.{take_at}
+use Rattle.std.proofs.lemmas.List.Elements.{recursion_from_All}
+use Rattle.cull_base.specs.declared.rect.Rect.{Rect}
+use Rattle.cull_base.specs.declared.triangle.Winding.{Winding}
+use Rattle.cull_base.specs.declared.triangle.Winding.TheVariants.{Both, DropClockwise, DropCounter}
+use Rattle.cull_base.specs.declared.scene_types.Tri.{Tri}
+use Rattle.cull_base.specs.declared.scene_types.Object.{Object}
+use Rattle.cull_base.specs.declared.scene_types.Object.TheVariants.{Area, Block, Mesh}
+use Rattle.scene_reader.specs.Layout.{Parts, IsScene, IsObject, row_bytes, tri_bytes, object_bytes, raw_object, winding_code, header_bytes, layout, axis}
+use Rattle.scene_reader.specs.Fault.{short_at, vertices_in, occluders_in, object_tris_in, objects_in, cameras_in}
+use Rattle.scene_reader.proofs.Shapes.{three}
+use Rattle.scene_reader.proofs.HeaderBytes.{counts_of, header_length, header_says}
+use Rattle.scene_reader.proofs.SixPieces.{joined_vertices, joined_occluders, joined_object_tris, joined_objects, joined_cameras}
+use Rattle.scene_reader.proofs.LayoutFirst.{layout_vertices, layout_cameras, layout_tris, layout_objects, layout_sized}
+
+winding_one : (a b : Winding) → winding_code a ≡ winding_code b → a ≡ b
+winding_one Both Both e = refl
+winding_one Both DropClockwise e = absurd (omega (arith, e))
+winding_one Both DropCounter e = absurd (omega (arith, e))
+winding_one DropClockwise Both e = absurd (omega (arith, e))
+winding_one DropClockwise DropClockwise e = refl
+winding_one DropClockwise DropCounter e = absurd (omega (arith, e))
+winding_one DropCounter Both e = absurd (omega (arith, e))
+winding_one DropCounter DropClockwise e = absurd (omega (arith, e))
+winding_one DropCounter DropCounter e = refl
+
+row_axis : (k : ℕ) (a b : ℕ × List ℤ) → a ≡ b → axis a.1 k ≡ axis b.1 k
+row_axis k a b e = ap (λ (r : ℕ × List ℤ). axis r.1 k) e
+
+natural : ℤ → ℕ
+natural (pos n) = n
+natural (negsuc n) = 0
+
+three_same : (xs ys : List ℤ) → length xs ≡ 3 → length ys ≡ 3 → axis xs 0 ≡ axis ys 0 → axis xs 1 ≡ axis ys 1 → axis xs 2 ≡ axis ys 2 → xs ≡ ys
+three_same xs ys l k e0 e1 e2 = sym (three xs l) ∙ (rw (e0, e1, e2) refl) ∙ three ys k
+
+same_rect : (r q : Rect) → r.x0 ≡ q.x0 → r.y0 ≡ q.y0 → r.x1 ≡ q.x1 → r.y1 ≡ q.y1 → r ≡ q
+same_rect r q e0 e1 e2 e3 =
+    let make : ℤ → ℤ → ℤ → ℤ → Rect = λ a b c d. record { x0 = a; y0 = b; x1 = c; y1 = d } in
+    ap (λ (a : ℤ). make a r.y0 r.x1 r.y1) e0 ∙ ap (λ (b : ℤ). make q.x0 b r.x1 r.y1) e1 ∙ ap (λ (c : ℤ). make q.x0 q.y0 c r.y1) e2 ∙ ap (λ (d : ℤ). make q.x0 q.y0 q.x1 d) e3
+
+stored_one : (m : ℕ) (a b : Object) → IsObject m a → IsObject m b → raw_object a ≡ raw_object b → a ≡ b
+unfolding natural
+stored_one m (Area r w) (Area q u) ha hb e =
+    let e0 = row_axis 0 _ _ e in let e1 = row_axis 1 _ _ e in let e2 = row_axis 2 _ _ e in let e3 = row_axis 3 _ _ e in let e4 = row_axis 4 _ _ e in
+    ap (λ (x : Rect). Area x w) (same_rect r q e0 e1 e2 e3) ∙ ap (Area q) e4
+stored_one m (Area r w) (Block low high) ha hb e = absurd (omega (arith, ap (λ (x : ℕ × List ℤ). x.0) e))
+stored_one m (Area r w) (Mesh first count) ha hb e = absurd (omega (arith, ap (λ (x : ℕ × List ℤ). x.0) e))
+stored_one m (Block low high) (Area q u) ha hb e = absurd (omega (arith, ap (λ (x : ℕ × List ℤ). x.0) e))
+stored_one m (Block low high) (Block low2 high2) ha hb e =
+    let el = three_same low low2 ha.0.0 hb.0.0 (row_axis 0 _ _ e) (row_axis 1 _ _ e) (row_axis 2 _ _ e) in
+    let eh = three_same high high2 ha.1.0 hb.1.0 (row_axis 3 _ _ e) (row_axis 4 _ _ e) (row_axis 5 _ _ e) in
+    rw (el, eh) refl
+stored_one m (Block low high) (Mesh first count) ha hb e = absurd (omega (arith, ap (λ (x : ℕ × List ℤ). x.0) e))
+stored_one m (Mesh first count) (Area q u) ha hb e = absurd (omega (arith, ap (λ (x : ℕ × List ℤ). x.0) e))
+stored_one m (Mesh first count) (Block low high) ha hb e = absurd (omega (arith, ap (λ (x : ℕ × List ℤ). x.0) e))
+stored_one m (Mesh first count) (Mesh first2 count2) ha hb e =
+    let ef : first ≡ first2 = ap (λ (r : ℕ × List ℤ). natural (axis r.1 0)) e in
+    let ec : count ≡ count2 = ap (λ (r : ℕ × List ℤ). natural (axis r.1 1)) e in
+    rw (ef, ec) refl
+
+stored_each : (m : ℕ) (xs ys : List Object) → AllByRecursion (IsObject m) xs → AllByRecursion (IsObject m) ys → map raw_object xs ≡ map raw_object ys → xs ≡ ys
+stored_each m [] [] hx hy e = refl
+stored_each m [] (y ∷ ys) hx hy e = absurd cc
+stored_each m (x ∷ xs) [] hx hy e = absurd cc
+stored_each m (x ∷ xs) (y ∷ ys) hx hy e =
+    let first : raw_object x ≡ raw_object y = cc in
+    let rest : map raw_object xs ≡ map raw_object ys = cc in
+    ap (λ (z : Object). z ∷ xs) (stored_one m x y hx.0 hy.0 first) ∙ ap (λ (zs : List Object). y ∷ zs) (stored_each m xs ys hx.1 hy.1 rest)
+
+same_parts : (p q : Parts) → p.width ≡ q.width → p.height ≡ q.height → p.near ≡ q.near → p.winding ≡ q.winding → p.vertices ≡ q.vertices → p.occluders ≡ q.occluders → p.object_tris ≡ q.object_tris → p.objects ≡ q.objects → p.cameras ≡ q.cameras → p ≡ q
+same_parts p q e0 e1 e2 e3 e4 e5 e6 e7 e8 =
+    let make : ℕ → ℕ → ℕ → Winding → List (List ℤ) → List Tri → List Tri → List Object → List (List ℤ) → Parts = λ a b c d f g h i j. record { width = a; height = b; near = c; winding = d; vertices = f; occluders = g; object_tris = h; objects = i; cameras = j } in
+    ap (λ (x : ℕ). make x p.height p.near p.winding p.vertices p.occluders p.object_tris p.objects p.cameras) e0
+    ∙ ap (λ (x : ℕ). make q.width x p.near p.winding p.vertices p.occluders p.object_tris p.objects p.cameras) e1
+    ∙ ap (λ (x : ℕ). make q.width q.height x p.winding p.vertices p.occluders p.object_tris p.objects p.cameras) e2
+    ∙ ap (λ (x : Winding). make q.width q.height q.near x p.vertices p.occluders p.object_tris p.objects p.cameras) e3
+    ∙ ap (λ (x : List (List ℤ)). make q.width q.height q.near q.winding x p.occluders p.object_tris p.objects p.cameras) e4
+    ∙ ap (λ (x : List Tri). make q.width q.height q.near q.winding q.vertices x p.object_tris p.objects p.cameras) e5
+    ∙ ap (λ (x : List Tri). make q.width q.height q.near q.winding q.vertices q.occluders x p.objects p.cameras) e6
+    ∙ ap (λ (x : List Object). make q.width q.height q.near q.winding q.vertices q.occluders q.object_tris x p.cameras) e7
+    ∙ ap (λ (x : List (List ℤ)). make q.width q.height q.near q.winding q.vertices q.occluders q.object_tris q.objects x) e8
+
+-- what is read in a scene's layout
+record Reads (b : List ℕ) (p : Parts) : Type 0 where
+  header : take 32 b ≡ header_bytes p
+  vertices : vertices_in b ≡ p.vertices
+  occluders : occluders_in b ≡ p.occluders
+  object_tris : object_tris_in b ≡ p.object_tris
+  objects : objects_in b ≡ map raw_object p.objects
+  cameras : cameras_in b ≡ p.cameras
+
+layout_reads : (p : Parts) → IsScene p → Reads (layout p) p
+unfolding layout counts_of
+layout_reads p s =
+    let h = header_bytes p in
+    let v = flat_map row_bytes p.vertices in
+    let o = flat_map tri_bytes p.occluders in
+    let t = flat_map tri_bytes p.object_tris in
+    let j = flat_map object_bytes p.objects in
+    let c = flat_map row_bytes p.cameras in
+    let sized = layout_sized p s in
+    record {
+      header = take_at h (v ++ (o ++ (t ++ (j ++ c)))) 32 (header_length p);
+      vertices = joined_vertices (counts_of p) h v o t j c sized ∙ sym (layout_vertices p s).each;
+      occluders = joined_occluders (counts_of p) h v o t j c sized ∙ sym (layout_tris p s p.occluders s.occluders).each;
+      object_tris = joined_object_tris (counts_of p) h v o t j c sized ∙ sym (layout_tris p s p.object_tris s.object_tris).each;
+      objects = joined_objects (counts_of p) h v o t j c sized ∙ sym (layout_objects p s).each;
+      cameras = joined_cameras (counts_of p) h v o t j c sized ∙ sym (layout_cameras p s).each;
+    }
+
+-- two scenes with one layout are one
+pub layout_one : (p q : Parts) → IsScene p → IsScene q → layout p ≡ layout q → p ≡ q
+layout_one p q sp sq e =
+    let rp = layout_reads p sp in
+    let rq = layout_reads q sq in
+    let hp = header_says p sp in
+    let hq = header_says q sq in
+    let eh : header_bytes p ≡ header_bytes q = sym rp.header ∙ ap (take 32) e ∙ rq.header in
+    let et : p.object_tris ≡ q.object_tris = sym rp.object_tris ∙ ap object_tris_in e ∙ rq.object_tris in
+    let ej : map raw_object p.objects ≡ map raw_object q.objects = sym rp.objects ∙ ap objects_in e ∙ rq.objects in
+    let valid : All (IsObject (length p.object_tris)) q.objects = subst (λ (ts : List Tri). All (IsObject (length ts)) q.objects) (sym et) sq.objects in
+    same_parts p q
+    (sym hp.width ∙ ap (short_at 6) eh ∙ hq.width)
+    (sym hp.height ∙ ap (short_at 8) eh ∙ hq.height)
+    (sym hp.near ∙ ap (short_at 10) eh ∙ hq.near)
+    (winding_one p.winding q.winding (sym hp.winding ∙ ap (λ (b : List ℕ). slice_index b 12) eh ∙ hq.winding))
+    (sym rp.vertices ∙ ap vertices_in e ∙ rq.vertices)
+    (sym rp.occluders ∙ ap occluders_in e ∙ rq.occluders)
+    et
+    (stored_each (length p.object_tris) p.objects q.objects (recursion_from_All (IsObject (length p.object_tris)) p.objects sp.objects) (recursion_from_All (IsObject (length p.object_tris)) q.objects valid) ej)
+    (sym rp.cameras ∙ ap cameras_in e ∙ rq.cameras)
