@@ -1,9 +1,10 @@
 -- The depth of a piece as a plane over the screen.
-use Rattle.std.specs.Prelude.{ℕ, ℤ, pos, ◌≡◌, ◌^◌, ◌+ℤ◌, ◌-ℤ◌, ◌*ℤ◌, ◌≤ℤ◌, ◌<ℤ◌}
+use Rattle.std.specs.Prelude.{ℕ, ℤ, pos, true, Bool, IsTrue, ◌↔◌, ◌<◌, ◌≡◌, ◌^◌, ◌+ℤ◌, ◌-ℤ◌, ◌*ℤ◌, ◌≤ℤ◌, ◌<ℤ◌}
 use Rattle.cull_base.specs.Bounds.{Bounded}
-use Rattle.cull_base.specs.Piece.{Piece, Point, vertex, nearness, middle}
-use Rattle.cull_base.specs.Depth.{numerator, denominator}
+use Rattle.cull_base.specs.Piece.{Piece, Point, vertex, nearness, middle, covers, touches, sample}
+use Rattle.cull_base.specs.Depth.{numerator, denominator, DepthAtLeast, DepthLess}
 use Rattle.cull_base.specs.declared.place.Sample.{Sample}
+use Rattle.cull_base.specs.declared.place.Sub.{Sub}
 use Rattle.depth_plane.specs.Reciprocal.{reciprocal_of}
 
 -- the depth at (x, y) is (across * x + down * y + level) / area
@@ -12,6 +13,9 @@ pub record Coefficients : Type 0 where
   pub down : ℤ
   pub level : ℤ
   pub area : ℤ
+
+abbrev pub coefficients : ℤ → ℤ → ℤ → ℤ → Coefficients
+coefficients across down level area = record { across = across; down = down; level = level; area = area }
 
 -- the area is positive and has this reciprocal, and the sizes keep products inside 128 bits
 pub record IsPlane (c : Coefficients) (reciprocal : ℕ) : Type 0 where
@@ -52,3 +56,14 @@ point_of s = middle s.px s.py
 -- the depth of a piece at p is at most v
 abbrev pub DepthAtMost : Piece → Point → ℕ → Type 0
 DepthAtMost t p v = numerator t p ≤ℤ (pos v *ℤ denominator t)
+
+-- no covered sample of a subtile lies below the bound, and no touched one above it
+abbrev pub IsLowBound : Piece → Sub → ℕ → Type 0
+IsLowBound t u bound = (k : ℕ) → k < 32 → covers t (sample u k) ≡ true → DepthAtLeast t (sample u k) bound
+
+abbrev pub IsHighBound : Piece → Sub → ℕ → Type 0
+IsHighBound t u bound = (k : ℕ) → k < 32 → touches t (sample u k) ≡ true → DepthAtMost t (sample u k) bound
+
+-- the answer says of two pieces, by their planes, whether the first has a strictly greater depth at p
+abbrev pub TellsNearerPiece : Coefficients → Coefficients → Point → Bool → Type 0
+TellsNearerPiece c other p answer = (s t : Piece) → c ≡ plane_of s → other ≡ plane_of t → (IsTrue answer ↔ DepthLess t s p)

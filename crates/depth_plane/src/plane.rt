@@ -1,11 +1,11 @@
 //! The plane of a piece's depth.
 ghost use Rattle.std.specs.Prelude.{◌≡◌, ℕ, ℤ, pos, true, ◌<◌, ◌≤◌, ◌^◌, ◌<ℤ◌, IsTrue, ◌↔◌, ◌+◌, ◌*◌};
-ghost use Rattle.cull_base.specs.Piece.{least_of, greatest_of, Piece, IsPiece, Point, covers, touches, sample, each_sample};
+ghost use Rattle.cull_base.specs.Piece.{least_of, greatest_of, IsPiece, Point, sample, each_sample};
 ghost use Rattle.std.specs.Int.{int_max};
-ghost use Rattle.cull_base.specs.Depth.{floor_of, least_nearness, greatest_nearness, numerator, denominator, low_of, high_of, DepthAtLeast, DepthLess};
+ghost use Rattle.cull_base.specs.Depth.{floor_of, least_nearness, greatest_nearness, numerator, denominator, low_of, high_of};
 ghost use Rattle.cull_base.specs.Bounds.{Bounded};
 ghost use Rattle.cull_base.specs.declared.nearness.TheConstants.{HELD_TOP};
-ghost use Rattle.depth_plane.specs.Plane.{plane_of, numerator_at, IsNearer, point_of, DepthAtMost};
+ghost use Rattle.depth_plane.specs.Plane.{plane_of, numerator_at, IsNearer, point_of, IsLowBound, IsHighBound, TellsNearerPiece};
 
 use crate::corner::{greatest_along, least_along, numerator_at};
 use crate::quotient::{ceiling, cut_to_range, floor, is_greater};
@@ -33,14 +33,14 @@ pub struct Plane {
 
 impl Model for Plane {
     ghost use Rattle.std.proofs.Common.{ap, sym};
-    ghost use Rattle.depth_plane.specs.Plane.{Coefficients, IsPlane};
+    ghost use Rattle.depth_plane.specs.Plane.{Coefficients, coefficients, IsPlane};
     ghost use Rattle.depth_plane.specs.Reciprocal.{reciprocal_of};
 
     ghost Value = { Coefficients };
 
-    ghost view = { λ p. record { across = p.across; down = p.down; level = p.level; area = p.area } };
+    ghost view = { λ p. coefficients p.across p.down p.level p.area };
 
-    ghost invariant = { λ p. IsPlane (record { across = p.across; down = p.down; level = p.level; area = p.area }) p.reciprocal };
+    ghost invariant = { λ p. IsPlane (coefficients p.across p.down p.level p.area) p.reciprocal };
 
     ghost inverse = { λ c. record { across = c.across; down = c.down; level = c.level; area = c.area; reciprocal = reciprocal_of c.area } };
 
@@ -101,7 +101,7 @@ impl Plane {
         requires row { sub.row < 512 }
         ensures value { result ≡ low_of tri.now sub }
         ensures within { result ≤ HELD_TOP }
-        ensures below { (k : ℕ) → k < 32 → covers tri.now (sample sub k) ≡ true → DepthAtLeast tri.now (sample sub k) result }
+        ensures below { IsLowBound tri.now sub result }
     {
         cut_to_range(self.floor_from(least_nearness(tri), self.least(sub)))
     }
@@ -114,7 +114,7 @@ impl Plane {
         requires row { sub.row < 512 }
         ensures value { result ≡ high_of tri.now sub }
         ensures within { result ≤ HELD_TOP }
-        ensures above { (k : ℕ) → k < 32 → touches tri.now (sample sub k) ≡ true → DepthAtMost tri.now (sample sub k) result }
+        ensures above { IsHighBound tri.now sub result }
     {
         let nearness = i128::from(greatest_nearness(tri));
         cut_to_range(nearness.min(ceiling(self.greatest(sub), self.area)))
@@ -192,7 +192,7 @@ impl Plane {
     /// Whether this depth at the sample is strictly greater than the other's.
     pub fn nearer(&self, other: &Plane, sample: Sample) -> bool
         ensures value { IsTrue result ↔ IsNearer self.now other.now (point_of sample) }
-        ensures pieces { (s t : Piece) → self.now ≡ plane_of s → other.now ≡ plane_of t → (IsTrue result ↔ DepthLess t s (point_of sample)) }
+        ensures pieces { TellsNearerPiece self.now other.now (point_of sample) result }
     {
         is_greater(self.at(sample), self.area, other.at(sample), other.area)
     }

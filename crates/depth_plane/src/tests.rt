@@ -19,7 +19,7 @@ fn a_sloping_piece_is_bounded_by_its_plane_and_its_vertices(rt: HostRuntime) {
     assert_eq!(rt; plane.low(&tri, Sub { column: 4, row: 0 }), 200);
 }
 
-// The depth goes from 0 at x = -400,000,000 to 1001 at 400,000,000, so it is 500.5 at x = 0 and hardly rises from there.
+// The depth goes from 0 at x = -400,000,000 to 1001 at 400,000,000, so it is 500.5 at x = 0 and hardly rises there.
 #[test]
 fn numerators_beyond_64_bits_are_divided_too(rt: HostRuntime) {
     let far = 400_000_000;

@@ -5,7 +5,7 @@ use Rattle.std.proofs.lemmas.Int.{ints, by_lt_z}
 use Rattle.std.proofs.lemmas.Bool.{and_parts}
 use Rattle.cull_base.specs.Piece.{Piece, Point, vertex, edge_value, is_top_or_left, edge_covers, covers}
 use Rattle.cull_base.proofs.Ring.{diff, diff-add, diff-mul, diff-same, over2, over4}
-use Rattle.edge_lanes.specs.Shared.{HasEdge}
+use Rattle.edge_lanes.specs.Shared.{HasEdge, NoneInBoth}
 use Rattle.edge_lanes.proofs.Extremes.{any_false}
 use Rattle.edge_lanes.proofs.Steps.{diff-neg}
 
@@ -102,5 +102,5 @@ not_covers t a b p g h =
       | inr (inr (e, f)) ↦ inr (inr (same_edge (vertex t 2) (vertex t 0) a b p e f ∙ h))
     ])
 
-pub covers-beside : (s t : Piece) (a b p : Point) → a ≢ b → HasEdge s a b → HasEdge t b a → covers s p ≡ true → covers t p ≡ false
-covers-beside s t a b p ne f g h = not_covers t b a p g (edge_covers-reversed a b p ne ∙ ap not (edge_of_covers s a b p f h))
+pub covers-beside : (s t : Piece) (a b : Point) → a ≢ b → HasEdge s a b → HasEdge t b a → NoneInBoth s t
+covers-beside s t a b ne f g p h = not_covers t b a p g (edge_covers-reversed a b p ne ∙ ap not (edge_of_covers s a b p f h))

@@ -16,20 +16,23 @@ value_at e x y = (e.start +ℤ (e.column *ℤ pos x)) +ℤ (e.row *ℤ pos y)
 abbrev pub IsEdge : Edge → Side → Point → Point → Type 0
 IsEdge e side a b = (x y : ℕ) → value_at e x y ≡ edge_value a b (middle x y) +ℤ bias_of side (is_top_or_left a b)
 
--- a pixel's sample is inside all three edges
+-- a pixel's sample counts for an edge, and is inside all three
+abbrev pub counts_at : Edge → ℕ → ℕ → Bool
+counts_at e x y = is_not_negative (value_at e x y)
+
 abbrev pub is_inside : Edges → ℕ → ℕ → Bool
-is_inside e x y = is_not_negative (value_at e.first x y) && (is_not_negative (value_at e.second x y) && is_not_negative (value_at e.third x y))
+is_inside e x y = counts_at e.first x y && (counts_at e.second x y && counts_at e.third x y)
 
 -- which samples of a subtile lie inside all three edges
 unfoldable pub inside_of : Edges → Sub → List Bool
 inside_of e u = each_sample (λ k. is_inside e (8 * u.column + k % 8) (4 * u.row + k / 8))
 
--- sample k of a subtile is inside an edge that has this value at the subtile's first sample
+-- sample k of a subtile is inside an edge that has this value at the subtile's first sample, and inside three
 abbrev pub inside_from : Edge → ℤ → ℕ → Bool
 inside_from e start k = is_not_negative ((start +ℤ (e.row *ℤ pos (k / 8))) +ℤ (e.column *ℤ pos (k % 8)))
 
 abbrev pub inside_all : Edges → ℤ → ℤ → ℤ → ℕ → Bool
-inside_all e first second third k = inside_from e.first first k && (inside_from e.second second k && inside_from e.third third k)
+inside_all e s t u k = inside_from e.first s k && (inside_from e.second t k && inside_from e.third u k)
 
 -- subtile j of a tile, of which it has four columns and two rows
 abbrev pub sub_of : Tile → ℕ → Sub
