@@ -10,15 +10,17 @@ use crate::hom_point::HomPoint;
 use crate::polygon::Polygon;
 use cull_base::ClipVertex;
 
+/// Whether a vertex lies in front of the near plane, or on it.
 #[inline(always)]
-fn is_in_front(v: &ClipVertex, near: u16) -> bool
+pub fn is_in_front(v: &ClipVertex, near: u16) -> bool
     ensures { result ≡ is_in_front v.now near }
 {
     i64::from(near) <= v.w
 }
 
+/// A vertex itself as a point, with scale 1.
 #[inline(always)]
-fn whole(v: &ClipVertex) -> HomPoint
+pub fn whole(v: &ClipVertex) -> HomPoint
     ensures { result ≡ whole v.now }
 {
     HomPoint {

@@ -6,7 +6,7 @@ mod clip;
 mod hom_point;
 mod polygon;
 
-pub use clip::clip_near;
+pub use clip::{clip_near, is_in_front, whole};
 pub use hom_point::HomPoint;
 pub use polygon::Polygon;
 

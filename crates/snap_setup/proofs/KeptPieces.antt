@@ -1,6 +1,7 @@
 -- The pieces that a snapped polygon keeps.
-use Rattle.std.proofs.Common.{◌≡◌, ℕ, suc, List, [], ◌∷◌, ◌++◌, map, filter, length, get_or, Bool, true, false, not, cond, ◌||◌, Option, Some, None, option_to_list, inl, inr, ◌↔◌, append-nil, arith, refl, sym, ◌∙◌}
+use Rattle.std.proofs.Common.{◌≡◌, ℕ, suc, List, [], ◌∷◌, ◌++◌, map, filter, length, get_or, Bool, true, false, not, cond, ◌&&◌, ◌||◌, Option, Some, None, option_to_list, inl, inr, ◌↔◌, append-nil, arith, refl, sym, ◌∙◌}
 use Rattle.std.specs.List.{All}
+use Rattle.std.proofs.lemmas.Bool.{and_parts}
 use Rattle.std.proofs.lemmas.List.Elements.{All-nil, All-cons}
 use Rattle.cull_base.specs.declared.clip.ClipVertex.{ClipVertex}
 use Rattle.cull_base.specs.declared.triangle.Side.{Side}
@@ -9,11 +10,13 @@ use Rattle.cull_base.specs.Screen.{Dimensions}
 use Rattle.cull_base.specs.Guard.{is_past_guard}
 use Rattle.cull_base.specs.Piece.{Piece}
 use Rattle.near_clip.specs.declared.hom_point.HomPoint.{HomPoint}
-use Rattle.near_clip.specs.NearPart.{near_part, corner}
-use Rattle.near_clip.proofs.Reaches.{all_corners, near_part-outside}
+use Rattle.near_clip.specs.NearPart.{near_part, corner, is_in_front, whole}
+use Rattle.near_clip.specs.Reach.{IsInReach}
+use Rattle.near_clip.proofs.Guarded.{guarded}
+use Rattle.near_clip.proofs.Reaches.{all_corners, near_part-outside, whole_reaches}
 use Rattle.snap_setup.specs.declared.snapping.Snapped.{Snapped}
 use Rattle.snap_setup.specs.Snapping.{snapped}
-use Rattle.snap_setup.specs.Pieces.{triangle, triangles_of, piece_if, is_left_out, turned, kept_of, snapped_part, is_any_past_guard, pieces_of, GivesNone}
+use Rattle.snap_setup.specs.Pieces.{triangle, triangles_of, piece_if, is_left_out, turned, kept_of, snapped_part, is_any_past_guard, is_all_in_front, pieces_of, GivesNone}
 
 abbrev kept_from : Winding → List Piece → List Piece
 kept_from winding ts = map turned (filter (λ t. not (is_left_out winding t)) ts)
@@ -72,6 +75,26 @@ part_four v0 v1 v2 top near size winding side ps p0 p1 p2 p3 s0 s1 s2 s3 first s
     let l = kept_cons winding (triangle s0 s2 s3) [] in
     let z = append-nil (option_to_list (piece_if winding (triangle s0 s2 s3))) in
     rw (n, ← f0, ← f1, ← f2, ← f3, k, l, z, er, ef, es) refl
+
+-- a triangle of which all vertices are in front
+pub fronts : (v0 v1 v2 : ClipVertex) (near : ℕ) → is_all_in_front v0 v1 v2 near ≡ true → (is_in_front v0 near ≡ true) × (is_in_front v1 near ≡ true) × (is_in_front v2 near ≡ true)
+fronts v0 v1 v2 near e =
+    let (a, rest) = and_parts (is_in_front v0 near) (is_in_front v1 near && is_in_front v2 near) e in
+    let (b, c) = and_parts (is_in_front v1 near) (is_in_front v2 near) rest in
+    (a, b, c)
+
+pub whole_in_reach : (near : ℕ) (v : ClipVertex) (p : HomPoint) → p ≡ whole v → is_past_guard v near ≡ false → is_in_front v near ≡ true → IsInReach near p
+whole_in_reach near v p e g f = rw e (whole_reaches v near (guarded v near g) f)
+
+pub part_whole : (v0 v1 v2 : ClipVertex) (top near : ℕ) (size : Dimensions) (winding : Winding) (side : Side) (p0 p1 p2 : HomPoint) (s0 s1 s2 : Snapped) (first : Option Piece) (r : List Piece) →
+    is_all_in_front v0 v1 v2 near ≡ true → p0 ≡ whole v0 → p1 ≡ whole v1 → p2 ≡ whole v2 →
+    s0 ≡ snapped p0 top near size side → s1 ≡ snapped p1 top near size side → s2 ≡ snapped p2 top near size side →
+    first ≡ piece_if winding (triangle s0 s1 s2) → r ≡ option_to_list first ++ [] → r ≡ kept_of (snapped_part v0 v1 v2 top near size side) winding
+unfolding near_part
+part_whole v0 v1 v2 top near size winding side p0 p1 p2 s0 s1 s2 first r e g0 g1 g2 f0 f1 f2 ef er =
+    let (a, b, c) = fronts v0 v1 v2 near e in
+    let ps : p0 ∷ p1 ∷ p2 ∷ [] ≡ near_part v0 v1 v2 near = rw (a, b, c, g0, g1, g2) refl in
+    part_three v0 v1 v2 top near size winding side (p0 ∷ p1 ∷ p2 ∷ []) p0 p1 p2 s0 s1 s2 first r ps refl refl refl refl f0 f1 f2 ef er
 
 -- nothing is kept exactly where each triangle is left out
 kept_nothing : (winding : Winding) (ts : List Piece) → kept_from winding ts ≡ [] → All (λ t. is_left_out winding t ≡ true) ts

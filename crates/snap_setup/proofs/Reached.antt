@@ -1,10 +1,10 @@
 -- What it says of a point that it is in reach.
-use Rattle.std.proofs.Common.{◌≡◌, ℕ, ℤ, pos, negsuc, zero, suc, sym, ◌+◌, ◌*◌, ◌^◌, ◌<◌, ◌≤◌, ◌≤ℤ◌, ◌+ℤ◌, ◌-ℤ◌, ◌*ℤ◌, arith, refl, ◌/◌, ◌%◌, min}
+use Rattle.std.proofs.Common.{◌≡◌, ℕ, ℤ, pos, negsuc, zero, suc, sym, ◌+◌, ◌*◌, ◌-◌, ◌^◌, ◌<◌, ◌≤◌, ◌≤ℤ◌, ◌+ℤ◌, ◌-ℤ◌, ◌*ℤ◌, arith, refl, ◌/◌, ◌%◌, min}
 use Rattle.std.proofs.lemmas.Int.{ints}
 use Rattle.std.proofs.Math.Nat.{mul-le-mul_left, mul-le-mul}
 use Rattle.near_clip.specs.declared.hom_point.HomPoint.{HomPoint}
 use Rattle.near_clip.specs.Reach.{IsInReach}
-use Rattle.std.proofs.Math.Nat.{div-le_of_le-mul, div-add-mod, lt_of_mul-lt-mul_left}
+use Rattle.std.proofs.Math.Nat.{div-le_of_le-mul, div-add-mod, div-eq_of_lt-le, mod-lt, mul-div-mul_left, lt_of_mul-lt-mul_left}
 use Rattle.std.specs.Int.{div_ceil}
 use Rattle.std.specs.Int.RustNames.{unsigned_abs}
 use Rattle.cull_base.specs.declared.triangle.Side.TheVariants.{Occluder, Object}
@@ -131,6 +131,37 @@ nearness_is : (top near : ℕ) (p : HomPoint) → 1 ≤ near → near ≤ 1024 �
 nearness_is top near p hn le h = let (s, w, r) = reached near p le h in nearness_along top near p.x p.y p.scale p.w s w r.scale_is r.w_is hn r.scale_least r.w_least
 
 -- the nearness by the numbers that the code took
-pub nearness_from : (top near : ℕ) (p : HomPoint) (a n w : ℕ) → 1 ≤ near → near ≤ 1024 → IsInReach near p →
+nearness_from : (top near : ℕ) (p : HomPoint) (a n w : ℕ) → 1 ≤ near → near ≤ 1024 → IsInReach near p →
     a ≡ unsigned_abs p.scale → n ≡ top * near * a → w ≡ unsigned_abs p.w → IsNearness top near p (n / w) (div_ceil n w)
 nearness_from top near p a n w hn le h ea en ew = let k = nearness_is top near p hn le h in rw (en, ea, ew) k
+
+pub numerator_small : (top near s a b : ℕ) → a ≡ top → b ≡ near → near ≤ 1024 → s ≤ 2 ^ 25 → a * b * s ≤ top * 2 ^ 35
+numerator_small top near s a b ea eb hn hs = let k = mul-le-mul_left top (mul-le-mul hn hs) in rw (ea, eb) (omega (arith, k))
+
+-- the same by a divisor of twice w
+doubled_down : (n w : ℕ) → 0 < w → 2 * n / (2 * w) ≡ n / w
+doubled_down n w h = mul-div-mul_left {m = 2} n w (omega arith)
+
+doubled_up : (n w : ℕ) → 0 < w → (2 * n + (2 * w - 1)) / (2 * w) ≡ div_ceil n w
+doubled_up n w h = by_rest (n % w) refl
+  where
+    by_rest : (r : ℕ) → r ≡ n % w → (2 * n + (2 * w - 1)) / (2 * w) ≡ n / w + min 1 (n % w)
+    by_rest zero e =
+        let m = div-add-mod n w in
+        let k : n / w + min 1 (n % w) ≡ n / w = omega (arith, e) in
+        rw k (div-eq_of_lt-le (2 * w) {m = 2 * n + (2 * w - 1)} (omega (arith, m, e, h)) (omega (arith, m, e, h)))
+    by_rest (suc r) e =
+        let m = div-add-mod n w in
+        let k : n / w + min 1 (n % w) ≡ n / w + 1 = omega (arith, e) in
+        let lt : n % w < w = mod-lt n h in
+        rw k (div-eq_of_lt-le (2 * w) {m = 2 * n + (2 * w - 1)} (omega (arith, m, e, h)) (omega (arith, m, e, h, lt)))
+
+pub nearness_doubled : (top near : ℕ) (p : HomPoint) (a n w d : ℕ) → 1 ≤ near → near ≤ 1024 → IsInReach near p → pos 1 ≤ℤ p.w →
+    a ≡ unsigned_abs p.scale → n ≡ top * near * a → w ≡ unsigned_abs p.w → pos d ≡ pos 2 *ℤ p.w → IsNearness top near p (2 * n / d) ((2 * n + (2 * w - 1)) / d)
+nearness_doubled top near p a n w d hn le h least ea en ew ed =
+    let k = nearness_from top near p a n w hn le h ea en ew in
+    let (b, eb) = natural p.w (omega (arith, ints, least)) in
+    let wb : w ≡ b = rw eb at ew in
+    let db : d ≡ 2 * w = omega (arith, ints, ed, eb, wb) in
+    let some : 0 < w = omega (arith, ints, least, eb, wb) in
+    rw (db, doubled_down n w some, doubled_up n w some) k

@@ -1,5 +1,5 @@
 -- The pieces of a triangle, of a list of triangles, and the box of what is in front of the near plane.
-use Rattle.std.specs.Prelude.{◌≡◌, ◌<◌, ℕ, ℤ, pos, ◌⊎◌, IsTrue, List, [], ◌∷◌, map, filter, Bool, true, false, not, cond, ◌||◌, int_lt, slice_index, Option, Some, None}
+use Rattle.std.specs.Prelude.{◌≡◌, ◌<◌, ℕ, ℤ, pos, ◌⊎◌, IsTrue, List, [], ◌∷◌, map, filter, Bool, true, false, not, cond, ◌&&◌, ◌||◌, int_lt, slice_index, Option, Some, None}
 use Rattle.std.specs.List.{swap, flat_map, All}
 use Rattle.std.specs.Ordering.{int_eq}
 use Rattle.cull_base.specs.declared.clip.ClipVertex.{ClipVertex}
@@ -64,6 +64,9 @@ is_any_past_guard v0 v1 v2 near = is_past_guard v0 near || (is_past_guard v1 nea
 unfoldable pub pieces_of : ClipVertex → ClipVertex → ClipVertex → ℕ → ℕ → Dimensions → Winding → Side → List Piece
 pieces_of v0 v1 v2 top near size winding side =
     cond (is_any_past_guard v0 v1 v2 near) [] (kept_of (snapped_part v0 v1 v2 top near size side) winding)
+
+abbrev pub is_all_in_front : ClipVertex → ClipVertex → ClipVertex → ℕ → Bool
+is_all_in_front v0 v1 v2 near = is_in_front v0 near && (is_in_front v1 near && is_in_front v2 near)
 
 -- all of a triangle is behind the near plane
 abbrev pub IsBehind : ClipVertex → ClipVertex → ClipVertex → ℕ → Type 0

@@ -34,6 +34,7 @@ pub fn frame_list(
     Ok(list)
 }
 
+#[inline(always)]
 fn corners(clips: &[ClipVertex], tri: &Tri) -> [ClipVertex; 3]
     requires { HasClips (length clips.now) tri.now }
     ensures first { corner result 0 ≡ clip_at clips.now tri.now 0 }

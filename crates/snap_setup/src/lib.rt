@@ -3,6 +3,7 @@
 #![tactic(auto)]
 
 mod boxes;
+mod divisor;
 mod frame;
 mod pieces;
 mod snapping;

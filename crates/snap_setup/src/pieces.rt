@@ -30,6 +30,7 @@ impl Model for Pieces {
 impl Pieces {
     ghost use Rattle.snap_setup.specs.Members.{with_pieces};
 
+    #[inline(always)]
     pub(crate) fn none() -> Pieces
         ensures { result ≡ [] }
     {
@@ -38,6 +39,7 @@ impl Pieces {
         }
     }
 
+    #[inline(always)]
     pub(crate) fn of(first: Option<ScreenTri>, second: Option<ScreenTri>) -> Pieces
         ensures { result ≡ option_to_list first ++ option_to_list second }
     {
@@ -73,6 +75,7 @@ impl Pieces {
         }
     }
 
+    #[inline(always)]
     pub(crate) fn push_onto(&self, list: &mut FrameList)
         requires { length list.old.list.members + 2 ≤ list.old.room }
         ensures { list.new ≡ with_pieces list.old self.now }

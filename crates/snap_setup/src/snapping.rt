@@ -6,7 +6,7 @@ ghost use Rattle.cull_base.specs.declared.nearness.TheConstants.{GRADE_TOP};
 ghost use Rattle.near_clip.specs.Reach.{IsInReach};
 ghost use Rattle.snap_setup.specs.Snapping.{round_half, screen_x, screen_y, nearness_of, snapped, place_of, IsInSight, IsSnapped};
 
-use cull_base::arithmetic::floor_quotient;
+use crate::divisor::Divisor;
 use cull_base::{GRADE_TOP, Side, Size};
 use near_clip::HomPoint;
 
@@ -36,36 +36,49 @@ fn wide_sum(a: i128, b: i64) -> i128
     a + i128::from(b)
 }
 
+// Twice w, by which the coordinates and the nearness of a point are divided.
+#[inline(always)]
+fn doubled_w(point: &HomPoint) -> Divisor
+    requires { IsInSight point.now }
+    ensures { pos result ≡ pos 2 *ℤ point.now.w }
+{
+    Divisor::of(2 * point.w.unsigned_abs())
+}
+
 // So many pixels are reached by offsets from 0 to twice w. The place of an offset in sixteenths of a pixel, rounded.
-fn place_of_offset(pixels: u16, offset: i64, w: i64) -> i32
+#[inline(always)]
+fn place_of_offset(pixels: u16, offset: i64, w: i64, doubled: &Divisor) -> i32
     requires pixels { pixels ≤ 2048 }
     requires low { neg_ℤ (pos 16385 *ℤ w) ≤ℤ offset }
     requires high { offset ≤ℤ (pos 16385 *ℤ w) }
     requires w_least { pos 1 ≤ℤ w }
     requires w_most { w ≤ℤ pos (2 ^ 49) }
+    requires doubled { pos doubled.now ≡ pos 2 *ℤ w }
     ensures value { result ≡ round_half (pos (8 * pixels) *ℤ offset) w }
     ensures within { IsCoordinate result }
 {
-    let doubled = wide_product(16 * u32::from(pixels), offset);
-    floor_quotient(wide_sum(doubled, w), 2 * w) as i32
+    let product = wide_product(16 * u32::from(pixels), offset);
+    doubled.wide_floor(wide_sum(product, w)) as i32
 }
 
 #[inline(always)]
-fn place_x(point: &HomPoint, size: Size) -> i32
-    requires { IsInSight point.now }
+fn place_x(point: &HomPoint, size: Size, doubled: &Divisor) -> i32
+    requires sight { IsInSight point.now }
+    requires doubled { pos doubled.now ≡ pos 2 *ℤ point.now.w }
     ensures value { result ≡ screen_x point.now size }
     ensures within { IsCoordinate result }
 {
-    place_of_offset(size.width(), point.x + point.w, point.w)
+    place_of_offset(size.width(), point.x + point.w, point.w, doubled)
 }
 
 #[inline(always)]
-fn place_y(point: &HomPoint, size: Size) -> i32
-    requires { IsInSight point.now }
+fn place_y(point: &HomPoint, size: Size, doubled: &Divisor) -> i32
+    requires sight { IsInSight point.now }
+    requires doubled { pos doubled.now ≡ pos 2 *ℤ point.now.w }
     ensures value { result ≡ screen_y point.now size }
     ensures within { IsCoordinate result }
 {
-    place_of_offset(size.height(), point.w - point.y, point.w)
+    place_of_offset(size.height(), point.w - point.y, point.w, doubled)
 }
 
 /// Where a point stands: in sixteenths of a pixel, y downwards.
@@ -85,9 +98,10 @@ pub(crate) fn place_of(point: &HomPoint, near: u16, size: Size) -> Place
     ensures x_within { IsCoordinate result.x }
     ensures y_within { IsCoordinate result.y }
 {
+    let doubled = doubled_w(point);
     Place {
-        x: place_x(point, size),
-        y: place_y(point, size),
+        x: place_x(point, size, &doubled),
+        y: place_y(point, size, &doubled),
     }
 }
 
@@ -95,29 +109,34 @@ pub(crate) fn place_of(point: &HomPoint, near: u16, size: Size) -> Place
 fn nearness_numerator(near: u16, scale: u64) -> u64
     requires near { near ≤ 1024 }
     requires scale { scale ≤ 2 ^ 25 }
-    ensures { result ≡ GRADE_TOP * near * scale }
+    ensures value { result ≡ GRADE_TOP * near * scale }
+    ensures bounded { result ≤ GRADE_TOP * 2 ^ 35 }
 {
     u64::from(GRADE_TOP) * u64::from(near) * scale
 }
 
-fn nearness(point: &HomPoint, near: u16, side: Side) -> u32
+#[inline(always)]
+fn nearness(point: &HomPoint, near: u16, side: Side, doubled: &Divisor) -> u32
     requires near_least { 1 ≤ near }
     requires near_most { near ≤ 1024 }
     requires reach { IsInReach near point.now }
+    requires sight { IsInSight point.now }
+    requires doubled { pos doubled.now ≡ pos 2 *ℤ point.now.w }
     ensures value { result ≡ nearness_of point.now GRADE_TOP near side }
     ensures within { result ≤ GRADE_TOP }
 {
-    let numerator = nearness_numerator(near, point.scale.unsigned_abs());
+    let numerator = 2 * nearness_numerator(near, point.scale.unsigned_abs());
     let w = point.w.unsigned_abs();
     match side {
-        Side::Occluder => (numerator / w) as u32,
-        Side::Object => numerator.div_ceil(w) as u32,
+        Side::Occluder => doubled.quotient(numerator) as u32,
+        Side::Object => doubled.quotient(numerator + (2 * w - 1)) as u32,
     }
 }
 
 /// The point on the screen, its coordinates rounded to the nearest whole number and its nearness down for an
 /// occluder, up for an object. Condition: `near` is 1 to 1024; the scale is 1 to 2^25, w is `near` to 16384 `near`
 /// times the scale, x and y are at most 16384 `near` times the scale away from 0.
+#[inline(always)]
 pub fn snap(point: &HomPoint, near: u16, size: Size, side: Side) -> Snapped
     requires near_least { 1 ≤ near }
     requires near_most { near ≤ 1024 }
@@ -125,10 +144,10 @@ pub fn snap(point: &HomPoint, near: u16, size: Size, side: Side) -> Snapped
     ensures value { result ≡ snapped point.now GRADE_TOP near size side }
     ensures within { IsSnapped result }
 {
-    let place = place_of(point, near, size);
+    let doubled = doubled_w(point);
     Snapped {
-        x: place.x,
-        y: place.y,
-        q: nearness(point, near, side),
+        x: place_x(point, size, &doubled),
+        y: place_y(point, size, &doubled),
+        q: nearness(point, near, side, &doubled),
     }
 }

@@ -1,12 +1,12 @@
 //! The pieces of one triangle.
-ghost use Rattle.std.specs.Prelude.{◌≡◌, ℤ, pos, [], false, ◌≤◌, ◌^◌, ◌-ℤ◌, ◌*ℤ◌, ◌<ℤ◌, ◌↔◌, Some, length};
+ghost use Rattle.std.specs.Prelude.{◌≡◌, ℤ, pos, [], true, false, ◌≤◌, ◌^◌, ◌-ℤ◌, ◌*ℤ◌, ◌<ℤ◌, ◌↔◌, Some, length};
 ghost use Rattle.std.specs.List.{All};
 ghost use Rattle.cull_base.specs.Bounds.{Bounded};
 ghost use Rattle.cull_base.specs.declared.nearness.TheConstants.{GRADE_TOP};
 ghost use Rattle.cull_base.specs.Guard.{is_past_guard};
 ghost use Rattle.cull_base.specs.Piece.{IsCoordinate, doubled_area};
 ghost use Rattle.near_clip.specs.NearPart.{corner};
-ghost use Rattle.snap_setup.specs.Pieces.{triangle, is_dropped, piece_if, kept_of, is_any_past_guard};
+ghost use Rattle.snap_setup.specs.Pieces.{triangle, is_dropped, piece_if, kept_of, is_any_past_guard, is_all_in_front};
 ghost use Rattle.snap_setup.specs.Triangles.{part_of_triangle, pieces_of_triangle, TriangleGivesNone};
 ghost use Rattle.snap_setup.specs.Snapping.{IsSnapped};
 
@@ -15,9 +15,10 @@ use crate::snapping::{Snapped, snap};
 use camera_path::past_guard;
 use cull_base::arithmetic::edge_value;
 use cull_base::{ClipVertex, ScreenTri, Side, Size, Winding};
-use near_clip::clip_near;
+use near_clip::{clip_near, is_in_front, whole};
 
 // Positive where the points run clockwise on the screen.
+#[inline(always)]
 fn doubled_area(a: &Snapped, b: &Snapped, c: &Snapped) -> i64
     requires a { IsSnapped a.now }
     requires b { IsSnapped b.now }
@@ -27,6 +28,7 @@ fn doubled_area(a: &Snapped, b: &Snapped, c: &Snapped) -> i64
     edge_value(a.x, a.y, b.x, b.y, c.x, c.y)
 }
 
+#[inline(always)]
 fn is_dropped(winding: Winding, area: i64) -> bool
     ensures { result ≡ is_dropped winding area }
 {
@@ -37,6 +39,7 @@ fn is_dropped(winding: Winding, area: i64) -> bool
     }
 }
 
+#[inline(always)]
 fn screen_tri(a: &Snapped, b: &Snapped, c: &Snapped) -> ScreenTri
     requires a { IsSnapped a.now }
     requires b { IsSnapped b.now }
@@ -47,6 +50,7 @@ fn screen_tri(a: &Snapped, b: &Snapped, c: &Snapped) -> ScreenTri
     ScreenTri::known([a.x, b.x, c.x], [a.y, b.y, c.y], [a.q, b.q, c.q])
 }
 
+#[inline(always)]
 fn piece(a: &Snapped, b: &Snapped, c: &Snapped, winding: Winding) -> Option<ScreenTri>
     requires a { IsSnapped a.now }
     requires b { IsSnapped b.now }
@@ -63,7 +67,14 @@ fn piece(a: &Snapped, b: &Snapped, c: &Snapped, winding: Winding) -> Option<Scre
     }
 }
 
-fn outline(tri: &[ClipVertex; 3], near: u16, size: Size, winding: Winding, side: Side) -> Pieces
+#[inline(never)]
+fn clipped_triangle(
+    tri: &[ClipVertex; 3],
+    near: u16,
+    size: Size,
+    winding: Winding,
+    side: Side,
+) -> Pieces
     requires near_least { 1 ≤ near }
     requires near_most { near ≤ 1024 }
     requires guarded { All (λ v. is_past_guard v near ≡ false) tri.now }
@@ -85,6 +96,57 @@ fn outline(tri: &[ClipVertex; 3], near: u16, size: Size, winding: Winding, side:
     Pieces::of(first, second)
 }
 
+#[inline(always)]
+fn is_all_in_front(tri: &[ClipVertex; 3], near: u16) -> bool
+    ensures { result ≡ is_all_in_front (corner tri.now 0) (corner tri.now 1) (corner tri.now 2) near }
+{
+    let [v0, v1, v2] = tri;
+    is_in_front(v0, near) && is_in_front(v1, near) && is_in_front(v2, near)
+}
+
+// The piece of a triangle that no plane cuts: its polygon has its own three vertices.
+#[inline(always)]
+fn whole_triangle(
+    tri: &[ClipVertex; 3],
+    near: u16,
+    size: Size,
+    winding: Winding,
+    side: Side,
+) -> Pieces
+    requires near_least { 1 ≤ near }
+    requires near_most { near ≤ 1024 }
+    requires guarded { All (λ v. is_past_guard v near ≡ false) tri.now }
+    requires in_front { is_all_in_front (corner tri.now 0) (corner tri.now 1) (corner tri.now 2) near ≡ true }
+    ensures { result ≡ kept_of (part_of_triangle tri.now GRADE_TOP near size side) winding }
+{
+    let [v0, v1, v2] = tri;
+    let p0 = snap(&whole(v0), near, size, side);
+    let p1 = snap(&whole(v1), near, size, side);
+    let p2 = snap(&whole(v2), near, size, side);
+    Pieces::of(piece(&p0, &p1, &p2, winding), None)
+}
+
+#[inline(always)]
+fn pieces_in_front(
+    tri: &[ClipVertex; 3],
+    near: u16,
+    size: Size,
+    winding: Winding,
+    side: Side,
+) -> Pieces
+    requires near_least { 1 ≤ near }
+    requires near_most { near ≤ 1024 }
+    requires guarded { All (λ v. is_past_guard v near ≡ false) tri.now }
+    ensures { result ≡ kept_of (part_of_triangle tri.now GRADE_TOP near size side) winding }
+{
+    if is_all_in_front(tri, near) {
+        whole_triangle(tri, near, size, winding, side)
+    } else {
+        clipped_triangle(tri, near, size, winding, side)
+    }
+}
+
+#[inline(always)]
 fn is_any_past_guard(tri: &[ClipVertex; 3], near: u16) -> bool
     requires near_least { 1 ≤ near }
     requires near_most { near ≤ 1024 }
@@ -97,6 +159,7 @@ fn is_any_past_guard(tri: &[ClipVertex; 3], near: u16) -> bool
 /// The pieces of a triangle, each turned so that its doubled area is positive. There is none where a vertex is
 /// past the guard, and else none exactly where all of it is behind the near plane or each triangle of the clipped
 /// polygon has area 0 or a dropped winding. Condition: `near` is 1 to 1024.
+#[inline(always)]
 pub fn set_up(tri: &[ClipVertex; 3], near: u16, size: Size, winding: Winding, side: Side) -> Pieces
     requires near_least { 1 ≤ near }
     requires near_most { near ≤ 1024 }
@@ -107,5 +170,5 @@ pub fn set_up(tri: &[ClipVertex; 3], near: u16, size: Size, winding: Winding, si
     if is_any_past_guard(tri, near) {
         return Pieces::none();
     }
-    outline(tri, near, size, winding, side)
+    pieces_in_front(tri, near, size, winding, side)
 }

@@ -4,8 +4,8 @@ use Rattle.near_clip.specs.NearPart.{corner}
 use Rattle.snap_setup.proofs.KeptPieces.{gives_none, past, held, all_within_guard}
 use Rattle.snap_setup.proofs.triangle.set_up.Goals as goal
 
-pub outline-requires-clause-guarded : goal.outline-requires-clause-guarded
-outline-requires-clause-guarded c = all_within_guard c.args.tri.now c.args.near c.told-tri (sym c.is_any_past_guard.ensures ∙ c.if-is_any_past_guard.false)
+pub pieces_in_front-requires-clause-guarded : goal.pieces_in_front-requires-clause-guarded
+pieces_in_front-requires-clause-guarded c = all_within_guard c.args.tri.now c.args.near c.told-tri (sym c.is_any_past_guard.ensures ∙ c.if-is_any_past_guard.false)
 
 pub returns-then-is_any_past_guard-clause-value : goal.returns-then-is_any_past_guard-clause-value
 returns-then-is_any_past_guard-clause-value c =
@@ -22,7 +22,7 @@ returns-then-is_any_past_guard-clause-none c =
 pub returns-clause-value : goal.returns-clause-value
 returns-clause-value c =
     let v = c.args.tri.now in
-    held (corner v 0) (corner v 1) (corner v 2) GRADE_TOP c.args.near c.args.size c.args.winding c.args.side c.outline.result (sym c.is_any_past_guard.ensures ∙ c.if-is_any_past_guard.false) c.outline.ensures
+    held (corner v 0) (corner v 1) (corner v 2) GRADE_TOP c.args.near c.args.size c.args.winding c.args.side c.pieces_in_front.result (sym c.is_any_past_guard.ensures ∙ c.if-is_any_past_guard.false) c.pieces_in_front.ensures
 
 pub returns-clause-none : goal.returns-clause-none
 returns-clause-none c =

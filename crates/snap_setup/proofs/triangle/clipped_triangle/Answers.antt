@@ -2,7 +2,7 @@ use Rattle.std.proofs.Common.{arith, ◌∙◌}
 use Rattle.cull_base.specs.declared.nearness.TheConstants.{GRADE_TOP}
 use Rattle.near_clip.specs.NearPart.{corner}
 use Rattle.snap_setup.proofs.KeptPieces.{part_none, part_three, part_four}
-use Rattle.snap_setup.proofs.triangle.outline.Goals as goal
+use Rattle.snap_setup.proofs.triangle.clipped_triangle.Goals as goal
 
 pub returns-then-len-eq0 : goal.returns-then-len-eq0
 returns-then-len-eq0 c =
