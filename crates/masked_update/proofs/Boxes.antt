@@ -1,20 +1,20 @@
 -- A piece whose box has no pixel in a tile changes nothing there.
-use Rattle.std.proofs.Common.{◌≡◌, ℕ, pos, ◌+◌, ◌*◌, ◌<◌, ◌≤◌, ◌/◌, ◌%◌, arith, ◌∙◌, sym, true, false, min, nat_lt}
-use Rattle.std.proofs.lemmas.Int.{ints}
+use Rattle.std.proofs.Common.{◌≡◌, ℕ, ℤ, pos, negsuc, ◌+◌, ◌*◌, ◌<◌, ◌≤◌, ◌≤ℤ◌, ◌/◌, ◌%◌, arith, true, false, min, nat_lt, List, length, slice_index_or}
+use Rattle.std.specs.Int.{int_min, int_max}
+use Rattle.std.proofs.lemmas.Int.{ints, clamps}
 use Rattle.std.proofs.lemmas.Bool.{both_ways, and_parts, ltb-true, false_from_ne_true}
-use Rattle.cull_base.specs.Piece.{Piece, IsPiece, covered, covers, sample, box_of}
+use Rattle.cull_base.specs.Piece.{Piece, IsPiece, covers, sample, box_of, least_of, greatest_of, first_pixel, end_pixel}
 use Rattle.cull_base.specs.Rectangle.{HasPixel, meets}
 use Rattle.cull_base.specs.Screen.{Dimensions, IsSize, tile_place, tile_rect_of, tile_sub, is_on_screen}
-use Rattle.cull_base.specs.State.{State, samples_of}
+use Rattle.cull_base.specs.State.{State}
 use Rattle.masked_update.specs.Merged.{sub_rect_of}
-use Rattle.std.proofs.lemmas.List.{ext_get_or}
 use Rattle.cull_base.specs.Fold.{step}
 use Rattle.cull_base.specs.declared.place.Sub.{Sub}
 use Rattle.cull_base.specs.declared.rect.Rect.{Rect}
-use Rattle.cull_base.proofs.Bits.{length-samples_of, has-no_samples}
+use Rattle.cull_base.proofs.Extents.{least_of_three, greatest_of_three}
 use Rattle.cull_base.proofs.Rectangles.{meets_pixel}
 use Rattle.depth_plane.proofs.Boxes.{covers-in_box}
-use Rattle.masked_update.proofs.Unchanged.{step_unless_covered, length-covered, has-covered}
+use Rattle.masked_update.proofs.Unchanged.{step_unless_covered}
 
 -- a sample of a subtile on the screen lies in the tile's rectangle
 in_tile : (size : Dimensions) (tile j k : ℕ) → IsSize size.width size.height → j < 8 → k < 32 → is_on_screen size (tile_sub size tile j) ≡ true
@@ -47,11 +47,25 @@ step_outside size tile j s t valid piece off hj on =
     step_unless_covered u s t
     (λ k below c. absurd (both_ways (covers t (sample u k)) (uncovered t (tile_rect_of size tile) u k piece off (in_tile size tile j k valid hj below on)) c))
 
--- a piece whose box has no pixel in a subtile covers none of its samples
-pub none_covered : (t : Piece) (u : Sub) → IsPiece t → meets (box_of t) (sub_rect_of u) ≡ false → samples_of 0 ≡ covered t u
-none_covered t u piece off =
-    ext_get_or false (samples_of 0) (covered t u) (length-samples_of 0 ∙ sym (length-covered t u))
-    (λ k h. let below : k < 32 = omega (arith, h, length-samples_of 0) in has-no_samples k ∙ sym (has-covered t u k below ∙ uncovered t (sub_rect_of u) u k piece off (in_sub k below)))
+-- a piece whose box has no pixel in a subtile changes nothing there
+pub step_apart : (u : Sub) (s : State) (t : Piece) → IsPiece t → meets (box_of t) (sub_rect_of u) ≡ false → step u s t ≡ s
+step_apart u s t piece off = step_unless_covered u s t (λ k below c. absurd (both_ways (covers t (sample u k)) (uncovered t (sub_rect_of u) u k piece off (in_sub k below)) c))
   where
     in_sub : (k : ℕ) → k < 32 → HasPixel (sub_rect_of u) (pos (8 * u.column + k % 8)) (pos (4 * u.row + k / 8))
     in_sub k h = (omega (arith, ints), omega (arith, ints), omega (arith, ints), omega (arith, ints))
+
+-- the first corner of a piece's box isn't past the second
+pub box_ordered : (t : Piece) → IsPiece t → let r = box_of t in (r.x0 ≤ℤ r.x1) × (r.y0 ≤ℤ r.y1)
+box_ordered t piece = (ordered t.xs piece.three_x, ordered t.ys piece.three_y)
+  where
+    less : (a b c : ℤ) → first_pixel (int_min (int_min a b) c) ≤ℤ end_pixel (int_max (int_max a b) c)
+    less a b c = pixels (int_min (int_min a b) c) (int_max (int_max a b) c) (omega (arith, ints, clamps))
+      where
+        pixels : (low high : ℤ) → low ≤ℤ high → first_pixel low ≤ℤ end_pixel high
+        pixels (pos m) (pos n) le = omega (arith, ints, le)
+        pixels (negsuc m) (pos n) le = omega (arith, ints)
+        pixels (negsuc m) (negsuc n) le = omega (arith, ints, le)
+        pixels (pos m) (negsuc n) le = absurd (omega (arith, ints, le))
+
+    ordered : (vs : List ℤ) → length vs ≡ 3 → first_pixel (least_of vs) ≤ℤ end_pixel (greatest_of vs)
+    ordered vs three = rw (← least_of_three vs three, ← greatest_of_three vs three) (less (slice_index_or vs 0 (pos 0)) (slice_index_or vs 1 (pos 0)) (slice_index_or vs 2 (pos 0)))

@@ -6,8 +6,9 @@ pub mod Sounds
 pub mod Best
 pub mod MergeSound
 pub mod Boxes
+pub mod Grid
+pub mod SubSpans
 pub mod Merging
 pub mod OwnList
 pub mod Drawing
 pub mod TileLists
-pub mod Taking

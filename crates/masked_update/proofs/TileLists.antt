@@ -8,7 +8,7 @@ use Rattle.std.proofs.lemmas.List.Filters.{length-filter_both}
 use Rattle.std.proofs.lemmas.List.FromFn.{length-map-range_with_len}
 use Rattle.cull_base.specs.Piece.{Piece, IsPiece, box_of}
 use Rattle.cull_base.specs.Rectangle.{meets}
-use Rattle.cull_base.specs.Screen.{Dimensions, IsSize, tile_rect_of, tile_sub, is_on_screen}
+use Rattle.cull_base.specs.Screen.{Dimensions, IsSize, tile_place, tile_rect_of, tile_sub, is_on_screen}
 use Rattle.cull_base.specs.State.{State, empty_state}
 use Rattle.cull_base.specs.Fold.{step, after, IsSound, IsLayered}
 use Rattle.cull_base.specs.Tiles.{PieceList, ArePieces, tile_list, tile_after}
@@ -42,9 +42,9 @@ none_taken size tile = ap (λ s. tile_with s 0) (sym (eight_of (state_at size ti
 pub one_taken : (size : Dimensions) (tile : ℕ) (pieces : List Piece) (x : Piece) → taken_by size tile x (tile_of size tile pieces) ≡ tile_of size tile (pieces ++ x ∷ [])
 unfolding merged_by state_at
 one_taken size tile pieces x =
-    ap (λ n. tile_with (merged_by size tile x subs) n) (sym (length_push pieces x))
-    ∙ ap (λ s. tile_with s (length (pieces ++ x ∷ []))) (eight_of (state_at size tile (pieces ++ x ∷ [])) (merged_by size tile x subs) (length-map-range_with_len (merged_at size tile x subs) 0 8)
-    (λ j h. one_of_eight (merged_at size tile x subs) j h ∙ ap (λ s. cond (is_on_screen size (tile_sub size tile j)) (step (tile_sub size tile j) s x) s) (one_of_eight (state_at size tile pieces) j h) ∙ more (is_on_screen size (tile_sub size tile j)) (tile_sub size tile j)))
+    ap (λ n. tile_with (merged_by size (tile_place size tile) x subs) n) (sym (length_push pieces x))
+    ∙ ap (λ s. tile_with s (length (pieces ++ x ∷ []))) (eight_of (state_at size tile (pieces ++ x ∷ [])) (merged_by size (tile_place size tile) x subs) (length-map-range_with_len (merged_at size (tile_place size tile) x subs) 0 8)
+    (λ j h. one_of_eight (merged_at size (tile_place size tile) x subs) j h ∙ ap (λ s. cond (is_on_screen size (tile_sub size tile j)) (step (tile_sub size tile j) s x) s) (one_of_eight (state_at size tile pieces) j h) ∙ more (is_on_screen size (tile_sub size tile j)) (tile_sub size tile j)))
   where
     subs : List State
     subs = tile_after size tile pieces

@@ -1,18 +1,18 @@
 -- Tiles after a piece, and after a whole list.
-use Rattle.std.specs.Prelude.{ℕ, ◌≡◌, ◌<◌, ◌/◌, ◌%◌, ◌&&◌, nat_eq, Bool, true, List, length}
+use Rattle.std.specs.Prelude.{ℕ, ◌≡◌, ◌<◌, Bool, true, List, length}
 use Rattle.cull_base.specs.Piece.{Piece}
 use Rattle.cull_base.specs.Screen.{Dimensions, tile_columns_of, tile_count_of, tile_sub, is_on_screen}
-use Rattle.cull_base.specs.Span.{has_column}
 use Rattle.cull_base.specs.Tiles.{PieceList, tile_list, tile_after}
 use Rattle.cull_base.specs.Fold.{after, IsSound, IsLayered}
 use Rattle.cull_base.specs.declared.place.Sub.{Sub}
 use Rattle.cull_base.specs.declared.tile_span.TileSpan.{TileSpan}
-use Rattle.masked_update.specs.TileOf.{TileOf, sub_at, tile_at}
-use Rattle.masked_update.specs.Taken.{taken_where}
+use Rattle.masked_update.specs.TileOf.{TileOf, sub_at, tile_at, no_tile}
+use Rattle.masked_update.specs.Taken.{taken_by}
+use Rattle.masked_update.specs.Grid.{ChangedWhere, is_in_row}
 
 -- the tile stands in the row, in the columns of the span
-abbrev pub is_in_row : Dimensions → TileSpan → ℕ → ℕ → Bool
-is_in_row size span row t = nat_eq (t / tile_columns_of size) row && has_column span (t % tile_columns_of size)
+abbrev pub is_tile_in_row : Dimensions → TileSpan → ℕ → ℕ → Bool
+is_tile_in_row size span row t = is_in_row (tile_columns_of size) row span.first_column span.end_column t
 
 -- each tile where the test holds may count one piece more
 abbrev pub MayTake : (ℕ → Bool) → Dimensions → List TileOf → Type 0
@@ -20,8 +20,7 @@ MayTake test size tiles = (t : ℕ) → t < tile_count_of size → test t ≡ tr
 
 -- each tile where the test holds took the piece, and the others stay
 abbrev pub TookWhere : (ℕ → Bool) → Dimensions → Piece → List TileOf → List TileOf → Type 0
-TookWhere test size x old new =
-    (t : ℕ) → t < tile_count_of size → tile_at new t ≡ taken_where (test t) size t x (tile_at old t)
+TookWhere test size x old new = ChangedWhere no_tile (tile_count_of size) test (λ t s. taken_by size t x s) old new
 
 -- each subtile of the tile that is on the screen
 abbrev pub EachOnScreen : Dimensions → ℕ → (ℕ → Sub → Type 0) → Type 0

@@ -1,23 +1,44 @@
 -- A piece merged into the subtiles of a tile.
-use Rattle.std.specs.Prelude.{ℕ, pos, ◌+◌, ◌*◌, List, map, cond, slice_index_or}
+use Rattle.std.specs.Prelude.{ℕ, pos, ◌≡◌, ◌+◌, ◌*◌, ◌<◌, ◌≤◌, Bool, true, List, map, cond, slice_index_or}
 use Rattle.std.specs.List.{range_with_len}
-use Rattle.cull_base.specs.Screen.{Dimensions, tile_sub, is_on_screen}
+use Rattle.cull_base.specs.Screen.{Dimensions, is_on_screen}
 use Rattle.cull_base.specs.Piece.{Piece}
+use Rattle.cull_base.specs.Rectangle.{meets}
 use Rattle.cull_base.specs.declared.rect.Rect.{Rect}
 use Rattle.cull_base.specs.declared.place.Sub.{Sub}
+use Rattle.cull_base.specs.declared.place.Tile.{Tile}
 use Rattle.cull_base.specs.State.{State, empty_state}
 use Rattle.cull_base.specs.Fold.{step}
+use Rattle.edge_lanes.specs.Inside.{sub_of}
+use Rattle.masked_update.specs.Grid.{ChangedWhere, is_in_rows}
+use Rattle.masked_update.specs.declared.sub_span.SubSpan.{SubSpan}
 
 -- the pixels of a subtile
 abbrev pub sub_rect_of : Sub → Rect
 sub_rect_of u = record { x0 = pos (8 * u.column); y0 = pos (4 * u.row); x1 = pos (8 * u.column + 8); y1 = pos (4 * u.row + 4) }
 
 -- subtile j of a tile after a piece: it is merged where the subtile is on the screen, and the others stay
-abbrev pub merged_at : Dimensions → ℕ → Piece → List State → ℕ → State
-merged_at size tile x subs j =
-    let u = tile_sub size tile j in
+abbrev pub merged_at : Dimensions → Tile → Piece → List State → ℕ → State
+merged_at size place x subs j =
+    let u = sub_of place j in
     let s = slice_index_or subs j empty_state in
     cond (is_on_screen size u) (step u s x) s
 
-unfoldable pub merged_by : Dimensions → ℕ → Piece → List State → List State
-merged_by size tile x subs = map (merged_at size tile x subs) (range_with_len 0 8)
+unfoldable pub merged_by : Dimensions → Tile → Piece → List State → List State
+merged_by size place x subs = map (merged_at size place x subs) (range_with_len 0 8)
+
+-- the piece is merged into the subtiles of a tile where the test holds, and the others stay
+abbrev pub MergedWhere : (ℕ → Bool) → Tile → Piece → List State → List State → Type 0
+MergedWhere test place x old new = ChangedWhere empty_state 8 test (λ j s. step (sub_of place j) s x) old new
+
+abbrev pub has_sub : SubSpan → ℕ → Bool
+has_sub span j = is_in_rows 4 span.first_row span.end_row span.first_column span.end_column j
+
+-- The span's subtiles are on the screen, and among them are those on the screen that share a pixel with a rectangle.
+pub record IsSubSpan (r : Rect) (size : Dimensions) (place : Tile) (span : SubSpan) : Type 0 where
+  pub columns : span.first_column ≤ span.end_column
+  pub rows : span.first_row ≤ span.end_row
+  pub columns_within : span.end_column ≤ 4
+  pub rows_within : span.end_row ≤ 2
+  pub on_screen : (j : ℕ) → has_sub span j ≡ true → is_on_screen size (sub_of place j) ≡ true
+  pub reached : (j : ℕ) → j < 8 → is_on_screen size (sub_of place j) ≡ true → meets r (sub_rect_of (sub_of place j)) ≡ true → has_sub span j ≡ true

@@ -1,14 +1,18 @@
 -- Tiles that took a piece, or the first members of their list.
 use Rattle.std.specs.Prelude.{ℕ, ◌≡◌, ◌+◌, ◌<◌, Bool, cond, length, List, slice_index_or}
-use Rattle.cull_base.specs.Screen.{Dimensions}
+use Rattle.cull_base.specs.Screen.{Dimensions, tile_place}
+use Rattle.cull_base.specs.declared.place.Tile.{Tile}
 use Rattle.cull_base.specs.Piece.{Piece}
 use Rattle.cull_base.specs.Tiles.{PieceList, tile_list, tile_after, prefixed}
 use Rattle.masked_update.specs.TileOf.{TileOf}
 use Rattle.masked_update.specs.Merged.{merged_by}
 
--- the piece is merged into the tile's subtiles on the screen, and counted
+-- the piece is merged into the subtiles of the tile at a place that are on the screen, and counted
+abbrev pub taken_at : Dimensions → Tile → Piece → TileOf → TileOf
+taken_at size place x t = record { subs = merged_by size place x t.subs; count = t.count + 1 }
+
 abbrev pub taken_by : Dimensions → ℕ → Piece → TileOf → TileOf
-taken_by size tile x t = record { subs = merged_by size tile x t.subs; count = t.count + 1 }
+taken_by size tile x t = taken_at size (tile_place size tile) x t
 
 -- the tile takes the piece where the test holds, and stays elsewhere
 abbrev pub taken_where : Bool → Dimensions → ℕ → Piece → TileOf → TileOf

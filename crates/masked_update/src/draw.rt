@@ -5,12 +5,12 @@ ghost use Rattle.cull_base.specs.Rectangle.{meets};
 ghost use Rattle.cull_base.specs.Screen.{IsSize, tile_rows_of, tile_count_of, tile_rect_of};
 ghost use Rattle.cull_base.specs.Span.{IsSpan};
 ghost use Rattle.cull_base.specs.Tiles.{ArePieces};
-ghost use Rattle.masked_update.specs.Drawn.{AreDrawn, MayTake, TookWhere, is_in_row};
+ghost use Rattle.masked_update.specs.Drawn.{AreDrawn, MayTake, TookWhere, is_tile_in_row};
 ghost use Rattle.masked_update.specs.TileOf.{tile_at, empty_tile};
 
 use crate::piece_setup::PieceSetup;
 use crate::tile_state::TileState;
-use cull_base::{FrameList, Memory, ScreenTri, Size, TileSpan};
+use cull_base::{FrameList, Memory, ScreenTri, Size, Tile, TileSpan};
 use std::alloc::Global;
 
 // Draws a piece into the tiles of one row, in the columns of a span.
@@ -18,13 +18,17 @@ fn draw_in_row(states: &mut [TileState], piece: &PieceSetup, size: Size, span: T
     requires tiles { length states.old ≡ tile_count_of size }
     requires span { IsSpan size span }
     requires row { row < tile_rows_of size }
-    requires counts { MayTake (is_in_row size span row) size states.old }
-    ensures { TookWhere (is_in_row size span row) size piece.now states.old states.new }
+    requires small { row < 256 }
+    requires counts { MayTake (is_tile_in_row size span row) size states.old }
+    ensures { TookWhere (is_tile_in_row size span row) size piece.now states.old states.new }
 {
     let first = row * size.tile_columns();
     for column in span.first_column..span.end_column {
-        let tile = first + column;
-        states[tile as usize].take_set_up(piece, size, tile);
+        let place = Tile {
+            column: column as u16,
+            row: row as u16,
+        };
+        states[(first + column) as usize].take_at(piece, size, place);
     }
 }
 

@@ -4,6 +4,7 @@
 mod draw;
 mod member;
 mod piece_setup;
+mod sub_span;
 mod sub_tile;
 #[cfg(test)]
 mod tests;

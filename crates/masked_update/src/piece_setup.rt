@@ -1,14 +1,15 @@
 //! A piece set up for the tiles that take it, and the short cuts that change nothing.
-ghost use Rattle.std.specs.Prelude.{◌≡◌, ℕ, ◌<◌};
-ghost use Rattle.cull_base.specs.State.{samples_of};
+ghost use Rattle.std.specs.Prelude.{◌≡◌, ◌<◌, ◌≤◌, length};
 ghost use Rattle.cull_base.specs.Fold.{step};
-ghost use Rattle.cull_base.specs.Piece.{IsPiece, covered, box_of};
+ghost use Rattle.cull_base.specs.Piece.{IsPiece, box_of};
 ghost use Rattle.cull_base.specs.Depth.{greatest_nearness};
-ghost use Rattle.cull_base.specs.Screen.{tile_count_of};
-ghost use Rattle.masked_update.specs.Merged.{sub_rect_of, merged_by};
+ghost use Rattle.cull_base.specs.Screen.{tile_columns_of, tile_rows_of};
+ghost use Rattle.masked_update.specs.Grid.{is_in_row};
+ghost use Rattle.masked_update.specs.Merged.{MergedWhere, merged_by};
 
+use crate::sub_span::SubSpan;
 use crate::sub_tile::SubTile;
-use cull_base::{Rect, ScreenTri, Side, Size, Sub};
+use cull_base::{Rect, ScreenTri, Side, Size, Sub, Tile};
 use depth_plane::Plane;
 use edge_lanes::Edges;
 use std::marker::Model;
@@ -43,23 +44,6 @@ fn greatest_nearness(tri: &ScreenTri) -> u32
     q0.max(q1.max(q2))
 }
 
-// The pixels of a subtile.
-#[inline(always)]
-fn sub_rect(sub: Sub) -> Rect
-    requires column { sub.column < 256 }
-    requires row { sub.row < 512 }
-    ensures { result ≡ sub_rect_of sub }
-{
-    let x = sub.column * 8;
-    let y = sub.row * 4;
-    Rect {
-        x0: i32::from(x),
-        y0: i32::from(y),
-        x1: i32::from(x + 8),
-        y1: i32::from(y + 4),
-    }
-}
-
 impl PieceSetup {
     pub fn of(tri: &ScreenTri) -> PieceSetup
         ensures value { result ≡ tri.now }
@@ -82,20 +66,6 @@ impl PieceSetup {
         self.reached
     }
 
-    // The samples of a subtile that the piece covers. The edges are asked only where its box has a pixel there.
-    #[inline(always)]
-    fn covered_mask(&self, sub: Sub) -> u32
-        requires column { sub.column < 256 }
-        requires row { sub.row < 512 }
-        ensures { samples_of result ≡ covered self.now sub }
-    {
-        if self.reached.meets(&sub_rect(sub)) {
-            self.edges.mask(sub)
-        } else {
-            0
-        }
-    }
-
     // Nothing is asked where the piece is no nearer than the reference.
     #[inline(always)]
     fn merge(&self, sub_tile: &mut SubTile, sub: Sub)
@@ -104,23 +74,43 @@ impl PieceSetup {
         ensures { sub_tile.new ≡ step sub sub_tile.old self.now }
     {
         if sub_tile.reference() < self.nearest {
-            let mask = self.covered_mask(sub);
+            let mask = self.edges.mask(sub);
             if mask != 0 {
                 sub_tile.merge(self.plane.low(&self.tri, sub), mask);
             }
         }
     }
 
-    // Merges the piece into each of a tile's subtiles that is on the screen.
-    pub(crate) fn merge_into(&self, subs: &mut [SubTile; 8], size: Size, tile: u32)
-        requires { tile < tile_count_of size }
-        ensures { subs.new ≡ merged_by size tile self.now subs.old }
+    // Merges the piece into the subtiles of one row of a tile, in the columns of a span.
+    #[inline(always)]
+    fn merge_in_row(&self, subs: &mut [SubTile; 8], place: Tile, span: SubSpan, row: u16)
+        requires column { place.column < 64 }
+        requires row { place.row < 256 }
+        requires span { span.first_column ≤ span.end_column }
+        requires within { span.end_column ≤ 4 }
+        requires sub_row { row < 2 }
+        ensures merged { MergedWhere (is_in_row 4 row span.first_column span.end_column) place self.now subs.old subs.new }
+        ensures eight { length subs.new ≡ 8 }
     {
-        for j in 0..8u8 {
-            let sub = size.sub_of(tile, j);
-            if size.on_screen(sub) {
-                self.merge(&mut subs[j as usize], sub);
-            }
+        for column in span.first_column..span.end_column {
+            let sub = Sub {
+                column: 4 * place.column + column,
+                row: 2 * place.row + row,
+            };
+            self.merge(&mut subs[(row * 4 + column) as usize], sub);
+        }
+    }
+
+    // Merges the piece into a tile's subtiles on the screen. Only those that its box reaches are visited: the others
+    // lie outside the box, and a piece covers nothing outside its box.
+    pub(crate) fn merge_into(&self, subs: &mut [SubTile; 8], size: Size, place: Tile)
+        requires column { place.column < tile_columns_of size }
+        requires row { place.row < tile_rows_of size }
+        ensures { subs.new ≡ merged_by size place self.now subs.old }
+    {
+        let span = SubSpan::of(&self.reached, size, place);
+        for row in span.first_row..span.end_row {
+            self.merge_in_row(subs, place, span, row);
         }
     }
 }

@@ -1,11 +1,11 @@
 //! A tile: eight subtiles, and how many pieces it took.
 ghost use Rattle.std.specs.Prelude.{◌≡◌, ◌<◌, length};
 ghost use Rattle.cull_base.specs.Piece.{IsPiece};
-ghost use Rattle.cull_base.specs.Screen.{IsSize, tile_count_of};
+ghost use Rattle.cull_base.specs.Screen.{IsSize, tile_columns_of, tile_rows_of, tile_count_of};
 
 use crate::piece_setup::PieceSetup;
 use crate::sub_tile::SubTile;
-use cull_base::{ScreenTri, Size};
+use cull_base::{ScreenTri, Size, Tile};
 use std::marker::Model;
 
 /// Eight subtiles in two rows of four, and a count of pieces.
@@ -27,7 +27,7 @@ impl Model for TileState {
 
 impl TileState {
     ghost use Rattle.masked_update.specs.TileOf.{sub_at, empty_tile};
-    ghost use Rattle.masked_update.specs.Taken.{taken_by};
+    ghost use Rattle.masked_update.specs.Taken.{taken_by, taken_at};
 
     /// Eight empty subtiles, and no piece taken.
     pub fn empty() -> TileState
@@ -82,7 +82,17 @@ impl TileState {
         requires tile { tile < tile_count_of size }
         ensures { self.new ≡ taken_by size tile piece.now self.old }
     {
-        piece.merge_into(&mut self.subs, size, tile);
+        self.take_at(piece, size, size.tile_at(tile));
+    }
+
+    /// As `take_set_up`, where the tile's column and row are known. Condition: they are below the screen's.
+    pub fn take_at(&mut self, piece: &PieceSetup, size: Size, place: Tile)
+        requires count { self.old.count < 131072 }
+        requires column { place.column < tile_columns_of size }
+        requires row { place.row < tile_rows_of size }
+        ensures { self.new ≡ taken_at size place piece.now self.old }
+    {
+        piece.merge_into(&mut self.subs, size, place);
         self.count += 1;
     }
 }

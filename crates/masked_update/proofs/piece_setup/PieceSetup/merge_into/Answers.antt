@@ -1,13 +1,32 @@
-use Rattle.std.proofs.Common.{◌&&◌, arith, ap, get_or, cond}
-use Rattle.std.proofs.lemmas.Bool.{lt-ltb}
+use Rattle.std.proofs.Common.{◌≡◌, ◌≤ℤ◌, false, arith, ap, ◌∙◌, sym, subst, get_or}
+use Rattle.std.proofs.lemmas.Bool.{both_ways, false_from_ne_true}
 use Rattle.cull_base.specs.State.{empty_state}
-use Rattle.cull_base.specs.Fold.{step}
-use Rattle.cull_base.specs.Screen.{tile_sub, is_on_screen}
+use Rattle.cull_base.specs.Piece.{Piece, IsPiece, box_of}
+use Rattle.cull_base.specs.Rectangle.{meets}
+use Rattle.cull_base.specs.declared.rect.Rect.{Rect}
+use Rattle.edge_lanes.specs.Inside.{sub_of}
+use Rattle.masked_update.specs.Merged.{MergedWhere, has_sub, sub_rect_of}
+use Rattle.masked_update.specs.Grid.{is_in_rows}
+use Rattle.masked_update.proofs.Boxes.{box_ordered, step_apart}
 use Rattle.masked_update.proofs.Merging.{merged_all}
 use Rattle.masked_update.proofs.piece_setup.PieceSetup.merge_into.Goals as goal
 
+pub of-span-requires-clause-across : goal.of-span-requires-clause-across
+of-span-requires-clause-across c = subst (λ (r : Rect). r.x0 ≤ℤ r.x1) (sym c.self.invariant.reached_is) (box_ordered c.self.inside.tri c.self.invariant.valid).0
+
+pub of-span-requires-clause-down : goal.of-span-requires-clause-down
+of-span-requires-clause-down c = subst (λ (r : Rect). r.y0 ≤ℤ r.y1) (sym c.self.invariant.reached_is) (box_ordered c.self.inside.tri c.self.invariant.valid).1
+
 pub returns : goal.returns
 returns c =
-    merged_all _ c.args.size c.args.tile c.args.self.now c.args.subs.now c.loop-j.subs c.loop-j.invariant
-    (λ k h. let s = get_or c.args.subs.now k empty_state in let u = tile_sub c.args.size c.args.tile k in
-    ap (λ b. cond (b && is_on_screen c.args.size u) (step u s c.args.self.now) s) (lt-ltb k c.loop-j.j (omega (arith, h, c.loop-j-test.false))))
+    let x = c.args.self.now in
+    let span = c.of-span.result in
+    let is = c.of-span.ensures in
+    let end : c.loop-row.row ≡ span.end_row = omega (arith, c.loop-row-test.false, c.loop-row.auto.row-end, is.rows) in
+    let merged = subst (λ n. MergedWhere (is_in_rows 4 span.first_row n span.first_column span.end_column) c.args.place x c.args.subs.now c.loop-row.subs) end c.loop-row.invariant.merged in
+    let box : c.self.inside.reached ≡ box_of x = c.self.invariant.reached_is ∙ ap (λ (t : Piece). box_of t) c.self.view_is in
+    merged_all (has_sub span) c.args.size c.args.place x c.args.subs.now c.loop-row.subs c.loop-row.invariant.eight merged is.on_screen
+    (λ j h off on.
+    let apart = false_from_ne_true _ (λ m. both_ways (has_sub span j) off (is.reached j h on m)) in
+    step_apart (sub_of c.args.place j) (get_or c.args.subs.now j empty_state) x (subst IsPiece c.self.view_is c.self.invariant.valid)
+    (subst (λ (r : Rect). meets r (sub_rect_of (sub_of c.args.place j)) ≡ false) box apart))
