@@ -1,5 +1,5 @@
 -- The mask of the samples that are in a range of columns and a range of rows.
-use Rattle.std.proofs.Common.{◌≡◌, ℕ, zero, suc, ◌+◌, ◌-◌, ◌*◌, ◌/◌, ◌%◌, ◌<◌, ◌≤◌, ◌^◌, ◌⊎◌, inl, inr, List, [], ◌∷◌, map, Bool, true, false, ◌&&◌, cond, min, arith, refl, sym, subst, ◌∙◌}
+use Rattle.std.proofs.Common.{◌≡◌, ℕ, zero, suc, ◌+◌, ◌-◌, ◌*◌, ◌/◌, ◌%◌, ◌<◌, ◌≤◌, ◌^◌, inl, inr, [], ◌∷◌, map, Bool, true, false, ◌&&◌, cond, min, arith, refl, sym, subst, ◌∙◌}
 use Rattle.std.specs.List.{range_with_len}
 use Rattle.std.specs.Simd.Lanes.{mask_l}
 use Rattle.std.proofs.lemmas.Bool.{cases_lt}
@@ -13,27 +13,27 @@ use Rattle.cull_base.proofs.Masks.{mask_l-more, has-samples_of-mask_l}
 next_bit : (first from end n m : ℕ) → from ≤ end → m + 2 ^ min (from - first) n ≡ 2 ^ min (end - first) n
     → (m + 2 ^ n * cond (is_between from end (first + n)) 1 0) + 2 ^ min (from - first) (n + 1) ≡ 2 ^ min (end - first) (n + 1)
 next_bit first from end n m le e = elim (cases_lt n (from - first)) [
-      | inl before ↦
-          let t : is_between from end (first + n) ≡ false = grind (arith, nat_tests) in
-          let a : min (from - first) n ≡ n = omega arith in let b : min (end - first) n ≡ n = omega arith in
-          let a' : min (from - first) (n + 1) ≡ n + 1 = omega arith in let b' : min (end - first) (n + 1) ≡ n + 1 = omega arith in
-          let f : m + 2 ^ n ≡ 2 ^ n = rw (a, b) at e in
-          rw (t, a', b') (none m (2 ^ n) (2 ^ (n + 1)) f)
-      | inr from_on ↦ elim (cases_lt n (end - first)) [
-            | inl within ↦
-                let t : is_between from end (first + n) ≡ true = grind (arith, nat_tests) in
-                let a : min (from - first) n ≡ from - first = omega arith in let b : min (end - first) n ≡ n = omega arith in
-                let a' : min (from - first) (n + 1) ≡ from - first = omega arith in let b' : min (end - first) (n + 1) ≡ suc n = omega arith in
-                let f : m + 2 ^ (from - first) ≡ 2 ^ n = rw (a, b) at e in
-                rw (t, a', b') (one m (2 ^ n) (2 ^ (from - first)) (2 ^ suc n) f (two-pow-succ n))
-            | inr past ↦
-                let t : is_between from end (first + n) ≡ false = grind (arith, nat_tests) in
-                let a : min (from - first) n ≡ from - first = omega arith in let b : min (end - first) n ≡ end - first = omega arith in
-                let a' : min (from - first) (n + 1) ≡ from - first = omega arith in let b' : min (end - first) (n + 1) ≡ end - first = omega arith in
-                let f : m + 2 ^ (from - first) ≡ 2 ^ (end - first) = rw (a, b) at e in
-                rw (t, a', b') (same m (2 ^ n) (2 ^ (from - first)) (2 ^ (end - first)) f)
-          ]
-    ]
+  | inl before ↦
+      let t : is_between from end (first + n) ≡ false = grind (arith, nat_tests) in
+      let a : min (from - first) n ≡ n = omega arith in let b : min (end - first) n ≡ n = omega arith in
+      let a' : min (from - first) (n + 1) ≡ n + 1 = omega arith in let b' : min (end - first) (n + 1) ≡ n + 1 = omega arith in
+      let f : m + 2 ^ n ≡ 2 ^ n = rw (a, b) at e in
+      rw (t, a', b') (none m (2 ^ n) (2 ^ (n + 1)) f)
+  | inr from_on ↦ elim (cases_lt n (end - first)) [
+    | inl within ↦
+        let t : is_between from end (first + n) ≡ true = grind (arith, nat_tests) in
+        let a : min (from - first) n ≡ from - first = omega arith in let b : min (end - first) n ≡ n = omega arith in
+        let a' : min (from - first) (n + 1) ≡ from - first = omega arith in let b' : min (end - first) (n + 1) ≡ suc n = omega arith in
+        let f : m + 2 ^ (from - first) ≡ 2 ^ n = rw (a, b) at e in
+        rw (t, a', b') (one m (2 ^ n) (2 ^ (from - first)) (2 ^ suc n) f (two-pow-succ n))
+    | inr past ↦
+        let t : is_between from end (first + n) ≡ false = grind (arith, nat_tests) in
+        let a : min (from - first) n ≡ from - first = omega arith in let b : min (end - first) n ≡ end - first = omega arith in
+        let a' : min (from - first) (n + 1) ≡ from - first = omega arith in let b' : min (end - first) (n + 1) ≡ end - first = omega arith in
+        let f : m + 2 ^ (from - first) ≡ 2 ^ (end - first) = rw (a, b) at e in
+        rw (t, a', b') (same m (2 ^ n) (2 ^ (from - first)) (2 ^ (end - first)) f)
+  ]
+]
   where
     none : (m p q : ℕ) → m + p ≡ p → (m + p * 0) + q ≡ q
     none m p q f = omega arith
@@ -50,7 +50,7 @@ between_mask first from end zero le = let a : min (from - first) 0 ≡ 0 = omega
 between_mask first from end (suc n) le =
     let more = mask_l-more (λ k. is_between from end (first + k)) n in
     let next : mask_l (map (λ k. is_between from end (first + k)) (range_with_len 0 (n + 1))) + 2 ^ min (from - first) (n + 1) ≡ 2 ^ min (end - first) (n + 1) =
-      rw more (next_bit first from end n (mask_l (map (λ k. is_between from end (first + k)) (range_with_len 0 n))) le (between_mask first from end n le)) in
+    rw more (next_bit first from end n (mask_l (map (λ k. is_between from end (first + k)) (range_with_len 0 n))) le (between_mask first from end n le)) in
     let s : n + 1 ≡ suc n = omega arith in
     subst (λ (j : ℕ). mask_l (map (λ k. is_between from end (first + k)) (range_with_len 0 j)) + 2 ^ min (from - first) j ≡ 2 ^ min (end - first) j) s next
 
@@ -84,5 +84,5 @@ pub mask_of_rows : (f g : ℕ → Bool) (columns mask : ℕ) → columns ≡ mas
     → (k : ℕ) → k < 32 → has (samples_of mask) k ≡ (f (k % 8) && g (k / 8))
 mask_of_rows f g columns mask c m k lt =
     let is : mask ≡ mask_l (map (λ k. f (k % 8) && g (k / 8)) (range_with_len 0 32)) =
-      m ∙ sym (four_rows f g ∙ rw (row_mask f (g 0), row_mask f (g 1), row_mask f (g 2), row_mask f (g 3), ← c) refl) in
+    m ∙ sym (four_rows f g ∙ rw (row_mask f (g 0), row_mask f (g 1), row_mask f (g 2), row_mask f (g 3), ← c) refl) in
     rw is (has-samples_of-mask_l (λ k. f (k % 8) && g (k / 8)) k lt)

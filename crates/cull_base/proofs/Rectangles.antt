@@ -2,6 +2,7 @@
 use Rattle.std.proofs.Common.{◌≡◌, ℤ, ◌≤ℤ◌, ◌<ℤ◌, Bool, true, false, ◌&&◌, cond, IsTrue, arith, refl, int_lt}
 use Rattle.std.specs.Prelude.{◌↔◌}
 use Rattle.std.specs.Int.{int_min, int_max}
+use Rattle.std.proofs.lemmas.Bool.{and_parts, both_ways}
 use Rattle.std.proofs.lemmas.Int.{ints}
 use Rattle.cull_base.specs.declared.rect.Rect.{Rect}
 use Rattle.cull_base.specs.Rectangle.{HasPixel, meets, cut_of, common, no_pixels}
@@ -13,11 +14,6 @@ first_in a0 a1 b0 b1 h = (grind (arith, ints), grind (arith, ints), grind (arith
 overlaps : (a0 a1 b0 b1 v : ℤ) → a0 ≤ℤ v → v <ℤ a1 → b0 ≤ℤ v → v <ℤ b1 → IsTrue (int_lt (int_max a0 b0) (int_min a1 b1))
 overlaps a0 a1 b0 b1 v p q r s = grind (arith, ints)
 
-both_tests : (p q : Bool) → IsTrue (p && q) → IsTrue p × IsTrue q
-both_tests true true h = (refl, refl)
-both_tests true false h = absurd cc
-both_tests false q h = absurd cc
-
 and_tests : (p q : Bool) → IsTrue p → IsTrue q → IsTrue (p && q)
 and_tests true true h k = refl
 and_tests true false h k = absurd cc
@@ -25,7 +21,7 @@ and_tests false q h k = absurd cc
 
 pub meets_pixel : (a b : Rect) → IsTrue (meets a b) ↔ ((x : ℤ) × (y : ℤ) × HasPixel a x y × HasPixel b x y)
 meets_pixel a b = (
-  (λ h. let t = both_tests _ _ h in let x = first_in a.x0 a.x1 b.x0 b.x1 t.0 in let y = first_in a.y0 a.y1 b.y0 b.y1 t.1 in
+  (λ h. let t = and_parts _ _ h in let x = first_in a.x0 a.x1 b.x0 b.x1 t.0 in let y = first_in a.y0 a.y1 b.y0 b.y1 t.1 in
       (int_max a.x0 b.x0, int_max a.y0 b.y0, (x.0, x.1, y.0, y.1), (x.2, x.3, y.2, y.3))),
   (λ (x, y, p, q). and_tests _ _ (overlaps a.x0 a.x1 b.x0 b.x1 x p.0 p.1 q.0 q.1) (overlaps a.y0 a.y1 b.y0 b.y1 y p.2 p.3 q.2 q.3)),
 )
@@ -57,7 +53,4 @@ cut_pixels a b x y = by (meets a b) refl
   where
     by : (m : Bool) → meets a b ≡ m → HasPixel (cond m (common a b) no_pixels) x y ↔ (HasPixel a x y × HasPixel b x y)
     by true e = common_pixel a b x y
-    by false e = ((λ p. absurd (no_pixel_in x y p)), (λ (p, q). absurd (off e ((meets_pixel a b).1 (x, y, p, q)))))
-      where
-        off : meets a b ≡ false → IsTrue (meets a b) → ⊥
-        off f t = cc
+    by false e = ((λ p. absurd (no_pixel_in x y p)), (λ (p, q). absurd (both_ways (meets a b) e ((meets_pixel a b).1 (x, y, p, q)))))

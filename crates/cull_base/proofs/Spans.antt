@@ -1,6 +1,8 @@
 -- The tiles that a box reaches, by column and row.
 use Rattle.std.proofs.Common.{◌≡◌, ◌⊎◌, inl, inr, ℕ, ℤ, pos, ◌+◌, ◌*◌, ◌/◌, ◌%◌, ◌<◌, ◌≤◌, ◌<ℤ◌, ◌≤ℤ◌, Bool, true, false, ◌&&◌, cond, min, int_lt, arith, refl, ap, ◌∙◌, sym, subst}
 use Rattle.std.specs.Int.{int_min, int_max, div_ceil}
+use Rattle.std.specs.Cmp.{both_ways}
+use Rattle.std.proofs.lemmas.Bool.{and_parts, and_cases}
 use Rattle.std.proofs.lemmas.Int.{ints}
 use Rattle.std.proofs.Math.Nat.{mod-lt}
 use Rattle.std.proofs.lemmas.Bool.Decides.{nat_tests}
@@ -11,29 +13,20 @@ use Rattle.cull_base.proofs.Places.{row_below}
 use Rattle.cull_base.specs.Span.{is_between, has_tile, IsSpan}
 use Rattle.cull_base.specs.declared.tile_span.TileSpan.{TileSpan}
 
-pub same : (a b : Bool) → (a ≡ true → b ≡ true) → (b ≡ true → a ≡ true) → a ≡ b
-same true b f g = sym (f refl)
-same false true f g = g refl
-same false false f g = refl
-
 -- whether two spans of pixels share one
 abbrev pub overlap : ℤ → ℤ → ℤ → ℤ → Bool
 overlap a0 a1 b0 b1 = int_lt (int_max a0 b0) (int_min a1 b1)
 
 columns : (a0 a1 : ℤ) (w c m n : ℕ) → 32 * c < w → int_max a0 (pos 0) <ℤ int_min a1 (pos w) → pos m ≡ int_max a0 (pos 0) → pos n ≡ int_min a1 (pos w)
     → is_between (m / 32) (div_ceil n 32) c ≡ overlap a0 a1 (pos (32 * c)) (pos (min (32 * c + 32) w))
-columns a0 a1 w c m n lt some em en = same _ _ (λ h. grind (arith, ints, nat_tests)) (λ h. grind (arith, ints, nat_tests))
+columns a0 a1 w c m n lt some em en = both_ways _ _ (λ h. grind (arith, ints, nat_tests)) (λ h. grind (arith, ints, nat_tests))
 
 rows : (a0 a1 : ℤ) (w c m n : ℕ) → 8 * c < w → int_max a0 (pos 0) <ℤ int_min a1 (pos w) → pos m ≡ int_max a0 (pos 0) → pos n ≡ int_min a1 (pos w)
     → is_between (m / 8) (div_ceil n 8) c ≡ overlap a0 a1 (pos (8 * c)) (pos (min (8 * c + 8) w))
-rows a0 a1 w c m n lt some em en = same _ _ (λ h. grind (arith, ints, nat_tests)) (λ h. grind (arith, ints, nat_tests))
+rows a0 a1 w c m n lt some em en = both_ways _ _ (λ h. grind (arith, ints, nat_tests)) (λ h. grind (arith, ints, nat_tests))
 
 no_columns : (a0 a1 : ℤ) (w c s : ℕ) → overlap a0 a1 (pos 0) (pos w) ≡ false → overlap a0 a1 (pos (s * c)) (pos (min (s * c + s) w)) ≡ false
 no_columns a0 a1 w c s off = grind (arith, ints)
-
-both : (x y : Bool) → (x && y) ≡ true → (x ≡ true) × (y ≡ true)
-both true y e = (refl, e)
-both false y e = cc
 
 -- the corners of the pixels on the screen
 pub record FromZero (r : Rect) : Type 0 where
@@ -50,7 +43,7 @@ from_zero size a r e = subst FromZero (sym e) (by (meets a (screen_of size)) ref
 
     by : (m : Bool) → meets a (screen_of size) ≡ m → FromZero (cond m (common a (screen_of size)) no_pixels)
     by true lt =
-        let t = both (overlap a.x0 a.x1 (pos 0) (pos size.width)) (overlap a.y0 a.y1 (pos 0) (pos size.height)) lt in
+        let t = and_parts (overlap a.x0 a.x1 (pos 0) (pos size.width)) (overlap a.y0 a.y1 (pos 0) (pos size.height)) lt in
         let x = axis a.x0 a.x1 size.width t.0 in
         let y = axis a.y0 a.y1 size.height t.1 in
         record { x0 = x.0; x1 = x.1; y0 = y.0; y1 = y.1 }
@@ -84,10 +77,6 @@ swap true false = refl
 swap false true = refl
 swap false false = refl
 
-either_off : (x y : Bool) → (x && y) ≡ false → (x ≡ false) ⊎ (y ≡ false)
-either_off true y e = inr e
-either_off false y e = inl refl
-
 off_both : (x y : Bool) → (x ≡ false) ⊎ (y ≡ false) → (x && y) ≡ false
 off_both x y (inl e) = rw e refl
 off_both true y (inr e) = e
@@ -112,13 +101,13 @@ span_meets size a x0 x1 y0 y1 t valid lt e0 e1 f0 f1 = by (meets a (screen_of si
     by : (m : Bool) → meets a (screen_of size) ≡ m → let k = cond m (common a (screen_of size)) no_pixels in
         pos x0 ≡ k.x0 → pos x1 ≡ k.x1 → pos y0 ≡ k.y0 → pos y1 ≡ k.y1 → has_tile (span_of x0 x1 y0 y1) (tile_place size t) ≡ meets a (tile_rect_of size t)
     by true some e0 e1 f0 f1 =
-        let (h, v) = both (overlap a.x0 a.x1 (pos 0) (pos size.width)) (overlap a.y0 a.y1 (pos 0) (pos size.height)) some in
+        let (h, v) = and_parts (overlap a.x0 a.x1 (pos 0) (pos size.width)) (overlap a.y0 a.y1 (pos 0) (pos size.height)) some in
         let x = columns a.x0 a.x1 size.width c x0 x1 (column_below size t valid) (less (int_max a.x0 (pos 0)) (int_min a.x1 (pos size.width)) h) e0 e1 in
         let y = rows a.y0 a.y1 size.height r y0 y1 (row_within size t valid lt) (less (int_max a.y0 (pos 0)) (int_min a.y1 (pos size.height)) v) f0 f1 in
         ap (λ b. b && is_between (x0 / 32) (div_ceil x1 32) c) y ∙ ap (λ b. overlap a.y0 a.y1 (pos (8 * r)) (pos (min (8 * r + 8) size.height)) && b) x ∙ swap (overlap a.y0 a.y1 (pos (8 * r)) (pos (min (8 * r + 8) size.height))) (overlap a.x0 a.x1 (pos (32 * c)) (pos (min (32 * c + 32) size.width)))
     by false off e0 e1 f0 f1 =
         let no = off_both (overlap a.x0 a.x1 (pos (32 * c)) (pos (min (32 * c + 32) size.width))) (overlap a.y0 a.y1 (pos (8 * r)) (pos (min (8 * r + 8) size.height)))
-        (elim (either_off (overlap a.x0 a.x1 (pos 0) (pos size.width)) (overlap a.y0 a.y1 (pos 0) (pos size.height)) off) [
+        (elim (and_cases (overlap a.x0 a.x1 (pos 0) (pos size.width)) (overlap a.y0 a.y1 (pos 0) (pos size.height)) off) [
           | inl e ↦ inl (no_columns a.x0 a.x1 size.width c 32 e)
           | inr e ↦ inr (no_columns a.y0 a.y1 size.height r 8 e)
         ]) in
@@ -146,7 +135,7 @@ span_within size a x0 x1 y0 y1 e0 e1 f0 f1 = by (meets a (screen_of size)) refl 
     by : (m : Bool) → meets a (screen_of size) ≡ m → let k = cond m (common a (screen_of size)) no_pixels in
         pos x0 ≡ k.x0 → pos x1 ≡ k.x1 → pos y0 ≡ k.y0 → pos y1 ≡ k.y1 → IsSpan size (span_of x0 x1 y0 y1)
     by true some e0 e1 f0 f1 =
-        let (h, v) = both (overlap a.x0 a.x1 (pos 0) (pos size.width)) (overlap a.y0 a.y1 (pos 0) (pos size.height)) some in
+        let (h, v) = and_parts (overlap a.x0 a.x1 (pos 0) (pos size.width)) (overlap a.y0 a.y1 (pos 0) (pos size.height)) some in
         let x = across a.x0 a.x1 size.width x0 x1 (less (int_max a.x0 (pos 0)) (int_min a.x1 (pos size.width)) h) e0 e1 in
         let y = down a.y0 a.y1 size.height y0 y1 (less (int_max a.y0 (pos 0)) (int_min a.y1 (pos size.height)) v) f0 f1 in
         record { columns = x.0; rows = y.0; columns_within = x.1; rows_within = y.1 }

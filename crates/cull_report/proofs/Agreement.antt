@@ -1,5 +1,6 @@
 -- A verdict asks only for the states of subtiles on the screen.
 use Rattle.std.proofs.Common.{◌≡◌, ℕ, ◌<◌, Bool, true, false, ◌||◌, not, cond, refl, sym, ap, List, [], ◌∷◌, map}
+use Rattle.std.specs.Cmp.{both_ways}
 use Rattle.std.specs.List.{list_all}
 use Rattle.cull_base.specs.declared.place.Sub.{Sub}
 use Rattle.cull_base.specs.declared.scene_types.Object.{Object}
@@ -13,7 +14,7 @@ use Rattle.scene_reader.specs.Layout.{Parts}
 use Rattle.cull_report.specs.Pixels.{sub_of_pixel, sample_of_pixel, at_each_pixel, at_some_pixel}
 use Rattle.cull_report.specs.Shape.{Shape, AlwaysOutside, AlwaysVisible, Flat, Pieces, has_sample, is_hidden_at, is_hidden, verdict_of}
 use Rattle.cull_report.specs.Scene.{size_of, object_shape, object_verdict}
-use Rattle.cull_report.proofs.Hiding.{each_to, each_from, same_test}
+use Rattle.cull_report.proofs.Hiding.{each_to, each_from}
 
 -- the same states at each pixel of the screen
 abbrev pub Agrees : Dimensions → (Sub → State) → (Sub → State) → Type 0
@@ -37,7 +38,7 @@ each_alike size f g shape same e = each_from size (λ i j. not (has_sample shape
 hidden_alike : (size : Dimensions) (f g : Sub → State) (shape : Shape) → Agrees size f g → is_hidden size f shape ≡ is_hidden size g shape
 unfolding is_hidden
 hidden_alike size f g shape same =
-    let e = same_test (at_each_pixel size (λ i j. not (has_sample shape i j) || is_hidden_at f shape i j)) (at_each_pixel size (λ i j. not (has_sample shape i j) || is_hidden_at g shape i j))
+    let e = both_ways (at_each_pixel size (λ i j. not (has_sample shape i j) || is_hidden_at f shape i j)) (at_each_pixel size (λ i j. not (has_sample shape i j) || is_hidden_at g shape i j))
     (each_alike size f g shape same) (each_alike size g f shape (agrees_back size f g same)) in
     rw e refl
 

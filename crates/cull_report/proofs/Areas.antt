@@ -1,6 +1,7 @@
 -- The pixels of the screen that a rectangle has.
 use Rattle.std.proofs.Common.{◌≡◌, ℕ, ℤ, pos, ◌+◌, ◌*◌, ◌/◌, ◌%◌, ◌≤◌, ◌<◌, ◌≤ℤ◌, ◌<ℤ◌, Bool, true, false, ◌&&◌, cond, arith, refl, ap, ◌∙◌, int_lt, int_le}
 use Rattle.std.specs.Int.{int_min, int_max, div_ceil}
+use Rattle.std.proofs.lemmas.Bool.{and_parts}
 use Rattle.std.proofs.lemmas.Int.{ints}
 use Rattle.std.proofs.lemmas.Nat.{div-mul-add}
 use Rattle.std.proofs.Math.Nat.{mul-add-mod_self_right, mod-eq_of_lt}
@@ -12,7 +13,6 @@ use Rattle.cull_base.specs.Rectangle.{HasPixel, meets, cut_of, common, no_pixels
 use Rattle.cull_report.specs.declared.area.Area.{Area}
 use Rattle.cull_report.specs.Area.{IsIn, IsAreaOf, HoldsMet, HoldsArea}
 use Rattle.cull_report.specs.Pixels.{has_pixel}
-use Rattle.cull_report.proofs.Hiding.{and_true}
 
 -- one axis: from the greater first to before the lesser end
 pub record Axis (a0 a1 : ℤ) (w m n : ℕ) : Type 0 where
@@ -33,7 +33,7 @@ pub area_is : (a : Area) (r cut screen : Rect) (size : Dimensions) → IsSize si
     → pos a.x0 ≡ cut.x0 → pos a.y0 ≡ cut.y0 → pos a.x1 ≡ cut.x1 → pos a.y1 ≡ cut.y1 → IsAreaOf a r size
 area_is a r cut screen size valid m ec es x0 y0 x1 y1 =
     let is : cut ≡ common r (screen_of size) = ec ∙ ap (cut_of r) es ∙ ap (λ (b : Bool). cond b (common r (screen_of size)) no_pixels) m in
-    let both = and_true (int_lt (int_max r.x0 (pos 0)) (int_min r.x1 (pos size.width))) (int_lt (int_max r.y0 (pos 0)) (int_min r.y1 (pos size.height))) m in
+    let both = and_parts (int_lt (int_max r.x0 (pos 0)) (int_min r.x1 (pos size.width))) (int_lt (int_max r.y0 (pos 0)) (int_min r.y1 (pos size.height))) m in
     let across = axis r.x0 r.x1 size.width a.x0 a.x1 both.0 (x0 ∙ ap (λ (c : Rect). c.x0) is) (x1 ∙ ap (λ (c : Rect). c.x1) is) in
     let down = axis r.y0 r.y1 size.height a.y0 a.y1 both.1 (y0 ∙ ap (λ (c : Rect). c.y0) is) (y1 ∙ ap (λ (c : Rect). c.y1) is) in
     record {
@@ -47,7 +47,7 @@ area_is a r cut screen size valid m ec es x0 y0 x1 y1 =
       };
       has = λ px py inside. let h = across.has px inside.left inside.right in let v = down.has py inside.above inside.below in rw (h, v) refl;
       from = λ px py x y t.
-          let both = and_true (int_le r.x0 (pos px) && int_lt (pos px) r.x1) (int_le r.y0 (pos py) && int_lt (pos py) r.y1) t in
+          let both = and_parts (int_le r.x0 (pos px) && int_lt (pos px) r.x1) (int_le r.y0 (pos py) && int_lt (pos py) r.y1) t in
           let h = across.from px x both.0 in let v = down.from py y both.1 in
           record { left = h.0; right = h.1; above = v.0; below = v.1 };
     }
@@ -57,7 +57,7 @@ pub cut_whole : (r cut screen : Rect) (size : Dimensions) → meets r (screen_of
     → (pos 0 ≤ℤ cut.x0) × (pos 0 ≤ℤ cut.y0) × (pos 0 ≤ℤ cut.x1) × (pos 0 ≤ℤ cut.y1)
 cut_whole r cut screen size m ec es =
     let is : cut ≡ common r (screen_of size) = ec ∙ ap (cut_of r) es ∙ ap (λ (b : Bool). cond b (common r (screen_of size)) no_pixels) m in
-    let both = and_true (int_lt (int_max r.x0 (pos 0)) (int_min r.x1 (pos size.width))) (int_lt (int_max r.y0 (pos 0)) (int_min r.y1 (pos size.height))) m in
+    let both = and_parts (int_lt (int_max r.x0 (pos 0)) (int_min r.x1 (pos size.width))) (int_lt (int_max r.y0 (pos 0)) (int_min r.y1 (pos size.height))) m in
     let x = ends r.x0 r.x1 size.width both.0 in let y = ends r.y0 r.y1 size.height both.1 in
     rw is (x.0, y.0, x.1, y.1)
   where
@@ -77,7 +77,7 @@ holds_area held size a r valid is holds px py inside =
     let t = py / 8 * columns + px / 32 in
     let at_row = div-mul-add (py / 8) columns (px / 32) column in
     let at_column : t % columns ≡ px / 32 = mul-add-mod_self_right (py / 8) columns (px / 32) ∙ mod-eq_of_lt column in
-    let both = and_true (int_le r.x0 (pos px) && int_lt (pos px) r.x1) (int_le r.y0 (pos py) && int_lt (pos py) r.y1) (is.has px py inside) in
+    let both = and_parts (int_le r.x0 (pos px) && int_lt (pos px) r.x1) (int_le r.y0 (pos py) && int_lt (pos py) r.y1) (is.has px py inside) in
     let h = held_axis r.x0 r.x1 px both.0 in let v = held_axis r.y0 r.y1 py both.1 in
     let here : HasPixel (tile_rect_of size t) (pos px) (pos py) = rw (at_row, at_column) (
       omega (arith, ints),

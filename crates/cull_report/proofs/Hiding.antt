@@ -1,7 +1,8 @@
 -- What it means that an object is hidden.
 use Rattle.std.proofs.Common.{◌≡◌, ℕ, ℤ, pos, negsuc, zero, suc, ◌+◌, ◌≤◌, ◌<◌, ◌≤ℤ◌, ◌<ℤ◌, Bool, true, false, ◌&&◌, ◌||◌, not, cond, arith, refl, sym, ap, ◌∙◌, int_lt, inl, inr, IsTrue}
 use Rattle.std.specs.List.{list_all, list_any, range_with_len}
-use Rattle.std.proofs.lemmas.Bool.{cases_lt}
+use Rattle.std.specs.Cmp.{both_ways}
+use Rattle.std.proofs.lemmas.Bool.{cases_lt, and_parts}
 use Rattle.std.proofs.lemmas.Int.{ints}
 use Rattle.cull_base.specs.declared.rect.Rect.{Rect}
 use Rattle.cull_base.specs.declared.place.Sub.{Sub}
@@ -15,14 +16,10 @@ use Rattle.cull_report.specs.Pixels.{sub_of_pixel, sample_of_pixel, at_each_pixe
 use Rattle.cull_report.specs.Shapes.{rectangle_shape}
 use Rattle.cull_report.specs.Shape.{Shape, Flat, flat_shape, has_sample, is_hidden_at, is_hidden, verdict_of}
 
-pub and_true : (p q : Bool) → (p && q) ≡ true → (p ≡ true) × (q ≡ true)
-and_true true q e = (refl, e)
-and_true false q e = absurd cc
-
 all_to : (p : ℕ → Bool) (a n : ℕ) → list_all p (range_with_len a n) ≡ true → (k : ℕ) → a ≤ k → k < a + n → p k ≡ true
 all_to p a zero e k le lt = absurd (omega arith)
 all_to p a (suc n) e k le lt =
-    let both = and_true (p a) (list_all p (range_with_len (a + 1) n)) e in
+    let both = and_parts (p a) (list_all p (range_with_len (a + 1) n)) e in
     elim (cases_lt a k) [
       | inl later ↦ all_to p (a + 1) n both.1 k (omega arith) (omega arith)
       | inr first ↦ let here : a ≡ k = omega arith in rw (← here) both.0
@@ -65,12 +62,6 @@ some_pixel size test px py x y t =
     any_from (λ j. list_any (λ i. test i j) (range_with_len 0 size.width)) 0 size.height py (omega arith) (omega (arith, y))
     (any_from (λ i. test i py) 0 size.width px (omega arith) (omega (arith, x)) t)
 
--- two tests that hold alike are one
-pub same_test : (a b : Bool) → (a ≡ true → b ≡ true) → (b ≡ true → a ≡ true) → a ≡ b
-same_test true b f g = sym (f refl)
-same_test false true f g = g refl
-same_test false false f g = refl
-
 implied : (a b : Bool) → (not a || b) ≡ true → a ≡ true → b ≡ true
 implied true b e f = e
 implied false b e f = absurd cc
@@ -84,7 +75,7 @@ pub hidden_each : (size : Dimensions) (f : Sub → State) (shape : Shape) → is
     → is_hidden_at f shape px py ≡ true
 unfolding is_hidden
 hidden_each size f shape e px py x y has =
-    let both = and_true (at_some_pixel size (has_sample shape)) (at_each_pixel size (λ i j. not (has_sample shape i j) || is_hidden_at f shape i j)) e in
+    let both = and_parts (at_some_pixel size (has_sample shape)) (at_each_pixel size (λ i j. not (has_sample shape i j) || is_hidden_at f shape i j)) e in
     implied (has_sample shape px py) (is_hidden_at f shape px py) (each_to size (λ i j. not (has_sample shape i j) || is_hidden_at f shape i j) both.1 px py x y) has
 
 pub hidden_if : (size : Dimensions) (f : Sub → State) (shape : Shape) (px py : ℕ) → px < size.width → py < size.height → has_sample shape px py ≡ true
@@ -100,7 +91,7 @@ pub area_hidden : (b : Bool) (a : Area) (r : Rect) (size : Dimensions) (q : ℕ)
     → (IsTrue b → (px py : ℕ) → IsIn a px py → hides (f (sub_of_pixel px py)) (sample_of_pixel px py) q ≡ true)
     → (((px py : ℕ) → IsIn a px py → hides (f (sub_of_pixel px py)) (sample_of_pixel px py) q ≡ true) → IsTrue b)
     → is_hidden size f (Flat r q) ≡ b
-area_hidden b a r size q f is to from = same_test (is_hidden size f (Flat r q)) b
+area_hidden b a r size q f is to from = both_ways (is_hidden size f (Flat r q)) b
     (λ h. from (λ px py inside. hidden_each size f (Flat r q) h px py (omega (arith, inside.right, is.area.width_within)) (omega (arith, inside.below, is.area.height_within)) (is.has px py inside)))
     (λ h. let one = first_pixel in hidden_if size f (Flat r q) a.x0 a.y0 (omega (arith, is.area.wide, is.area.width_within)) (omega (arith, is.area.high, is.area.height_within)) (is.has a.x0 a.y0 one)
     (λ px py x y has. to h px py (is.from px py x y has)))

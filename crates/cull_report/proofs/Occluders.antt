@@ -2,6 +2,7 @@
 use Rattle.std.proofs.Common.{◌≡◌, ℕ, ℤ, pos, negsuc, zero, suc, ◌+◌, ◌*◌, ◌/◌, ◌%◌, ◌≤◌, ◌<◌, ◌*ℤ◌, ◌≤ℤ◌, ◌<ℤ◌, Bool, ◌&&◌, true, false, cond, arith, refl, List, [], ◌∷◌, map, length, int_lt, inl, inr, Some, nat_lt, sym, ap, ◌∙◌, subst}
 use Rattle.std.specs.Prelude.{slice_get}
 use Rattle.std.specs.List.{All, Contains}
+use Rattle.std.proofs.lemmas.Bool.{and_parts}
 use Rattle.std.proofs.lemmas.Bool.Decides.{nat_tests}
 use Rattle.std.proofs.lemmas.Int.{ints}
 use Rattle.std.proofs.lemmas.Option.{slice_get_within, get_or_from_slice_get}
@@ -27,7 +28,7 @@ use Rattle.cull_report.specs.Shape.{Shape, AlwaysOutside, AlwaysVisible, Flat, P
 use Rattle.cull_report.specs.Shapes.{nearness_at, rectangle_shape}
 use Rattle.cull_report.specs.Scene.{IsBuilt, IsBuiltObject, frame_pieces, frame_verdicts, size_of, object_shape, object_verdict}
 use Rattle.cull_report.specs.Hiding.{HasNearerPiece, HidesTruly}
-use Rattle.cull_report.proofs.Hiding.{and_true, hidden_each}
+use Rattle.cull_report.proofs.Hiding.{hidden_each}
 use Rattle.cull_report.proofs.Pixels.{sample_below}
 
 -- the sample of a pixel stands in its middle
@@ -110,8 +111,8 @@ pub hides_truly : (s : Parts) → IsBuilt s → ((frame : ℕ) → frame < lengt
 unfolding frame_verdicts
 hides_truly s built all sound = record {
   at_each_sample = λ frame o x px py lt at is has.
-      let sampled = and_true (nat_lt px s.width && nat_lt py s.height) (has_sample (object_shape s frame x) px py) has in
-      let on = and_true (nat_lt px s.width) (nat_lt py s.height) sampled.0 in
+      let sampled = and_parts (nat_lt px s.width && nat_lt py s.height) (has_sample (object_shape s frame x) px py) has in
+      let on = and_parts (nat_lt px s.width) (nat_lt py s.height) sampled.0 in
       let pieces = frame_pieces s frame in
       let occluded = verdict_there (object_verdict s frame (λ u. after u pieces)) s.objects o x Occluded at is in
       flat_hides (size_of s) pieces (object_shape s frame x) px py (built_is_flat s frame x (built_there s.near s.objects o x built.objects at)) (all frame lt) (sound frame lt) occluded (below px s.width on.0) (below py s.height on.1) sampled.1;

@@ -1,4 +1,4 @@
-use Rattle.std.proofs.Common.{◌≡◌, ◌∙◌, ℤ, length, pos, ap, FitsSigned, w32, rules, refl, slice_index_or}
+use Rattle.std.proofs.Common.{◌≡◌, ◌∙◌, ℤ, pos, ap, FitsSigned, w32, rules, slice_index_or}
 use Rattle.std.specs.Int.{int_min, int_max}
 use Rattle.std.proofs.lemmas.Int.{to_z-of_z}
 use Rattle.cull_base.specs.declared.extent.Extent.{Extent}

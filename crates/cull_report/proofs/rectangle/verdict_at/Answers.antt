@@ -1,8 +1,5 @@
 use Rattle.std.proofs.Common.{◌≡◌, Bool, true, false, sym, ◌∙◌}
-use Rattle.cull_base.specs.Screen.{screen_of}
-use Rattle.cull_base.specs.Rectangle.{meets}
 use Rattle.cull_report.specs.Pixels.{state_in}
-use Rattle.cull_report.specs.Shape.{Flat, is_hidden}
 use Rattle.cull_report.proofs.Hiding.{area_hidden, flat_tested, met}
 use Rattle.cull_report.proofs.Areas.{holds_area}
 use Rattle.cull_report.proofs.rectangle.verdict_at.Goals as goal
