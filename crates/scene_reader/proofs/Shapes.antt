@@ -1,6 +1,6 @@
 -- What the tests of objects say of each kind.
 use Rattle.std.proofs.Common.{◌≡◌, ℕ, ℤ, pos, negsuc, ◌+◌, ◌<◌, ◌^◌, ◌∷◌, List, [], length, get_or, drop, arith, refl, sym, ap, ◌∙◌, Bool, true, false, w32}
-use Rattle.std.specs.Prelude.{◌||◌, int_lt, ◌++◌}
+use Rattle.std.specs.Prelude.{◌||◌, int_lt}
 use Rattle.std.specs.List.{list_any}
 use Rattle.std.proofs.lemmas.Int.{ints}
 use Rattle.std.proofs.lemmas.Bool.{or_left, or_right, le-ltb, lt-ltb}

@@ -18,11 +18,11 @@ IsRefusal Read = ⊥
 IsRefusal Memory = ⊥
 IsRefusal _ = Unit {0}
 
-abbrev pub fault_if : Bool → SceneError → Option SceneError
+abbrev pub fault_if : {F : Type 0} → Bool → F → Option F
 fault_if test fault = if test then Some fault else None
 
 -- the first fault of the members of a list, of which i is the first one's number
-abbrev pub first_among : {X : Type 0} → (ℕ → X → Option SceneError) → ℕ → List X → Option SceneError
+abbrev pub first_among : {X F : Type 0} → (ℕ → X → Option F) → ℕ → List X → Option F
 first_among fault i [] = None
 first_among fault i (x ∷ xs) = option_or (fault i x) (first_among fault (i + 1) xs)
 
@@ -142,6 +142,10 @@ cameras_in bytes =
 -- a number lies outside the limits
 abbrev pub is_bad_row : List ℤ → Bool
 is_bad_row row = list_any (is_beyond (2 ^ 24)) row
+
+-- the number of the first row with a number outside the limits
+abbrev pub first_bad_row : List (List ℤ) → Option ℕ
+first_bad_row rows = first_among (λ i row. fault_if (is_bad_row row) i) 0 rows
 
 abbrev pub vertex_fault : ℕ → List ℤ → Option SceneError
 vertex_fault i row = fault_if (is_bad_row row) (BadVertex i)
