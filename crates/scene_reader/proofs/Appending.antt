@@ -1,7 +1,7 @@
 -- Writing entry after entry, and what an error leaves.
-use Rattle.std.proofs.Common.{◌≡◌, ℕ, ℤ, ◌+◌, ◌<◌, ◌≤◌, ◌++◌, ◌∷◌, List, [], length, get_or, take, drop, refl, sym, ap, ◌∙◌, Result, Ok, Err}
+use Rattle.std.proofs.Common.{◌≡◌, ℕ, ℤ, ◌+◌, ◌<◌, ◌++◌, ◌∷◌, List, [], length, get_or, take, drop, refl, sym, ap, ◌∙◌, Result, Ok, Err}
 use Rattle.std.specs.List.{flat_map}
-use Rattle.std.proofs.lemmas.List.{take_all, take-append-drop, take_more, drop_more, append-nil}
+use Rattle.std.proofs.lemmas.List.{take-append-drop, take_more, drop_more, append-nil}
 use Rattle.std.proofs.lemmas.List.Concat.{flat_map-append}
 use Rattle.cull_base.specs.Stream.{SinkSays, Writes}
 use Rattle.cull_base.specs.declared.memory.SinkError.{SinkError}

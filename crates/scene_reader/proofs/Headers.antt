@@ -17,7 +17,7 @@ use Rattle.scene_reader.proofs.Valid.{size_valid, size_good}
 
 -- ---- faults in turn
 
-pub or_parts_none : (o p : Option SceneError) → option_or o p ≡ None → (o ≡ None) × (p ≡ None)
+pub or_parts_none : {F : Type 0} (o p : Option F) → option_or o p ≡ None → (o ≡ None) × (p ≡ None)
 or_parts_none None p e = (refl, e)
 or_parts_none (Some x) p e = absurd cc
 
@@ -31,10 +31,10 @@ or_none_from o p e f = rw (e, f) refl
 pub or_first : (o p : Option SceneError) (e : SceneError) → o ≡ Some e → option_or o p ≡ Some e
 or_first o p e h = rw h refl
 
-pub or_second : (o p : Option SceneError) → o ≡ None → option_or o p ≡ p
+pub or_second : {F : Type 0} (o p : Option F) → o ≡ None → option_or o p ≡ p
 or_second o p e = rw e refl
 
-pub fault_none : (b : Bool) (e : SceneError) → fault_if b e ≡ None → b ≡ false
+pub fault_none : {F : Type 0} (b : Bool) (e : F) → fault_if b e ≡ None → b ≡ false
 fault_none true e h = absurd cc
 fault_none false e h = refl
 

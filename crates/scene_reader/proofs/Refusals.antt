@@ -1,6 +1,6 @@
 -- What reading answers, from what was taken.
-use Rattle.std.proofs.Common.{◌≡◌, ℕ, ℤ, ◌+◌, ◌-◌, ◌<◌, ◌++◌, ◌∷◌, List, [], length, drop, arith, refl, sym, ap, ◌∙◌, subst, All, append_assoc, Option, Some, None, Result, Ok, Err, rules}
-use Rattle.std.specs.Prelude.{IfSome, IfOk, IfErr, nat_lt}
+use Rattle.std.proofs.Common.{◌≡◌, ℕ, ℤ, ◌+◌, ◌-◌, ◌<◌, ◌++◌, ◌∷◌, List, [], length, drop, arith, refl, sym, ap, ◌∙◌, subst, All, append_assoc, Option, Some, None, Result, Err, rules}
+use Rattle.std.specs.Prelude.{IfSome, nat_lt}
 use Rattle.std.specs.Option.{option_or, option_map}
 use Rattle.std.proofs.lemmas.Bool.{le-ltb, lt-ltb}
 use Rattle.std.proofs.lemmas.List.{length-append, append-nil, drop_at, drop_all, length-map}

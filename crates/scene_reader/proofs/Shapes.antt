@@ -1,19 +1,19 @@
 -- What the tests of objects say of each kind.
 use Rattle.std.proofs.Common.{◌≡◌, ℕ, ℤ, pos, negsuc, ◌+◌, ◌<◌, ◌^◌, ◌∷◌, List, [], length, get_or, drop, arith, refl, sym, ap, ◌∙◌, Bool, true, false, w32}
-use Rattle.std.specs.Prelude.{◌||◌, int_lt, ◌++◌}
+use Rattle.std.specs.Prelude.{◌||◌, int_lt}
 use Rattle.std.specs.List.{list_any}
-use Rattle.std.proofs.lemmas.Int.{ints}
+use Rattle.std.proofs.lemmas.Int.{ints, to_z-of_z}
 use Rattle.std.proofs.lemmas.Bool.{or_left, or_right, le-ltb, lt-ltb}
 use Rattle.std.proofs.lemmas.List.{length-drop, get_or-drop}
 use Rattle.std.proofs.lemmas.List.Recursion.{or_at}
 use Rattle.std.proofs.lemmas.List.Folds.{list_any-append}
 use Rattle.std.proofs.Math.Bool.{or_assoc, or-false}
-use mir.Val.{SFits, of_z}
+use mir.Val.{SFits, of_z, to_z}
 use Rattle.cull_base.specs.Guard.{is_beyond}
 use Rattle.cull_base.specs.declared.rect.Rect.{Rect}
 use Rattle.cull_base.specs.declared.scene_types.Object.TheVariants.{Area, Block}
 use Rattle.scene_reader.specs.Layout.{numbers_of, axis}
-use Rattle.scene_reader.specs.Fault.{is_bad_row, is_bad_object, is_not_zero}
+use Rattle.scene_reader.specs.Fault.{is_bad_row, is_bad_object, is_not_zero, rectangle_runs_back}
 
 -- the value of a test that was decided by its first part, and of one that wasn't
 pub or_then : (a b v : Bool) → a ≡ true → v ≡ a → v ≡ (a || b)
@@ -24,12 +24,22 @@ pub or_else : (a b v : Bool) → a ≡ false → v ≡ b → v ≡ (a || b)
 or_else true b v e f = absurd cc
 or_else false b v e f = f
 
+-- a number as it stands in 32 bits
+abbrev in_32_bits : ℤ → ℤ
+in_32_bits z = to_z w32 (of_z w32 z)
+
 -- a rectangle, by its five numbers
-pub area_is : (object_tris : ℕ) (r : Rect) (w : ℤ) → is_bad_object object_tris 0 (numbers_of (Area r w)) ≡ ((is_bad_row (r.x0 ∷ r.y0 ∷ r.x1 ∷ r.y1 ∷ w ∷ []) || int_lt r.x1 r.x0) || int_lt r.y1 r.y0)
+pub area_is : (object_tris : ℕ) (r : Rect) (w : ℤ) → is_bad_object object_tris 0 (numbers_of (Area r w)) ≡ (is_bad_row (r.x0 ∷ r.y0 ∷ r.x1 ∷ r.y1 ∷ w ∷ []) || rectangle_runs_back r)
 unfolding is_bad_object
-area_is object_tris r w =
-    let row = is_bad_row (r.x0 ∷ r.y0 ∷ r.x1 ∷ r.y1 ∷ w ∷ []) in
-    ap (λ (b : Bool). row || b) (or-false (int_lt r.x1 r.x0 || int_lt r.y1 r.y0)) ∙ sym (or_assoc row (int_lt r.x1 r.x0) (int_lt r.y1 r.y0))
+area_is object_tris r w = ap (λ (b : Bool). is_bad_row (r.x0 ∷ r.y0 ∷ r.x1 ∷ r.y1 ∷ w ∷ []) || b) (or-false (rectangle_runs_back r))
+
+-- the answer of the code, from that on the rectangle's numbers
+pub area_parts : (r : Rect) (w : ℤ) (row v : Bool) → SFits w32 r.x0 → SFits w32 r.y0 → SFits w32 r.x1 → SFits w32 r.y1 → SFits w32 w
+    → row ≡ is_bad_row (in_32_bits r.x0 ∷ in_32_bits r.y0 ∷ in_32_bits r.x1 ∷ in_32_bits r.y1 ∷ in_32_bits w ∷ []) → v ≡ (row || rectangle_runs_back r)
+    → v ≡ is_bad_object 0 0 (numbers_of (Area r w))
+area_parts r w row v x0 y0 x1 y1 z e f =
+    let same : row ≡ is_bad_row (r.x0 ∷ r.y0 ∷ r.x1 ∷ r.y1 ∷ w ∷ []) = simp to_z-of_z at e in
+    f ∙ ap (λ (b : Bool). b || rectangle_runs_back r) same ∙ sym (area_is 0 r w)
 
 -- three elements
 pub three : (xs : List ℤ) → length xs ≡ 3 → axis xs 0 ∷ axis xs 1 ∷ axis xs 2 ∷ [] ≡ xs
@@ -61,6 +71,10 @@ six (a ∷ b ∷ c ∷ d ∷ []) e = absurd (omega (arith, e))
 six (a ∷ b ∷ c ∷ d ∷ f ∷ []) e = absurd (omega (arith, e))
 six (a ∷ b ∷ c ∷ d ∷ f ∷ g ∷ []) e = refl
 six (a ∷ b ∷ c ∷ d ∷ f ∷ g ∷ h ∷ xs) e = absurd (omega (arith, e))
+
+pub six_read : (n : List ℤ) → length n ≡ 6 → SFits w32 (axis n 0) → SFits w32 (axis n 1) → SFits w32 (axis n 2) → SFits w32 (axis n 3) → SFits w32 (axis n 4) → SFits w32 (axis n 5)
+    → in_32_bits (axis n 0) ∷ in_32_bits (axis n 1) ∷ in_32_bits (axis n 2) ∷ in_32_bits (axis n 3) ∷ in_32_bits (axis n 4) ∷ in_32_bits (axis n 5) ∷ [] ≡ n
+six_read n len f0 f1 f2 f3 f4 f5 = simp to_z-of_z (six n len)
 
 -- the answer of the code, from that on the corners' numbers
 pub block_parts : (low high : List ℤ) (rows v : Bool) → length low ≡ 3 → length high ≡ 3 → rows ≡ (is_bad_row low || is_bad_row high)

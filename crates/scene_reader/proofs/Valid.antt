@@ -44,13 +44,13 @@ row_good row h = row_good_parts row (recursion_from_All InLimits row h)
 pub area_valid : (m : ℕ) (r : Rect) (w : ℤ) → is_bad_object m 0 (numbers_of (Area r w)) ≡ false → IsObject m (Area r w)
 area_valid m r w e =
     let p = or_parts _ _ (sym (area_is m r w) ∙ e) in
-    let q = or_parts _ _ p.0 in
-    let n = row_parts (r.x0 ∷ r.y0 ∷ r.x1 ∷ r.y1 ∷ w ∷ []) q.0 in
-    (le_from_lt r.x1 r.x0 q.1, le_from_lt r.y1 r.y0 p.1, n.0, n.1.0, n.1.1.0, n.1.1.1.0, n.1.1.1.1.0)
+    let q = or_parts _ _ p.1 in
+    let n = row_parts (r.x0 ∷ r.y0 ∷ r.x1 ∷ r.y1 ∷ w ∷ []) p.0 in
+    (le_from_lt r.x1 r.x0 q.0, le_from_lt r.y1 r.y0 q.1, n.0, n.1.0, n.1.1.0, n.1.1.1.0, n.1.1.1.1.0)
 
 pub area_good : (m : ℕ) (r : Rect) (w : ℤ) → IsObject m (Area r w) → is_bad_object m 0 (numbers_of (Area r w)) ≡ false
 area_good m r w h =
-    area_is m r w ∙ or_from _ _ (or_from _ _ (row_good_parts (r.x0 ∷ r.y0 ∷ r.x1 ∷ r.y1 ∷ w ∷ []) (h.2, (h.3, (h.4, (h.5, (h.6, tt)))))) (lt_from_le r.x1 r.x0 h.0)) (lt_from_le r.y1 r.y0 h.1)
+    area_is m r w ∙ or_from _ _ (row_good_parts (r.x0 ∷ r.y0 ∷ r.x1 ∷ r.y1 ∷ w ∷ []) (h.2, (h.3, (h.4, (h.5, (h.6, tt)))))) (or_from _ _ (lt_from_le r.x1 r.x0 h.0) (lt_from_le r.y1 r.y0 h.1))
 
 pub block_valid : (m : ℕ) (low high : List ℤ) → length low ≡ 3 → length high ≡ 3 → is_bad_object m 1 (numbers_of (Block low high)) ≡ false → IsObject m (Block low high)
 block_valid m low high l h e =

@@ -6,6 +6,7 @@ use Rattle.std.specs.Prelude.{nat_eq}
 use Rattle.std.specs.Int.{w16, w32, from_le_bytes, cast_signed}
 use Rattle.std.specs.Ordering.{int_eq}
 use Rattle.cull_base.specs.Guard.{is_beyond}
+use Rattle.cull_base.specs.declared.rect.Rect.{Rect}
 use Rattle.cull_base.specs.declared.scene_types.Tri.{Tri}
 use Rattle.scene_reader.specs.declared.error.SceneError.{SceneError}
 use Rattle.scene_reader.specs.declared.error.SceneError.TheVariants.{Truncated, BadMagic, BadVersion, BadSize, BadNear, BadWinding, BadReserved, BadCount, Trailing, BadVertex, BadIndex, BadKind, BadObject, BadCamera, Read, Memory}
@@ -18,11 +19,11 @@ IsRefusal Read = ⊥
 IsRefusal Memory = ⊥
 IsRefusal _ = Unit {0}
 
-abbrev pub fault_if : Bool → SceneError → Option SceneError
+abbrev pub fault_if : {F : Type 0} → Bool → F → Option F
 fault_if test fault = if test then Some fault else None
 
 -- the first fault of the members of a list, of which i is the first one's number
-abbrev pub first_among : {X : Type 0} → (ℕ → X → Option SceneError) → ℕ → List X → Option SceneError
+abbrev pub first_among : {X F : Type 0} → (ℕ → X → Option F) → ℕ → List X → Option F
 first_among fault i [] = None
 first_among fault i (x ∷ xs) = option_or (fault i x) (first_among fault (i + 1) xs)
 
@@ -143,6 +144,10 @@ cameras_in bytes =
 abbrev pub is_bad_row : List ℤ → Bool
 is_bad_row row = list_any (is_beyond (2 ^ 24)) row
 
+-- the number of the first row with a number outside the limits
+abbrev pub first_bad_row : List (List ℤ) → Option ℕ
+first_bad_row rows = first_among (λ i row. fault_if (is_bad_row row) i) 0 rows
+
 abbrev pub vertex_fault : ℕ → List ℤ → Option SceneError
 vertex_fault i row = fault_if (is_bad_row row) (BadVertex i)
 
@@ -161,9 +166,13 @@ is_not_zero z = not (int_eq z (pos 0))
 abbrev pub is_bad_area : List ℤ → Bool
 is_bad_area n = int_lt (number_at n 2) (number_at n 0) || int_lt (number_at n 3) (number_at n 1) || is_not_zero (number_at n 5)
 
+-- a rectangle that runs back from its first corner to its second
+abbrev pub rectangle_runs_back : Rect → Bool
+rectangle_runs_back r = int_lt r.x1 r.x0 || int_lt r.y1 r.y0
+
 -- a box that runs back from its first corner to its second
-abbrev pub runs_back : List ℤ → List ℤ → Bool
-runs_back low high = int_lt (axis high 0) (axis low 0) || int_lt (axis high 1) (axis low 1) || int_lt (axis high 2) (axis low 2)
+abbrev pub box_runs_back : List ℤ → List ℤ → Bool
+box_runs_back low high = int_lt (axis high 0) (axis low 0) || int_lt (axis high 1) (axis low 1) || int_lt (axis high 2) (axis low 2)
 
 abbrev pub is_bad_block : List ℤ → Bool
 is_bad_block n = int_lt (number_at n 3) (number_at n 0) || int_lt (number_at n 4) (number_at n 1) || int_lt (number_at n 5) (number_at n 2)

@@ -3,7 +3,7 @@ ghost use Rattle.std.specs.Prelude.{◌≡◌, ℕ, ◌≤◌, ◌^◌, ◌<◌,
 ghost use Rattle.std.specs.List.{All, list_any};
 ghost use Rattle.cull_base.specs.Screen.{IsSize};
 ghost use Rattle.scene_reader.specs.Layout.{IsScene, IsRow, IsTri, IsObject, raw_object};
-ghost use Rattle.scene_reader.specs.Fault.{first_among, vertex_fault, index_fault, object_fault, camera_fault, screen_fault, tables_fault};
+ghost use Rattle.scene_reader.specs.Fault.{first_among, first_bad_row, vertex_fault, index_fault, object_fault, camera_fault, screen_fault, tables_fault};
 ghost use Rattle.scene_reader.specs.PartsFault.{AreTables, IsTablesFault, count_in_32_bits, counts_of_parts, first_fault_of_parts};
 
 use crate::error::SceneError;
@@ -12,18 +12,27 @@ use crate::objects::{is_bad_object, is_bad_row};
 use crate::parts::SceneParts;
 use cull_base::{Object, Tri};
 
+/// The number of the first row with a number outside the limits.
+fn first_bad_row<const N: usize>(rows: &[[i32; N]]) -> Option<u32>
+    requires { length rows.now < 2 ^ 32 }
+    ensures { result ≡ first_bad_row rows.now }
+{
+    for (i, row) in rows.iter().enumerate() {
+        if is_bad_row(row) {
+            return Some(i as u32);
+        }
+    }
+    None
+}
+
 /// The first vertex with a coordinate outside the limits.
-pub fn vertex_fault(vertices: &[[i32; 3]]) -> Option<SceneError>
+fn vertex_fault(vertices: &[[i32; 3]]) -> Option<SceneError>
     requires { length vertices.now < 2 ^ 32 }
     ensures value { result ≡ first_among vertex_fault 0 vertices.now }
     ensures valid { IsNone result → All (IsRow 3) vertices.now }
 {
-    for (i, vertex) in vertices.iter().enumerate() {
-        if is_bad_row(vertex) {
-            return Some(SceneError::BadVertex(i as u32));
-        }
-    }
-    None
+    let i = first_bad_row(vertices)?;
+    Some(SceneError::BadVertex(i))
 }
 
 fn names_past(triangle: &Tri, vertices: u32) -> bool
@@ -34,7 +43,7 @@ fn names_past(triangle: &Tri, vertices: u32) -> bool
 }
 
 /// The first triangle of a table that names a vertex which isn't there.
-pub fn index_fault(table: u8, vertices: u32, triangles: &[Tri]) -> Option<SceneError>
+fn index_fault(table: u8, vertices: u32, triangles: &[Tri]) -> Option<SceneError>
     requires { length triangles.now < 2 ^ 32 }
     ensures value { result ≡ first_among (index_fault table vertices) 0 triangles.now }
     ensures valid { IsNone result → All (IsTri vertices) triangles.now }
@@ -48,17 +57,13 @@ pub fn index_fault(table: u8, vertices: u32, triangles: &[Tri]) -> Option<SceneE
 }
 
 /// The first camera with an entry outside the limits.
-pub fn camera_fault(cameras: &[[i32; 12]]) -> Option<SceneError>
+fn camera_fault(cameras: &[[i32; 12]]) -> Option<SceneError>
     requires { length cameras.now < 2 ^ 32 }
     ensures value { result ≡ first_among camera_fault 0 cameras.now }
     ensures valid { IsNone result → All (IsRow 12) cameras.now }
 {
-    for (i, camera) in cameras.iter().enumerate() {
-        if is_bad_row(camera) {
-            return Some(SceneError::BadCamera(i as u32));
-        }
-    }
-    None
+    let i = first_bad_row(cameras)?;
+    Some(SceneError::BadCamera(i))
 }
 
 /// The first fault of the tables of parts whose header is accepted, where that of the objects is given.

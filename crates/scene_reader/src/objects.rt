@@ -5,7 +5,7 @@ ghost use Rattle.std.specs.List.{All};
 ghost use Rattle.std.specs.Option.{option_or};
 ghost use Rattle.cull_base.specs.Guard.{is_beyond};
 ghost use Rattle.scene_reader.specs.Layout.{IsObject, kind_of, numbers_of};
-ghost use Rattle.scene_reader.specs.Fault.{is_bad_row, runs_back, is_bad_object, object_fault, raw_of};
+ghost use Rattle.scene_reader.specs.Fault.{is_bad_row, rectangle_runs_back, box_runs_back, is_bad_object, object_fault, raw_of};
 ghost use Rattle.scene_reader.specs.Reading.{IsObjectOf, TakesObject, TakesObjects, Fetches};
 
 use crate::error::SceneError;
@@ -91,14 +91,20 @@ pub fn object_of(kind: u8, numbers: &[i32; 6]) -> Option<Object>
     }
 }
 
+fn rectangle_runs_back(rect: &Rect) -> bool
+    ensures { result ≡ rectangle_runs_back rect.now }
+{
+    rect.x1 < rect.x0 || rect.y1 < rect.y0
+}
+
 fn is_bad_area(rect: &Rect, w: i32) -> bool
     ensures { result ≡ is_bad_object 0 0 (numbers_of (Object.Area rect.now w)) }
 {
-    is_bad_row(&[rect.x0, rect.y0, rect.x1, rect.y1, w]) || rect.x1 < rect.x0 || rect.y1 < rect.y0
+    is_bad_row(&[rect.x0, rect.y0, rect.x1, rect.y1, w]) || rectangle_runs_back(rect)
 }
 
-fn runs_back(low: &[i32; 3], high: &[i32; 3]) -> bool
-    ensures { result ≡ runs_back low.now high.now }
+fn box_runs_back(low: &[i32; 3], high: &[i32; 3]) -> bool
+    ensures { result ≡ box_runs_back low.now high.now }
 {
     high[0] < low[0] || high[1] < low[1] || high[2] < low[2]
 }
@@ -107,7 +113,7 @@ fn is_bad_block(low: &[i32; 3], high: &[i32; 3]) -> bool
     ensures value { result ≡ is_bad_object 0 1 (numbers_of (Object.Block low.now high.now)) }
     ensures corners { (length low.now ≡ 3) × (length high.now ≡ 3) }
 {
-    is_bad_row(low) || is_bad_row(high) || runs_back(low, high)
+    is_bad_row(low) || is_bad_row(high) || box_runs_back(low, high)
 }
 
 #[tactic(auto, unfolding(crate::specs::Fault::is_bad_object))]

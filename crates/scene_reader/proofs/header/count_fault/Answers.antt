@@ -1,6 +1,6 @@
-use Rattle.std.proofs.Common.{◌≡◌, arith, refl, false, true}
+use Rattle.std.proofs.Common.{◌≡◌, arith, refl, false}
 use Rattle.std.specs.Prelude.{nat_lt}
-use Rattle.std.proofs.lemmas.Bool.{le-ltb, lt-ltb}
+use Rattle.std.proofs.lemmas.Bool.{le-ltb}
 use Rattle.scene_reader.specs.Fault.{count_fault}
 use Rattle.scene_reader.proofs.Headers.{option_or_assoc}
 use Rattle.scene_reader.proofs.header.count_fault.Goals as goal

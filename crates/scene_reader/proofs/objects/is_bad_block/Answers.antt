@@ -17,4 +17,4 @@ returns-else-is_bad_row-2-clause-value c =
     let low = c.args.low.now in
     let high = c.args.high.now in
     let joined : c.if-is_bad_row.value ≡ (is_bad_row low || is_bad_row high) = elim c.if-is_bad_row.branch [ then-is_bad_row t ↦ or_then _ _ _ (sym c.is_bad_row.ensures ∙ t.if-is_bad_row.true) (t.value-is ∙ c.is_bad_row.ensures) | else-is_bad_row t ↦ or_else _ _ _ (sym c.is_bad_row.ensures ∙ t.if-is_bad_row.false) (t.value-is ∙ t.is_bad_row-else-is_bad_row.ensures) ] in
-    block_parts low high c.if-is_bad_row.value _ c.told-low c.told-high joined (or_else _ _ _ c.if-is_bad_row-2.false c.runs_back.ensures)
+    block_parts low high c.if-is_bad_row.value _ c.told-low c.told-high joined (or_else _ _ _ c.if-is_bad_row-2.false c.box_runs_back.ensures)
