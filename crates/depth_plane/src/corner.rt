@@ -5,7 +5,7 @@ ghost use Rattle.depth_plane.specs.Corner.{least_place, greatest_place};
 
 /// The place of the least value along one axis, from the first sample on.
 #[inline(always)]
-pub fn least_along(slope: i128, first: u32, span: u32) -> u32
+pub fn least_along(slope: i64, first: u32, span: u32) -> u32
     requires first { first < 2 ^ 20 }
     requires span { span < 2 ^ 10 }
     ensures value { result ≡ first + least_place slope span }
@@ -16,7 +16,7 @@ pub fn least_along(slope: i128, first: u32, span: u32) -> u32
 
 /// The place of the greatest value along one axis.
 #[inline(always)]
-pub fn greatest_along(slope: i128, first: u32, span: u32) -> u32
+pub fn greatest_along(slope: i64, first: u32, span: u32) -> u32
     requires first { first < 2 ^ 20 }
     requires span { span < 2 ^ 10 }
     ensures value { result ≡ first + greatest_place slope span }
@@ -26,13 +26,13 @@ pub fn greatest_along(slope: i128, first: u32, span: u32) -> u32
 }
 
 #[inline(always)]
-fn term(slope: i128, place: u32) -> i128
+fn term(slope: i64, place: u32) -> i128
     requires slope { Bounded (2 ^ 56) slope }
     requires place { place < 2 ^ 21 }
     ensures value { result ≡ slope *ℤ pos place }
     ensures bounded { Bounded (2 ^ 77) result }
 {
-    slope * i128::from(place)
+    i128::from(slope) * i128::from(place)
 }
 
 #[inline(always)]
@@ -48,7 +48,7 @@ fn sum(a: i128, b: i128, level: i128) -> i128
 
 /// The value of a plane at a place.
 #[inline(always)]
-pub fn numerator_at(across: i128, down: i128, level: i128, x: u32, y: u32) -> i128
+pub fn numerator_at(across: i64, down: i64, level: i128, x: u32, y: u32) -> i128
     requires across { Bounded (2 ^ 56) across }
     requires down { Bounded (2 ^ 56) down }
     requires level { Bounded (2 ^ 87) level }

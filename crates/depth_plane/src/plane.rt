@@ -23,8 +23,8 @@ const SPAN_DOWN: u32 = 48;
 /// The depth of a piece at (x, y), in sixteenths of a pixel: `(across * x + down * y + level) / area`.
 #[derive(Clone, Copy)]
 pub struct Plane {
-    across: i128,
-    down: i128,
+    across: i64,
+    down: i64,
     level: i128,
     area: i64,
     // of the area, for the divisions of `low`

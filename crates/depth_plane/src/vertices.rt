@@ -121,18 +121,18 @@ impl Vertices {
 
     // The same of differences of coordinates, which are smaller.
     #[inline(always)]
-    fn slope(&self, a: i64, b: i64, c: i64) -> i128
+    fn slope(&self, a: i64, b: i64, c: i64) -> i64
         requires a { Bounded (2 ^ 30) a }
         requires b { Bounded (2 ^ 30) b }
         requires c { Bounded (2 ^ 30) c }
         ensures value { result ≡ weighted_of self.now a b c }
         ensures bounded { Bounded (2 ^ 56) result }
     {
-        self.weighted_sum(a, b, c)
+        self.weighted_sum(a, b, c) as i64
     }
 
     /// What the depth's numerator rises by for each sixteenth of a pixel to the right.
-    pub fn across(&self) -> i128
+    pub fn across(&self) -> i64
         ensures value { result ≡ across_of self.now }
         ensures bounded { Bounded (2 ^ 56) result }
     {
@@ -144,7 +144,7 @@ impl Vertices {
     }
 
     /// What it rises by for each sixteenth of a pixel down.
-    pub fn down(&self) -> i128
+    pub fn down(&self) -> i64
         ensures value { result ≡ down_of self.now }
         ensures bounded { Bounded (2 ^ 56) result }
     {

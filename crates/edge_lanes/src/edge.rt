@@ -1,5 +1,6 @@
 //! One edge of a piece: its value at a first sample, and what each pixel to the right and below adds.
 ghost use Rattle.std.specs.Prelude.{◌≡◌, ℕ, ℤ, pos, ◌^◌, ◌+◌, ◌*◌, ◌<◌, ◌+ℤ◌, ◌-ℤ◌, ◌*ℤ◌, ◌<ℤ◌, ◌≤ℤ◌, IsTrue, ◌↔◌, map};
+ghost use Rattle.std.specs.Int.{int_div_euclid};
 ghost use Rattle.std.specs.Simd.Lanes.{mask_l};
 ghost use Rattle.cull_base.specs.Piece.{IsCoordinate, Point, middle, edge_value, is_top_or_left, each_sample};
 ghost use Rattle.cull_base.specs.Bounds.{Bounded};
@@ -10,6 +11,9 @@ use cull_base::arithmetic::{difference, edge_value};
 use cull_base::{Side, Sub};
 use std::simd::prelude::*;
 
+/// Below this size a value's sixteenth has 31 bits.
+const NARROW: i64 = 0x4_0000_0000;
+
 /// An edge over the screen. A sample is inside where the value there isn't negative.
 #[derive(Clone, Copy)]
 pub struct Edge {
@@ -18,15 +22,17 @@ pub struct Edge {
     // what a pixel to the right adds, and one below
     column: i64,
     row: i64,
-    // what each of eight columns adds, kept since lanes have no fast product
-    offsets: i64x8,
+    // a sixteenth of `column`, or as near as 32 bits allow, and what it adds over eight columns
+    sixteenth: i32,
+    offsets: i32x8,
     // the most and the least that a sample of a subtile adds to its first
     highest: i64,
     lowest: i64,
     ghost start_bounded: { Bounded (2 ^ 61 + 1) start },
     ghost column_bounded: { Bounded (2 ^ 34) column },
     ghost row_bounded: { Bounded (2 ^ 34) row },
-    ghost are_offsets: { offsets ≡ offsets_of column },
+    ghost sixteenth_bounded: { Bounded (2 ^ 24) sixteenth },
+    ghost are_offsets: { offsets ≡ offsets_of sixteenth },
     ghost is_highest: { highest ≡ highest_of column row },
     ghost is_lowest: { lowest ≡ lowest_of column row },
 }
@@ -81,6 +87,31 @@ fn lowest(column: i64, row: i64) -> i64
 }
 
 #[inline(always)]
+fn has_narrow_sixteenth(value: i64) -> bool
+    ensures { IsTrue result → Bounded (2 ^ 34) value }
+{
+    -NARROW <= value && value < NARROW
+}
+
+// A sixteenth of a value, rounded down: it has the value's sign.
+#[inline(always)]
+fn narrow_value(value: i64) -> i32
+    requires { Bounded (2 ^ 34) value }
+    ensures value { result ≡ int_div_euclid value (pos 16) }
+    ensures bounded { Bounded (2 ^ 30) result }
+{
+    (value >> 4) as i32
+}
+
+// A sixteenth of a step, cut to 25 bits.
+#[inline(always)]
+fn sixteenth(step: i64) -> i32
+    ensures { Bounded (2 ^ 24) result }
+{
+    (step >> 4).clamp(-0x100_0000, 0x100_0000) as i32
+}
+
+#[inline(always)]
 fn from_steps(start: i64, column: i64, row: i64) -> Edge
     requires start { Bounded (2 ^ 61 + 1) start }
     requires column { Bounded (2 ^ 34) column }
@@ -89,11 +120,13 @@ fn from_steps(start: i64, column: i64, row: i64) -> Edge
     ensures column { result.column ≡ column }
     ensures row { result.row ≡ row }
 {
+    let sixteenth = sixteenth(column);
     Edge {
         start,
         column,
         row,
-        offsets: i64x8::splat(column).strict_mul(i64x8::from_array([0, 1, 2, 3, 4, 5, 6, 7])),
+        sixteenth,
+        offsets: i32x8::splat(sixteenth).strict_mul(i32x8::from_array([0, 1, 2, 3, 4, 5, 6, 7])),
         highest: highest(column, row),
         lowest: lowest(column, row),
     }
@@ -180,8 +213,35 @@ impl Edge {
         requires { Bounded (2 ^ 62) start }
         ensures { result ≡ mask_l (map (λ c. is_not_negative (start +ℤ (self.now.column *ℤ pos c))) columns) }
     {
-        i64x8::splat(start)
+        if has_narrow_sixteenth(start) && self.column == 16 * i64::from(self.sixteenth) {
+            self.narrow_columns(narrow_value(start))
+        } else {
+            self.wide_columns(start)
+        }
+    }
+
+    // The same by sixteenths of the values, which have the same signs.
+    #[inline(always)]
+    fn narrow_columns(&self, start: i32) -> u64
+        requires { Bounded (2 ^ 30) start }
+        ensures { result ≡ mask_l (map (λ c. is_not_negative (start +ℤ (self.now.sixteenth *ℤ pos c))) columns) }
+    {
+        i32x8::splat(start)
             .strict_add(self.offsets)
+            .simd_ge(i32x8::splat(0))
+            .to_bitmask()
+    }
+
+    // The same for steps and values of any size.
+    fn wide_columns(&self, start: i64) -> u64
+        requires { Bounded (2 ^ 62) start }
+        ensures { result ≡ mask_l (map (λ c. is_not_negative (start +ℤ (self.now.column *ℤ pos c))) columns) }
+    {
+        let offsets = i64x8::splat(self.column).strict_mul(i64x8::from_array([
+            0, 1, 2, 3, 4, 5, 6, 7,
+        ]));
+        i64x8::splat(start)
+            .strict_add(offsets)
             .simd_ge(i64x8::splat(0))
             .to_bitmask()
     }

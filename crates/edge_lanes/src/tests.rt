@@ -123,6 +123,17 @@ fn a_tile_inside_is_whole_and_one_beside_is_empty(rt: HostRuntime) {
     );
 }
 
+// A diagonal of steps too wide for 32 bits: its first piece has the samples where x is at least y, its second the others.
+#[test]
+fn a_wide_diagonal_crosses_a_subtile(rt: HostRuntime) {
+    let far = 400_000_000;
+    let first = edges_at(&rt, [-far, far, far], [-far, -far, far], Side::Occluder);
+    let second = edges_at(&rt, [-far, far, -far], [-far, far, far], Side::Occluder);
+    let sub = Sub { column: 0, row: 0 };
+    assert_eq!(rt; first.mask(sub), 0xF8FC_FEFF);
+    assert_eq!(rt; second.mask(sub), 0x0703_0100);
+}
+
 // Whether lanes and samples agree at a piece, in the subtile nearest to a place and in its tile.
 fn agree(tri: &ScreenTri, x: &[i32; 3], y: &[i32; 3], side: Side, sub: Sub) -> bool
     requires column { sub.column < 256 }

@@ -1,4 +1,4 @@
-use Rattle.std.proofs.Common.{◌≡◌, ℕ, ℤ, pos, ◌+◌, ◌*◌, ◌+ℤ◌, ◌*ℤ◌, FitsSigned, rules, refl}
+use Rattle.std.proofs.Common.{◌≡◌, ℕ, ℤ, pos, ◌+◌, ◌*◌, ◌+ℤ◌, ◌*ℤ◌, FitsSigned, w64, rules, refl}
 use Rattle.std.specs.Int.{w128}
 use Rattle.std.proofs.lemmas.Int.{to_z-of_z}
 use Rattle.cull_base.specs.Piece.{least_of, sample, each_sample}
@@ -15,8 +15,8 @@ joined c v u r fx fy px py x y ev er ex ey epx epy efx efy = rw (← ev, er) (co
 
 pub returns-clause-value : goal.returns-clause-value
 returns-clause-value c =
-    let fa : FitsSigned w128 c.self.inside.across = search rules in
-    let fd : FitsSigned w128 c.self.inside.down = search rules in
+    let fa : FitsSigned w64 c.self.inside.across = search rules in
+    let fd : FitsSigned w64 c.self.inside.down = search rules in
     let fl : FitsSigned w128 c.self.inside.level = search rules in
     let fr : FitsSigned w128 c.numerator_at.result = search rules in
     simp to_z-of_z (joined _ c.args.self.now c.args.sub c.numerator_at.result (8 * c.args.sub.column) (4 * c.args.sub.row) c.place.result c.place-2.result c.least_along-x.result c.least_along-y.result c.self.view_is

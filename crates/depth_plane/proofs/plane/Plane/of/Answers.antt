@@ -15,8 +15,8 @@ within n h = omega (arith, ints, h)
 
 pub returns-clause-value : goal.returns-clause-value
 returns-clause-value c =
-    let fa : FitsSigned w128 c.across.result = search rules in
-    let fd : FitsSigned w128 c.down.result = search rules in
+    let fa : FitsSigned w64 c.across.result = search rules in
+    let fd : FitsSigned w64 c.down.result = search rules in
     let fl : FitsSigned w128 c.level.result = search rules in
     let fn : FitsSigned w64 c.area-area.result = search rules in
     simp to_z-of_z (plane_of-computed c.args.tri.now c.of-vertices.result c.across.result c.down.result c.level.result c.area-area.result
@@ -25,8 +25,8 @@ returns-clause-value c =
 
 pub invariant_of-result : goal.invariant_of-result
 invariant_of-result c =
-    let fa : FitsSigned w128 c.across.result = search rules in
-    let fd : FitsSigned w128 c.down.result = search rules in
+    let fa : FitsSigned w64 c.across.result = search rules in
+    let fd : FitsSigned w64 c.down.result = search rules in
     let fl : FitsSigned w128 c.level.result = search rules in
     let fn : FitsSigned w64 c.area-area.result = search rules in
     let is = simp to_z-of_z at (returns-clause-value c) in
