@@ -1,16 +1,17 @@
 -- What it says of a point that it is in reach.
-use Rattle.std.proofs.Common.{◌≡◌, ℕ, ℤ, pos, negsuc, zero, suc, sym, ◌+◌, ◌*◌, ◌-◌, ◌^◌, ◌<◌, ◌≤◌, ◌≤ℤ◌, ◌+ℤ◌, ◌-ℤ◌, ◌*ℤ◌, arith, refl, ◌/◌, ◌%◌, min}
-use Rattle.std.proofs.lemmas.Int.{ints}
+use Rattle.std.proofs.Common.{◌≡◌, FitsSigned, w64, to_z, of_z, ℕ, ℤ, pos, negsuc, zero, suc, sym, ◌+◌, ◌*◌, ◌-◌, ◌^◌, ◌<◌, ◌≤◌, ◌≤ℤ◌, ◌+ℤ◌, ◌-ℤ◌, ◌*ℤ◌, arith, refl, ◌/◌, ◌%◌, min}
+use Rattle.std.proofs.lemmas.Int.{ints, to_z-of_z}
 use Rattle.std.proofs.Math.Nat.{mul-le-mul_left, mul-le-mul}
 use Rattle.near_clip.specs.declared.hom_point.HomPoint.{HomPoint}
 use Rattle.near_clip.specs.Reach.{IsInReach}
 use Rattle.std.proofs.Math.Nat.{div-le_of_le-mul, div-add-mod, div-eq_of_lt-le, mod-lt, mul-div-mul_left, lt_of_mul-lt-mul_left}
 use Rattle.std.specs.Int.{div_ceil}
 use Rattle.std.specs.Int.RustNames.{unsigned_abs}
+use Rattle.cull_base.specs.declared.triangle.Side.{Side}
 use Rattle.cull_base.specs.declared.triangle.Side.TheVariants.{Occluder, Object}
 use Rattle.cull_base.specs.Screen.{Dimensions}
 use Rattle.cull_base.specs.Bounds.{Bounded}
-use Rattle.snap_setup.specs.Snapping.{round_half, screen_x, screen_y, nearness_of, IsInSight}
+use Rattle.snap_setup.specs.Snapping.{round_half, screen_x, screen_y, nearness_of, addend_of, IsInSight}
 use Rattle.snap_setup.proofs.Floors.{ceiling_is}
 
 pub natural : (z : ℤ) → pos 0 ≤ℤ z → (n : ℕ) × (z ≡ pos n)
@@ -156,12 +157,24 @@ doubled_up n w h = by_rest (n % w) refl
         let lt : n % w < w = mod-lt n h in
         rw k (div-eq_of_lt-le (2 * w) {m = 2 * n + (2 * w - 1)} (omega (arith, m, e, h)) (omega (arith, m, e, h, lt)))
 
-pub nearness_doubled : (top near : ℕ) (p : HomPoint) (a n w d : ℕ) → 1 ≤ near → near ≤ 1024 → IsInReach near p → pos 1 ≤ℤ p.w →
-    a ≡ unsigned_abs p.scale → n ≡ top * near * a → w ≡ unsigned_abs p.w → pos d ≡ pos 2 *ℤ p.w → IsNearness top near p (2 * n / d) ((2 * n + (2 * w - 1)) / d)
-nearness_doubled top near p a n w d hn le h least ea en ew ed =
-    let k = nearness_from top near p a n w hn le h ea en ew in
+-- the nearness of one side, and a bound on it
+pub record IsRoundedNearness (top near : ℕ) (p : HomPoint) (side : Side) (q : ℕ) : Type 0 where
+  pub value : q ≡ nearness_of p top near side
+  pub within : q ≤ top
+
+by_side : (side : Side) (top near : ℕ) (p : HomPoint) (n w d : ℕ) → d ≡ 2 * w → 0 < w → IsNearness top near p (n / w) (div_ceil n w) → IsRoundedNearness top near p side ((2 * n + addend_of side w) / d)
+by_side Occluder top near p n w d ed h k =
+    let e : 2 * n + 0 ≡ 2 * n = omega arith in
+    rw (e, ed, doubled_down n w h) (record { value = k.down_is; within = k.down_small })
+by_side Object top near p n w d ed h k = rw (ed, doubled_up n w h) (record { value = k.up_is; within = k.up_small })
+
+-- by the numbers that the code took
+pub nearness_doubled : (side : Side) (top near : ℕ) (p : HomPoint) (a n w d u q : ℕ) → 1 ≤ near → near ≤ 1024 → IsInReach near p → pos 1 ≤ℤ p.w → FitsSigned w64 p.scale → FitsSigned w64 p.w →
+    a ≡ unsigned_abs (to_z w64 (of_z w64 p.scale)) → n ≡ top * near * a → w ≡ unsigned_abs (to_z w64 (of_z w64 p.w)) → pos d ≡ pos 2 *ℤ p.w → u ≡ addend_of side w → q ≡ (2 * n + u) / d →
+    IsRoundedNearness top near p side q
+nearness_doubled side top near p a n w d u q hn le h least fs fw ea en ew ed eu eq =
+    let es = simp to_z-of_z at ew in
+    let k = nearness_from top near p a n w hn le h (simp to_z-of_z at ea) en es in
     let (b, eb) = natural p.w (omega (arith, ints, least)) in
-    let wb : w ≡ b = rw eb at ew in
-    let db : d ≡ 2 * w = omega (arith, ints, ed, eb, wb) in
-    let some : 0 < w = omega (arith, ints, least, eb, wb) in
-    rw (db, doubled_down n w some, doubled_up n w some) k
+    let wb : w ≡ b = rw eb at es in
+    rw (eq, eu) (by_side side top near p n w d (omega (arith, ints, ed, eb, wb)) (omega (arith, ints, least, eb, wb)) k)

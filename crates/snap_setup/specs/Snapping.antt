@@ -1,5 +1,5 @@
 -- From clip space to the screen: coordinates in sixteenths of a pixel, and nearness.
-use Rattle.std.specs.Prelude.{ℕ, ℤ, pos, ◌*◌, ◌^◌, ◌≤◌, ◌≤ℤ◌, ◌+ℤ◌, ◌-ℤ◌, ◌*ℤ◌}
+use Rattle.std.specs.Prelude.{ℕ, ℤ, pos, ◌*◌, ◌-◌, ◌^◌, ◌≤◌, ◌≤ℤ◌, ◌+ℤ◌, ◌-ℤ◌, ◌*ℤ◌}
 use Rattle.std.specs.Int.RustNames.{unsigned_abs}
 use Rattle.cull_base.specs.declared.triangle.Side.{Side}
 use Rattle.cull_base.specs.declared.triangle.Side.TheVariants.{Occluder, Object}
@@ -29,6 +29,11 @@ screen_y p size = round_half (pos (8 * size.height) *ℤ (p.w -ℤ p.y)) p.w
 abbrev pub rounded_by : Side → ℤ → ℤ → ℤ
 rounded_by Occluder n d = floor_of n d
 rounded_by Object n d = ceiling_of n d
+
+-- what is added to twice a numerator so that its quotient by twice w is rounded so
+abbrev pub addend_of : Side → ℕ → ℕ
+addend_of Occluder w = 0
+addend_of Object w = 2 * w - 1
 
 -- top * near * scale / w, in whole numbers: the top is the nearness of the near distance
 abbrev pub nearness_of : HomPoint → ℕ → ℕ → Side → ℕ

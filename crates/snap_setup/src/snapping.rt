@@ -4,7 +4,7 @@ ghost use Rattle.cull_base.specs.Bounds.{Bounded};
 ghost use Rattle.cull_base.specs.Piece.{IsCoordinate};
 ghost use Rattle.cull_base.specs.declared.nearness.TheConstants.{GRADE_TOP};
 ghost use Rattle.near_clip.specs.Reach.{IsInReach};
-ghost use Rattle.snap_setup.specs.Snapping.{round_half, screen_x, screen_y, nearness_of, snapped, place_of, IsInSight, IsSnapped};
+ghost use Rattle.snap_setup.specs.Snapping.{round_half, screen_x, screen_y, nearness_of, addend_of, snapped, place_of, IsInSight, IsSnapped};
 
 use crate::divisor::Divisor;
 use cull_base::{GRADE_TOP, Side, Size};
@@ -116,6 +116,19 @@ fn nearness_numerator(near: u16, scale: u64) -> u64
 }
 
 #[inline(always)]
+fn addend(side: Side, w: u64) -> u64
+    requires least { 1 ≤ w }
+    requires most { w ≤ 2 ^ 49 }
+    ensures value { result ≡ addend_of side w }
+    ensures bounded { result ≤ 2 ^ 50 }
+{
+    match side {
+        Side::Occluder => 0,
+        Side::Object => 2 * w - 1,
+    }
+}
+
+#[inline(always)]
 fn nearness(point: &HomPoint, near: u16, side: Side, doubled: &Divisor) -> u32
     requires near_least { 1 ≤ near }
     requires near_most { near ≤ 1024 }
@@ -126,11 +139,7 @@ fn nearness(point: &HomPoint, near: u16, side: Side, doubled: &Divisor) -> u32
     ensures within { result ≤ GRADE_TOP }
 {
     let numerator = 2 * nearness_numerator(near, point.scale.unsigned_abs());
-    let w = point.w.unsigned_abs();
-    match side {
-        Side::Occluder => doubled.quotient(numerator) as u32,
-        Side::Object => doubled.quotient(numerator + (2 * w - 1)) as u32,
-    }
+    doubled.quotient(numerator + addend(side, point.w.unsigned_abs())) as u32
 }
 
 /// The point on the screen, its coordinates rounded to the nearest whole number and its nearness down for an

@@ -1,10 +1,9 @@
 //! The pieces of one triangle.
-ghost use Rattle.std.specs.Prelude.{◌≡◌, ℤ, pos, [], true, false, ◌≤◌, ◌^◌, ◌-ℤ◌, ◌*ℤ◌, ◌<ℤ◌, ◌↔◌, Some, length};
+ghost use Rattle.std.specs.Prelude.{◌≡◌, pos, [], false, ◌≤◌, ◌<ℤ◌, ◌↔◌, length};
 ghost use Rattle.std.specs.List.{All};
-ghost use Rattle.cull_base.specs.Bounds.{Bounded};
 ghost use Rattle.cull_base.specs.declared.nearness.TheConstants.{GRADE_TOP};
 ghost use Rattle.cull_base.specs.Guard.{is_past_guard};
-ghost use Rattle.cull_base.specs.Piece.{IsCoordinate, doubled_area};
+ghost use Rattle.cull_base.specs.Piece.{doubled_area};
 ghost use Rattle.near_clip.specs.NearPart.{corner};
 ghost use Rattle.snap_setup.specs.Pieces.{triangle, is_dropped, piece_if, kept_of, is_any_past_guard, is_all_in_front};
 ghost use Rattle.snap_setup.specs.Triangles.{part_of_triangle, pieces_of_triangle, TriangleGivesNone};
@@ -104,28 +103,6 @@ fn is_all_in_front(tri: &[ClipVertex; 3], near: u16) -> bool
     is_in_front(v0, near) && is_in_front(v1, near) && is_in_front(v2, near)
 }
 
-// The piece of a triangle that no plane cuts: its polygon has its own three vertices.
-#[inline(always)]
-fn whole_triangle(
-    tri: &[ClipVertex; 3],
-    near: u16,
-    size: Size,
-    winding: Winding,
-    side: Side,
-) -> Pieces
-    requires near_least { 1 ≤ near }
-    requires near_most { near ≤ 1024 }
-    requires guarded { All (λ v. is_past_guard v near ≡ false) tri.now }
-    requires in_front { is_all_in_front (corner tri.now 0) (corner tri.now 1) (corner tri.now 2) near ≡ true }
-    ensures { result ≡ kept_of (part_of_triangle tri.now GRADE_TOP near size side) winding }
-{
-    let [v0, v1, v2] = tri;
-    let p0 = snap(&whole(v0), near, size, side);
-    let p1 = snap(&whole(v1), near, size, side);
-    let p2 = snap(&whole(v2), near, size, side);
-    Pieces::of(piece(&p0, &p1, &p2, winding), None)
-}
-
 #[inline(always)]
 fn pieces_in_front(
     tri: &[ClipVertex; 3],
@@ -139,11 +116,15 @@ fn pieces_in_front(
     requires guarded { All (λ v. is_past_guard v near ≡ false) tri.now }
     ensures { result ≡ kept_of (part_of_triangle tri.now GRADE_TOP near size side) winding }
 {
+    // a triangle that no plane cuts is its own polygon
     if is_all_in_front(tri, near) {
-        whole_triangle(tri, near, size, winding, side)
-    } else {
-        clipped_triangle(tri, near, size, winding, side)
+        let [v0, v1, v2] = tri;
+        let p0 = snap(&whole(v0), near, size, side);
+        let p1 = snap(&whole(v1), near, size, side);
+        let p2 = snap(&whole(v2), near, size, side);
+        return Pieces::of(piece(&p0, &p1, &p2, winding), None);
     }
+    clipped_triangle(tri, near, size, winding, side)
 }
 
 #[inline(always)]
