@@ -2,7 +2,7 @@
 use Rattle.std.proofs.Common.{◌≡◌, ℕ, ℤ, pos, negsuc, suc, ◌≤◌, ◌+ℤ◌, ◌*ℤ◌, ◌≤ℤ◌, ◌<ℤ◌, neg_ℤ, arith}
 use Rattle.std.proofs.lemmas.Int.{ints, by_lt_z}
 use Rattle.std.proofs.Math.Nat.{mul-le-mul_left}
-use Rattle.cull_base.proofs.Ring.{diff, diff-add, diff-mul, diff-same, over2, over3, over4}
+use Rattle.cull_base.proofs.Ring.{diff-neg, diff, diff-add, diff-mul, diff-same, over2, over3, over4}
 
 pub mul_comm : (a b : ℤ) → a *ℤ b ≡ b *ℤ a
 mul_comm = over2 (λ a b. a *ℤ b ≡ b *ℤ a) (λ a a' b b'. simp diff-mul (diff-same _ _ _ _ (omega arith)))
@@ -38,10 +38,6 @@ le_from_times a m w h k =
     let e = mul_comm (m +ℤ pos 1) w in let f = mul-add w m (pos 1) in let g = mul_comm m w in let i = times_one w in
     absurd (omega (arith, ints, p, e, f, g, i, h, k)))
     (λ l. l)
-
-diff-neg : (a b : ℕ) → neg_ℤ (diff a b) ≡ diff b a
-unfolding diff
-diff-neg a b = omega (arith, ints)
 
 pub neg-mul : (a b : ℤ) → neg_ℤ a *ℤ b ≡ neg_ℤ (a *ℤ b)
 neg-mul = over2 (λ a b. neg_ℤ a *ℤ b ≡ neg_ℤ (a *ℤ b)) (λ a a' b b'. simp (diff-neg, diff-mul) (diff-same _ _ _ _ (omega arith)))

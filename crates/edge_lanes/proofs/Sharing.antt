@@ -4,10 +4,9 @@ use Rattle.std.specs.Ordering.{int_eq}
 use Rattle.std.proofs.lemmas.Int.{ints, by_lt_z}
 use Rattle.std.proofs.lemmas.Bool.{and_parts}
 use Rattle.cull_base.specs.Piece.{Piece, Point, vertex, edge_value, is_top_or_left, edge_covers, covers}
-use Rattle.cull_base.proofs.Ring.{diff, diff-add, diff-mul, diff-same, over2, over4}
+use Rattle.cull_base.proofs.Ring.{diff-neg, diff, diff-add, diff-mul, diff-same, over2, over4}
 use Rattle.edge_lanes.specs.Shared.{HasEdge, NoneInBoth}
 use Rattle.edge_lanes.proofs.Extremes.{any_false}
-use Rattle.edge_lanes.proofs.Steps.{diff-neg}
 
 int_lt-true : (x y : ℤ) → x <ℤ y → int_lt x y ≡ true
 int_lt-true x y h = grind (arith, ints)

@@ -1,11 +1,7 @@
 -- An edge's value moves by its steps.
 use Rattle.std.proofs.Common.{◌≡◌, ℕ, ℤ, pos, ◌+◌, ◌*◌, ◌+ℤ◌, ◌-ℤ◌, ◌*ℤ◌, neg_ℤ, arith}
 use Rattle.std.proofs.lemmas.Int.{ints}
-use Rattle.cull_base.proofs.Ring.{diff, diff-add, diff-sub, diff-mul, diff-same, pos_is, over1, over4}
-
-pub diff-neg : (a b : ℕ) → neg_ℤ (diff a b) ≡ diff b a
-unfolding diff
-diff-neg a b = omega (arith, ints)
+use Rattle.cull_base.proofs.Ring.{diff-neg, diff, diff-add, diff-sub, diff-mul, diff-same, pos_is, over1, over4}
 
 abbrev from_first : ℕ → ℕ → ℤ → ℤ → ℤ → ℤ → ℤ → ℤ
 from_first x y across down ax ay bias = ((((across *ℤ (pos 8 -ℤ ay)) -ℤ (down *ℤ (pos 8 -ℤ ax))) +ℤ bias) +ℤ (neg_ℤ (pos 16 *ℤ down) *ℤ pos x)) +ℤ ((pos 16 *ℤ across) *ℤ pos y)
