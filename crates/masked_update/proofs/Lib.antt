@@ -10,5 +10,6 @@ pub mod Grid
 pub mod SubSpans
 pub mod Merging
 pub mod OwnList
+pub mod Tiles
 pub mod Drawing
 pub mod TileLists

@@ -5,4 +5,5 @@ pub mod TileOf
 pub mod Grid
 pub mod Merged
 pub mod Taken
+pub mod Least
 pub mod Drawn

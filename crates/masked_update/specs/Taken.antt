@@ -7,9 +7,17 @@ use Rattle.cull_base.specs.Tiles.{PieceList, tile_list, tile_after, prefixed}
 use Rattle.masked_update.specs.TileOf.{TileOf}
 use Rattle.masked_update.specs.Merged.{merged_by}
 
--- the piece is merged into the subtiles of the tile at a place that are on the screen, and counted
+-- one piece more is counted, and the subtiles stay
+abbrev pub counted : TileOf → TileOf
+counted t = record { subs = t.subs; count = t.count + 1 }
+
+-- the piece is merged into the subtiles of the tile at a place that are on the screen, and the count stays
+abbrev pub merged_into : Dimensions → Tile → Piece → TileOf → TileOf
+merged_into size place x t = record { subs = merged_by size place x t.subs; count = t.count }
+
+-- the piece is merged and counted
 abbrev pub taken_at : Dimensions → Tile → Piece → TileOf → TileOf
-taken_at size place x t = record { subs = merged_by size place x t.subs; count = t.count + 1 }
+taken_at size place x t = counted (merged_into size place x t)
 
 abbrev pub taken_by : Dimensions → ℕ → Piece → TileOf → TileOf
 taken_by size tile x t = taken_at size (tile_place size tile) x t

@@ -1,6 +1,7 @@
 //! The masked update: subtiles of two depths and a mask, tiles of eight subtiles, and the plain drawing of a frame list.
 #![tactic(auto)]
 
+mod canvas;
 mod draw;
 mod member;
 mod piece_setup;

@@ -36,7 +36,7 @@ impl Model for PieceSetup {
     ghost invariant = { IsSetUp };
 }
 
-fn greatest_nearness(tri: &ScreenTri) -> u32
+pub fn greatest_nearness(tri: &ScreenTri) -> u32
     ensures value { result ≡ greatest_nearness tri.now }
     ensures valid { IsPiece tri.now }
 {
@@ -64,6 +64,14 @@ impl PieceSetup {
         ensures valid { IsPiece self.now }
     {
         self.reached
+    }
+
+    /// The greatest nearness of its vertices.
+    pub fn nearest(&self) -> u32
+        ensures value { result ≡ greatest_nearness self.now }
+        ensures valid { IsPiece self.now }
+    {
+        self.nearest
     }
 
     // Nothing is asked where the piece is no nearer than the reference.

@@ -1,5 +1,5 @@
 //! A tile: eight subtiles, and how many pieces it took.
-ghost use Rattle.std.specs.Prelude.{◌≡◌, ◌<◌, length};
+ghost use Rattle.std.specs.Prelude.{◌≡◌, ℕ, ◌<◌, ◌≤◌, length};
 ghost use Rattle.cull_base.specs.Piece.{IsPiece};
 ghost use Rattle.cull_base.specs.Screen.{IsSize, tile_columns_of, tile_rows_of, tile_count_of};
 
@@ -27,7 +27,7 @@ impl Model for TileState {
 
 impl TileState {
     ghost use Rattle.masked_update.specs.TileOf.{sub_at, empty_tile};
-    ghost use Rattle.masked_update.specs.Taken.{taken_by, taken_at};
+    ghost use Rattle.masked_update.specs.Taken.{taken_by, taken_at, merged_into, counted};
 
     /// Eight empty subtiles, and no piece taken.
     pub fn empty() -> TileState
@@ -92,7 +92,35 @@ impl TileState {
         requires row { place.row < tile_rows_of size }
         ensures { self.new ≡ taken_at size place piece.now self.old }
     {
+        self.merge(piece, size, place);
+        self.count_piece();
+    }
+
+    /// Merges a piece, and doesn't count it. Condition: the column and the row are below the screen's.
+    pub(crate) fn merge(&mut self, piece: &PieceSetup, size: Size, place: Tile)
+        requires column { place.column < tile_columns_of size }
+        requires row { place.row < tile_rows_of size }
+        ensures { self.new ≡ merged_into size place piece.now self.old }
+    {
         piece.merge_into(&mut self.subs, size, place);
+    }
+
+    /// Counts a piece, and doesn't merge it.
+    pub(crate) fn count_piece(&mut self)
+        requires { self.old.count < 131072 }
+        ensures { self.new ≡ counted self.old }
+    {
         self.count += 1;
+    }
+
+    /// A nearness that no reference is below.
+    pub(crate) fn least_reference(&self) -> u32
+        ensures { (j : ℕ) → j < 8 → result ≤ (sub_at self.now j).reference }
+    {
+        let mut least = u32::MAX;
+        for j in 0..8usize {
+            least = least.min(self.subs[j].reference());
+        }
+        least
     }
 }

@@ -1,4 +1,4 @@
-use Rattle.std.proofs.Common.{ℕ, ◌<◌, ◌≡◌, take}
+use Rattle.std.proofs.Common.{ℕ, ◌<◌, ◌≡◌, length, take}
 use Rattle.cull_base.specs.Screen.{IsSize, tile_count_of}
 use Rattle.cull_base.specs.Tiles.{ArePieces}
 use Rattle.masked_update.specs.TileOf.{tile_at}
@@ -7,7 +7,8 @@ use Rattle.masked_update.proofs.draw.draw_list.Given as goal
 
 abbrev pub invariant-loop-i : goal.invariant-loop-i
 invariant-loop-i l = record {
-  taken : (t : ℕ) → t < tile_count_of l.list.list.size → tile_at l.states t ≡ own_tile (first_of l.i l.list.list) t;
+  taken : (t : ℕ) → t < tile_count_of l.list.list.size → tile_at l.canvas t ≡ own_tile (first_of l.i l.list.list) t;
+  tiles : length l.canvas ≡ tile_count_of l.list.list.size;
   pieces : ArePieces (take l.i l.list.list.members);
   sized : 0 < l.i → IsSize l.list.list.size.width l.list.list.size.height;
 }
