@@ -7,7 +7,7 @@ use Rattle.cull_base.specs.Stream.{SinkSays, Writes}
 use Rattle.cull_base.specs.declared.memory.SinkError.{SinkError}
 use Rattle.cull_base.specs.declared.scene_types.Object.TheVariants.{Block}
 use Rattle.cull_base.proofs.Streams.{writes_then, writes_no_more}
-use Rattle.scene_reader.specs.Layout.{Parts, axis, numbers_of, row_bytes, short_bytes, word_bytes, winding_code, header_bytes}
+use Rattle.scene_reader.specs.Layout.{Parts, number_at, numbers_of, row_bytes, short_bytes, word_bytes, winding_code, header_bytes}
 use Rattle.scene_reader.proofs.Shapes.{three}
 
 -- a call that wrote its text, and then another
@@ -34,7 +34,7 @@ module _ {X : Type 0} (enc : X → List ℕ) (xs : List X) (i : ℕ) (d : X) (lt
 
 pub block_bytes : (low high : List ℤ) → length low ≡ 3 → length high ≡ 3 → row_bytes low ++ row_bytes high ≡ row_bytes (numbers_of (Block low high))
 block_bytes low high l h =
-    ap (λ (xs : List ℤ). row_bytes xs ++ row_bytes high) (sym (three low l)) ∙ ap (λ (xs : List ℤ). row_bytes (axis low 0 ∷ axis low 1 ∷ axis low 2 ∷ []) ++ row_bytes xs) (sym (three high h))
+    ap (λ (xs : List ℤ). row_bytes xs ++ row_bytes high) (sym (three low l)) ∙ ap (λ (xs : List ℤ). row_bytes (number_at low 0 ∷ number_at low 1 ∷ number_at low 2 ∷ []) ++ row_bytes xs) (sym (three high h))
 
 pub header_literal : (p : Parts) (w h n f v o t j : List ℕ) (k : ℕ) → w ≡ short_bytes p.width → h ≡ short_bytes p.height → n ≡ short_bytes p.near → k ≡ winding_code p.winding → f ≡ short_bytes (length p.cameras)
     → v ≡ word_bytes (length p.vertices) → o ≡ word_bytes (length p.occluders) → t ≡ word_bytes (length p.object_tris) → j ≡ word_bytes (length p.objects)

@@ -12,12 +12,12 @@ use Rattle.scene_reader.proofs.Codes.{row_back, tri_back}
 use Rattle.scene_reader.proofs.Headers.{header_accepted}
 use Rattle.scene_reader.proofs.Pieces.{table_back, raw_bytes, objects_raw, raw_back}
 use Rattle.scene_reader.proofs.HeaderBytes.{HeaderSays, header_back}
-use Rattle.scene_reader.proofs.SixPieces.{Sized, joined}
+use Rattle.scene_reader.proofs.SixPieces.{Sized, six_pieces}
 
 -- bytes whose pieces are read as these parts are their layout
-pub joined_layout : (n : Counts) (h v o t j c : List ℕ) (p : Parts) (raws : List (ℕ × List ℤ)) → Sized n h v o t j c → All IsByte (joined h v o t j c) → header_fault h ≡ None → HeaderSays h p
+pub joined_layout : (n : Counts) (h v o t j c : List ℕ) (p : Parts) (raws : List (ℕ × List ℤ)) → Sized n h v o t j c → All IsByte (six_pieces h v o t j c) → header_fault h ≡ None → HeaderSays h p
     → IsTable 12 n.vertices (row_of 3) v p.vertices → IsTable 12 n.occluders tri_of o p.occluders → IsTable 12 n.object_tris tri_of t p.object_tris → IsTable 25 n.objects raw_of j raws → IsTable 48 n.frames (row_of 12) c p.cameras
-    → map raw_object p.objects ≡ raws → joined h v o t j c ≡ layout p
+    → map raw_object p.objects ≡ raws → six_pieces h v o t j c ≡ layout p
 unfolding layout
 joined_layout n h v o t j c p raws s fits fine says tv to tt tj tc objects =
     let f1 = split h _ fits in
@@ -31,12 +31,12 @@ joined_layout n h v o t j c p raws s fits fine says tv to tt tj tc objects =
     let et = sym (table_back 12 n.object_tris tri_bytes tri_of t p.object_tris (λ e l k. tri_back e l k) tt f4.0) in
     let ej : j ≡ flat_map object_bytes p.objects = sym (objects_raw p.objects ∙ ap (flat_map raw_bytes) objects ∙ table_back 25 n.objects raw_bytes raw_of j raws (λ e l k. raw_back e l k) tj f5.0) in
     let ec = sym (table_back 48 n.frames row_bytes (row_of 12) c p.cameras (λ e l k. row_back 12 e l k) tc f5.1) in
-    ap (λ (x : List ℕ). joined x v o t j c) eh
-    ∙ ap (λ (x : List ℕ). joined (header_bytes p) x o t j c) ev
-    ∙ ap (λ (x : List ℕ). joined (header_bytes p) (flat_map row_bytes p.vertices) x t j c) eo
-    ∙ ap (λ (x : List ℕ). joined (header_bytes p) (flat_map row_bytes p.vertices) (flat_map tri_bytes p.occluders) x j c) et
-    ∙ ap (λ (x : List ℕ). joined (header_bytes p) (flat_map row_bytes p.vertices) (flat_map tri_bytes p.occluders) (flat_map tri_bytes p.object_tris) x c) ej
-    ∙ ap (λ (x : List ℕ). joined (header_bytes p) (flat_map row_bytes p.vertices) (flat_map tri_bytes p.occluders) (flat_map tri_bytes p.object_tris) (flat_map object_bytes p.objects) x) ec
+    ap (λ (x : List ℕ). six_pieces x v o t j c) eh
+    ∙ ap (λ (x : List ℕ). six_pieces (header_bytes p) x o t j c) ev
+    ∙ ap (λ (x : List ℕ). six_pieces (header_bytes p) (flat_map row_bytes p.vertices) x t j c) eo
+    ∙ ap (λ (x : List ℕ). six_pieces (header_bytes p) (flat_map row_bytes p.vertices) (flat_map tri_bytes p.occluders) x j c) et
+    ∙ ap (λ (x : List ℕ). six_pieces (header_bytes p) (flat_map row_bytes p.vertices) (flat_map tri_bytes p.occluders) (flat_map tri_bytes p.object_tris) x c) ej
+    ∙ ap (λ (x : List ℕ). six_pieces (header_bytes p) (flat_map row_bytes p.vertices) (flat_map tri_bytes p.occluders) (flat_map tri_bytes p.object_tris) (flat_map object_bytes p.objects) x) ec
   where
     split : (xs ys : List ℕ) → All IsByte (xs ++ ys) → All IsByte xs × All IsByte ys
     split xs ys fits =

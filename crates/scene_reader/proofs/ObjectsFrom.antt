@@ -9,7 +9,7 @@ use Rattle.cull_base.specs.declared.triangle.Winding.{Winding}
 use Rattle.cull_base.specs.declared.triangle.Winding.TheVariants.{Both, DropClockwise, DropCounter}
 use Rattle.cull_base.specs.declared.scene_types.Object.{Object}
 use Rattle.cull_base.specs.declared.scene_types.Object.TheVariants.{Area, Block, Mesh}
-use Rattle.scene_reader.specs.Layout.{IsObject, numbers_of, raw_object, winding_code, axis}
+use Rattle.scene_reader.specs.Layout.{IsObject, numbers_of, raw_object, winding_code, number_at}
 use Rattle.scene_reader.specs.Fault.{is_bad_row, is_bad_object, is_not_zero}
 use Rattle.scene_reader.proofs.Valid.{area_valid, block_valid, mesh_valid, le_from_lt}
 use Rattle.scene_reader.proofs.Shapes.{six, not_zero}
@@ -28,16 +28,16 @@ Made m kind ns = (o : Object) × (raw_object o ≡ (kind, ns)) × IsObject m o
 made_area : (m : ℕ) (ns : List ℤ) → is_bad_object m 0 ns ≡ false → length ns ≡ 6 → Made m 0 ns
 unfolding is_bad_object Made
 made_area m ns good len =
-    let last = zero_from (axis ns 5) (or_parts _ _ (or_parts (is_bad_row ns) _ good).1).1 in
-    let r : Rect = record { x0 = axis ns 0; y0 = axis ns 1; x1 = axis ns 2; y1 = axis ns 3 } in
-    let numbers : numbers_of (Area r (axis ns 4)) ≡ ns = ap (λ (z : ℤ). axis ns 0 ∷ axis ns 1 ∷ axis ns 2 ∷ axis ns 3 ∷ axis ns 4 ∷ z ∷ []) (sym last) ∙ six ns len in
-    (Area r (axis ns 4), ap (λ (x : List ℤ). (0, x)) numbers, area_valid m r (axis ns 4) (ap (λ (x : List ℤ). is_bad_object m 0 x) numbers ∙ good))
+    let last = zero_from (number_at ns 5) (or_parts _ _ (or_parts (is_bad_row ns) _ good).1).1 in
+    let r : Rect = record { x0 = number_at ns 0; y0 = number_at ns 1; x1 = number_at ns 2; y1 = number_at ns 3 } in
+    let numbers : numbers_of (Area r (number_at ns 4)) ≡ ns = ap (λ (z : ℤ). number_at ns 0 ∷ number_at ns 1 ∷ number_at ns 2 ∷ number_at ns 3 ∷ number_at ns 4 ∷ z ∷ []) (sym last) ∙ six ns len in
+    (Area r (number_at ns 4), ap (λ (x : List ℤ). (0, x)) numbers, area_valid m r (number_at ns 4) (ap (λ (x : List ℤ). is_bad_object m 0 x) numbers ∙ good))
 
 made_block : (m : ℕ) (ns : List ℤ) → is_bad_object m 1 ns ≡ false → length ns ≡ 6 → Made m 1 ns
 unfolding Made
 made_block m ns good len =
-    let low : List ℤ = axis ns 0 ∷ axis ns 1 ∷ axis ns 2 ∷ [] in
-    let high : List ℤ = axis ns 3 ∷ axis ns 4 ∷ axis ns 5 ∷ [] in
+    let low : List ℤ = number_at ns 0 ∷ number_at ns 1 ∷ number_at ns 2 ∷ [] in
+    let high : List ℤ = number_at ns 3 ∷ number_at ns 4 ∷ number_at ns 5 ∷ [] in
     let numbers : numbers_of (Block low high) ≡ ns = six ns len in
     (Block low high, ap (λ (x : List ℤ). (1, x)) numbers, block_valid m low high refl refl (ap (λ (x : List ℤ). is_bad_object m 1 x) numbers ∙ good))
 
@@ -47,18 +47,18 @@ six_same a b c d e f g h ea eb ec ed ee ef = rw (ea, eb, ec, ed, ee, ef) refl
 made_mesh : (m : ℕ) (ns : List ℤ) → is_bad_object m 2 ns ≡ false → length ns ≡ 6 → Made m 2 ns
 unfolding is_bad_object Made
 made_mesh m ns good len =
-    let all : List ℤ = axis ns 0 ∷ axis ns 1 ∷ axis ns 2 ∷ axis ns 3 ∷ axis ns 4 ∷ axis ns 5 ∷ [] in
+    let all : List ℤ = number_at ns 0 ∷ number_at ns 1 ∷ number_at ns 2 ∷ number_at ns 3 ∷ number_at ns 4 ∷ number_at ns 5 ∷ [] in
     let fine : is_bad_object m 2 all ≡ false = ap (λ (x : List ℤ). is_bad_object m 2 x) (six ns len) ∙ good in
     let p = or_parts _ _ (or_parts (is_bad_row all) _ fine).1 in
     let q = or_parts _ _ (or_parts _ _ p.0).0 in
-    let f = natural_of (axis ns 0) (le_from_lt (axis ns 0) (pos 0) q.0) in
-    let c = natural_of (axis ns 1) (le_from_lt (axis ns 1) (pos 0) q.1) in
-    let r2 = or_parts (is_not_zero (axis ns 2)) _ p.1 in
-    let r3 = or_parts (is_not_zero (axis ns 3)) _ r2.1 in
-    let r4 = or_parts (is_not_zero (axis ns 4)) _ r3.1 in
-    let r5 = or_parts (is_not_zero (axis ns 5)) _ r4.1 in
+    let f = natural_of (number_at ns 0) (le_from_lt (number_at ns 0) (pos 0) q.0) in
+    let c = natural_of (number_at ns 1) (le_from_lt (number_at ns 1) (pos 0) q.1) in
+    let r2 = or_parts (is_not_zero (number_at ns 2)) _ p.1 in
+    let r3 = or_parts (is_not_zero (number_at ns 3)) _ r2.1 in
+    let r4 = or_parts (is_not_zero (number_at ns 4)) _ r3.1 in
+    let r5 = or_parts (is_not_zero (number_at ns 5)) _ r4.1 in
     let numbers : numbers_of (Mesh f.0 c.0) ≡ ns =
-    six_same (axis ns 0) (axis ns 1) (axis ns 2) (axis ns 3) (axis ns 4) (axis ns 5) (pos f.0) (pos c.0) f.1 c.1 (zero_from (axis ns 2) r2.0) (zero_from (axis ns 3) r3.0) (zero_from (axis ns 4) r4.0) (zero_from (axis ns 5) r5.0) ∙ six ns len in
+    six_same (number_at ns 0) (number_at ns 1) (number_at ns 2) (number_at ns 3) (number_at ns 4) (number_at ns 5) (pos f.0) (pos c.0) f.1 c.1 (zero_from (number_at ns 2) r2.0) (zero_from (number_at ns 3) r3.0) (zero_from (number_at ns 4) r4.0) (zero_from (number_at ns 5) r5.0) ∙ six ns len in
     (Mesh f.0 c.0, ap (λ (x : List ℤ). (2, x)) numbers, mesh_valid m f.0 c.0 (ap (λ (x : List ℤ). is_bad_object m 2 x) numbers ∙ good))
 
 made_kind : (m kind : ℕ) (ns : List ℤ) → kind ≤ 2 → is_bad_object m kind ns ≡ false → length ns ≡ 6 → Made m kind ns
@@ -68,15 +68,15 @@ made_kind m (suc (suc zero)) ns small good len = made_mesh m ns good len
 made_kind m (suc (suc (suc k))) ns small good len = absurd (omega (arith, small))
 
 -- an object from its kind and numbers
-made : (m : ℕ) (raw : ℕ × List ℤ) → raw.0 ≤ 2 → is_bad_object m raw.0 raw.1 ≡ false → length raw.1 ≡ 6 → (o : Object) × (raw_object o ≡ raw) × IsObject m o
+object_from : (m : ℕ) (raw : ℕ × List ℤ) → raw.0 ≤ 2 → is_bad_object m raw.0 raw.1 ≡ false → length raw.1 ≡ 6 → (o : Object) × (raw_object o ≡ raw) × IsObject m o
 unfolding Made
-made m raw small good len = made_kind m raw.0 raw.1 small good len
+object_from m raw small good len = made_kind m raw.0 raw.1 small good len
 
 pub objects_made : (m : ℕ) (raws : List (ℕ × List ℤ)) → AllByRecursion (λ raw. (raw.0 ≤ 2) × (is_bad_object m raw.0 raw.1 ≡ false)) raws → AllByRecursion (λ raw. length raw.1 ≡ 6) raws
     → (xs : List Object) × (map raw_object xs ≡ raws) × AllByRecursion (IsObject m) xs
 objects_made m [] good len = ([], refl, tt)
 objects_made m (raw ∷ raws) good len =
-    let x = made m raw good.0.0 good.0.1 len.0 in
+    let x = object_from m raw good.0.0 good.0.1 len.0 in
     let xs = objects_made m raws good.1 len.1 in
     (x.0 ∷ xs.0, ap (λ (r : ℕ × List ℤ). r ∷ map raw_object xs.0) x.1 ∙ ap (λ (rs : List (ℕ × List ℤ)). raw ∷ rs) xs.1, (x.2, xs.2))
 

@@ -18,7 +18,7 @@ use Rattle.scene_reader.specs.Reading.{IsTable}
 use Rattle.scene_reader.proofs.Takes.{IsByte}
 use Rattle.scene_reader.proofs.Valid.{row_within, indices_within}
 use Rattle.scene_reader.proofs.Headers.{or_parts_none, fault_none, header_accepted, header_front, counts_front}
-use Rattle.scene_reader.proofs.SixPieces.{Sized, joined, joined_first}
+use Rattle.scene_reader.proofs.SixPieces.{Sized, six_pieces, joined_first}
 use Rattle.scene_reader.proofs.LayoutFirst.{scene_first}
 use Rattle.scene_reader.proofs.BytesToLayout.{joined_layout}
 use Rattle.scene_reader.proofs.OnlyScene.{layout_one}
@@ -54,8 +54,8 @@ rows_valid n xs good len = All-from_recursion (IsRow n) xs (both (λ row. is_bad
 tris_valid : (n : ℕ) (xs : List Tri) → AllByRecursion (λ t. list_any (λ v. not (nat_lt v n)) t.0 ≡ false) xs → AllByRecursion (λ t. length t.0 ≡ 3) xs → All (IsTri n) xs
 tris_valid n xs good len = All-from_recursion (IsTri n) xs (both (λ t. list_any (λ v. not (nat_lt v n)) t.0 ≡ false) (λ t. length t.0 ≡ 3) (IsTri n) (λ t g l. (l, indices_within n t.0 g)) xs good len)
 
-module _ (n : Counts) (h v o t j c : List ℕ) (s : Sized n h v o t j c) (fits : All IsByte (joined h v o t j c)) (fine : header_fault h ≡ None) where
-  exists_joined : first_fault (joined h v o t j c) ≡ None → (p : Parts) × IsLayoutOf (joined h v o t j c) p
+module _ (n : Counts) (h v o t j c : List ℕ) (s : Sized n h v o t j c) (fits : All IsByte (six_pieces h v o t j c)) (fine : header_fault h ≡ None) where
+  exists_joined : first_fault (six_pieces h v o t j c) ≡ None → (p : Parts) × IsLayoutOf (six_pieces h v o t j c) p
   unfolding tables_fault
   exists_joined e =
       let vs = map (row_of 3) (entries 12 n.vertices v) in
@@ -85,7 +85,7 @@ module _ (n : Counts) (h v o t j c : List ℕ) (s : Sized n h v o t j c) (fits :
       let f : Fits h p = fits_from h n p a s.counts refl refl refl (winding_is (slice_index h 12) a.winding) (table_count 48 n.frames (row_of 12) c cs tc) (table_count 12 n.vertices (row_of 3) v vs tv) (table_count 12 n.occluders tri_of o os to) (table_count 12 n.object_tris tri_of t ts tt')
       (sym (length-map objects.0 raw_object) ∙ ap length objects.1 ∙ table_count 25 n.objects raw_of j raws tj) in
       let scene : IsScene p = scene_from h p f tables (All-from_recursion (IsObject (length ts)) objects.0 objects.2) in
-      let whole : joined h v o t j c ≡ layout p = joined_layout n h v o t j c p raws s fits fine f.says tv to tt' tj tc objects.1 in
+      let whole : six_pieces h v o t j c ≡ layout p = joined_layout n h v o t j c p raws s fits fine f.says tv to tt' tj tc objects.1 in
       (p, record { scene = scene; whole = whole; only = λ q sq is. layout_one q p sq scene (sym is ∙ whole) })
 
 -- bytes of the announced length in six pieces
@@ -102,7 +102,7 @@ cut b long size fits fine e =
     let t = take (12 * n.object_tris) r3 in
     let j = take (25 * n.objects) r4 in
     let c = drop (25 * n.objects) r4 in
-    let whole : joined h v o t j c ≡ b =
+    let whole : six_pieces h v o t j c ≡ b =
     ap (λ (x : List ℕ). h ++ (v ++ (o ++ (t ++ x)))) (take-append-drop (25 * n.objects) r4)
     ∙ ap (λ (x : List ℕ). h ++ (v ++ (o ++ x))) (take-append-drop (12 * n.object_tris) r3)
     ∙ ap (λ (x : List ℕ). h ++ (v ++ x)) (take-append-drop (12 * n.occluders) r2)

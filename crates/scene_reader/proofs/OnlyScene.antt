@@ -10,7 +10,7 @@ use Rattle.cull_base.specs.declared.triangle.Winding.TheVariants.{Both, DropCloc
 use Rattle.cull_base.specs.declared.scene_types.Tri.{Tri}
 use Rattle.cull_base.specs.declared.scene_types.Object.{Object}
 use Rattle.cull_base.specs.declared.scene_types.Object.TheVariants.{Area, Block, Mesh}
-use Rattle.scene_reader.specs.Layout.{Parts, IsScene, IsObject, row_bytes, tri_bytes, object_bytes, raw_object, winding_code, header_bytes, layout, axis}
+use Rattle.scene_reader.specs.Layout.{Parts, IsScene, IsObject, row_bytes, tri_bytes, object_bytes, raw_object, winding_code, header_bytes, layout, number_at}
 use Rattle.scene_reader.specs.Fault.{short_at, vertices_in, occluders_in, object_tris_in, objects_in, cameras_in}
 use Rattle.scene_reader.proofs.Shapes.{three}
 use Rattle.scene_reader.proofs.HeaderBytes.{counts_of, header_length, header_says}
@@ -28,14 +28,14 @@ winding_one DropCounter Both e = absurd (omega (arith, e))
 winding_one DropCounter DropClockwise e = absurd (omega (arith, e))
 winding_one DropCounter DropCounter e = refl
 
-row_axis : (k : ℕ) (a b : ℕ × List ℤ) → a ≡ b → axis a.1 k ≡ axis b.1 k
-row_axis k a b e = ap (λ (r : ℕ × List ℤ). axis r.1 k) e
+row_axis : (k : ℕ) (a b : ℕ × List ℤ) → a ≡ b → number_at a.1 k ≡ number_at b.1 k
+row_axis k a b e = ap (λ (r : ℕ × List ℤ). number_at r.1 k) e
 
 natural : ℤ → ℕ
 natural (pos n) = n
 natural (negsuc n) = 0
 
-three_same : (xs ys : List ℤ) → length xs ≡ 3 → length ys ≡ 3 → axis xs 0 ≡ axis ys 0 → axis xs 1 ≡ axis ys 1 → axis xs 2 ≡ axis ys 2 → xs ≡ ys
+three_same : (xs ys : List ℤ) → length xs ≡ 3 → length ys ≡ 3 → number_at xs 0 ≡ number_at ys 0 → number_at xs 1 ≡ number_at ys 1 → number_at xs 2 ≡ number_at ys 2 → xs ≡ ys
 three_same xs ys l k e0 e1 e2 = sym (three xs l) ∙ (rw (e0, e1, e2) refl) ∙ three ys k
 
 same_rect : (r q : Rect) → r.x0 ≡ q.x0 → r.y0 ≡ q.y0 → r.x1 ≡ q.x1 → r.y1 ≡ q.y1 → r ≡ q
@@ -59,8 +59,8 @@ stored_one m (Block low high) (Mesh first count) ha hb e = absurd (omega (arith,
 stored_one m (Mesh first count) (Area q u) ha hb e = absurd (omega (arith, ap (λ (x : ℕ × List ℤ). x.0) e))
 stored_one m (Mesh first count) (Block low high) ha hb e = absurd (omega (arith, ap (λ (x : ℕ × List ℤ). x.0) e))
 stored_one m (Mesh first count) (Mesh first2 count2) ha hb e =
-    let ef : first ≡ first2 = ap (λ (r : ℕ × List ℤ). natural (axis r.1 0)) e in
-    let ec : count ≡ count2 = ap (λ (r : ℕ × List ℤ). natural (axis r.1 1)) e in
+    let ef : first ≡ first2 = ap (λ (r : ℕ × List ℤ). natural (number_at r.1 0)) e in
+    let ec : count ≡ count2 = ap (λ (r : ℕ × List ℤ). natural (number_at r.1 1)) e in
     rw (ef, ec) refl
 
 stored_each : (m : ℕ) (xs ys : List Object) → AllByRecursion (IsObject m) xs → AllByRecursion (IsObject m) ys → map raw_object xs ≡ map raw_object ys → xs ≡ ys

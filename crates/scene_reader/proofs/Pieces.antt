@@ -9,7 +9,7 @@ use Rattle.std.proofs.lemmas.List.Folds.{flat_map-map}
 use Rattle.cull_base.specs.declared.scene_types.Tri.{Tri}
 use Rattle.cull_base.specs.declared.scene_types.Object.{Object}
 use Rattle.cull_base.specs.declared.scene_types.Object.TheVariants.{Area, Block, Mesh}
-use Rattle.scene_reader.specs.Layout.{IsRow, IsTri, IsObject, InLimits, word_bytes, row_bytes, tri_bytes, object_bytes, kind_of, numbers_of, raw_object, axis}
+use Rattle.scene_reader.specs.Layout.{IsRow, IsTri, IsObject, InLimits, word_bytes, row_bytes, tri_bytes, object_bytes, kind_of, numbers_of, raw_object, number_at}
 use Rattle.scene_reader.specs.Fault.{entries, raw_of}
 use Rattle.scene_reader.specs.Reading.{IsTable}
 use Rattle.scene_reader.proofs.Takes.{IsByte}
@@ -90,13 +90,13 @@ small_in n m h few = (omega (arith, ints, h, few), omega (arith, ints, h, few))
 six_in : (a b c d e f : ℤ) → InLimits a → InLimits b → InLimits c → InLimits d → InLimits e → InLimits f → IsRow 6 (a ∷ b ∷ c ∷ d ∷ e ∷ f ∷ [])
 six_in a b c d e f ha hb hc hd he hf = (refl, All-from_recursion InLimits (a ∷ b ∷ c ∷ d ∷ e ∷ f ∷ []) (ha, (hb, (hc, (hd, (he, (hf, tt)))))))
 
-at_axis : (row : List ℤ) (k : ℕ) → IsRow 3 row → k < 3 → InLimits (axis row k)
+at_axis : (row : List ℤ) (k : ℕ) → IsRow 3 row → k < 3 → InLimits (number_at row k)
 at_axis row k h lt = h.1 k (pos 0) (omega (arith, h.0, lt))
 
 pub numbers_row : (object_tris : ℕ) (o : Object) → object_tris ≤ 262144 → IsObject object_tris o → IsRow 6 (numbers_of o)
 numbers_row m (Area r w) few h = six_in r.x0 r.y0 r.x1 r.y1 w (pos 0) h.2 h.3 h.4 h.5 h.6 zero_in
 numbers_row m (Block low high) few h =
-    six_in (axis low 0) (axis low 1) (axis low 2) (axis high 0) (axis high 1) (axis high 2)
+    six_in (number_at low 0) (number_at low 1) (number_at low 2) (number_at high 0) (number_at high 1) (number_at high 2)
     (at_axis low 0 h.0 (omega arith)) (at_axis low 1 h.0 (omega arith)) (at_axis low 2 h.0 (omega arith)) (at_axis high 0 h.1 (omega arith)) (at_axis high 1 h.1 (omega arith)) (at_axis high 2 h.1 (omega arith))
 numbers_row m (Mesh first count) few h =
     six_in (pos first) (pos count) (pos 0) (pos 0) (pos 0) (pos 0) (small_in first m (omega (arith, h)) few) (small_in count m (omega (arith, h)) few) zero_in zero_in zero_in zero_in

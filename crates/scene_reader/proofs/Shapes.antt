@@ -12,7 +12,7 @@ use mir.Val.{SFits, of_z, to_z}
 use Rattle.cull_base.specs.Guard.{is_beyond}
 use Rattle.cull_base.specs.declared.rect.Rect.{Rect}
 use Rattle.cull_base.specs.declared.scene_types.Object.TheVariants.{Area, Block}
-use Rattle.scene_reader.specs.Layout.{numbers_of, axis}
+use Rattle.scene_reader.specs.Layout.{numbers_of, number_at}
 use Rattle.scene_reader.specs.Fault.{is_bad_row, is_bad_object, is_not_zero, rectangle_runs_back}
 
 -- the value of a test that was decided by its first part, and of one that wasn't
@@ -42,7 +42,7 @@ area_parts r w row v x0 y0 x1 y1 z e f =
     f ∙ ap (λ (b : Bool). b || rectangle_runs_back r) same ∙ sym (area_is 0 r w)
 
 -- three elements
-pub three : (xs : List ℤ) → length xs ≡ 3 → axis xs 0 ∷ axis xs 1 ∷ axis xs 2 ∷ [] ≡ xs
+pub three : (xs : List ℤ) → length xs ≡ 3 → number_at xs 0 ∷ number_at xs 1 ∷ number_at xs 2 ∷ [] ≡ xs
 three [] e = absurd (omega (arith, e))
 three (a ∷ []) e = absurd (omega (arith, e))
 three (a ∷ b ∷ []) e = absurd (omega (arith, e))
@@ -51,18 +51,18 @@ three (a ∷ b ∷ c ∷ d ∷ xs) e = absurd (omega (arith, e))
 
 -- a box, by its two corners
 pub block_is : (object_tris : ℕ) (low high : List ℤ) → length low ≡ 3 → length high ≡ 3
-    → is_bad_object object_tris 1 (numbers_of (Block low high)) ≡ ((((is_bad_row low || is_bad_row high) || int_lt (axis high 0) (axis low 0)) || int_lt (axis high 1) (axis low 1)) || int_lt (axis high 2) (axis low 2))
+    → is_bad_object object_tris 1 (numbers_of (Block low high)) ≡ ((((is_bad_row low || is_bad_row high) || int_lt (number_at high 0) (number_at low 0)) || int_lt (number_at high 1) (number_at low 1)) || int_lt (number_at high 2) (number_at low 2))
 unfolding is_bad_object
 block_is object_tris low high l h =
-    let x = int_lt (axis high 0) (axis low 0) in
-    let y = int_lt (axis high 1) (axis low 1) in
-    let z = int_lt (axis high 2) (axis low 2) in
+    let x = int_lt (number_at high 0) (number_at low 0) in
+    let y = int_lt (number_at high 1) (number_at low 1) in
+    let z = int_lt (number_at high 2) (number_at low 2) in
     let rows : is_bad_row (numbers_of (Block low high)) ≡ (is_bad_row low || is_bad_row high) =
-    list_any-append (is_beyond (2 ^ 24)) (axis low 0 ∷ axis low 1 ∷ axis low 2 ∷ []) (axis high 0 ∷ axis high 1 ∷ axis high 2 ∷ []) ∙ ap (λ (t : List ℤ). is_bad_row t || is_bad_row (axis high 0 ∷ axis high 1 ∷ axis high 2 ∷ [])) (three low l) ∙ ap (λ (t : List ℤ). is_bad_row low || is_bad_row t) (three high h) in
+    list_any-append (is_beyond (2 ^ 24)) (number_at low 0 ∷ number_at low 1 ∷ number_at low 2 ∷ []) (number_at high 0 ∷ number_at high 1 ∷ number_at high 2 ∷ []) ∙ ap (λ (t : List ℤ). is_bad_row t || is_bad_row (number_at high 0 ∷ number_at high 1 ∷ number_at high 2 ∷ [])) (three low l) ∙ ap (λ (t : List ℤ). is_bad_row low || is_bad_row t) (three high h) in
     ap (λ (b : Bool). b || ((x || y) || z)) rows ∙ sym (or_assoc (is_bad_row low || is_bad_row high) (x || y) z) ∙ ap (λ (b : Bool). b || z) (sym (or_assoc (is_bad_row low || is_bad_row high) x y))
 
 -- six elements
-pub six : (xs : List ℤ) → length xs ≡ 6 → axis xs 0 ∷ axis xs 1 ∷ axis xs 2 ∷ axis xs 3 ∷ axis xs 4 ∷ axis xs 5 ∷ [] ≡ xs
+pub six : (xs : List ℤ) → length xs ≡ 6 → number_at xs 0 ∷ number_at xs 1 ∷ number_at xs 2 ∷ number_at xs 3 ∷ number_at xs 4 ∷ number_at xs 5 ∷ [] ≡ xs
 six [] e = absurd (omega (arith, e))
 six (a ∷ []) e = absurd (omega (arith, e))
 six (a ∷ b ∷ []) e = absurd (omega (arith, e))
@@ -72,18 +72,18 @@ six (a ∷ b ∷ c ∷ d ∷ f ∷ []) e = absurd (omega (arith, e))
 six (a ∷ b ∷ c ∷ d ∷ f ∷ g ∷ []) e = refl
 six (a ∷ b ∷ c ∷ d ∷ f ∷ g ∷ h ∷ xs) e = absurd (omega (arith, e))
 
-pub six_read : (n : List ℤ) → length n ≡ 6 → SFits w32 (axis n 0) → SFits w32 (axis n 1) → SFits w32 (axis n 2) → SFits w32 (axis n 3) → SFits w32 (axis n 4) → SFits w32 (axis n 5)
-    → in_32_bits (axis n 0) ∷ in_32_bits (axis n 1) ∷ in_32_bits (axis n 2) ∷ in_32_bits (axis n 3) ∷ in_32_bits (axis n 4) ∷ in_32_bits (axis n 5) ∷ [] ≡ n
+pub six_read : (n : List ℤ) → length n ≡ 6 → SFits w32 (number_at n 0) → SFits w32 (number_at n 1) → SFits w32 (number_at n 2) → SFits w32 (number_at n 3) → SFits w32 (number_at n 4) → SFits w32 (number_at n 5)
+    → in_32_bits (number_at n 0) ∷ in_32_bits (number_at n 1) ∷ in_32_bits (number_at n 2) ∷ in_32_bits (number_at n 3) ∷ in_32_bits (number_at n 4) ∷ in_32_bits (number_at n 5) ∷ [] ≡ n
 six_read n len f0 f1 f2 f3 f4 f5 = simp to_z-of_z (six n len)
 
 -- the answer of the code, from that on the corners' numbers
 pub block_parts : (low high : List ℤ) (rows v : Bool) → length low ≡ 3 → length high ≡ 3 → rows ≡ (is_bad_row low || is_bad_row high)
-    → v ≡ (rows || ((int_lt (axis high 0) (axis low 0) || int_lt (axis high 1) (axis low 1)) || int_lt (axis high 2) (axis low 2)))
+    → v ≡ (rows || ((int_lt (number_at high 0) (number_at low 0) || int_lt (number_at high 1) (number_at low 1)) || int_lt (number_at high 2) (number_at low 2)))
     → v ≡ is_bad_object 0 1 (numbers_of (Block low high))
 block_parts low high rows v l h e f =
-    let x = int_lt (axis high 0) (axis low 0) in
-    let y = int_lt (axis high 1) (axis low 1) in
-    let z = int_lt (axis high 2) (axis low 2) in
+    let x = int_lt (number_at high 0) (number_at low 0) in
+    let y = int_lt (number_at high 1) (number_at low 1) in
+    let z = int_lt (number_at high 2) (number_at low 2) in
     f ∙ ap (λ (b : Bool). b || ((x || y) || z)) e ∙ sym (or_assoc (is_bad_row low || is_bad_row high) (x || y) z) ∙ ap (λ (b : Bool). b || z) (sym (or_assoc (is_bad_row low || is_bad_row high) x y)) ∙ sym (block_is 0 low high l h)
 
 pub not_zero : (z : ℤ) → (of_z w32 z ≡ 0 → ⊥) → is_not_zero z ≡ true
@@ -94,21 +94,21 @@ pub zero_is : (z : ℤ) → SFits w32 z → of_z w32 z ≡ 0 → z ≡ pos 0
 zero_is z fits e = omega (arith, ints, fits, e)
 
 -- a rectangle whose sixth number isn't 0
-pub area_padded : (object_tris : ℕ) (n : List ℤ) → is_not_zero (axis n 5) ≡ true → is_bad_object object_tris 0 n ≡ true
+pub area_padded : (object_tris : ℕ) (n : List ℤ) → is_not_zero (number_at n 5) ≡ true → is_bad_object object_tris 0 n ≡ true
 unfolding is_bad_object
 area_padded object_tris n h = or_right _ _ (or_right _ _ h)
 
 -- a mesh with a negative number
-pub mesh_first : (object_tris : ℕ) (n : List ℤ) → int_lt (axis n 0) (pos 0) ≡ true → is_bad_object object_tris 2 n ≡ true
+pub mesh_first : (object_tris : ℕ) (n : List ℤ) → int_lt (number_at n 0) (pos 0) ≡ true → is_bad_object object_tris 2 n ≡ true
 unfolding is_bad_object
 mesh_first object_tris n h = or_right _ _ (or_left _ _ (or_left _ _ (or_left _ _ h)))
 
-pub mesh_second : (object_tris : ℕ) (n : List ℤ) → int_lt (axis n 1) (pos 0) ≡ true → is_bad_object object_tris 2 n ≡ true
+pub mesh_second : (object_tris : ℕ) (n : List ℤ) → int_lt (number_at n 1) (pos 0) ≡ true → is_bad_object object_tris 2 n ≡ true
 unfolding is_bad_object
 mesh_second object_tris n h = or_right _ _ (or_left _ _ (or_left _ _ (or_right _ _ h)))
 
 -- a mesh with a number behind its two
-pub mesh_padded : (object_tris : ℕ) (n : List ℤ) (k : ℕ) → 2 + k < length n → is_not_zero (axis n (2 + k)) ≡ true → is_bad_object object_tris 2 n ≡ true
+pub mesh_padded : (object_tris : ℕ) (n : List ℤ) (k : ℕ) → 2 + k < length n → is_not_zero (number_at n (2 + k)) ≡ true → is_bad_object object_tris 2 n ≡ true
 unfolding is_bad_object
 mesh_padded object_tris n k lt h =
     let there : k < length (drop 2 n) = omega (arith, length-drop 2 n, lt) in

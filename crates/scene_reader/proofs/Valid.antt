@@ -9,7 +9,7 @@ use Rattle.cull_base.specs.Guard.{is_beyond}
 use Rattle.cull_base.specs.Screen.{IsSize}
 use Rattle.cull_base.specs.declared.rect.Rect.{Rect}
 use Rattle.cull_base.specs.declared.scene_types.Object.TheVariants.{Area, Block, Mesh}
-use Rattle.scene_reader.specs.Layout.{InLimits, IsObject, numbers_of, axis}
+use Rattle.scene_reader.specs.Layout.{InLimits, IsObject, numbers_of, number_at}
 use Rattle.scene_reader.specs.Fault.{is_bad_row, is_bad_object, is_bad_size}
 use Rattle.scene_reader.proofs.Shapes.{area_is, block_is}
 
@@ -58,11 +58,11 @@ block_valid m low high l h e =
     let q = or_parts _ _ p.0 in
     let r = or_parts _ _ q.0 in
     let s = or_parts _ _ r.0 in
-    ((l, row_within low s.0), (h, row_within high s.1), le_from_lt (axis high 0) (axis low 0) r.1, le_from_lt (axis high 1) (axis low 1) q.1, le_from_lt (axis high 2) (axis low 2) p.1)
+    ((l, row_within low s.0), (h, row_within high s.1), le_from_lt (number_at high 0) (number_at low 0) r.1, le_from_lt (number_at high 1) (number_at low 1) q.1, le_from_lt (number_at high 2) (number_at low 2) p.1)
 
 pub block_good : (m : ℕ) (low high : List ℤ) → IsObject m (Block low high) → is_bad_object m 1 (numbers_of (Block low high)) ≡ false
 block_good m low high h =
-    block_is m low high h.0.0 h.1.0 ∙ or_from _ _ (or_from _ _ (or_from _ _ (or_from _ _ (row_good low h.0.1) (row_good high h.1.1)) (lt_from_le (axis high 0) (axis low 0) h.2)) (lt_from_le (axis high 1) (axis low 1) h.3)) (lt_from_le (axis high 2) (axis low 2) h.4)
+    block_is m low high h.0.0 h.1.0 ∙ or_from _ _ (or_from _ _ (or_from _ _ (or_from _ _ (row_good low h.0.1) (row_good high h.1.1)) (lt_from_le (number_at high 0) (number_at low 0) h.2)) (lt_from_le (number_at high 1) (number_at low 1) h.3)) (lt_from_le (number_at high 2) (number_at low 2) h.4)
 
 pub mesh_valid : (m first count : ℕ) → is_bad_object m 2 (numbers_of (Mesh first count)) ≡ false → first + count ≤ m
 unfolding is_bad_object

@@ -1,5 +1,5 @@
 -- The first fault of bytes that aren't the layout of a scene. Each step is tested over the whole before the next step.
-use Rattle.std.specs.Prelude.{ℕ, zero, suc, ℤ, pos, ◌+◌, ◌*◌, ◌%◌, ◌^◌, ◌+ℤ◌, List, [], ◌∷◌, length, take, drop, map, slice_index, slice_index_or, Bool, not, ◌||◌, ◌==◌, nat_lt, int_lt, if◌then◌else◌, Option, Some, None}
+use Rattle.std.specs.Prelude.{ℕ, zero, suc, ℤ, pos, ◌+◌, ◌*◌, ◌%◌, ◌^◌, ◌+ℤ◌, List, [], ◌∷◌, length, take, drop, map, slice_index, Bool, not, ◌||◌, ◌==◌, nat_lt, int_lt, if◌then◌else◌, Option, Some, None}
 use Rattle.std.specs.List.{list_any, starts_with, range_with_len}
 use Rattle.std.specs.Option.{option_or}
 use Rattle.std.specs.Prelude.{nat_eq}
@@ -11,7 +11,7 @@ use Rattle.cull_base.specs.declared.scene_types.Tri.{Tri}
 use Rattle.scene_reader.specs.declared.error.SceneError.{SceneError}
 use Rattle.scene_reader.specs.declared.error.SceneError.TheVariants.{Truncated, BadMagic, BadVersion, BadSize, BadNear, BadWinding, BadReserved, BadCount, Trailing, BadVertex, BadIndex, BadKind, BadObject, BadCamera, Read, Memory}
 use Rattle.scene_reader.specs.declared.header.Counts.{Counts}
-use Rattle.scene_reader.specs.Layout.{magic, axis}
+use Rattle.scene_reader.specs.Layout.{magic, number_at}
 
 -- an answer that speaks of the bytes: neither of a source that failed nor of want of memory
 abbrev pub IsRefusal : SceneError → Type 0
@@ -157,9 +157,6 @@ index_fault table vertices i t = fault_if (list_any (λ v. not (nat_lt v vertice
 abbrev pub camera_fault : ℕ → List ℤ → Option SceneError
 camera_fault i row = fault_if (is_bad_row row) (BadCamera i)
 
-abbrev pub number_at : List ℤ → ℕ → ℤ
-number_at numbers k = slice_index_or numbers k (pos 0)
-
 abbrev pub is_not_zero : ℤ → Bool
 is_not_zero z = not (int_eq z (pos 0))
 
@@ -172,7 +169,7 @@ rectangle_runs_back r = int_lt r.x1 r.x0 || int_lt r.y1 r.y0
 
 -- a box that runs back from its first corner to its second
 abbrev pub box_runs_back : List ℤ → List ℤ → Bool
-box_runs_back low high = int_lt (axis high 0) (axis low 0) || int_lt (axis high 1) (axis low 1) || int_lt (axis high 2) (axis low 2)
+box_runs_back low high = int_lt (number_at high 0) (number_at low 0) || int_lt (number_at high 1) (number_at low 1) || int_lt (number_at high 2) (number_at low 2)
 
 abbrev pub is_bad_block : List ℤ → Bool
 is_bad_block n = int_lt (number_at n 3) (number_at n 0) || int_lt (number_at n 4) (number_at n 1) || int_lt (number_at n 5) (number_at n 2)

@@ -42,10 +42,14 @@ pub record Reads {T : Type 0} (most : ℕ) (before after : SourceSays) (result :
   pub turns : after.turns ≤ before.turns + most
   pub takes : TakesInTurns before after
 
--- the same of a call that wants so many bytes, and tells an end that comes before them
+-- the same of a call that wants so many bytes, and answers Truncated where the end comes before them
 pub record Fetches {T : Type 0} (wanted need taken : ℕ) (before after : SourceSays) (result : Result T SceneError) : Type 0 where
   pub short : IfErr result (λ e. IsRefusal e → EndsWithin wanted need taken before after e)
   pub reads : Reads wanted before after result
+
+-- the same of the five tables behind a header
+abbrev pub FetchesTables : {T : Type 0} → Counts → SourceSays → SourceSays → Result T SceneError → Type 0
+FetchesTables n before after result = Fetches (scene_length n - 32) (scene_length n) 32 before after result
 
 -- a table was taken: so many entries of so many bytes each, every one read as an item
 pub record TakesTable {X : Type 0} (size count : ℕ) (read : List ℕ → X) (before after : SourceSays) (items : List X) : Type 0 where
@@ -71,10 +75,6 @@ pub record TakesObjects (count object_tris : ℕ) (before after : SourceSays) (o
   pub first : objects.fault ≡ first_among (object_fault object_tris) 0 raws
   pub whole : objects.fault ≡ None → map raw_object objects.items.items ≡ raws
   pub valid : All (IsObject object_tris) objects.items.items
-
--- the same of the five tables behind a header
-abbrev pub FetchesTables : {T : Type 0} → Counts → SourceSays → SourceSays → Result T SceneError → Type 0
-FetchesTables n before after result = Fetches (scene_length n - 32) (scene_length n) 32 before after result
 
 -- the end came, where it was wanted
 abbrev pub TakesEnd : SourceSays → SourceSays → Type 0

@@ -1,9 +1,8 @@
 //! The first fault of a scene's parts, step by step. Each step goes over a whole table.
-ghost use Rattle.std.specs.Prelude.{◌≡◌, ℕ, ◌≤◌, ◌^◌, ◌<◌, ℤ, List, None, Some, length, map, not, nat_lt, IsNone};
+ghost use Rattle.std.specs.Prelude.{◌≡◌, ◌≤◌, ◌^◌, ◌<◌, None, length, map, not, nat_lt, IsNone};
 ghost use Rattle.std.specs.List.{All, list_any};
-ghost use Rattle.cull_base.specs.Screen.{IsSize};
 ghost use Rattle.scene_reader.specs.Layout.{IsScene, IsRow, IsTri, IsObject, raw_object};
-ghost use Rattle.scene_reader.specs.Fault.{first_among, first_bad_row, vertex_fault, index_fault, object_fault, camera_fault, screen_fault, tables_fault};
+ghost use Rattle.scene_reader.specs.Fault.{first_among, first_bad_row, vertex_fault, index_fault, object_fault, camera_fault};
 ghost use Rattle.scene_reader.specs.PartsFault.{AreTables, IsTablesFault, count_in_32_bits, counts_of_parts, first_fault_of_parts};
 
 use crate::error::SceneError;

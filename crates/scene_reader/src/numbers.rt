@@ -1,5 +1,5 @@
 //! Numbers in bytes, the lowest byte first.
-ghost use Rattle.std.specs.Prelude.{◌≡◌, ◌+◌, ◌*◌, ◌^◌, ◌<◌, ◌≤◌, length};
+ghost use Rattle.std.specs.Prelude.{◌≡◌, ◌+◌, ◌*◌, ◌≤◌, length};
 ghost use Rattle.scene_reader.specs.Fault.{short_at, word_at, signed_at, words_in, row_of};
 
 pub fn short_at(bytes: &[u8], place: usize) -> u16

@@ -1,8 +1,6 @@
 //! Objects: made from their kind and six numbers, tested, and read as a table. The first fault of a table is kept until
 //! the end of the input is known, since that of the length comes before it.
-ghost use Rattle.std.specs.Prelude.{◌≡◌, ℕ, ◌+◌, ◌*◌, ◌^◌, ◌<◌, ◌≤◌, ◌++◌, ◌∷◌, [], None, Some, map, true, false, ◌||◌, int_lt, length, OnOk, IfOk, IfErr, IfSome, IfNone};
-ghost use Rattle.std.specs.List.{All};
-ghost use Rattle.std.specs.Option.{option_or};
+ghost use Rattle.std.specs.Prelude.{◌≡◌, ℕ, ◌+◌, ◌*◌, ◌^◌, ◌<◌, ◌≤◌, Some, true, false, length, OnOk, IfOk, IfErr, IfSome, IfNone};
 ghost use Rattle.cull_base.specs.Guard.{is_beyond};
 ghost use Rattle.scene_reader.specs.Layout.{IsObject, kind_of, numbers_of};
 ghost use Rattle.scene_reader.specs.Fault.{is_bad_row, rectangle_runs_back, box_runs_back, is_bad_object, object_fault, raw_of};

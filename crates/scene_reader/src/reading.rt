@@ -1,5 +1,5 @@
 //! Reading a scene from a source, in pieces of any size.
-ghost use Rattle.std.specs.Prelude.{◌+◌, ◌≤◌, [], Some, None, IfOk, IfErr, OnOk, IsErrOf};
+ghost use Rattle.std.specs.Prelude.{◌+◌, ◌≤◌, Some, None, IfOk, IfErr, OnOk, IsErrOf};
 ghost use Rattle.cull_base.specs.Stream.{Rose};
 ghost use Rattle.scene_reader.specs.Layout.{IsScene};
 ghost use Rattle.scene_reader.specs.Fault.{IsRefusal};
