@@ -12,11 +12,17 @@ pub record Point : Type 0 where
   pub x : ℤ
   pub y : ℤ
 
+abbrev pub point : ℤ → ℤ → Point
+point x y = record { x = x; y = y }
+
 -- the coordinates of three vertices, and their nearness
 pub record Piece : Type 0 where
   pub xs : List ℤ
   pub ys : List ℤ
   pub qs : List ℕ
+
+abbrev pub piece : List ℤ → List ℤ → List ℕ → Piece
+piece xs ys qs = record { xs = xs; ys = ys; qs = qs }
 
 abbrev pub vertex : Piece → ℕ → Point
 vertex t k = record { x = slice_index_or t.xs k (pos 0); y = slice_index_or t.ys k (pos 0) }

@@ -9,6 +9,9 @@ pub record Dimensions : Type 0 where
   pub width : ℕ
   pub height : ℕ
 
+abbrev pub dimensions : ℕ → ℕ → Dimensions
+dimensions width height = record { width = width; height = height }
+
 pub record IsSize (width height : ℕ) : Type 0 where
   pub whole_columns : width % 8 ≡ 0
   pub wide : 8 ≤ width

@@ -1,6 +1,8 @@
 -- Columns and rows of tiles, each from a first to before an end.
-use Rattle.std.specs.Prelude.{ℕ, ◌≤◌, Bool, nat_le, nat_lt, ◌&&◌}
-use Rattle.cull_base.specs.Screen.{Dimensions, tile_columns_of, tile_rows_of}
+use Rattle.std.specs.Prelude.{ℕ, ◌≡◌, ◌<◌, ◌≤◌, Bool, nat_le, nat_lt, ◌&&◌}
+use Rattle.cull_base.specs.Screen.{Dimensions, tile_columns_of, tile_rows_of, tile_count_of, tile_place, tile_rect_of}
+use Rattle.cull_base.specs.Rectangle.{meets}
+use Rattle.cull_base.specs.declared.rect.Rect.{Rect}
 use Rattle.cull_base.specs.declared.place.Tile.{Tile}
 use Rattle.cull_base.specs.declared.tile_span.TileSpan.{TileSpan}
 
@@ -16,6 +18,10 @@ has_row span row = is_between span.first_row span.end_row row
 
 abbrev pub has_tile : TileSpan → Tile → Bool
 has_tile span place = has_row span place.row && has_column span place.column
+
+-- the span has exactly the tiles that a rectangle meets
+abbrev pub HasTilesOf : TileSpan → Dimensions → Rect → Type 0
+HasTilesOf span size r = (t : ℕ) → t < tile_count_of size → has_tile span (tile_place size t) ≡ meets r (tile_rect_of size t)
 
 pub record IsSpan (size : Dimensions) (span : TileSpan) : Type 0 where
   pub columns : span.first_column ≤ span.end_column

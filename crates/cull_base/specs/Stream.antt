@@ -1,5 +1,5 @@
 -- What sources and sinks say of their bytes and their counts.
-use Rattle.std.specs.Prelude.{ℕ, ◌≡◌, ◌+◌, ◌-◌, ◌^◌, ◌<◌, ◌≤◌, ◌⊎◌, min, List, ◌++◌, length, take, drop, Option, option_map, IfSome, Result, OnOk, OnErr, IsErrOf}
+use Rattle.std.specs.Prelude.{ℕ, ◌≡◌, ◌+◌, ◌-◌, ◌^◌, ◌<◌, ◌≤◌, ◌⊎◌, min, List, [], ◌++◌, length, take, drop, Option, option_map, IfSome, Result, OnOk, OnErr, IsErrOf}
 use Rattle.cull_base.specs.declared.memory.SinkError.{SinkError}
 use Rattle.cull_base.specs.declared.memory.SinkError.TheVariants.{Failed, Memory}
 
@@ -22,6 +22,10 @@ pub record SinkSays : Type 0 where
   pub holding : Option (List ℕ)
   pub faults : ℕ
   pub refusals : ℕ
+
+-- no byte is left, if the bytes are told
+abbrev pub HasNoneLeft : SourceSays → Type 0
+HasNoneLeft source = IfSome source.left (λ bytes. bytes ≡ [])
 
 -- n bytes were taken from the front of what was left, if that is told, and stand at the front of the buffer
 abbrev pub TakesFront : Option (List ℕ) → Option (List ℕ) → List ℕ → ℕ → Type 0
@@ -68,6 +72,16 @@ pub record SinkBytes : Type 0 where
   pub calls : ℕ
   pub faults : ℕ
   pub refusals : ℕ
+
+-- which of a sink's counts rose by one in a call
+abbrev pub CountsNone : SinkBytes → SinkBytes → Type 0
+CountsNone before after = (after.faults ≡ before.faults) × (after.refusals ≡ before.refusals)
+
+abbrev pub CountsFault : SinkBytes → SinkBytes → Type 0
+CountsFault before after = (after.faults ≡ next_count before.faults) × (after.refusals ≡ before.refusals)
+
+abbrev pub CountsRefusal : SinkBytes → SinkBytes → Type 0
+CountsRefusal before after = (after.faults ≡ before.faults) × (after.refusals ≡ next_count before.refusals)
 
 -- a sink in memory that never fails
 pub record SureBytes : Type 0 where

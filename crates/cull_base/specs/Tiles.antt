@@ -1,5 +1,5 @@
 -- Lists of pieces for a screen, and what of them a tile has taken.
-use Rattle.std.specs.Prelude.{ℕ, List, map, filter, take, cond}
+use Rattle.std.specs.Prelude.{ℕ, List, map, filter, take, cond, [], ◌∷◌, ◌++◌}
 use Rattle.std.specs.List.{range_with_len, Contains}
 use Rattle.cull_base.specs.Screen.{Dimensions, tile_rect_of, tile_sub, is_on_screen}
 use Rattle.cull_base.specs.Rectangle.{meets}
@@ -16,6 +16,10 @@ pub record PieceList : Type 0 where
 pub record FrameListOf : Type 0 where
   pub list : PieceList
   pub room : ℕ
+
+-- with one member more, at the end
+abbrev pub with_member : FrameListOf → Piece → FrameListOf
+with_member f t = record { list = record { size = f.list.size; members = f.list.members ++ t ∷ [] }; room = f.room }
 
 -- each member is a piece
 abbrev pub ArePieces : List Piece → Type 0

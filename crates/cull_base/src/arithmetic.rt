@@ -1,6 +1,6 @@
 //! Steps of arithmetic on screen coordinates that stay inside their width, each with its value and its bound.
 ghost use Rattle.std.specs.Prelude.{◌≡◌, ℕ, ℤ, pos, ◌^◌, ◌-ℤ◌, ◌*ℤ◌, ◌<ℤ◌};
-ghost use Rattle.cull_base.specs.Piece.{IsCoordinate, edge_value};
+ghost use Rattle.cull_base.specs.Piece.{IsCoordinate, point, edge_value};
 ghost use Rattle.cull_base.specs.Bounds.{Bounded};
 ghost use Rattle.cull_base.specs.Depth.{floor_of};
 
@@ -47,7 +47,7 @@ pub fn edge_value(ax: i32, ay: i32, bx: i32, by: i32, px: i32, py: i32) -> i64
     requires by { IsCoordinate by }
     requires px { IsCoordinate px }
     requires py { IsCoordinate py }
-    ensures value { result ≡ edge_value (record { x = ax; y = ay }) (record { x = bx; y = by }) (record { x = px; y = py }) }
+    ensures value { result ≡ edge_value (point ax ay) (point bx by) (point px py) }
     ensures bounded { Bounded (2 ^ 61) result }
 {
     minus(

@@ -27,6 +27,8 @@ impl Model for FrameList {
 }
 
 impl FrameList {
+    ghost use Rattle.cull_base.specs.Tiles.{with_member};
+
     /// An empty list. Condition: room is at most 131,072. Memory is taken here and nowhere later.
     pub fn with_room(alloc: Global, size: Size, room: u32) -> Result<FrameList, Memory>
         requires { room ≤ 131072 }
@@ -41,7 +43,7 @@ impl FrameList {
     /// Appends. Condition: the length is below the room.
     pub fn push(&mut self, tri: ScreenTri)
         requires { length self.old.list.members < self.old.room }
-        ensures { self.new ≡ record { list = record { size = self.old.list.size; members = self.old.list.members ++ tri ∷ [] }; room = self.old.room } }
+        ensures { self.new ≡ with_member self.old tri }
     {
         self.pieces.push_reserved(tri);
     }

@@ -11,8 +11,8 @@ use crate::nearness::HELD_TOP;
 use crate::rect::Rect;
 use std::marker::Model;
 
-/// A triangle on the screen: coordinates in sixteenths of a pixel, nearness from 0 to the top that pieces hold, and a positive
-/// area.
+/// A triangle on the screen: coordinates in sixteenths of a pixel, nearness from 0 to the top that pieces hold, and a
+/// positive area.
 #[derive(Clone, Copy)]
 pub struct ScreenTri {
     x: [i32; 3],
@@ -60,13 +60,13 @@ fn extent(values: &[i32; 3]) -> Extent
 }
 
 impl ScreenTri {
-    ghost use Rattle.cull_base.specs.Piece.{Piece, IsPiece, box_of};
+    ghost use Rattle.cull_base.specs.Piece.{Piece, IsPiece, piece, box_of};
 
     /// None exactly where the doubled area isn't positive, a coordinate isn't strictly between -2^29 and 2^29,
     /// or a nearness is above the top that pieces hold.
     pub fn new(x: [i32; 3], y: [i32; 3], q: [u32; 3]) -> Option<ScreenTri>
-        ensures value { MatchOption result (IsPiece (record { xs = x; ys = y; qs = q }) → ⊥) (λ t. t ≡ record { xs = x; ys = y; qs = q }) }
-        ensures given { IsPiece (record { xs = x; ys = y; qs = q }) → IsSome result }
+        ensures value { MatchOption result (IsPiece (piece x y q) → ⊥) (λ t. t ≡ piece x y q) }
+        ensures given { IsPiece (piece x y q) → IsSome result }
     {
         if !are_within(&x) || !are_within(&y) || !are_nearness(&q) {
             return None;
@@ -80,8 +80,8 @@ impl ScreenTri {
     /// The piece of numbers that are known to make one.
     #[inline(always)]
     pub fn known(x: [i32; 3], y: [i32; 3], q: [u32; 3]) -> ScreenTri
-        requires { IsPiece (record { xs = x; ys = y; qs = q }) }
-        ensures { result ≡ record { xs = x; ys = y; qs = q } }
+        requires { IsPiece (piece x y q) }
+        ensures { result ≡ piece x y q }
     {
         ScreenTri { x, y, q }
     }

@@ -1,7 +1,7 @@
 //! Where bytes go.
 ghost use Rattle.std.specs.Prelude.{◌≡◌, ℕ, List, [], ◌+◌, ◌++◌, ◌<◌, ◌≤◌, length, take, drop, min, IfOk, OnOk, OnErr, IsOk, IfSome, Option, Some, IsErr, IsErrOf, ◌↔◌, ◌^◌};
 ghost use Rattle.std.specs.List.{Contains};
-ghost use Rattle.cull_base.specs.Stream.{SinkSays, Rose, Appends, Writes, next_count, SinkBytes, SureBytes};
+ghost use Rattle.cull_base.specs.Stream.{SinkSays, Rose, Appends, Writes, next_count, CountsNone, CountsFault, CountsRefusal};
 
 use crate::memory::SinkError;
 use std::alloc::Global;
@@ -63,7 +63,14 @@ impl Model for BytesSink {
 
     ghost Value = { SinkBytes };
 
-    ghost view = { λ s. record { held = s.bytes.items; most = s.most; fails = s.fails.items; calls = s.calls; faults = s.faults; refusals = s.refusals } };
+    ghost view = { λ s. record {
+      held = s.bytes.items;
+      most = s.most;
+      fails = s.fails.items;
+      calls = s.calls;
+      faults = s.faults;
+      refusals = s.refusals;
+    } };
 
     ghost invariant = { λ s. 1 ≤ s.most };
 }
@@ -108,9 +115,9 @@ impl Sink for BytesSink {
         ensures numbered { IsErrOf result SinkError.Failed ↔ Contains self.old.fails self.new.calls }
         ensures call { self.new.calls ≡ next_count self.old.calls }
         ensures amount { IfOk result (λ n. n ≡ min self.old.most (length piece.now)) }
-        ensures counts_ok { OnOk result ((self.new.faults ≡ self.old.faults) × (self.new.refusals ≡ self.old.refusals)) }
-        ensures counts_failed { IsErrOf result SinkError.Failed → (self.new.faults ≡ next_count self.old.faults) × (self.new.refusals ≡ self.old.refusals) }
-        ensures counts_memory { IsErrOf result SinkError.Memory → (self.new.faults ≡ self.old.faults) × (self.new.refusals ≡ next_count self.old.refusals) }
+        ensures counts_ok { OnOk result (CountsNone self.old self.new) }
+        ensures counts_failed { IsErrOf result SinkError.Failed → CountsFault self.old self.new }
+        ensures counts_memory { IsErrOf result SinkError.Memory → CountsRefusal self.old self.new }
         ensures settings { (self.new.most ≡ self.old.most) × (self.new.fails ≡ self.old.fails) }
     {
         self.calls = self.calls.saturating_add(1);

@@ -30,11 +30,11 @@ impl Model for Size {
 }
 
 impl Size {
-    ghost use Rattle.cull_base.specs.Screen.{IsSize, screen_of, tile_columns_of, tile_rows_of, tile_count_of, tile_place, tile_rect_of, tile_sub, is_on_screen};
+    ghost use Rattle.cull_base.specs.Screen.{IsSize, dimensions, screen_of, tile_columns_of, tile_rows_of, tile_count_of, tile_place, tile_rect_of, tile_sub, is_on_screen};
 
     /// None exactly where the width is no multiple of 8 from 8 to 2048 or the height none of 4 from 4 to 2048.
     pub fn new(width: u16, height: u16) -> Option<Size>
-        ensures value { MatchOption result (IsSize width height → ⊥) (λ s. s ≡ record { width = width; height = height }) }
+        ensures value { MatchOption result (IsSize width height → ⊥) (λ s. s ≡ dimensions width height) }
         ensures given { IsSize width height → IsSome result }
         ensures valid { IsSome result → IsSize width height }
     {

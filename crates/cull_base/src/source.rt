@@ -1,7 +1,7 @@
 //! Where bytes come from.
 ghost use Rattle.std.specs.Prelude.{◌≡◌, ℕ, List, [], ◌+◌, ◌<◌, ◌≤◌, length, drop, take, min, IfOk, IsOk, OnOk, OnErr, IfSome, Option, Some, IsErr, ◌↔◌, ◌^◌};
 ghost use Rattle.std.specs.List.{Contains};
-ghost use Rattle.cull_base.specs.Stream.{SourceSays, Rose, TakesFront, next_count, SourceBytes};
+ghost use Rattle.cull_base.specs.Stream.{SourceSays, HasNoneLeft, Rose, TakesFront, next_count, SourceBytes};
 
 use crate::memory::Failed;
 use std::marker::Model;
@@ -17,7 +17,7 @@ pub trait Source {
     fn read(&mut self, buf: &mut [u8]) -> Result<usize, Failed>
         ensures within { IfOk result (λ n. n ≤ length buf.old) }
         ensures taken { IfOk result (λ n. TakesFront (says self.old).left (says self.new).left buf.new n) }
-        ensures end { IfOk result (λ n. n ≡ 0 → 0 < length buf.old → IfSome (says self.old).left (λ bytes. bytes ≡ [])) }
+        ensures end { IfOk result (λ n. n ≡ 0 → 0 < length buf.old → HasNoneLeft (says self.old)) }
         ensures failed { OnErr result (Rose (says self.old).faults (says self.new).faults) }
         ensures unchanged { OnErr result ((says self.new).left ≡ (says self.old).left) }
         ensures faults_stay { (says self.old).faults ≤ (says self.new).faults }
@@ -51,7 +51,13 @@ impl Model for BytesSource {
 
     ghost Value = { SourceBytes };
 
-    ghost view = { λ s. record { left = drop s.taken s.bytes.items; most = s.most; fails = s.fails.items; calls = s.calls; faults = s.faults } };
+    ghost view = { λ s. record {
+      left = drop s.taken s.bytes.items;
+      most = s.most;
+      fails = s.fails.items;
+      calls = s.calls;
+      faults = s.faults;
+    } };
 
     ghost invariant = { λ s. (s.taken ≤ length s.bytes.items) × (1 ≤ s.most) };
 }

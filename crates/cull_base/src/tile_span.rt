@@ -1,8 +1,6 @@
 //! The tiles that a rectangle reaches, computed from it and not searched for.
-ghost use Rattle.std.specs.Prelude.{◌≡◌, ℕ, pos, ◌<◌, ◌≤ℤ◌};
-ghost use Rattle.cull_base.specs.Screen.{IsSize, tile_columns_of, tile_rows_of, tile_count_of, tile_place, tile_rect_of};
-ghost use Rattle.cull_base.specs.Rectangle.{meets};
-ghost use Rattle.cull_base.specs.Span.{has_tile};
+ghost use Rattle.std.specs.Prelude.{◌≡◌, pos, ◌≤ℤ◌};
+ghost use Rattle.cull_base.specs.Screen.{IsSize};
 
 use crate::rect::Rect;
 use crate::size;
@@ -29,11 +27,11 @@ fn pixel_of(place: i32) -> u32
 }
 
 impl TileSpan {
-    ghost use Rattle.cull_base.specs.Span.{IsSpan};
+    ghost use Rattle.cull_base.specs.Span.{IsSpan, HasTilesOf};
 
     /// The tiles whose pixels on the screen meet a rectangle.
     pub fn of(rect: &Rect, size: Size) -> TileSpan
-        ensures tiles { (t : ℕ) → t < tile_count_of size → has_tile result (tile_place size t) ≡ meets rect.now (tile_rect_of size t) }
+        ensures tiles { HasTilesOf result size rect.now }
         ensures span { IsSpan size result }
         ensures sized { IsSize size.width size.height }
     {

@@ -81,13 +81,17 @@ verdict_in s frame tile_of object = object_verdict s frame (state_in (size_of s)
 unfoldable pub frame_verdicts : Parts → ℕ → List Verdict
 frame_verdicts s frame = map (object_verdict s frame (λ u. after u (frame_pieces s frame))) s.objects
 
+-- the report's first line
+abbrev pub scene_header : Parts → List ℕ
+scene_header s = header_text s.width s.height (length s.cameras) (length s.objects)
+
 -- the lines of one frame
 abbrev pub frame_report : Parts → ℕ → List ℕ
 frame_report s frame = frame_text frame (length (frame_pieces s frame)) (frame_verdicts s frame)
 
 -- the header, and then the frames' lines
 unfoldable pub report_text : Parts → List ℕ
-report_text s = header_text s.width s.height (length s.cameras) (length s.objects) ++ flat_map (frame_report s) (range_with_len 0 (length s.cameras))
+report_text s = scene_header s ++ flat_map (frame_report s) (range_with_len 0 (length s.cameras))
 
 -- the objects that are marked have the verdict occluded
 abbrev pub IsMarkedRight : (Object → Verdict) → List Object → List Bool → Type 0

@@ -5,9 +5,12 @@ use Rattle.std.specs.Option.{option_to_list}
 use Rattle.std.specs.List.{list_all, list_any, flat_map}
 use Rattle.cull_base.specs.declared.clip.ClipVertex.{ClipVertex}
 use Rattle.cull_base.specs.declared.rect.Rect.{Rect}
+use Rattle.cull_base.specs.declared.place.Sub.{Sub}
 use Rattle.cull_base.specs.declared.scene_types.Tri.{Tri}
+use Rattle.cull_base.specs.declared.scene_types.Verdict.{Verdict}
 use Rattle.cull_base.specs.declared.triangle.Side.TheVariants.{Object}
 use Rattle.cull_base.specs.declared.triangle.Winding.TheVariants.{Both}
+use Rattle.cull_base.specs.State.{State}
 use Rattle.cull_base.specs.Guard.{is_past_guard}
 use Rattle.cull_base.specs.Screen.{Dimensions, screen_of}
 use Rattle.cull_base.specs.Rectangle.{meets}
@@ -16,7 +19,7 @@ use Rattle.near_clip.specs.NearPart.{is_in_front, whole}
 use Rattle.snap_setup.specs.Snapping.{screen_x, screen_y}
 use Rattle.snap_setup.specs.Pieces.{pieces_of, near_box_of, clip_at}
 use Rattle.cull_report.specs.Pixels.{natural}
-use Rattle.cull_report.specs.Shape.{Shape, AlwaysOutside, AlwaysVisible, Flat, Pieces, flat_shape}
+use Rattle.cull_report.specs.Shape.{Shape, AlwaysOutside, AlwaysVisible, Flat, Pieces, flat_shape, verdict_of}
 
 -- the nearness of what is asked for at distance w, rounded up: top * near / w
 abbrev pub nearness_at : ℕ → ℕ → ℤ → ℕ
@@ -26,6 +29,10 @@ nearness_at top near w = div_ceil (top * near) (natural w)
 abbrev pub rectangle_shape : ℕ → ℕ → Dimensions → Rect → ℤ → Shape
 rectangle_shape top near size rect w =
     cond (meets rect (screen_of size)) (cond (int_lt w (pos near)) AlwaysVisible (Flat rect (nearness_at top near w))) AlwaysOutside
+
+-- the verdict of a rectangle at distance w
+abbrev pub rectangle_verdict : ℕ → ℕ → Dimensions → (Sub → State) → Rect → ℤ → Verdict
+rectangle_verdict top near size state_of rect w = verdict_of size state_of (rectangle_shape top near size rect w)
 
 -- the eight corners of a box between its least and its greatest
 abbrev pub corners_of : List ℤ → List ℤ → List (List ℤ)

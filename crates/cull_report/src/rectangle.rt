@@ -4,7 +4,7 @@ ghost use Rattle.cull_base.specs.declared.nearness.TheConstants.{GRADE_TOP};
 ghost use Rattle.cull_report.specs.Area.{HoldsMet};
 ghost use Rattle.cull_report.specs.Pixels.{natural, state_in};
 ghost use Rattle.cull_report.specs.Shape.{flat_shape, verdict_of};
-ghost use Rattle.cull_report.specs.Shapes.{nearness_at, rectangle_shape};
+ghost use Rattle.cull_report.specs.Shapes.{nearness_at, rectangle_verdict};
 
 use crate::area::{Area, is_area_hiding};
 use cull_base::{GRADE_TOP, Rect, Size, Verdict};
@@ -62,7 +62,7 @@ pub fn rectangle_verdict<V: TileView>(
     requires least { 1 ≤ near }
     requires most { near ≤ 1024 }
     requires holds { HoldsMet (V.held view.now) size rect.now }
-    ensures { result ≡ verdict_of size (state_in size (V.tile_of view.now)) (rectangle_shape GRADE_TOP near size rect.now w) }
+    ensures { result ≡ rectangle_verdict GRADE_TOP near size (state_in size (V.tile_of view.now)) rect.now w }
 {
     match rect_near(w, near) {
         Some(q) => verdict_at(view, size, rect, q),

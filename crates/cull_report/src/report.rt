@@ -2,6 +2,7 @@
 ghost use Rattle.std.specs.Prelude.{◌≡◌, ℕ, List, [], ◌∷◌, ◌++◌, ◌<◌, ◌≤◌, ◌^◌, length, count_by};
 ghost use Rattle.cull_report.specs.Text.{header_text, frame_line, verdict_line, verdict_lines, end_line, frame_text, verdict_word, is_visible, is_occluded, is_outside};
 ghost use Rattle.cull_base.specs.Stream.{Writes};
+ghost use Rattle.cull_report.specs.Scene.{scene_header};
 
 use crate::line::Line;
 use cull_base::{Sink, SinkError, Verdict};
@@ -114,7 +115,7 @@ pub fn write_frame<W: Sink>(
 
 /// Writes the report's first line. Failed and Memory are the sink's, as for a frame.
 pub fn write_header<W: Sink>(sink: &mut W, scene: &Scene) -> Result<(), SinkError>
-    ensures { Writes (W.says sink.old) (W.says sink.new) result (header_text scene.now.width scene.now.height (length scene.now.cameras) (length scene.now.objects)) }
+    ensures { Writes (W.says sink.old) (W.says sink.new) result (scene_header scene.now) }
 {
     let size = scene.size();
     let line = header_line(

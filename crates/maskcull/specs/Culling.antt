@@ -1,15 +1,19 @@
 -- What a run owes over the bytes that were left in its source.
-use Rattle.std.specs.Prelude.{ℕ, ◌≡◌, List, [], Result, Err, ◌⊎◌, Some, None, IfSome}
-use Rattle.cull_base.specs.Stream.{SourceSays, SinkSays, Appends, AppendsPrefix}
-use Rattle.scene_reader.specs.Fault.{first_fault}
+use Rattle.std.specs.Prelude.{ℕ, ◌≡◌, ◌<◌, List, [], Result, Err, ◌⊎◌, Some, None, IfSome}
+use Rattle.cull_base.specs.Stream.{SourceSays, SinkSays, Rose, Appends, AppendsPrefix, IsNoted}
+use Rattle.scene_reader.specs.Fault.{first_fault, IsRefusal}
+use Rattle.maskcull.specs.Notes.{refusal_text}
 use Rattle.cull_report.specs.Hiding.{HidesTruly}
 use Rattle.scene_reader.specs.Layout.{Parts, IsScene, layout}
 use Rattle.scene_reader.specs.declared.error.SceneError.{SceneError}
-use Rattle.cull_report.specs.Scene.{IsBuilt, report_text}
+use Rattle.cull_base.specs.Screen.{tile_count_of}
+use Rattle.cull_base.specs.Tiles.{tile_after}
+use Rattle.masked_update.specs.TileOf.{TileOf, tile_at}
+use Rattle.cull_report.specs.Scene.{IsBuilt, size_of, frame_pieces, report_text}
 use Rattle.maskcull.specs.declared.failure.Failure.{Failure}
 use Rattle.maskcull.specs.declared.failure.Status.{Status}
 use Rattle.maskcull.specs.declared.failure.Status.TheVariants as statuses
-use Rattle.maskcull.specs.declared.failure.Failure.TheVariants.{Scene, ReadFault, Memory}
+use Rattle.maskcull.specs.declared.failure.Failure.TheVariants.{Scene, ReadFault, ReportFault, Memory}
 
 -- the bytes are the layout of the scene s
 pub record IsSceneOf (bytes : List ℕ) (s : Parts) : Type 0 where
@@ -45,6 +49,14 @@ EndsAs r f = (r ≡ Err f) ⊎ (r ≡ Err ReadFault) ⊎ (r ≡ Err Memory)
 abbrev pub StatusIs : Status → Status → Type 0
 StatusIs status wanted = (status ≡ wanted) ⊎ (status ≡ statuses.ReadFault) ⊎ (status ≡ statuses.Memory)
 
+-- memory was wanted, or the report's count of faults rose
+abbrev pub IsReportFailure : Failure → SinkSays → SinkSays → Type 0
+IsReportFailure f before after = (f ≡ Memory) ⊎ ((f ≡ ReportFault) × Rose before.faults after.faults)
+
+-- the failure is none after which part of the report may stand
+abbrev pub IsBeforeReport : Failure → Type 0
+IsBeforeReport f = (f ≡ Memory → ⊥) × (f ≡ ReportFault → ⊥)
+
 -- the status is one after which part of the report may stand
 abbrev pub MayHaveWritten : Status → Type 0
 MayHaveWritten status = (status ≡ statuses.ReportFault) ⊎ (status ≡ statuses.Memory)
@@ -58,9 +70,21 @@ abbrev pub IsCulled : SourceSays → SourceSays → SinkSays → SinkSays → Ty
 IsCulled before after report_before report_after =
     IfBytes before (λ bytes. (s : Parts) × IsDrawable bytes s × (after.left ≡ Some []) × Appends report_before report_after (report_text s) × HidesTruly s)
 
+-- the tiles of the only frame took its whole list
+abbrev pub TookFrame : Parts → List TileOf → Type 0
+TookFrame s tiles = (t : ℕ) → t < tile_count_of (size_of s) → (tile_at tiles t).subs ≡ tile_after (size_of s) t (frame_pieces s 0)
+
 -- the bytes have this first fault
 abbrev pub HasFault : SourceSays → SceneError → Type 0
 HasFault source e = IfBytes source (λ bytes. first_fault bytes ≡ Some e)
+
+-- the bytes are no scene's layout
+abbrev pub IsNoScene : SourceSays → Type 0
+IsNoScene source = IfBytes source (λ bytes. (s : Parts) → IsSceneOf bytes s → ⊥)
+
+-- the bytes are the layout of one scene, which can't be drawn yet
+abbrev pub IsUnbuilt : SourceSays → Type 0
+IsUnbuilt source = IfBytes source (λ bytes. (s : Parts) × IsOnlyScene bytes s × (IsBuilt s → ⊥))
 
 -- the bytes are the layout of a scene that can't be drawn yet
 abbrev pub IsUndrawn : SourceSays → Type 0
@@ -84,3 +108,7 @@ GainsFront source before after = EachDrawable source (λ s. AppendsPrefix before
 -- a fact that holds where the bytes aren't the layout of a scene that can be drawn
 abbrev pub WithoutScene : SourceSays → Type 0 → Type 0
 WithoutScene source P = IfBytes source (λ bytes. ((s : Parts) → IsDrawable bytes s → ⊥) → P)
+
+-- the bytes have a first fault, and that refusal was noted with its numbers
+abbrev pub NotesFault : SourceSays → SinkSays → SinkSays → Type 0
+NotesFault source before after = (e : SceneError) × IsRefusal e × HasFault source e × IsNoted before after (refusal_text e)

@@ -8,7 +8,7 @@ ghost use Rattle.scene_reader.specs.Fault.{IsRefusal};
 ghost use Rattle.scene_reader.specs.Layout.{Parts};
 ghost use Rattle.cull_report.specs.Hiding.{HidesTruly};
 ghost use Rattle.cull_report.specs.Scene.{IsBuilt, size_of, frame_clips, frame_list, frame_pieces, frame_verdicts, report_text};
-ghost use Rattle.maskcull.specs.Culling.{IsSceneOf, IsOnlyScene, IfBytes, IfScene, EndsAs, IsCulled, HasFault, IsUndrawn, EachFault, EachDrawable, EachUndrawn, GainsFront, WithoutScene, CanDraw};
+ghost use Rattle.maskcull.specs.Culling.{IfBytes, IfScene, EndsAs, CanDraw, IsCulled, HasFault, IsNoScene, IsUnbuilt, IsUndrawn, EachFault, EachDrawable, EachUndrawn, GainsFront, WithoutScene, TookFrame, IsReportFailure, IsBeforeReport};
 
 use crate::failure::Failure;
 use cull_base::{ClipVertex, FrameList, Memory, Sink, SinkError, Source, Verdict};
@@ -32,8 +32,8 @@ fn read_built<S: Source>(alloc: Global, input: &mut S) -> Result<Scene, Failure>
     ensures built { IfOk result (λ s. IsBuilt s) }
     ensures refusal { IfErr result (λ f. IfScene f IsRefusal) }
     ensures scene { IfErr result (λ f. IfScene f (HasFault (S.says input.old))) }
-    ensures no_scene { IfErr result (λ f. IfScene f (λ e. IfBytes (S.says input.old) (λ bytes. (t : Parts) → IsSceneOf bytes t → ⊥))) }
-    ensures not_built { IsErrOf result Failure.NotBuilt → IfBytes (S.says input.old) (λ bytes. (s : Parts) × IsOnlyScene bytes s × (IsBuilt s → ⊥)) }
+    ensures no_scene { IfErr result (λ f. IfScene f (λ _. IsNoScene (S.says input.old))) }
+    ensures not_built { IsErrOf result Failure.NotBuilt → IsUnbuilt (S.says input.old) }
     ensures read { IsErrOf result Failure.ReadFault → Rose (S.says input.old).faults (S.says input.new).faults }
     ensures never { (IsErrOf result Failure.Usage → ⊥) × (IsErrOf result Failure.ReportFault → ⊥) }
 {
@@ -65,7 +65,7 @@ fn verdicts_over(
     requires built { IsBuilt scene.now }
     requires clips { clips.now ≡ frame_clips scene.now 0 }
     requires tiles { length states.now ≡ tile_count_of (size_of scene.now) }
-    requires drawn { (t : ℕ) → t < tile_count_of (size_of scene.now) → (tile_at states.now t).subs ≡ tile_after (size_of scene.now) t (frame_pieces scene.now 0) }
+    requires drawn { TookFrame scene.now states.now }
     ensures { IfOk result (λ v. v.items ≡ frame_verdicts scene.now 0) }
 {
     let settled = unset_marks(alloc, scene.objects().len())?;
@@ -120,7 +120,7 @@ fn report_scene<W: Sink>(alloc: Global, scene: &Scene, report: &mut W) -> Result
     ensures ok { OnOk result (Appends (W.says report.old) (W.says report.new) (report_text scene.now)) }
     ensures err { OnErr result (AppendsPrefix (W.says report.old) (W.says report.new) (report_text scene.now)) }
     ensures hidden { OnOk result (HidesTruly scene.now) }
-    ensures causes { IfErr result (λ f. (f ≡ Failure.Memory) ⊎ ((f ≡ Failure.ReportFault) × Rose (W.says report.old).faults (W.says report.new).faults)) }
+    ensures causes { IfErr result (λ f. IsReportFailure f (W.says report.old) (W.says report.new)) }
 {
     let frame = draw(alloc, scene)?;
     write_report(report, scene, &frame)?;
@@ -129,7 +129,8 @@ fn report_scene<W: Sink>(alloc: Global, scene: &Scene, report: &mut W) -> Result
 
 /// Reads a scene, draws it and writes its report.
 pub fn cull<S: Source, W: Sink>(alloc: Global, input: &mut S, report: &mut W) -> Result<(), Failure>
-    ensures done { OnOk result (IsCulled (S.says input.old) (S.says input.new) (W.says report.old) (W.says report.new)) }
+    ensures done { OnOk result (
+        IsCulled (S.says input.old) (S.says input.new) (W.says report.old) (W.says report.new)) }
     ensures refusal { IfErr result (λ f. IfScene f IsRefusal) }
     ensures scene { IfErr result (λ f. IfScene f (HasFault (S.says input.old))) }
     ensures not_built { IsErrOf result Failure.NotBuilt → IsUndrawn (S.says input.old) }
@@ -143,7 +144,7 @@ pub fn cull<S: Source, W: Sink>(alloc: Global, input: &mut S, report: &mut W) ->
     ensures drawn { EachDrawable (S.says input.old) (λ _. OnErr result (EndsAs result Failure.ReportFault)) }
 
     // What stands on the report.
-    ensures untouched { IfErr result (λ f. (f ≡ Failure.Memory → ⊥) → (f ≡ Failure.ReportFault → ⊥) → report.new ≡ report.old) }
+    ensures untouched { IfErr result (λ f. IsBeforeReport f → report.new ≡ report.old) }
     ensures prefix { OnErr result (GainsFront (S.says input.old) (W.says report.old) (W.says report.new)) }
     ensures nothing { WithoutScene (S.says input.old) (report.new ≡ report.old) }
 {

@@ -1,10 +1,8 @@
 //! The top call: from command words and the bytes of a scene to the report.
 ghost use Rattle.std.specs.Prelude.{◌≡◌, ℕ, ◌⊎◌, ◌↔◌, map, string_bytes};
 ghost use Rattle.cull_base.specs.Stream.{Rose, IsNoted};
-ghost use Rattle.scene_reader.specs.Fault.{IsRefusal};
-ghost use Rattle.scene_reader.specs.declared.error.SceneError.{SceneError};
-ghost use Rattle.maskcull.specs.Culling.{IsCulled, HasFault, IsUndrawn, EachFault, EachDrawable, EachUndrawn, GainsFront, WithoutScene, StatusIs, MayHaveWritten};
-ghost use Rattle.maskcull.specs.Notes.{refusal_text, status_text};
+ghost use Rattle.maskcull.specs.Culling.{IsCulled, NotesFault, IsUndrawn, EachFault, EachDrawable, EachUndrawn, GainsFront, WithoutScene, StatusIs, MayHaveWritten};
+ghost use Rattle.maskcull.specs.Notes.{status_text};
 ghost use Rattle.maskcull.specs.Words.{IsAccepted};
 
 use crate::cull::cull;
@@ -27,19 +25,22 @@ pub fn run<R: Threads + Wait + Sync, S: Source, W: Sink, E: Sink>(
 ) -> Status
     // The report is that of one thread that merges all pieces in submission order, and each object that it calls
     // occluded has a piece strictly in front of it at each of its samples in the screen.
-    ensures done { result ≡ Status.Done → IsCulled (S.says input.old) (S.says input.new) (W.says report.old) (W.says report.new) }
+    ensures done { result ≡ Status.Done
+        → IsCulled (S.says input.old) (S.says input.new) (W.says report.old) (W.says report.new) }
     ensures done_notes { result ≡ Status.Done → notes.new ≡ notes.old }
 
     // The causes.
     ensures usage { (result ≡ Status.Usage) ↔ (IsAccepted (map string_bytes words.now) → ⊥) }
-    ensures scene { result ≡ Status.Scene → (e : SceneError) × IsRefusal e × HasFault (S.says input.old) e × IsNoted (E.says notes.old) (E.says notes.new) (refusal_text e) }
+    ensures scene { result ≡ Status.Scene → NotesFault (S.says input.old) (E.says notes.old) (E.says notes.new) }
     ensures not_built { result ≡ Status.NotBuilt → IsUndrawn (S.says input.old) }
     ensures read { result ≡ Status.ReadFault → Rose (S.says input.old).faults (S.says input.new).faults }
     ensures report { result ≡ Status.ReportFault → Rose (W.says report.old).faults (W.says report.new).faults }
 
     // What comes of accepted words with bytes that are refused, that can't be drawn yet and that can.
-    ensures refused { IsAccepted (map string_bytes words.now) → EachFault (S.says input.old) (λ _. StatusIs result Status.Scene) }
-    ensures undrawn { IsAccepted (map string_bytes words.now) → EachUndrawn (S.says input.old) (StatusIs result Status.NotBuilt) }
+    ensures refused { IsAccepted (map string_bytes words.now)
+        → EachFault (S.says input.old) (λ _. StatusIs result Status.Scene) }
+    ensures undrawn { IsAccepted (map string_bytes words.now)
+        → EachUndrawn (S.says input.old) (StatusIs result Status.NotBuilt) }
     ensures complete { IsAccepted (map string_bytes words.now) → EachDrawable (S.says input.old) (λ _.
         (Rose (S.says input.old).faults (S.says input.new).faults → ⊥) → (Rose (W.says report.old).faults (W.says report.new).faults → ⊥)
         → (result ≡ Status.Done) ⊎ (result ≡ Status.Memory)) }
@@ -49,7 +50,8 @@ pub fn run<R: Threads + Wait + Sync, S: Source, W: Sink, E: Sink>(
     ensures untouched { (result ≡ Status.Done → ⊥) → (MayHaveWritten result → ⊥) → report.new ≡ report.old }
     ensures prefix { MayHaveWritten result → GainsFront (S.says input.old) (W.says report.old) (W.says report.new) }
     ensures nothing { WithoutScene (S.says input.old) (report.new ≡ report.old) }
-    ensures noted { (result ≡ Status.Done → ⊥) → (result ≡ Status.Scene → ⊥) → IsNoted (E.says notes.old) (E.says notes.new) (status_text result) }
+    ensures noted { (result ≡ Status.Done → ⊥) → (result ≡ Status.Scene → ⊥)
+        → IsNoted (E.says notes.old) (E.says notes.new) (status_text result) }
 {
     if !is_accepted(words) {
         return Failure::Usage.end(notes);

@@ -1,0 +1,72 @@
+#!/usr/bin/env python3
+"""Milliseconds a frame of a built maskcull, on generated scenes of 1280 by 720 pixels.
+
+usage: bench/frames.py PROGRAM [--triangles 1000,20000,65536] [--rectangles 500] [--rounds 5]
+
+Each scene has random triangles between near and far, as a camera that looks down the z axis sees them, and random
+rectangles as objects. A frame's time is the least of some runs of the program, less that of a run without triangles
+and with one rectangle, so that starting up falls out; reading the scene and writing the report are part of it.
+Measure on a quiet machine."""
+import argparse
+import struct
+import subprocess
+import time
+
+WIDTH, HEIGHT, NEAR = 1280, 720, 16
+IDENTITY = (65536, 0, 0, 0, 0, 65536, 0, 0, 0, 0, 65536, 0)
+
+
+class Numbers:
+    """A linear congruential generator of 64 bits: the same scene for the same seed."""
+
+    def __init__(self, seed):
+        self.state = seed
+
+    def below(self, end):
+        self.state = (self.state * 6364136223846793005 + 1442695040888963407) % 2**64
+        return (self.state >> 33) % end
+
+
+def scene(seed, triangles, rectangles):
+    numbers = Numbers(seed)
+    vertices = bytearray()
+    for _ in range(triangles):
+        x, y, z = numbers.below(16001) - 8000, numbers.below(4001) - 2000, 200 + numbers.below(16000)
+        for _ in range(3):
+            vx, vy, vz = x + numbers.below(801) - 400, y + numbers.below(801) - 400, z + numbers.below(201) - 100
+            vertices += struct.pack("<3i", 36864 * vx >> 16, vy, vz)
+    indices = struct.pack(f"<{3 * triangles}I", *range(3 * triangles))
+    objects = bytearray()
+    for _ in range(rectangles):
+        w, h = 8 + numbers.below(120), 8 + numbers.below(120)
+        x, y = numbers.below(WIDTH - w), numbers.below(HEIGHT - h)
+        objects += struct.pack("<B6i", 0, x, y, x + w, y + h, NEAR + 200 + numbers.below(16000), 0)
+    counts = (3 * triangles, triangles, 0, rectangles)
+    header = struct.pack("<4sHHHHBBHIIII", b"MSOC", 1, WIDTH, HEIGHT, NEAR, 0, 0, 1, *counts)
+    return header + vertices + indices + objects + struct.pack("<12i", *IDENTITY)
+
+
+def seconds(program, data, rounds):
+    least = float("inf")
+    for _ in range(rounds):
+        begin = time.perf_counter()
+        subprocess.run([program, "cull"], input=data, stdout=subprocess.DEVNULL, check=True)
+        least = min(least, time.perf_counter() - begin)
+    return least
+
+
+def main():
+    parser = argparse.ArgumentParser(description=__doc__, formatter_class=argparse.RawDescriptionHelpFormatter)
+    parser.add_argument("program")
+    parser.add_argument("--triangles", default="1000,20000,65536")
+    parser.add_argument("--rectangles", type=int, default=500)
+    parser.add_argument("--rounds", type=int, default=5)
+    args = parser.parse_args()
+    empty = seconds(args.program, scene(1, 0, 1), args.rounds)
+    for triangles in map(int, args.triangles.split(",")):
+        frame = seconds(args.program, scene(1, triangles, args.rectangles), args.rounds) - empty
+        print(f"{triangles:>7} triangles, {args.rectangles} rectangles: {1000 * frame:.2f} ms a frame")
+
+
+if __name__ == "__main__":
+    main()
