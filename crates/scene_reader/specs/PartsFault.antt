@@ -1,5 +1,5 @@
 -- The first fault of parts that aren't a scene: the steps of `first_fault` that speak of parts.
-use Rattle.std.specs.Prelude.{ℕ, ℤ, ◌≡◌, ◌-◌, ◌^◌, min, List, length, map, Option, None}
+use Rattle.std.specs.Prelude.{ℕ, ℤ, ◌≡◌, ◌-◌, ◌^◌, min, List, length, map, Option, None, Some}
 use Rattle.std.specs.Option.{option_or}
 use Rattle.std.specs.List.{All}
 use Rattle.scene_reader.specs.declared.error.SceneError.{SceneError}
@@ -27,9 +27,12 @@ first_fault_of_parts p =
     (option_or (count_fault (counts_of_parts p))
     (tables_fault p.vertices p.occluders p.object_tris (map raw_object p.objects) p.cameras))
 
--- Parts without a fault.
+-- parts without a fault, and parts with this first fault
 abbrev pub IsFaultless : Parts → Type 0
 IsFaultless p = first_fault_of_parts p ≡ None
+
+abbrev pub IsFaulty : Parts → SceneError → Type 0
+IsFaulty p e = first_fault_of_parts p ≡ Some e
 
 -- the first fault of the tables, where that of the objects as they stand in the bytes is given
 abbrev pub IsTablesFault : Parts → Option SceneError → Option SceneError → Type 0

@@ -25,12 +25,12 @@ impl Model for Scene {
 
 impl Scene {
     ghost use Rattle.scene_reader.specs.Layout.{IsScene};
-    ghost use Rattle.scene_reader.specs.PartsFault.{IsFaultless, first_fault_of_parts};
+    ghost use Rattle.scene_reader.specs.PartsFault.{IsFaultless, IsFaulty};
 
     /// A scene of these parts. It takes no memory; a refusal drops the parts. A count that is too large for 32 bits is
     /// answered as 4294967295.
     pub fn new(parts: SceneParts) -> Result<Scene, SceneError>
-        ensures value { MatchResult result (λ s. (s ≡ parts) × IsFaultless parts) (λ e. first_fault_of_parts parts ≡ Some e) }
+        ensures value { MatchResult result (λ s. (s ≡ parts) × IsFaultless parts) (λ e. IsFaulty parts e) }
         ensures given { IsScene parts → IsOk result }
         ensures valid { IsOk result → IsScene parts }
     {
