@@ -1,4 +1,5 @@
-//! The masked update: subtiles of two depths and a mask, tiles of eight subtiles, and the plain drawing of a frame list.
+//! The masked update: subtiles of two depths and a mask, tiles of eight subtiles, pieces that are set up once, and the
+//! plain drawing of a frame list.
 #![tactic(auto)]
 
 mod canvas;

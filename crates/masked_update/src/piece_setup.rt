@@ -1,4 +1,4 @@
-//! A piece set up for the tiles that take it, and the short cuts that change nothing.
+//! A piece set up for the tiles that take it: what each subtile asks of it is computed once.
 ghost use Rattle.std.specs.Prelude.{◌≡◌, ◌<◌, ◌≤◌, length};
 ghost use Rattle.cull_base.specs.Fold.{step};
 ghost use Rattle.cull_base.specs.Piece.{IsPiece, box_of};
@@ -45,6 +45,7 @@ pub fn greatest_nearness(tri: &ScreenTri) -> u32
 }
 
 impl PieceSetup {
+    /// Sets a piece up.
     pub fn of(tri: &ScreenTri) -> PieceSetup
         ensures value { result ≡ tri.now }
         ensures valid { IsPiece tri.now }

@@ -38,7 +38,8 @@ ghost use Rattle.cull_base.specs.State.{samples_of, empty_state, step_with};
 ghost use Rattle.cull_base.specs.Fold.{IsLayered};
 ghost use Rattle.masked_update.specs.SubTile.{KeepsSound, AllBelow, AllHide};
 
-// The mask that an incoming bound t leaves: it drops a working layer that is further behind it than above the reference.
+// The mask that an incoming bound t leaves: it drops a working layer that is further behind it than above the
+// reference.
 #[inline(always)]
 fn mask_left(reference: u32, working: u32, mask: u32, t: u32) -> u32
     requires reference { reference ≤ HELD_TOP }

@@ -2,8 +2,8 @@
 ghost use Rattle.std.specs.Prelude.{◌≤◌};
 ghost use Rattle.cull_base.specs.declared.nearness.TheConstants.{HELD_TOP};
 
-use crate::{PlainView, SubTile, TileState, TileView, draw_plain, next_member};
-use cull_base::{FrameList, HELD_TOP, ScreenTri, Size};
+use crate::{PieceSetup, PlainView, SubTile, TileState, TileView, draw_plain, next_member};
+use cull_base::{FrameList, HELD_TOP, ScreenTri, Size, Tile};
 use std::test::Fail;
 
 const EVERY_SAMPLE: u32 = 0xFFFF_FFFF;
@@ -86,6 +86,40 @@ fn subtiles_off_the_screen_stay_empty(rt: HostRuntime) -> Result<(), Fail> {
     assert_eq!(rt; layers(&tile.sub(0)), (1000, 0, 0));
     for j in 1..8 {
         assert_eq!(rt; layers(&tile.sub(j)), (0, 0, 0), "subtile {j}");
+    }
+    Ok(())
+}
+
+#[test]
+fn piece_set_up_once_is_taken_by_two_tiles(rt: HostRuntime) -> Result<(), Fail> {
+    let size = Size::new(64, 8).ok_or("a size")?;
+    let piece = ScreenTri::new([0, 4096, 0], [0, 0, 4096], [1000, 1000, 1000]).ok_or("a piece")?;
+    let piece = PieceSetup::of(&piece);
+    assert_eq!(rt; piece.nearest(), 1000);
+    assert_eq!(rt; piece.boxed().x1, 257);
+    let mut first = TileState::empty();
+    first.take_set_up(&piece, size, 0);
+    let mut second = TileState::empty();
+    second.take_at(&piece, size, Tile { column: 1, row: 0 });
+    for tile in [first, second] {
+        assert_eq!(rt; tile.count(), 1);
+        assert_eq!(rt; layers(&tile.sub(7)), (1000, 0, 0));
+    }
+    Ok(())
+}
+
+// One piece over the tile, and then one behind it.
+#[test]
+fn piece_behind_each_reference_is_counted(rt: HostRuntime) -> Result<(), Fail> {
+    let size = Size::new(32, 8).ok_or("a size")?;
+    let mut list = FrameList::with_room(rt.alloc(), size, 2)?;
+    list.push(ScreenTri::new([0, 4096, 0], [0, 0, 4096], [500; 3]).ok_or("a piece")?);
+    list.push(ScreenTri::new([0, 512, 0], [0, 0, 128], [500, 400, 300]).ok_or("a piece")?);
+    let states = draw_plain(rt.alloc(), &list)?;
+    let tile = states[0];
+    assert_eq!(rt; tile.count(), 2);
+    for j in 0..8 {
+        assert_eq!(rt; layers(&tile.sub(j)), (500, 0, 0), "subtile {j}");
     }
     Ok(())
 }
