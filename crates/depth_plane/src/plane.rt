@@ -42,7 +42,13 @@ impl Model for Plane {
 
     ghost invariant = { λ p. IsPlane (coefficients p.across p.down p.level p.area) p.reciprocal };
 
-    ghost inverse = { λ c. record { across = c.across; down = c.down; level = c.level; area = c.area; reciprocal = reciprocal_of c.area } };
+    ghost inverse = { λ c. record {
+      across = c.across;
+      down = c.down;
+      level = c.level;
+      area = c.area;
+      reciprocal = reciprocal_of c.area;
+    } };
 
     ghost inverse_ok = { λ p h. ap (λ r. record p { reciprocal = r }) (sym h.is_reciprocal) };
 }

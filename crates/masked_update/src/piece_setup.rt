@@ -98,7 +98,8 @@ impl PieceSetup {
         requires span { span.first_column ≤ span.end_column }
         requires within { span.end_column ≤ 4 }
         requires sub_row { row < 2 }
-        ensures merged { MergedWhere (is_in_row 4 row span.first_column span.end_column) place self.now subs.old subs.new }
+        ensures merged { MergedWhere (is_in_row 4 row span.first_column span.end_column)
+            place self.now subs.old subs.new }
         ensures eight { length subs.new ≡ 8 }
     {
         for column in span.first_column..span.end_column {
