@@ -23,5 +23,15 @@ impl Model for SceneParts {
 
     ghost Value = { Parts };
 
-    ghost view = { λ p. record { width = p.width; height = p.height; near = p.near; winding = p.winding; vertices = p.vertices.items; occluders = p.occluders.items; object_tris = p.object_tris.items; objects = p.objects.items; cameras = p.cameras.items } };
+    ghost view = { λ p. record {
+      width = p.width;
+      height = p.height;
+      near = p.near;
+      winding = p.winding;
+      vertices = p.vertices.items;
+      occluders = p.occluders.items;
+      object_tris = p.object_tris.items;
+      objects = p.objects.items;
+      cameras = p.cameras.items;
+    } };
 }
