@@ -15,9 +15,9 @@ use std::array;
 /// The edges of a piece, for the samples that it covers as an occluder or touches as an object.
 #[derive(Clone, Copy)]
 pub struct Edges {
-    first: Edge,
-    second: Edge,
-    third: Edge,
+    pub(crate) first: Edge,
+    pub(crate) second: Edge,
+    pub(crate) third: Edge,
 }
 
 // The edge from one vertex of a piece to another.
@@ -49,9 +49,9 @@ impl Edges {
     // Whether an edge rejects each sample of a subtile that begins with these values.
     #[inline(always)]
     fn rejects_all(&self, first: i64, second: i64, third: i64) -> bool
-        requires first { Bounded (2 ^ 61 + 2 ^ 47) first }
-        requires second { Bounded (2 ^ 61 + 2 ^ 47) second }
-        requires third { Bounded (2 ^ 61 + 2 ^ 47) third }
+        requires first { Bounded (2 ^ 61 + 2 ^ 48) first }
+        requires second { Bounded (2 ^ 61 + 2 ^ 48) second }
+        requires third { Bounded (2 ^ 61 + 2 ^ 48) third }
         ensures { IsTrue result → mask_l (each_sample (inside_all self.now first second third)) ≡ 0 }
     {
         self.first.rejects_all(first)
