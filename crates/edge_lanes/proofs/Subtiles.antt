@@ -120,8 +120,7 @@ pub record IsMaskAt (e : Edge) (tile : Tile) (j m : ℕ) : Type 0 where
 start_is : {e : Edge} {tile : Tile} {j m : ℕ} (h : IsMaskAt e tile j m) → h.start ≡ value_at e (8 * (4 * tile.column + j % 4)) (4 * (2 * tile.row + j / 4))
 start_is {e} {tile} {j} h = h.moved ∙ value-subtile_step e tile j h.tile_start h.starts
 
-pub samples_of-three : (e : Edges) (tile : Tile) (j l m n : ℕ) → IsMaskAt e.first tile j l → IsMaskAt e.second tile j m → IsMaskAt e.third tile j n → samples_of (bit_and (bit_and l m) n) ≡ inside_of e (sub_of tile j)
-samples_of-three e tile j l m n f g h =
-    ap samples_of (ap₂ bit_and (ap₂ bit_and f.mask g.mask) h.mask ∙ mask_l-and_samples (inside_from e.first f.start) (inside_from e.second g.start) (inside_from e.third h.start))
-    ∙ samples_of-mask_l_each (inside_all e f.start g.start h.start)
-    ∙ inside_all-start e (sub_of tile j) f.start g.start h.start (start_is f) (start_is g) (start_is h)
+pub mask_of_three : (e : Edges) (tile : Tile) (j l m n : ℕ) → IsMaskAt e.first tile j l → IsMaskAt e.second tile j m → IsMaskAt e.third tile j n → bit_and (bit_and l m) n ≡ mask_l (inside_of e (sub_of tile j))
+mask_of_three e tile j l m n f g h =
+    ap₂ bit_and (ap₂ bit_and f.mask g.mask) h.mask ∙ mask_l-and_samples (inside_from e.first f.start) (inside_from e.second g.start) (inside_from e.third h.start)
+    ∙ ap mask_l (inside_all-start e (sub_of tile j) f.start g.start h.start (start_is f) (start_is g) (start_is h))

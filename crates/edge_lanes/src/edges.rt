@@ -78,21 +78,6 @@ impl Edges {
         }
     }
 
-    // The mask of subtile j of a tile.
-    #[inline(always)]
-    fn mask_of(&self, tile: Tile, j: u16) -> u32
-        requires column { tile.column < 64 }
-        requires row { tile.row < 256 }
-        requires j { j < 8 }
-        ensures value { result ≡ mask_l (inside_of self.now (sub_of tile j)) }
-        ensures samples { samples_of result ≡ inside_of self.now (sub_of tile j) }
-    {
-        self.mask(Sub {
-            column: 4 * tile.column + j % 4,
-            row: 2 * tile.row + j / 4,
-        })
-    }
-
     /// The masks of a tile's subtiles, of which it has four columns and two rows. Condition: the tile lies within
     /// 2048 by 2048 pixels.
     pub fn tile_masks(&self, tile: Tile) -> [u32; 8]
@@ -101,6 +86,7 @@ impl Edges {
         ensures value { (j : ℕ) → j < 8 → slice_index result j ≡ mask_l (inside_of self.now (sub_of tile j)) }
         ensures samples { (j : ℕ) → j < 8 → samples_of (slice_index result j) ≡ inside_of self.now (sub_of tile j) }
     {
-        array::from_fn(|j| self.mask_of(tile, j as u16))
+        let edges = self.at_tile(tile);
+        array::from_fn(|j| edges.mask(j as u32))
     }
 }

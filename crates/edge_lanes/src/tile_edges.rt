@@ -1,5 +1,6 @@
 //! The edges of a piece over one tile, whose eight subtiles are asked at once.
 ghost use Rattle.std.specs.Prelude.{◌≡◌, ℕ, ℤ, ◌+◌, ◌*◌, ◌<◌, ◌^◌};
+ghost use Rattle.std.specs.Simd.Lanes.{mask_l};
 ghost use Rattle.cull_base.specs.Bounds.{Bounded};
 ghost use Rattle.cull_base.specs.State.{samples_of};
 ghost use Rattle.edge_lanes.specs.Inside.{StartsAt, inside_of, sub_of};
@@ -61,7 +62,8 @@ impl TileEdges<'_> {
     #[inline(always)]
     pub fn mask(&self, j: u32) -> u32
         requires { j < 8 }
-        ensures { samples_of result ≡ inside_at self.now j }
+        ensures value { result ≡ mask_l (inside_at self.now j) }
+        ensures samples { samples_of result ≡ inside_at self.now j }
     {
         let first = self.edges.first.subtile_start(self.first, j);
         let second = self.edges.second.subtile_start(self.second, j);

@@ -1,4 +1,4 @@
-use Rattle.std.proofs.Common.{◌≡◌, ℤ, List, [], ◌∷◌, FitsSigned, w64, rules, refl}
+use Rattle.std.proofs.Common.{◌≡◌, ℤ, [], ◌∷◌, FitsSigned, w64, rules, refl}
 use Rattle.std.proofs.lemmas.Int.{to_z-of_z}
 use Rattle.edge_lanes.specs.Lanes.{subtile_step, subtile_steps}
 use Rattle.edge_lanes.proofs.edge.subtile_steps.Goals as goal

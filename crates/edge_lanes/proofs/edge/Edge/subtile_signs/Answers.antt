@@ -1,4 +1,4 @@
-use Rattle.std.proofs.Common.{arith, rules, FitsSigned, w64, ℕ, ℤ, ◌<◌, ◌^◌, ◌+◌, ◌+ℤ◌, refl, to_z, of_z}
+use Rattle.std.proofs.Common.{arith, FitsSigned, w64, ℕ, ℤ, ◌<◌, ◌^◌, ◌+◌, ◌+ℤ◌}
 use Rattle.std.proofs.lemmas.Int.{ints}
 use Rattle.cull_base.specs.Bounds.{Bounded}
 use Rattle.edge_lanes.specs.Lanes.{subtile_step}

@@ -1,4 +1,4 @@
-use Rattle.std.proofs.Common.{◌≡◌, ◌∙◌, ℤ, pos, ◌^◌, ◌+◌, ◌+ℤ◌, arith, FitsSigned, w64, to_z, of_z, slice_index_or}
+use Rattle.std.proofs.Common.{ℤ, ◌^◌, ◌+◌, ◌+ℤ◌, arith}
 use Rattle.std.proofs.lemmas.Int.{ints}
 use Rattle.cull_base.specs.Bounds.{Bounded}
 use Rattle.edge_lanes.specs.Lanes.{subtile_step}

@@ -1,7 +1,6 @@
-use Rattle.std.proofs.Common.{ℕ, ◌<◌, ◌^◌, arith, bit_and, FitsSigned, w64, rules}
+use Rattle.std.proofs.Common.{◌<◌, ◌^◌, arith, bit_and, FitsSigned, w64, rules}
 use Rattle.std.proofs.lemmas.Int.{to_z-of_z}
 use Rattle.std.proofs.lemmas.Nat.{and_le_r}
-use Rattle.edge_lanes.specs.Inside.{candidates_of}
 use Rattle.edge_lanes.specs.Tiles.{inside_at}
 use Rattle.edge_lanes.proofs.Subtiles.{candidates_of-lt, no_samples-clear}
 use Rattle.edge_lanes.proofs.tile_edges.TileEdges.candidates.Goals as goal
