@@ -13,11 +13,11 @@ use Rattle.edge_lanes.specs.declared.edge.Edge.{Edge}
 use Rattle.edge_lanes.specs.declared.edges.Edges.{Edges}
 
 -- a step taken up to n times
-step_most : (s : ℤ) (n k : ℕ) → k ≤ n → (s *ℤ pos k) ≤ℤ int_max (s *ℤ pos n) (pos 0)
+pub step_most : (s : ℤ) (n k : ℕ) → k ≤ n → (s *ℤ pos k) ≤ℤ int_max (s *ℤ pos n) (pos 0)
 step_most (pos s) n k l = let p = mul-le-mul_left s l in omega (arith, ints, clamps, p)
 step_most (negsuc s) n k l = omega (arith, ints, clamps)
 
-step_least : (s : ℤ) (n k : ℕ) → k ≤ n → int_min (s *ℤ pos n) (pos 0) ≤ℤ (s *ℤ pos k)
+pub step_least : (s : ℤ) (n k : ℕ) → k ≤ n → int_min (s *ℤ pos n) (pos 0) ≤ℤ (s *ℤ pos k)
 step_least (pos s) n k l = omega (arith, ints, clamps)
 step_least (negsuc s) n k l = let p = mul-le-mul_left (suc s) l in omega (arith, ints, clamps, p)
 
@@ -25,7 +25,7 @@ negative : (v : ℤ) → v <ℤ pos 0 → is_not_negative v ≡ false
 negative (pos n) h = absurd (omega (arith, ints, h))
 negative (negsuc n) h = refl
 
-not_negative : (v : ℤ) → pos 0 ≤ℤ v → is_not_negative v ≡ true
+pub not_negative : (v : ℤ) → pos 0 ≤ℤ v → is_not_negative v ≡ true
 not_negative (pos n) h = grind (arith, nat_tests)
 not_negative (negsuc n) h = absurd (omega (arith, ints, h))
 
@@ -61,7 +61,7 @@ any_false true true c (inl e) = cc
 any_false true true c (inr (inl e)) = cc
 any_false true true c (inr (inr e)) = e
 
-abbrev Rejects : Edge → ℤ → Type 0
+abbrev pub Rejects : Edge → ℤ → Type 0
 Rejects e s = (s +ℤ highest_of e.column e.row) <ℤ pos 0
 
 pub rejected : (e : Edges) (s t u : ℤ) → Rejects e.first s ⊎ (Rejects e.second t ⊎ Rejects e.third u) → mask_l (each_sample (inside_all e s t u)) ≡ 0

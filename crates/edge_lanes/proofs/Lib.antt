@@ -5,3 +5,4 @@ pub mod Sides
 pub mod Inside
 pub mod Extremes
 pub mod Sharing
+pub mod Subtiles

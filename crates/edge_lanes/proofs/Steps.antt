@@ -1,6 +1,5 @@
 -- An edge's value moves by its steps.
 use Rattle.std.proofs.Common.{◌≡◌, ℕ, ℤ, pos, ◌+◌, ◌*◌, ◌+ℤ◌, ◌-ℤ◌, ◌*ℤ◌, neg_ℤ, arith}
-use Rattle.std.proofs.lemmas.Int.{ints}
 use Rattle.cull_base.proofs.Ring.{diff-neg, diff, diff-add, diff-sub, diff-mul, diff-same, pos_is, over1, over4}
 
 abbrev from_first : ℕ → ℕ → ℤ → ℤ → ℤ → ℤ → ℤ → ℤ

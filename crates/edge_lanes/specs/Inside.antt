@@ -1,10 +1,11 @@
 -- Which samples lie inside the three edges of a piece.
-use Rattle.std.specs.Prelude.{ℕ, ℤ, pos, ◌≡◌, ◌+◌, ◌*◌, ◌/◌, ◌%◌, ◌+ℤ◌, ◌*ℤ◌, List, Bool, ◌&&◌}
+use Rattle.std.specs.Prelude.{ℕ, ℤ, pos, ◌≡◌, ◌+◌, ◌*◌, ◌/◌, ◌%◌, ◌^◌, ◌+ℤ◌, ◌*ℤ◌, List, Bool, ◌&&◌}
+use Rattle.cull_base.specs.Bounds.{Bounded}
 use Rattle.cull_base.specs.Piece.{Point, edge_value, middle, is_top_or_left, each_sample}
 use Rattle.cull_base.specs.declared.triangle.Side.{Side}
 use Rattle.cull_base.specs.declared.place.Sub.{Sub}
 use Rattle.cull_base.specs.declared.place.Tile.{Tile}
-use Rattle.edge_lanes.specs.Lanes.{is_not_negative, bias_of}
+use Rattle.edge_lanes.specs.Lanes.{is_not_negative, bias_of, highest_of, subtile_signs}
 use Rattle.edge_lanes.specs.declared.edge.Edge.{Edge}
 use Rattle.edge_lanes.specs.declared.edges.Edges.{Edges}
 
@@ -37,3 +38,11 @@ inside_all e s t u k = inside_from e.first s k && (inside_from e.second t k && i
 -- subtile j of a tile, of which it has four columns and two rows
 abbrev pub sub_of : Tile → ℕ → Sub
 sub_of tile j = record { column = 4 * tile.column + j % 4; row = 2 * tile.row + j / 4 }
+
+-- bit j is clear where an edge rejects all of subtile j, in a tile that begins with this value
+abbrev pub candidates_of : Edge → ℤ → ℕ
+candidates_of e start = subtile_signs e.column e.row (start +ℤ highest_of e.column e.row)
+
+-- the value of an edge at the first sample of a tile
+abbrev pub StartsAt : Edge → Tile → ℤ → Type 0
+StartsAt e tile v = (v ≡ value_at e (8 * (4 * tile.column)) (4 * (2 * tile.row))) × Bounded (2 ^ 61 + 2 ^ 47) v

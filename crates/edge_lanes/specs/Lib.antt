@@ -1,3 +1,4 @@
 pub mod Lanes
 pub mod Inside
 pub mod Shared
+pub mod Tiles

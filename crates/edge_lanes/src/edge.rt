@@ -4,11 +4,11 @@ ghost use Rattle.std.specs.Int.{int_div_euclid};
 ghost use Rattle.std.specs.Simd.Lanes.{mask_l};
 ghost use Rattle.cull_base.specs.Piece.{IsCoordinate, Point, middle, edge_value, is_top_or_left, each_sample};
 ghost use Rattle.cull_base.specs.Bounds.{Bounded};
-ghost use Rattle.edge_lanes.specs.Lanes.{offsets_of, columns, is_not_negative, bias_of, highest_of, lowest_of, row_of};
+ghost use Rattle.edge_lanes.specs.Lanes.{offsets_of, columns, is_not_negative, bias_of, highest_of, lowest_of, row_of, subtile_step, subtile_steps, subtile_signs};
 
 use crate::arithmetic::{fall, opposite, pixel_step, rise, steps, total};
 use cull_base::arithmetic::{difference, edge_value};
-use cull_base::{Side, Sub};
+use cull_base::{Side, Sub, Tile};
 use std::simd::prelude::*;
 
 /// Below this size a value's sixteenth has 31 bits.
@@ -28,6 +28,8 @@ pub struct Edge {
     // the most and the least that a sample of a subtile adds to its first
     highest: i64,
     lowest: i64,
+    // what each of a tile's eight subtiles adds to the value at the tile's first sample
+    subtiles: [i64; 8],
     ghost start_bounded: { Bounded (2 ^ 61 + 1) start },
     ghost column_bounded: { Bounded (2 ^ 34) column },
     ghost row_bounded: { Bounded (2 ^ 34) row },
@@ -35,6 +37,7 @@ pub struct Edge {
     ghost are_offsets: { offsets ≡ offsets_of sixteenth },
     ghost is_highest: { highest ≡ highest_of column row },
     ghost is_lowest: { lowest ≡ lowest_of column row },
+    ghost are_subtiles: { subtiles ≡ subtile_steps column row },
 }
 
 #[inline(always)]
@@ -86,6 +89,36 @@ fn lowest(column: i64, row: i64) -> i64
     total(fall(column, 7), fall(row, 3))
 }
 
+// What subtile j of a tile adds to the value at the tile's first sample.
+#[inline(always)]
+fn subtile_step(column: i64, row: i64, j: u32) -> i64
+    requires column { Bounded (2 ^ 34) column }
+    requires row { Bounded (2 ^ 34) row }
+    requires j { j < 8 }
+    ensures value { result ≡ subtile_step column row j }
+    ensures bounded { Bounded (2 ^ 46) result }
+{
+    total(steps(row, 4 * (j / 4)), steps(column, 8 * (j % 4)))
+}
+
+#[inline(always)]
+fn subtile_steps(column: i64, row: i64) -> [i64; 8]
+    requires column { Bounded (2 ^ 34) column }
+    requires row { Bounded (2 ^ 34) row }
+    ensures { result ≡ subtile_steps column row }
+{
+    [
+        subtile_step(column, row, 0),
+        subtile_step(column, row, 1),
+        subtile_step(column, row, 2),
+        subtile_step(column, row, 3),
+        subtile_step(column, row, 4),
+        subtile_step(column, row, 5),
+        subtile_step(column, row, 6),
+        subtile_step(column, row, 7),
+    ]
+}
+
 #[inline(always)]
 fn has_narrow_sixteenth(value: i64) -> bool
     ensures { IsTrue result → Bounded (2 ^ 34) value }
@@ -129,6 +162,7 @@ fn from_steps(start: i64, column: i64, row: i64) -> Edge
         offsets: i32x8::splat(sixteenth).strict_mul(i32x8::from_array([0, 1, 2, 3, 4, 5, 6, 7])),
         highest: highest(column, row),
         lowest: lowest(column, row),
+        subtiles: subtile_steps(column, row),
     }
 }
 
@@ -145,7 +179,7 @@ fn shift(start: i64, across: i64, down: i64) -> i64
 
 #[inline(always)]
 fn row_start(start: i64, down: i64) -> i64
-    requires start { Bounded (2 ^ 61 + 2 ^ 47) start }
+    requires start { Bounded (2 ^ 61 + 2 ^ 48) start }
     requires down { Bounded (2 ^ 45) down }
     ensures value { result ≡ start +ℤ down }
     ensures bounded { Bounded (2 ^ 62) result }
@@ -154,7 +188,7 @@ fn row_start(start: i64, down: i64) -> i64
 }
 
 impl Edge {
-    ghost use Rattle.edge_lanes.specs.Inside.{IsEdge, value_at, inside_from};
+    ghost use Rattle.edge_lanes.specs.Inside.{IsEdge, value_at, inside_from, candidates_of};
 
     /// The edge from a to b, in sixteenths of a pixel.
     pub fn of(ax: i32, ay: i32, bx: i32, by: i32, side: Side) -> Edge
@@ -189,19 +223,75 @@ impl Edge {
         )
     }
 
+    /// The value at the first sample of a tile.
+    #[inline(always)]
+    pub fn tile_start(&self, tile: Tile) -> i64
+        requires column { tile.column < 64 }
+        requires row { tile.row < 256 }
+        ensures value { result ≡ value_at self.now (8 * (4 * tile.column)) (4 * (2 * tile.row)) }
+        ensures bounded { Bounded (2 ^ 61 + 2 ^ 47) result }
+    {
+        self.start_at(Sub {
+            column: 4 * tile.column,
+            row: 2 * tile.row,
+        })
+    }
+
+    /// The value at the first sample of subtile j of a tile that begins with this value.
+    #[inline(always)]
+    pub fn subtile_start(&self, start: i64, j: u32) -> i64
+        requires start { Bounded (2 ^ 61 + 2 ^ 47) start }
+        requires j { j < 8 }
+        ensures value { result ≡ start +ℤ subtile_step self.now.column self.now.row j }
+        ensures bounded { Bounded (2 ^ 61 + 2 ^ 48) result }
+    {
+        start + self.subtiles[j as usize]
+    }
+
+    // Bit j is set where this value isn't negative with what subtile j of a tile adds.
+    #[inline(always)]
+    fn subtile_signs(&self, value: i64) -> u64
+        requires { Bounded (2 ^ 61 + 2 ^ 49) value }
+        ensures { result ≡ subtile_signs self.now.column self.now.row value }
+    {
+        i64x8::splat(value)
+            .strict_add(i64x8::from_array(self.subtiles))
+            .simd_ge(i64x8::splat(0))
+            .to_bitmask()
+    }
+
+    // The most that a subtile holds which begins with this value.
+    #[inline(always)]
+    fn with_highest(&self, start: i64) -> i64
+        requires { Bounded (2 ^ 61 + 2 ^ 48) start }
+        ensures value { result ≡ start +ℤ highest_of self.now.column self.now.row }
+        ensures bounded { Bounded (2 ^ 61 + 2 ^ 49) result }
+    {
+        start + self.highest
+    }
+
+    /// The subtiles of a tile that begins with this value: bit j is clear where no sample of subtile j is inside.
+    #[inline(always)]
+    pub fn candidates(&self, start: i64) -> u64
+        requires { Bounded (2 ^ 61 + 2 ^ 47) start }
+        ensures { result ≡ candidates_of self.now start }
+    {
+        self.subtile_signs(self.with_highest(start))
+    }
+
     /// Whether no sample of a subtile that begins with this value is inside.
     #[inline(always)]
     pub fn rejects_all(&self, start: i64) -> bool
-        requires { Bounded (2 ^ 61 + 2 ^ 47) start }
+        requires { Bounded (2 ^ 61 + 2 ^ 48) start }
         ensures { IsTrue result ↔ ((start +ℤ highest_of self.now.column self.now.row) <ℤ pos 0) }
     {
-        start + self.highest < 0
+        self.with_highest(start) < 0
     }
 
     /// Whether each sample of such a subtile is inside.
     #[inline(always)]
     fn accepts_all(&self, start: i64) -> bool
-        requires { Bounded (2 ^ 61 + 2 ^ 47) start }
+        requires { Bounded (2 ^ 61 + 2 ^ 48) start }
         ensures { IsTrue result ↔ (pos 0 ≤ℤ (start +ℤ lowest_of self.now.column self.now.row)) }
     {
         start + self.lowest >= 0
@@ -249,7 +339,7 @@ impl Edge {
     // The same for a row of a subtile that begins with this value.
     #[inline(always)]
     fn row_of(&self, start: i64, row: u32) -> u64
-        requires start { Bounded (2 ^ 61 + 2 ^ 47) start }
+        requires start { Bounded (2 ^ 61 + 2 ^ 48) start }
         requires row { row < 4 }
         ensures value { result ≡ row_of (inside_from self.now start) row }
         ensures byte { result < 2 ^ 8 }
@@ -260,7 +350,7 @@ impl Edge {
     // The mask of a subtile that begins with this value, row by row.
     #[inline(always)]
     fn rows(&self, start: i64) -> u32
-        requires { Bounded (2 ^ 61 + 2 ^ 47) start }
+        requires { Bounded (2 ^ 61 + 2 ^ 48) start }
         ensures { result ≡ mask_l (each_sample (inside_from self.now start)) }
     {
         let upper = self.row_of(start, 0) + self.row_of(start, 1) * 256;
@@ -271,7 +361,7 @@ impl Edge {
     /// The samples of a subtile that are inside this edge, where the subtile begins with this value.
     #[inline(always)]
     pub fn mask(&self, start: i64) -> u32
-        requires { Bounded (2 ^ 61 + 2 ^ 47) start }
+        requires { Bounded (2 ^ 61 + 2 ^ 48) start }
         ensures { result ≡ mask_l (each_sample (inside_from self.now start)) }
     {
         if self.accepts_all(start) {

@@ -15,9 +15,9 @@ use std::array;
 /// The edges of a piece, for the samples that it covers as an occluder or touches as an object.
 #[derive(Clone, Copy)]
 pub struct Edges {
-    first: Edge,
-    second: Edge,
-    third: Edge,
+    pub(crate) first: Edge,
+    pub(crate) second: Edge,
+    pub(crate) third: Edge,
 }
 
 // The edge from one vertex of a piece to another.
@@ -49,9 +49,9 @@ impl Edges {
     // Whether an edge rejects each sample of a subtile that begins with these values.
     #[inline(always)]
     fn rejects_all(&self, first: i64, second: i64, third: i64) -> bool
-        requires first { Bounded (2 ^ 61 + 2 ^ 47) first }
-        requires second { Bounded (2 ^ 61 + 2 ^ 47) second }
-        requires third { Bounded (2 ^ 61 + 2 ^ 47) third }
+        requires first { Bounded (2 ^ 61 + 2 ^ 48) first }
+        requires second { Bounded (2 ^ 61 + 2 ^ 48) second }
+        requires third { Bounded (2 ^ 61 + 2 ^ 48) third }
         ensures { IsTrue result → mask_l (each_sample (inside_all self.now first second third)) ≡ 0 }
     {
         self.first.rejects_all(first)
@@ -78,21 +78,6 @@ impl Edges {
         }
     }
 
-    // The mask of subtile j of a tile.
-    #[inline(always)]
-    fn mask_of(&self, tile: Tile, j: u16) -> u32
-        requires column { tile.column < 64 }
-        requires row { tile.row < 256 }
-        requires j { j < 8 }
-        ensures value { result ≡ mask_l (inside_of self.now (sub_of tile j)) }
-        ensures samples { samples_of result ≡ inside_of self.now (sub_of tile j) }
-    {
-        self.mask(Sub {
-            column: 4 * tile.column + j % 4,
-            row: 2 * tile.row + j / 4,
-        })
-    }
-
     /// The masks of a tile's subtiles, of which it has four columns and two rows. Condition: the tile lies within
     /// 2048 by 2048 pixels.
     pub fn tile_masks(&self, tile: Tile) -> [u32; 8]
@@ -101,6 +86,7 @@ impl Edges {
         ensures value { (j : ℕ) → j < 8 → slice_index result j ≡ mask_l (inside_of self.now (sub_of tile j)) }
         ensures samples { (j : ℕ) → j < 8 → samples_of (slice_index result j) ≡ inside_of self.now (sub_of tile j) }
     {
-        array::from_fn(|j| self.mask_of(tile, j as u16))
+        let edges = self.at_tile(tile);
+        array::from_fn(|j| edges.mask(j as u32))
     }
 }

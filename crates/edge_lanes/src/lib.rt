@@ -7,6 +7,8 @@ mod edges;
 mod shared;
 #[cfg(test)]
 mod tests;
+mod tile_edges;
 
 pub use edges::Edges;
 pub use shared::shared_edge;
+pub use tile_edges::TileEdges;

@@ -123,6 +123,31 @@ fn a_tile_inside_is_whole_and_one_beside_is_empty(rt: HostRuntime) {
     );
 }
 
+// A piece of twelve pixels each way: its samples are those left of its right edge and at or right of the diagonal.
+#[test]
+fn a_tile_has_the_subtiles_that_no_edge_rejects(rt: HostRuntime) {
+    let edges = edges_at(&rt, [0, 192, 192], [0, 0, 192], Side::Occluder);
+    let upper = edges.at_tile(Tile { column: 0, row: 0 });
+    assert_eq!(rt; upper.candidates(), 0x33);
+    assert_eq!(rt; upper.mask(0), 0xF8FC_FEFF);
+    assert_eq!(rt; upper.mask(1), 0x0F0F_0F0F);
+    assert_eq!(rt; upper.mask(2), 0);
+    assert_eq!(rt; upper.mask(4), 0x80C0_E0F0);
+    assert_eq!(rt; upper.mask(5), 0x0F0F_0F0F);
+    let beside = edges.at_tile(Tile { column: 1, row: 0 });
+    assert_eq!(rt; beside.candidates(), 0);
+}
+
+// Below the diagonal's end and right of the right edge no edge rejects a subtile whole, but no sample is inside.
+#[test]
+fn a_candidate_may_be_empty(rt: HostRuntime) {
+    let edges = edges_at(&rt, [0, 192, 192], [0, 0, 192], Side::Occluder);
+    let lower = edges.at_tile(Tile { column: 0, row: 1 });
+    assert_eq!(rt; lower.candidates(), 0x22);
+    assert_eq!(rt; lower.mask(1), 0x080C_0E0F);
+    assert_eq!(rt; lower.mask(5), 0);
+}
+
 // A diagonal of steps too wide for 32 bits: its first piece has the samples where x is at least y, its second the others.
 #[test]
 fn a_wide_diagonal_crosses_a_subtile(rt: HostRuntime) {

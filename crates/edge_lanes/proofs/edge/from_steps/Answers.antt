@@ -28,4 +28,5 @@ invariant_of-result c =
       are_offsets = simp to_z-of_z;
       is_highest = let e = simp to_z-of_z at c.highest.ensures in simp to_z-of_z e;
       is_lowest = let e = simp to_z-of_z at c.lowest.ensures in simp to_z-of_z e;
+      are_subtiles = let e = simp to_z-of_z at c.subtile_steps.ensures in simp to_z-of_z e;
     }
