@@ -2,7 +2,7 @@
 use Rattle.std.specs.Prelude.{ℕ, pos, ◌≡◌, ◌+◌, ◌*◌, ◌<◌, ◌≤◌, Bool, true, List, map, cond, slice_index_or}
 use Rattle.std.specs.List.{range_with_len}
 use Rattle.cull_base.specs.Screen.{Dimensions, is_on_screen}
-use Rattle.cull_base.specs.Piece.{Piece}
+use Rattle.cull_base.specs.Piece.{Piece, covered}
 use Rattle.cull_base.specs.Rectangle.{meets}
 use Rattle.cull_base.specs.declared.rect.Rect.{Rect}
 use Rattle.cull_base.specs.declared.place.Sub.{Sub}
@@ -10,6 +10,8 @@ use Rattle.cull_base.specs.declared.place.Tile.{Tile}
 use Rattle.cull_base.specs.State.{State, empty_state}
 use Rattle.cull_base.specs.Fold.{step}
 use Rattle.edge_lanes.specs.Inside.{sub_of}
+use Rattle.edge_lanes.specs.Tiles.{inside_at}
+use Rattle.edge_lanes.specs.declared.tile_edges.TileEdges.{TileEdges}
 use Rattle.masked_update.specs.Grid.{ChangedWhere, is_in_rows}
 use Rattle.masked_update.specs.declared.sub_span.SubSpan.{SubSpan}
 
@@ -26,6 +28,10 @@ merged_at size place x subs j =
 
 unfoldable pub merged_by : Dimensions → Tile → Piece → List State → List State
 merged_by size place x subs = map (merged_at size place x subs) (range_with_len 0 8)
+
+-- the edges over a tile are the piece's
+abbrev pub AreEdgesOf : TileEdges → Tile → Piece → Type 0
+AreEdgesOf edges place x = (j : ℕ) → inside_at edges j ≡ covered x (sub_of place j)
 
 -- the piece is merged into the subtiles of a tile where the test holds, and the others stay
 abbrev pub MergedWhere : (ℕ → Bool) → Tile → Piece → List State → List State → Type 0

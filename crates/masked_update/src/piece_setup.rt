@@ -4,14 +4,16 @@ ghost use Rattle.cull_base.specs.Fold.{step};
 ghost use Rattle.cull_base.specs.Piece.{IsPiece, box_of};
 ghost use Rattle.cull_base.specs.Depth.{greatest_nearness};
 ghost use Rattle.cull_base.specs.Screen.{tile_columns_of, tile_rows_of};
+ghost use Rattle.edge_lanes.specs.Inside.{sub_of};
+ghost use Rattle.edge_lanes.specs.Tiles.{inside_at, AreCandidates};
 ghost use Rattle.masked_update.specs.Grid.{is_in_row};
-ghost use Rattle.masked_update.specs.Merged.{MergedWhere, merged_by};
+ghost use Rattle.masked_update.specs.Merged.{AreEdgesOf, MergedWhere, merged_by};
 
 use crate::sub_span::SubSpan;
 use crate::sub_tile::SubTile;
 use cull_base::{Rect, ScreenTri, Side, Size, Sub, Tile};
 use depth_plane::Plane;
-use edge_lanes::Edges;
+use edge_lanes::{Edges, TileEdges};
 use std::marker::Model;
 
 /// A piece with what each tile asks of it: its edges, its plane, its box and its greatest nearness.
@@ -75,16 +77,24 @@ impl PieceSetup {
         self.nearest
     }
 
-    // Nothing is asked where the piece is no nearer than the reference.
+    // Merges the piece into subtile j of a tile. Nothing is asked where an edge rejects the whole subtile, or where the
+    // piece is no nearer than the reference.
     #[inline(always)]
-    fn merge(&self, sub_tile: &mut SubTile, sub: Sub)
-        requires column { sub.column < 256 }
-        requires row { sub.row < 512 }
-        ensures { sub_tile.new ≡ step sub sub_tile.old self.now }
+    fn merge(&self, sub_tile: &mut SubTile, edges: &TileEdges, candidates: u32, place: Tile, j: u16)
+        requires column { place.column < 64 }
+        requires row { place.row < 256 }
+        requires j { j < 8 }
+        requires edges { AreEdgesOf edges.now place self.now }
+        requires candidates { AreCandidates (inside_at edges.now) candidates }
+        ensures { sub_tile.new ≡ step (sub_of place j) sub_tile.old self.now }
     {
-        if sub_tile.reference() < self.nearest {
-            let mask = self.edges.mask(sub);
+        if (candidates >> j) & 1 == 1 && sub_tile.reference() < self.nearest {
+            let mask = edges.mask(u32::from(j));
             if mask != 0 {
+                let sub = Sub {
+                    column: 4 * place.column + j % 4,
+                    row: 2 * place.row + j / 4,
+                };
                 sub_tile.merge(self.plane.low(&self.tri, sub), mask);
             }
         }
@@ -92,22 +102,29 @@ impl PieceSetup {
 
     // Merges the piece into the subtiles of one row of a tile, in the columns of a span.
     #[inline(always)]
-    fn merge_in_row(&self, subs: &mut [SubTile; 8], place: Tile, span: SubSpan, row: u16)
+    fn merge_in_row(
+        &self,
+        subs: &mut [SubTile; 8],
+        edges: &TileEdges,
+        candidates: u32,
+        place: Tile,
+        span: SubSpan,
+        row: u16,
+    )
         requires column { place.column < 64 }
         requires row { place.row < 256 }
         requires span { span.first_column ≤ span.end_column }
         requires within { span.end_column ≤ 4 }
         requires sub_row { row < 2 }
+        requires edges { AreEdgesOf edges.now place self.now }
+        requires candidates { AreCandidates (inside_at edges.now) candidates }
         ensures merged { MergedWhere (is_in_row 4 row span.first_column span.end_column)
             place self.now subs.old subs.new }
         ensures eight { length subs.new ≡ 8 }
     {
         for column in span.first_column..span.end_column {
-            let sub = Sub {
-                column: 4 * place.column + column,
-                row: 2 * place.row + row,
-            };
-            self.merge(&mut subs[(row * 4 + column) as usize], sub);
+            let j = row * 4 + column;
+            self.merge(&mut subs[j as usize], edges, candidates, place, j);
         }
     }
 
@@ -119,8 +136,10 @@ impl PieceSetup {
         ensures { subs.new ≡ merged_by size place self.now subs.old }
     {
         let span = SubSpan::of(&self.reached, size, place);
+        let edges = self.edges.at_tile(place);
+        let candidates = edges.candidates();
         for row in span.first_row..span.end_row {
-            self.merge_in_row(subs, place, span, row);
+            self.merge_in_row(subs, &edges, candidates, place, span, row);
         }
     }
 }
