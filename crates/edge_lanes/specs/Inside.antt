@@ -43,6 +43,6 @@ sub_of tile j = record { column = 4 * tile.column + j % 4; row = 2 * tile.row + 
 abbrev pub candidates_of : Edge → ℤ → ℕ
 candidates_of e start = subtile_signs e.column e.row (start +ℤ highest_of e.column e.row)
 
--- the value of an edge at the first sample of a tile
+-- an edge has this value at the first sample of a tile, and it is within 62 bits
 abbrev pub StartsAt : Edge → Tile → ℤ → Type 0
 StartsAt e tile v = (v ≡ value_at e (8 * (4 * tile.column)) (4 * (2 * tile.row))) × Bounded (2 ^ 61 + 2 ^ 47) v

@@ -58,7 +58,7 @@ impl TileEdges<'_> {
         (first & second & third) as u32
     }
 
-    /// The samples of subtile j that lie inside: bit 8r + c is column c of row r.
+    /// The samples of subtile j that lie inside: bit 8r + c is column c of row r. Condition: j is below 8.
     #[inline(always)]
     pub fn mask(&self, j: u32) -> u32
         requires { j < 8 }
