@@ -33,8 +33,8 @@ in_tile size tile j k valid hj hk on =
     down r h j k hj hk e lt = (omega arith, omega arith)
 
 -- a piece whose box shares no pixel with a rectangle covers no sample there
-uncovered : (t : Piece) (r : Rect) (u : Sub) (k : ℕ) → IsPiece t → meets (box_of t) r ≡ false → HasPixel r (pos (8 * u.column + k % 8)) (pos (4 * u.row + k / 8)) → covers t (sample u k) ≡ false
-uncovered t r u k piece off within =
+not_covered : (t : Piece) (r : Rect) (u : Sub) (k : ℕ) → IsPiece t → meets (box_of t) r ≡ false → HasPixel r (pos (8 * u.column + k % 8)) (pos (4 * u.row + k / 8)) → covers t (sample u k) ≡ false
+not_covered t r u k piece off within =
     let x = 8 * u.column + k % 8 in
     let y = 4 * u.row + k / 8 in
     false_from_ne_true _ (λ c. both_ways (meets (box_of t) r) off ((meets_pixel (box_of t) r).1 (pos x, pos y, covers-in_box t x y piece c, within)))
@@ -45,11 +45,11 @@ pub step_outside : (size : Dimensions) (tile j : ℕ) (s : State) (t : Piece) �
 step_outside size tile j s t valid piece off hj on =
     let u = tile_sub size tile j in
     step_unless_covered u s t
-    (λ k below c. absurd (both_ways (covers t (sample u k)) (uncovered t (tile_rect_of size tile) u k piece off (in_tile size tile j k valid hj below on)) c))
+    (λ k below c. absurd (both_ways (covers t (sample u k)) (not_covered t (tile_rect_of size tile) u k piece off (in_tile size tile j k valid hj below on)) c))
 
 -- a piece whose box has no pixel in a subtile changes nothing there
 pub step_apart : (u : Sub) (s : State) (t : Piece) → IsPiece t → meets (box_of t) (sub_rect_of u) ≡ false → step u s t ≡ s
-step_apart u s t piece off = step_unless_covered u s t (λ k below c. absurd (both_ways (covers t (sample u k)) (uncovered t (sub_rect_of u) u k piece off (in_sub k below)) c))
+step_apart u s t piece off = step_unless_covered u s t (λ k below c. absurd (both_ways (covers t (sample u k)) (not_covered t (sub_rect_of u) u k piece off (in_sub k below)) c))
   where
     in_sub : (k : ℕ) → k < 32 → HasPixel (sub_rect_of u) (pos (8 * u.column + k % 8)) (pos (4 * u.row + k / 8))
     in_sub k h = (omega (arith, ints), omega (arith, ints), omega (arith, ints), omega (arith, ints))

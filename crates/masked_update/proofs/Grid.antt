@@ -26,8 +26,8 @@ grows_elsewhere first n k ne = both_ways _ _ (λ h. grind (arith, nat_tests)) (�
 pub before : (first n k : ℕ) → k ≡ n → is_between first n k ≡ false
 before first n k e = grind (arith, nat_tests)
 
-pub joined : (first n k : ℕ) → first ≤ n → k ≡ n → is_between first (n + 1) k ≡ true
-joined first n k le e = grind (arith, nat_tests)
+pub last_between : (first n k : ℕ) → first ≤ n → k ≡ n → is_between first (n + 1) k ≡ true
+last_between first n k le e = grind (arith, nat_tests)
 
 -- the place stands in its row, in the columns of a span
 pub here : (columns row first end column : ℕ) → column < columns → first ≤ column → column < end → is_in_row columns row first end (row * columns + column) ≡ true
@@ -48,7 +48,7 @@ module _ {A : Type 0} (none : A) (f : ℕ → A → A) where
           | inl here ↦
               let e : t ≡ row * columns + column = sym (div-add-mod' t columns) ∙ ap (λ n. n * columns + t % columns) on.1 ∙ ap (λ n. row * columns + n) here.1 in
               let was : slice_index_or now t none ≡ slice_index_or old t none = inv t in_count ∙ ap (λ b. cond b (f t (slice_index_or old t none)) (slice_index_or old t none)) (ap (λ b. b && is_between first column (t % columns)) on.0 ∙ before first column (t % columns) here.1) in
-              let now_on : is_in_row columns row first (column + 1) t ≡ true = ap (λ b. b && is_between first (column + 1) (t % columns)) on.0 ∙ joined first column (t % columns) le here.1 in
+              let now_on : is_in_row columns row first (column + 1) t ≡ true = ap (λ b. b && is_between first (column + 1) (t % columns)) on.0 ∙ last_between first column (t % columns) le here.1 in
               get_or-set_at now (row * columns + column) t new none e inside ∙ is ∙ ap (λ n. f n (slice_index_or now n none)) (sym e) ∙ ap (f t) was ∙ sym (ap (λ b. cond b (f t (slice_index_or old t none)) (slice_index_or old t none)) now_on)
         ]
       ]
@@ -72,7 +72,7 @@ module _ {A : Type 0} (none : A) (f : ℕ → A → A) where
         | inl on ↦
             let off_now = ap (λ b. b && across t) (before first row (t / columns) on.1) in
             let was : slice_index_or now t none ≡ slice_index_or old t none = inv t lt ∙ ap (λ b. cond b (f t (slice_index_or old t none)) (slice_index_or old t none)) off_now in
-            let test = ap (λ b. b && across t) on.0 ∙ sym (ap (λ b. b && across t) (joined first row (t / columns) le on.1)) in
+            let test = ap (λ b. b && across t) on.0 ∙ sym (ap (λ b. b && across t) (last_between first row (t / columns) le on.1)) in
             step t lt ∙ ap (λ s. cond (nat_eq (t / columns) row && across t) (f t s) s) was ∙ ap (λ b. cond b (f t (slice_index_or old t none)) (slice_index_or old t none)) test
         | inr off ↦
             let stays : slice_index_or new t none ≡ slice_index_or now t none = step t lt ∙ ap (λ b. cond b (f t (slice_index_or now t none)) (slice_index_or now t none)) (ap (λ b. b && across t) off.0) in

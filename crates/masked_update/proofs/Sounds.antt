@@ -43,10 +43,10 @@ module _ (Old New : ℕ → ℕ → Type 0) (down : (k v w : ℕ) → w ≤ v �
   at_working : (s : State) (k w : ℕ) → k < 32 → Reached Old s → has s.samples k ≡ true → w ≤ s.working → (w ≡ 0) ⊎ New k w
   at_working s k w lt sound e le = let b = bound-in s k e in lower k (bound_at s k) w (omega (arith, b, le)) (sound.reached k lt)
 
-  -- the working layer after a step, at a sample of the joined set
-  joined : (s : State) (t k : ℕ) (ks : List Bool) (x : Bool) → k < 32 → Reached Old s → (ks ≡ s.samples) ⊎ (ks ≡ no_samples) → (x ≡ true → New k t)
+  -- the working layer after a step, at a sample of the joined_layer set
+  joined_layer : (s : State) (t k : ℕ) (ks : List Bool) (x : Bool) → k < 32 → Reached Old s → (ks ≡ s.samples) ⊎ (ks ≡ no_samples) → (x ≡ true → New k t)
       → (has ks k || x) ≡ true → (lowered_depth s t ks ≡ 0) ⊎ New k (lowered_depth s t ks)
-  joined s t k ks x lt sound which new e = elim (or_cases (has ks k) x e) [
+  joined_layer s t k ks x lt sound which new e = elim (or_cases (has ks k) x e) [
     | inr on ↦ inr (down k t (lowered_depth s t ks) (lowered_le s t ks) (new on))
     | inl on ↦ elim which [
       | inl same ↦ let on' : has s.samples k ≡ true = rw (← same) on in at_working s k (lowered_depth s t ks) lt sound on' (lowered_le_working s t ks (some-has ks k on))
@@ -54,12 +54,12 @@ module _ (Old New : ℕ → ℕ → Type 0) (down : (k v w : ℕ) → w ≤ v �
     ]
   ]
 
-  unchanged : (s : State) → Reached Old s → Reached New s
-  unchanged s sound = record { whole = sound.whole; layered = sound.layered; reached = λ k lt. lower k (bound_at s k) (bound_at s k) (omega arith) (sound.reached k lt) }
+  stays_reached : (s : State) → Reached Old s → Reached New s
+  stays_reached s sound = record { whole = sound.whole; layered = sound.layered; reached = λ k lt. lower k (bound_at s k) (bound_at s k) (omega arith) (sound.reached k lt) }
 
-  filled : (s : State) (t : ℕ) (c : List Bool) → length c ≡ 32 → ((k : ℕ) → k < 32 → has c k ≡ true → New k t) → Reached Old s → is_all (union (samples_left s t) c) ≡ true
+  filled_layer : (s : State) (t : ℕ) (c : List Bool) → length c ≡ 32 → ((k : ℕ) → k < 32 → has c k ≡ true → New k t) → Reached Old s → is_all (union (samples_left s t) c) ≡ true
       → Reached New (record { reference = lowered_depth s t (samples_left s t); working = 0; samples = no_samples })
-  filled s t c len new sound all =
+  filled_layer s t c len new sound all =
       let kl = length-left s t sound.whole in
       let ul = length-union (samples_left s t) c (omega arith) in
       record {
@@ -69,12 +69,12 @@ module _ (Old New : ℕ → ℕ → Type 0) (down : (k v w : ℕ) → w ≤ v �
             let out = has-no_samples k in
             let u = has-all (union (samples_left s t) c) k all (omega arith) in
             let e = has-union (samples_left s t) c k (omega arith) in
-            rw out (joined s t k (samples_left s t) (has c k) lt sound (left_which s t) (new k lt) (sym e ∙ u));
+            rw out (joined_layer s t k (samples_left s t) (has c k) lt sound (left_which s t) (new k lt) (sym e ∙ u));
       }
 
-  grown : (s : State) (t : ℕ) (c : List Bool) → length c ≡ 32 → ((k : ℕ) → k < 32 → has c k ≡ true → New k t) → Reached Old s → is_none c ≡ false → s.reference < t
+  grown_layer : (s : State) (t : ℕ) (c : List Bool) → length c ≡ 32 → ((k : ℕ) → k < 32 → has c k ≡ true → New k t) → Reached Old s → is_none c ≡ false → s.reference < t
       → Reached New (record { reference = s.reference; working = lowered_depth s t (samples_left s t); samples = union (samples_left s t) c })
-  grown s t c len new sound some above =
+  grown_layer s t c len new sound some above =
       let kl = length-left s t sound.whole in
       let ul = length-union (samples_left s t) c (omega arith) in
       record {
@@ -98,7 +98,7 @@ module _ (Old New : ℕ → ℕ → Type 0) (down : (k v w : ℕ) → w ≤ v �
       at k lt true e x ex =
           let kl = length-left s t sound.whole in
           let d = has-union (samples_left s t) c k (omega arith) in
-          rw e (joined s t k (samples_left s t) (has c k) lt sound (left_which s t) (new k lt) (sym d ∙ e))
+          rw e (joined_layer s t k (samples_left s t) (has c k) lt sound (left_which s t) (new k lt) (sym d ∙ e))
       at k lt false e false ex = let b = bound-out s k ex in rw e (lower k (bound_at s k) s.reference (omega (arith, b)) (sound.reached k lt))
       at k lt false e true ex = let o = sound.layered.above (some-has s.samples k ex) in rw e (at_working s k s.reference lt sound ex (omega arith))
 
@@ -108,9 +108,9 @@ module _ (Old New : ℕ → ℕ → Type 0) (down : (k v w : ℕ) → w ≤ v �
     where
       by : (x : Bool) → (is_none c || nat_le t s.reference) ≡ x → (y : Bool) → is_all (union (samples_left s t) c) ≡ y
           → Reached New (cond (is_none c || nat_le t s.reference) s (raised_if_full s.reference (lowered_depth s t (samples_left s t)) (union (samples_left s t) c)))
-      by true e y f = rw e (unchanged s sound)
-      by false e true f = rw (e, f) (filled s t c len new sound f)
-      by false e false f = let p = or_parts (is_none c) (nat_le t s.reference) e in rw (e, f) (grown s t c len new sound p.0 (leb-false t s.reference p.1))
+      by true e y f = rw e (stays_reached s sound)
+      by false e true f = rw (e, f) (filled_layer s t c len new sound f)
+      by false e false f = let p = or_parts (is_none c) (nat_le t s.reference) e in rw (e, f) (grown_layer s t c len new sound p.0 (leb-false t s.reference p.1))
 
 pub empty_reached : (Reaches : ℕ → ℕ → Type 0) → Reached Reaches (record { reference = 0; working = 0; samples = no_samples })
 empty_reached Reaches = record {

@@ -9,15 +9,15 @@ use Rattle.cull_base.specs.Span.{is_between}
 use Rattle.cull_base.specs.declared.place.Tile.{Tile}
 use Rattle.masked_update.specs.Grid.{ChangedWhere, is_in_row, is_in_rows}
 use Rattle.masked_update.specs.TileOf.{TileOf, tile_at, no_tile}
-use Rattle.masked_update.specs.Taken.{taken_by, counted, merged_into}
+use Rattle.masked_update.specs.Taken.{taken_by, counted_tile, merged_tile}
 use Rattle.masked_update.specs.Least.{AreBehind}
 use Rattle.masked_update.specs.Drawn.{CountedWhere, MergedTiles, TookWhere}
 use Rattle.masked_update.proofs.Merging.{merged_behind}
 use Rattle.masked_update.proofs.Grid.{place, number_below, row_more, before, here, grows_elsewhere}
 
 -- the place that the loops know is the tile's
-pub placed : (size : Dimensions) (row column : ℕ) → column < tile_columns_of size → tile_place size (row * tile_columns_of size + column) ≡ record { column = column; row = row }
-placed size row column lt =
+pub place_of_number : (size : Dimensions) (row column : ℕ) → column < tile_columns_of size → tile_place size (row * tile_columns_of size + column) ≡ record { column = column; row = row }
+place_of_number size row column lt =
     let at = place row (tile_columns_of size) column lt in
     ap (λ k. tile_with k ((row * tile_columns_of size + column) / tile_columns_of size)) at.1 ∙ ap (tile_with column) at.0
   where
@@ -89,9 +89,9 @@ held_in_rows size Holds first row from end all one t lt on = elim (cases_eq (t /
 -- tiles that counted a piece and then had it merged took it
 pub counted_merged : (test : ℕ → Bool) (size : Dimensions) (x : Piece) (old now new : List TileOf) → CountedWhere test size old now → MergedTiles test size x now new → TookWhere test size x old new
 counted_merged test size x old now new c m t lt =
-    m t lt ∙ ap (λ s. cond (test t) (merged_into size (tile_place size t) x s) s) (c t lt) ∙ taken (test t) (tile_at old t)
+    m t lt ∙ ap (λ s. cond (test t) (merged_tile size (tile_place size t) x s) s) (c t lt) ∙ taken (test t) (tile_at old t)
   where
-    taken : (b : Bool) (s : TileOf) → let n = cond b (counted s) s in cond b (merged_into size (tile_place size t) x n) n ≡ cond b (taken_by size t x s) s
+    taken : (b : Bool) (s : TileOf) → let n = cond b (counted_tile s) s in cond b (merged_tile size (tile_place size t) x n) n ≡ cond b (taken_by size t x s) s
     taken true s = refl
     taken false s = refl
 
@@ -102,8 +102,8 @@ counted_behind test size x old new piece behind c t lt = c t lt ∙ taken (test 
     s : TileOf
     s = tile_at old t
 
-    taken : (b : Bool) → test t ≡ b → cond (test t) (counted s) s ≡ cond (test t) (taken_by size t x s) s
-    taken true e = ap (λ n. cond (test t) (counted n) s) (sym (merged_behind size (tile_place size t) x s piece (behind t lt e)))
+    taken : (b : Bool) → test t ≡ b → cond (test t) (counted_tile s) s ≡ cond (test t) (taken_by size t x s) s
+    taken true e = ap (λ n. cond (test t) (counted_tile n) s) (sym (merged_behind size (tile_place size t) x s piece (behind t lt e)))
     taken false e = rw e refl
 
 pub took_same : (test same : ℕ → Bool) (size : Dimensions) (x : Piece) (old new : List TileOf) → ((t : ℕ) → t < tile_count_of size → test t ≡ same t) → TookWhere test size x old new → TookWhere same size x old new

@@ -8,7 +8,7 @@ use Rattle.cull_base.specs.Fold.{after, IsSound, IsLayered}
 use Rattle.cull_base.specs.declared.place.Sub.{Sub}
 use Rattle.cull_base.specs.declared.tile_span.TileSpan.{TileSpan}
 use Rattle.masked_update.specs.TileOf.{TileOf, sub_at, tile_at, no_tile}
-use Rattle.masked_update.specs.Taken.{taken_by, counted, merged_into}
+use Rattle.masked_update.specs.Taken.{taken_by, counted_tile, merged_tile}
 use Rattle.masked_update.specs.Grid.{ChangedWhere, is_in_row}
 
 -- the tile stands in the row, in the columns of the span
@@ -23,13 +23,13 @@ is_tile_in size span t = has_tile span (tile_place size t)
 abbrev pub MayTake : (ℕ → Bool) → Dimensions → List TileOf → Type 0
 MayTake test size tiles = (t : ℕ) → t < tile_count_of size → test t ≡ true → (tile_at tiles t).count < 131072
 
--- each tile where the test holds counted a piece, had it merged, took it; and the others stay
+-- Each tile where the test holds counted a piece, had one merged, or took one; the others stay.
 abbrev pub CountedWhere : (ℕ → Bool) → Dimensions → List TileOf → List TileOf → Type 0
-CountedWhere test size old new = ChangedWhere no_tile (tile_count_of size) test (λ t s. counted s) old new
+CountedWhere test size old new = ChangedWhere no_tile (tile_count_of size) test (λ t s. counted_tile s) old new
 
 abbrev pub MergedTiles : (ℕ → Bool) → Dimensions → Piece → List TileOf → List TileOf → Type 0
 MergedTiles test size x old new =
-    ChangedWhere no_tile (tile_count_of size) test (λ t s. merged_into size (tile_place size t) x s) old new
+    ChangedWhere no_tile (tile_count_of size) test (λ t s. merged_tile size (tile_place size t) x s) old new
 
 abbrev pub TookWhere : (ℕ → Bool) → Dimensions → Piece → List TileOf → List TileOf → Type 0
 TookWhere test size x old new = ChangedWhere no_tile (tile_count_of size) test (λ t s. taken_by size t x s) old new

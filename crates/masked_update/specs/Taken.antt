@@ -8,16 +8,16 @@ use Rattle.masked_update.specs.TileOf.{TileOf}
 use Rattle.masked_update.specs.Merged.{merged_by}
 
 -- one piece more is counted, and the subtiles stay
-abbrev pub counted : TileOf → TileOf
-counted t = record { subs = t.subs; count = t.count + 1 }
+abbrev pub counted_tile : TileOf → TileOf
+counted_tile t = record { subs = t.subs; count = t.count + 1 }
 
 -- the piece is merged into the subtiles of the tile at a place that are on the screen, and the count stays
-abbrev pub merged_into : Dimensions → Tile → Piece → TileOf → TileOf
-merged_into size place x t = record { subs = merged_by size place x t.subs; count = t.count }
+abbrev pub merged_tile : Dimensions → Tile → Piece → TileOf → TileOf
+merged_tile size place x t = record { subs = merged_by size place x t.subs; count = t.count }
 
 -- the piece is merged and counted
 abbrev pub taken_at : Dimensions → Tile → Piece → TileOf → TileOf
-taken_at size place x t = counted (merged_into size place x t)
+taken_at size place x t = counted_tile (merged_tile size place x t)
 
 abbrev pub taken_by : Dimensions → ℕ → Piece → TileOf → TileOf
 taken_by size tile x t = taken_at size (tile_place size tile) x t

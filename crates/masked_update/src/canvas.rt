@@ -2,7 +2,7 @@
 ghost use Rattle.std.specs.Prelude.{◌≡◌, ◌<◌, true, length, replicate, slice_set, IfOk};
 ghost use Rattle.cull_base.specs.Screen.{tile_columns_of, tile_rows_of};
 ghost use Rattle.masked_update.specs.Least.{IsBehind};
-ghost use Rattle.masked_update.specs.Taken.{counted, merged_into};
+ghost use Rattle.masked_update.specs.Taken.{counted_tile, merged_tile};
 ghost use Rattle.masked_update.specs.TileOf.{tile_at, empty_tile};
 
 use crate::piece_setup::PieceSetup;
@@ -56,7 +56,7 @@ impl Canvas {
     pub fn count(&mut self, tile: u32, nearest: u32) -> bool
         requires tile { tile < length self.old }
         requires count { (tile_at self.old tile).count < 131072 }
-        ensures counted { self.new ≡ slice_set self.old tile (counted (tile_at self.old tile)) }
+        ensures counted { self.new ≡ slice_set self.old tile (counted_tile (tile_at self.old tile)) }
         ensures behind { result ≡ true → IsBehind nearest (tile_at self.old tile) }
     {
         let behind = self.is_behind(tile, nearest);
@@ -70,7 +70,7 @@ impl Canvas {
         requires tile { tile < length self.old }
         requires column { place.column < tile_columns_of size }
         requires row { place.row < tile_rows_of size }
-        ensures { self.new ≡ slice_set self.old tile (merged_into size place piece.now (tile_at self.old tile)) }
+        ensures { self.new ≡ slice_set self.old tile (merged_tile size place piece.now (tile_at self.old tile)) }
     {
         if !self.is_behind(tile, piece.nearest()) {
             self.tiles[tile as usize].merge(piece, size, place);

@@ -27,7 +27,7 @@ impl Model for TileState {
 
 impl TileState {
     ghost use Rattle.masked_update.specs.TileOf.{sub_at, empty_tile};
-    ghost use Rattle.masked_update.specs.Taken.{taken_by, taken_at, merged_into, counted};
+    ghost use Rattle.masked_update.specs.Taken.{taken_by, taken_at, merged_tile, counted_tile};
 
     /// Eight empty subtiles, and no piece taken.
     pub fn empty() -> TileState
@@ -100,7 +100,7 @@ impl TileState {
     pub(crate) fn merge(&mut self, piece: &PieceSetup, size: Size, place: Tile)
         requires column { place.column < tile_columns_of size }
         requires row { place.row < tile_rows_of size }
-        ensures { self.new ≡ merged_into size place piece.now self.old }
+        ensures { self.new ≡ merged_tile size place piece.now self.old }
     {
         piece.merge_into(&mut self.subs, size, place);
     }
@@ -108,7 +108,7 @@ impl TileState {
     /// Counts a piece, and doesn't merge it.
     pub(crate) fn count_piece(&mut self)
         requires { self.old.count < 131072 }
-        ensures { self.new ≡ counted self.old }
+        ensures { self.new ≡ counted_tile self.old }
     {
         self.count += 1;
     }

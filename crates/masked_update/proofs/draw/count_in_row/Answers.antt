@@ -4,7 +4,7 @@ use Rattle.std.proofs.lemmas.List.{length-set}
 use Rattle.cull_base.specs.Screen.{tile_columns_of}
 use Rattle.masked_update.specs.Grid.{is_in_row}
 use Rattle.masked_update.specs.TileOf.{TileOf, tile_at}
-use Rattle.masked_update.specs.Taken.{counted}
+use Rattle.masked_update.specs.Taken.{counted_tile}
 use Rattle.masked_update.specs.Drawn.{CountedWhere}
 use Rattle.masked_update.specs.Least.{IsBehind, AreBehind}
 use Rattle.masked_update.proofs.Tiles.{inside, one_in_row, still_in_row, next_in_row, held_in_row}
@@ -19,7 +19,7 @@ count-behind-requires-clause-count c =
     let old = c.args.canvas.now in
     let span = c.args.span in
     let lt : c.loop-column.column < tile_columns_of c.args.size = omega (arith, c.loop-column-test.true, c.requires.span.columns_within) in
-    let still = still_in_row c.args.size (λ t s. counted s) c.args.row span.first_column c.loop-column.column c.tile_columns.result old c.loop-column.canvas c.tile_columns.ensures.value lt c.requires.row c.loop-column.invariant.counted in
+    let still = still_in_row c.args.size (λ t s. counted_tile s) c.args.row span.first_column c.loop-column.column c.tile_columns.result old c.loop-column.canvas c.tile_columns.ensures.value lt c.requires.row c.loop-column.invariant.counted in
     subst (λ (t : TileOf). t.count < 131072) (sym still)
     (one_in_row c.args.size (λ t. (tile_at old t).count < 131072) c.args.row span.first_column span.end_column c.loop-column.column c.tile_columns.result c.tile_columns.ensures.value c.loop-column.auto.column c.loop-column-test.true lt c.requires.row c.requires.counts)
 
@@ -33,9 +33,9 @@ loop-column-preserved c =
     let is = c.tile_columns.ensures.value in
     let inv = c.loop-column.invariant in
     let lt : column < tile_columns_of size = omega (arith, c.loop-column-test.true, c.requires.span.columns_within) in
-    let still = still_in_row size (λ t s. counted s) c.args.row first column c.tile_columns.result old now is lt c.requires.row inv.counted in
+    let still = still_in_row size (λ t s. counted_tile s) c.args.row first column c.tile_columns.result old now is lt c.requires.row inv.counted in
     record {
-      counted = next_in_row size (λ t s. counted s) c.args.row first column c.tile_columns.result old now c.count-behind.new.self is c.loop-column.auto.column lt c.requires.row inv.tiles inv.counted c.count-behind.ensures.counted;
+      counted = next_in_row size (λ t s. counted_tile s) c.args.row first column c.tile_columns.result old now c.count-behind.new.self is c.loop-column.auto.column lt c.requires.row inv.tiles inv.counted c.count-behind.ensures.counted;
       behind = λ e.
           let p = and_parts _ _ e in
           held_in_row size (λ t. IsBehind c.args.nearest (tile_at old t)) c.args.row first column c.tile_columns.result is (inv.behind p.0) (subst (λ (t : TileOf). IsBehind c.args.nearest t) still (c.count-behind.ensures.behind p.1));
