@@ -12,7 +12,7 @@ use Rattle.cull_base.specs.declared.place.Tile.{Tile}
 use Rattle.edge_lanes.specs.Inside.{sub_of}
 use Rattle.masked_update.specs.TileOf.{TileOf}
 use Rattle.masked_update.specs.Taken.{merged_tile}
-use Rattle.masked_update.specs.Least.{IsBehind}
+use Rattle.masked_update.specs.Least.{NoneBelow}
 use Rattle.masked_update.proofs.Unchanged.{step_behind}
 use Rattle.masked_update.specs.Merged.{merged_at, merged_by, MergedWhere}
 
@@ -39,7 +39,7 @@ merged_all test size place x old now eight merged on stays = eight_of (merged_at
     same j h false e false f = rw (e, f)
 
 -- a tile whose references are all at least as near as the piece stays as it is
-pub merged_behind : (size : Dimensions) (place : Tile) (x : Piece) (t : TileOf) → IsPiece x → IsBehind (greatest_nearness x) t → merged_tile size place x t ≡ t
+pub merged_behind : (size : Dimensions) (place : Tile) (x : Piece) (t : TileOf) → IsPiece x → NoneBelow (greatest_nearness x) t → merged_tile size place x t ≡ t
 unfolding merged_by
 merged_behind size place x t piece b = ap (λ subs. tile_with subs t.count) (sym (eight_of (merged_at size place x t.subs) t.subs b.eight (λ j h. stays (is_on_screen size (sub_of place j)) j h)))
   where

@@ -10,7 +10,7 @@ use Rattle.cull_base.specs.declared.place.Tile.{Tile}
 use Rattle.masked_update.specs.Grid.{ChangedWhere, is_in_row, is_in_rows}
 use Rattle.masked_update.specs.TileOf.{TileOf, tile_at, no_tile}
 use Rattle.masked_update.specs.Taken.{taken_by, counted_tile, merged_tile}
-use Rattle.masked_update.specs.Least.{AreBehind}
+use Rattle.masked_update.specs.Least.{NoneBelowIn}
 use Rattle.masked_update.specs.Drawn.{CountedWhere, MergedTiles, TookWhere}
 use Rattle.masked_update.proofs.Merging.{merged_behind}
 use Rattle.masked_update.proofs.Grid.{place, number_below, row_more, before, here, grows_elsewhere}
@@ -96,7 +96,7 @@ counted_merged test size x old now new c m t lt =
     taken false s = refl
 
 -- tiles that only counted a piece took it, where it stands behind them
-pub counted_behind : (test : ℕ → Bool) (size : Dimensions) (x : Piece) (old new : List TileOf) → IsPiece x → AreBehind (greatest_nearness x) test size old → CountedWhere test size old new → TookWhere test size x old new
+pub counted_behind : (test : ℕ → Bool) (size : Dimensions) (x : Piece) (old new : List TileOf) → IsPiece x → NoneBelowIn (greatest_nearness x) test size old → CountedWhere test size old new → TookWhere test size x old new
 counted_behind test size x old new piece behind c t lt = c t lt ∙ taken (test t) refl
   where
     s : TileOf

@@ -4,13 +4,13 @@ use Rattle.cull_base.specs.Screen.{Dimensions, tile_count_of}
 use Rattle.masked_update.specs.TileOf.{TileOf, sub_at, tile_at}
 
 -- no reference of the tile is below the nearness, so a piece that is nowhere nearer changes no subtile
-pub record IsBehind (nearest : ℕ) (t : TileOf) : Type 0 where
+pub record NoneBelow (nearest : ℕ) (t : TileOf) : Type 0 where
   pub eight : length t.subs ≡ 8
   pub behind : (j : ℕ) → j < 8 → nearest ≤ (sub_at t j).reference
 
 -- so it is in each tile where the test holds
-abbrev pub AreBehind : ℕ → (ℕ → Bool) → Dimensions → List TileOf → Type 0
-AreBehind nearest test size tiles = (t : ℕ) → t < tile_count_of size → test t ≡ true → IsBehind nearest (tile_at tiles t)
+abbrev pub NoneBelowIn : ℕ → (ℕ → Bool) → Dimensions → List TileOf → Type 0
+NoneBelowIn nearest test size tiles = (t : ℕ) → t < tile_count_of size → test t ≡ true → NoneBelow nearest (tile_at tiles t)
 
 -- each number of the table is at most each reference of its tile
 pub record IsLeast (tiles : List TileOf) (table : List ℕ) : Type 0 where

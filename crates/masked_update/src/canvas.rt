@@ -1,7 +1,7 @@
 //! Tiles that are drawn into, with a table that tells where a piece changes nothing.
 ghost use Rattle.std.specs.Prelude.{◌≡◌, ◌<◌, true, length, replicate, slice_set, IfOk};
 ghost use Rattle.cull_base.specs.Screen.{tile_columns_of, tile_rows_of};
-ghost use Rattle.masked_update.specs.Least.{IsBehind};
+ghost use Rattle.masked_update.specs.Least.{NoneBelow};
 ghost use Rattle.masked_update.specs.Taken.{counted_tile, merged_tile};
 ghost use Rattle.masked_update.specs.TileOf.{tile_at, empty_tile};
 
@@ -43,9 +43,9 @@ impl Canvas {
     // Whether no reference of a tile is below a nearness, by the table. A piece that is nowhere nearer changes none of
     // the tile's subtiles.
     #[inline(always)]
-    fn is_behind(&self, tile: u32, nearest: u32) -> bool
+    fn has_none_below(&self, tile: u32, nearest: u32) -> bool
         requires { tile < length self.now }
-        ensures { result ≡ true → IsBehind nearest (tile_at self.now tile) }
+        ensures { result ≡ true → NoneBelow nearest (tile_at self.now tile) }
     {
         let _first = self.tiles[tile as usize].sub(0);
         nearest <= self.least[tile as usize]
@@ -57,9 +57,9 @@ impl Canvas {
         requires tile { tile < length self.old }
         requires count { (tile_at self.old tile).count < 131072 }
         ensures counted { self.new ≡ slice_set self.old tile (counted_tile (tile_at self.old tile)) }
-        ensures behind { result ≡ true → IsBehind nearest (tile_at self.old tile) }
+        ensures behind { result ≡ true → NoneBelow nearest (tile_at self.old tile) }
     {
-        let behind = self.is_behind(tile, nearest);
+        let behind = self.has_none_below(tile, nearest);
         self.tiles[tile as usize].count_piece();
         behind
     }
@@ -72,7 +72,7 @@ impl Canvas {
         requires row { place.row < tile_rows_of size }
         ensures { self.new ≡ slice_set self.old tile (merged_tile size place piece.now (tile_at self.old tile)) }
     {
-        if !self.is_behind(tile, piece.nearest()) {
+        if !self.has_none_below(tile, piece.nearest()) {
             self.tiles[tile as usize].merge(piece, size, place);
             self.least[tile as usize] = self.tiles[tile as usize].least_reference();
         }

@@ -6,7 +6,7 @@ ghost use Rattle.cull_base.specs.Screen.{IsSize, tile_rows_of, tile_count_of, ti
 ghost use Rattle.cull_base.specs.Span.{IsSpan};
 ghost use Rattle.cull_base.specs.Tiles.{ArePieces};
 ghost use Rattle.masked_update.specs.Drawn.{AreDrawn, MayTake, CountedWhere, MergedTiles, TookWhere, is_tile_in, is_tile_in_row};
-ghost use Rattle.masked_update.specs.Least.{AreBehind};
+ghost use Rattle.masked_update.specs.Least.{NoneBelowIn};
 ghost use Rattle.masked_update.specs.TileOf.{tile_at, empty_tile};
 
 use crate::canvas::Canvas;
@@ -22,7 +22,7 @@ fn count_in_row(canvas: &mut Canvas, size: Size, span: TileSpan, row: u32, neare
     requires row { row < tile_rows_of size }
     requires counts { MayTake (is_tile_in_row size span row) size canvas.old }
     ensures counted { CountedWhere (is_tile_in_row size span row) size canvas.old canvas.new }
-    ensures behind { result ≡ true → AreBehind nearest (is_tile_in_row size span row) size canvas.old }
+    ensures behind { result ≡ true → NoneBelowIn nearest (is_tile_in_row size span row) size canvas.old }
     ensures tiles { length canvas.new ≡ tile_count_of size }
 {
     let first = row * size.tile_columns();
@@ -39,7 +39,7 @@ fn count_in_span(canvas: &mut Canvas, size: Size, span: TileSpan, nearest: u32) 
     requires span { IsSpan size span }
     requires counts { MayTake (is_tile_in size span) size canvas.old }
     ensures counted { CountedWhere (is_tile_in size span) size canvas.old canvas.new }
-    ensures behind { result ≡ true → AreBehind nearest (is_tile_in size span) size canvas.old }
+    ensures behind { result ≡ true → NoneBelowIn nearest (is_tile_in size span) size canvas.old }
     ensures tiles { length canvas.new ≡ tile_count_of size }
 {
     let mut behind = true;

@@ -6,7 +6,7 @@ use Rattle.masked_update.specs.Grid.{is_in_row}
 use Rattle.masked_update.specs.TileOf.{TileOf, tile_at}
 use Rattle.masked_update.specs.Taken.{counted_tile}
 use Rattle.masked_update.specs.Drawn.{CountedWhere}
-use Rattle.masked_update.specs.Least.{IsBehind, AreBehind}
+use Rattle.masked_update.specs.Least.{NoneBelow, NoneBelowIn}
 use Rattle.masked_update.proofs.Tiles.{inside, one_in_row, still_in_row, next_in_row, held_in_row}
 use Rattle.masked_update.proofs.draw.count_in_row.Goals as goal
 
@@ -38,7 +38,7 @@ loop-column-preserved c =
       counted = next_in_row size (λ t s. counted_tile s) c.args.row first column c.tile_columns.result old now c.count-behind.new.self is c.loop-column.auto.column lt c.requires.row inv.tiles inv.counted c.count-behind.ensures.counted;
       behind = λ e.
           let p = and_parts _ _ e in
-          held_in_row size (λ t. IsBehind c.args.nearest (tile_at old t)) c.args.row first column c.tile_columns.result is (inv.behind p.0) (subst (λ (t : TileOf). IsBehind c.args.nearest t) still (c.count-behind.ensures.behind p.1));
+          held_in_row size (λ t. NoneBelow c.args.nearest (tile_at old t)) c.args.row first column c.tile_columns.result is (inv.behind p.0) (subst (λ (t : TileOf). NoneBelow c.args.nearest t) still (c.count-behind.ensures.behind p.1));
       tiles = ap length c.count-behind.ensures.counted ∙ length-set now _ _ ∙ inv.tiles;
     }
 
@@ -48,6 +48,6 @@ returns c =
     let test : ℕ → ℕ → Bool = λ n. is_in_row (tile_columns_of c.args.size) c.args.row c.args.span.first_column n in
     record {
       counted = subst (λ n. CountedWhere (test n) c.args.size c.args.canvas.now c.loop-column.canvas) end c.loop-column.invariant.counted;
-      behind = λ e. subst (λ n. AreBehind c.args.nearest (test n) c.args.size c.args.canvas.now) end (c.loop-column.invariant.behind e);
+      behind = λ e. subst (λ n. NoneBelowIn c.args.nearest (test n) c.args.size c.args.canvas.now) end (c.loop-column.invariant.behind e);
       tiles = c.loop-column.invariant.tiles;
     }

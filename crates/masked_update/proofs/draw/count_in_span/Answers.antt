@@ -6,7 +6,7 @@ use Rattle.masked_update.specs.Grid.{is_in_rows}
 use Rattle.masked_update.specs.TileOf.{TileOf, tile_at, no_tile}
 use Rattle.masked_update.specs.Taken.{counted_tile}
 use Rattle.masked_update.specs.Drawn.{CountedWhere}
-use Rattle.masked_update.specs.Least.{IsBehind, AreBehind}
+use Rattle.masked_update.specs.Least.{NoneBelow, NoneBelowIn}
 use Rattle.masked_update.proofs.Grid.{rows_more}
 use Rattle.masked_update.proofs.Tiles.{still_in_rows, held_in_rows, is_in_rows_of}
 use Rattle.masked_update.proofs.draw.count_in_span.Goals as goal
@@ -31,8 +31,8 @@ loop-row-preserved c =
           c.loop-row.auto.row inv.counted c.count_in_row-behind.ensures.counted;
       behind = λ e.
           let p = and_parts _ _ e in
-          held_in_rows size (λ t. IsBehind c.args.nearest (tile_at old t)) span.first_row row span.first_column span.end_column (inv.behind p.0)
-          (λ t lt on. subst (λ (s : TileOf). IsBehind c.args.nearest s) (still_in_rows size (λ t s. counted_tile s) span.first_row row span.first_column span.end_column t old now inv.counted lt on)
+          held_in_rows size (λ t. NoneBelow c.args.nearest (tile_at old t)) span.first_row row span.first_column span.end_column (inv.behind p.0)
+          (λ t lt on. subst (λ (s : TileOf). NoneBelow c.args.nearest s) (still_in_rows size (λ t s. counted_tile s) span.first_row row span.first_column span.end_column t old now inv.counted lt on)
           (c.count_in_row-behind.ensures.behind p.1 t lt on));
       tiles = c.count_in_row-behind.ensures.tiles;
     }
@@ -44,6 +44,6 @@ returns c =
     let test : ℕ → ℕ → Bool = λ n. is_in_rows (tile_columns_of c.args.size) span.first_row n span.first_column span.end_column in
     record {
       counted = subst (λ n. CountedWhere (test n) c.args.size c.args.canvas.now c.loop-row.canvas) end c.loop-row.invariant.counted;
-      behind = λ e. subst (λ n. AreBehind c.args.nearest (test n) c.args.size c.args.canvas.now) end (c.loop-row.invariant.behind e);
+      behind = λ e. subst (λ n. NoneBelowIn c.args.nearest (test n) c.args.size c.args.canvas.now) end (c.loop-row.invariant.behind e);
       tiles = c.loop-row.invariant.tiles;
     }

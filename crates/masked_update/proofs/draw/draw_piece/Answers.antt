@@ -4,7 +4,7 @@ use Rattle.cull_base.specs.Rectangle.{meets}
 use Rattle.cull_base.specs.Screen.{tile_rect_of}
 use Rattle.cull_base.specs.declared.rect.Rect.{Rect}
 use Rattle.masked_update.specs.Drawn.{MergedTiles, is_tile_in}
-use Rattle.masked_update.specs.Least.{AreBehind}
+use Rattle.masked_update.specs.Least.{NoneBelowIn}
 use Rattle.masked_update.proofs.Tiles.{counted_merged, counted_behind, took_same}
 use Rattle.masked_update.proofs.draw.draw_piece.Goals as goal
 
@@ -22,6 +22,6 @@ returns-else-not-count_in_span-clause-taken c =
     let size = c.args.size in
     let x = c.args.tri.now in
     let test = is_tile_in size c.of-span.result in
-    let behind = subst (λ q. AreBehind q test size c.args.canvas.now) c.greatest_nearness.ensures.value (c.count_in_span.ensures.behind c.if-not-count_in_span.false) in
+    let behind = subst (λ q. NoneBelowIn q test size c.args.canvas.now) c.greatest_nearness.ensures.value (c.count_in_span.ensures.behind c.if-not-count_in_span.false) in
     took_same test (λ t. meets (box_of x) (tile_rect_of size t)) size x c.args.canvas.now c.count_in_span.new.canvas (λ t lt. c.of-span.ensures.tiles t lt ∙ ap (λ (r : Rect). meets r (tile_rect_of size t)) c.boxed.ensures)
     (counted_behind test size x c.args.canvas.now c.count_in_span.new.canvas c.greatest_nearness.ensures.valid behind c.count_in_span.ensures.counted)
