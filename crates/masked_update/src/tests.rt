@@ -76,6 +76,28 @@ fn two_halves_of_a_quad_fill_each_reference(rt: HostRuntime) -> Result<(), Fail>
     Ok(())
 }
 
+// A piece that reaches to the limits of coordinates, two halves of four pixels by four, and one of middle size.
+#[test]
+fn pieces_of_every_size_meet_in_one_tile(rt: HostRuntime) -> Result<(), Fail> {
+    let size = Size::new(32, 8).ok_or("a size")?;
+    let mut list = FrameList::with_room(rt.alloc(), size, 4)?;
+    let (low, high) = (-0x1000_0000, 0x1FFF_FFFF);
+    list.push(ScreenTri::new([low, high, low], [low, low, high], [1000; 3]).ok_or("a piece")?);
+    list.push(ScreenTri::new([0, 64, 64], [0, 0, 64], [2000; 3]).ok_or("a piece")?);
+    list.push(ScreenTri::new([0, 64, 0], [0, 64, 64], [2000; 3]).ok_or("a piece")?);
+    let drawn = draw_plain(rt.alloc(), &list)?[0];
+    assert_eq!(rt; layers(&drawn.sub(0)), (1000, 2000, 0x0F0F_0F0F));
+    assert_eq!(rt; layers(&drawn.sub(7)), (1000, 0, 0));
+    let (low, high) = (-0x10_0000, 0x20_0000);
+    list.push(ScreenTri::new([low, high, low], [low, low, high], [1500; 3]).ok_or("a piece")?);
+    let drawn = draw_plain(rt.alloc(), &list)?[0];
+    assert_eq!(rt; drawn.count(), 4);
+    for j in 0..8 {
+        assert_eq!(rt; layers(&drawn.sub(j)), (1500, 0, 0), "subtile {j}");
+    }
+    Ok(())
+}
+
 #[test]
 fn subtiles_off_the_screen_stay_empty(rt: HostRuntime) -> Result<(), Fail> {
     let size = Size::new(8, 4).ok_or("a size")?;
