@@ -385,8 +385,9 @@ fn a_scene_that_cannot_be_drawn_yet_is_not_built(rt: HostRuntime) -> Result<(), 
     let mut two_frames = changed(alloc, &[(14, 2)])?;
     two_frames.extend_from_slice(&FIRST[129..])?;
     assert_not_built(&rt, alloc, two_frames)?;
-    let one_triangle = changed(alloc, &[(24, 1)])?;
-    let mut object_triangles = Vec::from_slice(alloc, &one_triangle[..104])?;
+    let mut object_triangles = Vec::from_slice(alloc, &FIRST[..24])?;
+    object_triangles.extend_from_slice(&[1])?;
+    object_triangles.extend_from_slice(&FIRST[25..104])?;
     object_triangles.extend_from_slice(&[0; 12])?;
     object_triangles.extend_from_slice(&FIRST[104..])?;
     assert_not_built(&rt, alloc, object_triangles)
