@@ -1,17 +1,16 @@
 -- A verdict asks only for the states of subtiles on the screen.
-use Rattle.std.proofs.Common.{◌≡◌, ℕ, ◌<◌, Bool, true, false, ◌||◌, not, cond, refl, sym, ap, List, [], ◌∷◌, map}
+use Rattle.std.proofs.Common.{◌≡◌, ℕ, ◌<◌, Bool, true, ◌||◌, not, cond, refl, sym, ap, List, [], ◌∷◌, map}
 use Rattle.std.specs.Cmp.{both_ways}
 use Rattle.std.specs.List.{list_all}
 use Rattle.cull_base.specs.declared.place.Sub.{Sub}
 use Rattle.cull_base.specs.declared.scene_types.Object.{Object}
-use Rattle.cull_base.specs.declared.scene_types.Verdict.{Verdict}
 use Rattle.cull_base.specs.declared.scene_types.Verdict.TheVariants.{Visible, Occluded}
 use Rattle.cull_base.specs.Screen.{Dimensions}
 use Rattle.cull_base.specs.Piece.{middle, touches}
 use Rattle.cull_base.specs.Depth.{high_of}
 use Rattle.cull_base.specs.State.{State, hides}
 use Rattle.scene_reader.specs.Layout.{Parts}
-use Rattle.cull_report.specs.Pixels.{sub_of_pixel, sample_of_pixel, at_each_pixel, at_some_pixel}
+use Rattle.cull_report.specs.Pixels.{sub_of_pixel, sample_of_pixel, at_each_pixel}
 use Rattle.cull_report.specs.Shape.{Shape, AlwaysOutside, AlwaysVisible, Flat, Pieces, has_sample, is_hidden_at, is_hidden, verdict_of}
 use Rattle.cull_report.specs.Scene.{size_of, object_shape, object_verdict}
 use Rattle.cull_report.proofs.Hiding.{each_to, each_from}

@@ -1,5 +1,5 @@
 -- The pixels of the screen that a rectangle has.
-use Rattle.std.proofs.Common.{◌≡◌, ℕ, ℤ, pos, ◌+◌, ◌*◌, ◌/◌, ◌%◌, ◌≤◌, ◌<◌, ◌≤ℤ◌, ◌<ℤ◌, Bool, true, false, ◌&&◌, cond, arith, refl, ap, ◌∙◌, int_lt, int_le}
+use Rattle.std.proofs.Common.{◌≡◌, ℕ, ℤ, pos, ◌+◌, ◌*◌, ◌/◌, ◌%◌, ◌≤◌, ◌<◌, ◌≤ℤ◌, ◌<ℤ◌, Bool, true, ◌&&◌, cond, arith, refl, ap, ◌∙◌, int_lt, int_le}
 use Rattle.std.specs.Int.{int_min, int_max, div_ceil}
 use Rattle.std.proofs.lemmas.Bool.{and_parts}
 use Rattle.std.proofs.lemmas.Int.{ints}
@@ -11,8 +11,7 @@ use Rattle.cull_base.specs.declared.rect.Rect.{Rect}
 use Rattle.cull_base.specs.Screen.{Dimensions, IsSize, screen_of, tile_columns_of, tile_rows_of, tile_rect_of}
 use Rattle.cull_base.specs.Rectangle.{HasPixel, meets, cut_of, common, no_pixels}
 use Rattle.cull_report.specs.declared.area.Area.{Area}
-use Rattle.cull_report.specs.Area.{IsIn, IsAreaOf, HoldsMet, HoldsArea}
-use Rattle.cull_report.specs.Pixels.{has_pixel}
+use Rattle.cull_report.specs.Area.{IsAreaOf, HoldsMet, HoldsArea}
 
 -- one axis: from the greater first to before the lesser end
 pub record Axis (a0 a1 : ℤ) (w m n : ℕ) : Type 0 where

@@ -1,5 +1,5 @@
 -- What it means that an object is hidden.
-use Rattle.std.proofs.Common.{◌≡◌, ℕ, ℤ, pos, negsuc, zero, suc, ◌+◌, ◌≤◌, ◌<◌, ◌≤ℤ◌, ◌<ℤ◌, Bool, true, false, ◌&&◌, ◌||◌, not, cond, arith, refl, sym, ap, ◌∙◌, int_lt, inl, inr, IsTrue}
+use Rattle.std.proofs.Common.{◌≡◌, ℕ, ℤ, pos, zero, suc, ◌+◌, ◌≤◌, ◌<◌, ◌<ℤ◌, Bool, true, false, ◌||◌, not, cond, arith, refl, sym, ap, ◌∙◌, int_lt, inl, inr, IsTrue}
 use Rattle.std.specs.List.{list_all, list_any, range_with_len}
 use Rattle.std.specs.Cmp.{both_ways}
 use Rattle.std.proofs.lemmas.Bool.{cases_lt, and_parts}
@@ -12,7 +12,7 @@ use Rattle.cull_base.specs.Rectangle.{meets}
 use Rattle.cull_base.specs.State.{State, hides}
 use Rattle.cull_report.specs.declared.area.Area.{Area}
 use Rattle.cull_report.specs.Area.{IsIn, IsAreaOf}
-use Rattle.cull_report.specs.Pixels.{sub_of_pixel, sample_of_pixel, at_each_pixel, at_some_pixel, has_pixel}
+use Rattle.cull_report.specs.Pixels.{sub_of_pixel, sample_of_pixel, at_each_pixel, at_some_pixel}
 use Rattle.cull_report.specs.Shapes.{rectangle_shape}
 use Rattle.cull_report.specs.Shape.{Shape, Flat, flat_shape, has_sample, is_hidden_at, is_hidden, verdict_of}
 

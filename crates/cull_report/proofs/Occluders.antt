@@ -1,7 +1,7 @@
 -- An occluded object has a piece strictly nearer at each of its samples.
-use Rattle.std.proofs.Common.{◌≡◌, ℕ, ℤ, pos, negsuc, zero, suc, ◌+◌, ◌*◌, ◌/◌, ◌%◌, ◌≤◌, ◌<◌, ◌*ℤ◌, ◌≤ℤ◌, ◌<ℤ◌, Bool, ◌&&◌, true, false, cond, arith, refl, List, [], ◌∷◌, map, length, int_lt, inl, inr, Some, nat_lt, sym, ap, ◌∙◌, subst}
+use Rattle.std.proofs.Common.{◌≡◌, ℕ, ℤ, pos, negsuc, zero, suc, ◌+◌, ◌*◌, ◌/◌, ◌%◌, ◌≤◌, ◌<◌, ◌*ℤ◌, ◌≤ℤ◌, ◌<ℤ◌, Bool, ◌&&◌, true, false, cond, arith, refl, List, [], ◌∷◌, map, length, int_lt, inl, inr, Some, nat_lt, subst}
 use Rattle.std.specs.Prelude.{slice_get}
-use Rattle.std.specs.List.{All, Contains}
+use Rattle.std.specs.List.{All}
 use Rattle.std.proofs.lemmas.Bool.{and_parts}
 use Rattle.std.proofs.lemmas.Bool.Decides.{nat_tests}
 use Rattle.std.proofs.lemmas.Int.{ints}
@@ -13,12 +13,12 @@ use Rattle.cull_base.specs.declared.place.Sub.{Sub}
 use Rattle.cull_base.specs.declared.scene_types.Object.{Object}
 use Rattle.cull_base.specs.declared.scene_types.Object.TheVariants.{Area, Block, Mesh}
 use Rattle.cull_base.specs.declared.scene_types.Verdict.{Verdict}
-use Rattle.cull_base.specs.declared.scene_types.Verdict.TheVariants.{Visible, Occluded, Outside}
+use Rattle.cull_base.specs.declared.scene_types.Verdict.TheVariants.{Visible, Occluded}
 use Rattle.cull_base.specs.Screen.{Dimensions, screen_of}
 use Rattle.cull_base.specs.Rectangle.{meets}
-use Rattle.cull_base.specs.Piece.{Piece, Point, IsPiece, middle, sample, covers}
+use Rattle.cull_base.specs.Piece.{Piece, Point, middle, sample}
 use Rattle.cull_base.specs.Depth.{numerator, denominator}
-use Rattle.cull_base.specs.Fraction.{IsBelow, whole_number, depth_at}
+use Rattle.cull_base.specs.Fraction.{whole_number}
 use Rattle.cull_base.specs.State.{State, bound_at, hides}
 use Rattle.cull_base.specs.Fold.{after, IsSound}
 use Rattle.cull_base.specs.Tiles.{ArePieces}

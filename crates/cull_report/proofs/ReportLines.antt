@@ -1,7 +1,7 @@
 -- The lines of verdicts, one after the other.
-use Rattle.std.proofs.Common.{◌≡◌, ℕ, suc, ◌+◌, ◌<◌, List, [], ◌∷◌, ◌++◌, length, take, drop, arith, sym, ap, ◌∙◌, append_assoc, get_or}
-use Rattle.std.proofs.Math.Seq.{drop-cons}
-use Rattle.std.proofs.lemmas.List.{append-nil, take_more, length-take, take-append-drop}
+use Rattle.std.proofs.Common.{◌≡◌, ℕ, ◌+◌, ◌-◌, ◌<◌, ◌≤◌, min, List, [], ◌∷◌, ◌++◌, length, take, drop, arith, sym, ap, ◌∙◌, append_assoc, get_or}
+use Rattle.std.proofs.Math.Seq.{take-add}
+use Rattle.std.proofs.lemmas.List.{take_min, append-nil, take_more, length-take, take-append-drop}
 use Rattle.cull_base.specs.declared.scene_types.Verdict.{Verdict}
 use Rattle.cull_report.specs.Text.{verdict_line, verdict_lines}
 
@@ -12,25 +12,32 @@ verdict_lines-append object (x ∷ xs) ys =
     let k : (object + 1) + length xs ≡ object + length (x ∷ xs) = omega arith in
     ap (λ t. verdict_line object x ++ t) (e ∙ ap (λ n. verdict_lines (object + 1) xs ++ verdict_lines n ys) k) ∙ sym (append_assoc (verdict_line object x) (verdict_lines (object + 1) xs) (verdict_lines (object + length (x ∷ xs)) ys))
 
--- the lines so far and the next one
-pub verdict_lines-push : (xs : List Verdict) (k : ℕ) (d : Verdict) → k < length xs → verdict_lines 0 (take (k + 1) xs) ≡ verdict_lines 0 (take k xs) ++ verdict_line k (get_or xs k d)
-verdict_lines-push xs k d lt =
+-- the lines so far and the next one, numbered from a first
+pub verdict_lines-push : (first : ℕ) (xs : List Verdict) (k : ℕ) (d : Verdict) → k < length xs → verdict_lines first (take (k + 1) xs) ≡ verdict_lines first (take k xs) ++ verdict_line (first + k) (get_or xs k d)
+verdict_lines-push first xs k d lt =
     let x = get_or xs k d in
-    let n : 0 + length (take k xs) ≡ k = omega (arith, length-take k xs) in
-    ap (verdict_lines 0) (take_more xs k d lt) ∙ verdict_lines-append 0 (take k xs) (x ∷ [])
-    ∙ ap (λ (m : ℕ). verdict_lines 0 (take k xs) ++ verdict_lines m (x ∷ [])) n ∙ ap (λ (t : List ℕ). verdict_lines 0 (take k xs) ++ t) (append-nil (verdict_line k x))
+    let n : first + length (take k xs) ≡ first + k = omega (arith, length-take k xs) in
+    ap (verdict_lines first) (take_more xs k d lt) ∙ verdict_lines-append first (take k xs) (x ∷ [])
+    ∙ ap (λ (m : ℕ). verdict_lines first (take k xs) ++ verdict_lines m (x ∷ [])) n ∙ ap (λ (t : List ℕ). verdict_lines first (take k xs) ++ t) (append-nil (verdict_line (first + k) x))
 
--- all lines: those so far and the next one, and the others
-pub verdict_lines-split : (xs : List Verdict) (k : ℕ) → verdict_lines 0 xs ≡ verdict_lines 0 (take k xs) ++ verdict_lines (0 + length (take k xs)) (drop k xs)
-verdict_lines-split xs k = ap (verdict_lines 0) (sym (take-append-drop k xs)) ∙ verdict_lines-append 0 (take k xs) (drop k xs)
+-- the lines so far and those of the next verdicts
+pub verdict_lines-batch : (xs : List Verdict) (k n : ℕ) → k ≤ length xs → verdict_lines 0 (take (k + n) xs) ≡ verdict_lines 0 (take k xs) ++ verdict_lines k (take n (drop k xs))
+verdict_lines-batch xs k n le =
+    let m : 0 + length (take k xs) ≡ k = omega (arith, length-take k xs) in
+    ap (verdict_lines 0) (take-add k n xs) ∙ verdict_lines-append 0 (take k xs) (take n (drop k xs)) ∙ ap (λ (i : ℕ). verdict_lines 0 (take k xs) ++ verdict_lines i (take n (drop k xs))) m
 
--- all lines: those so far, the next one and the others
-pub verdict_lines-next : (xs : List Verdict) (k : ℕ) (d : Verdict) → k < length xs
-    → verdict_lines 0 xs ≡ verdict_lines 0 (take k xs) ++ (verdict_line k (get_or xs k d) ++ verdict_lines (k + 1) (drop (k + 1) xs))
-verdict_lines-next xs k d lt =
-    let n : 0 + length (take k xs) ≡ k = omega (arith, length-take k xs) in
-    let one : suc k ≡ k + 1 = omega arith in
-    let rest : drop k xs ≡ get_or xs k d ∷ drop (k + 1) xs = drop-cons xs k d lt ∙ ap (λ (m : ℕ). get_or xs k d ∷ drop m xs) one in
-    verdict_lines-split xs k
-    ∙ ap (λ (m : ℕ). verdict_lines 0 (take k xs) ++ verdict_lines m (drop k xs)) n
-    ∙ ap (λ (vs : List Verdict). verdict_lines 0 (take k xs) ++ verdict_lines k vs) {x = drop k xs} rest
+-- all lines: those so far, those of the next verdicts and the others
+pub verdict_lines-batches : (xs : List Verdict) (k n : ℕ) → k ≤ length xs → (others : List ℕ) × (verdict_lines 0 xs ≡ verdict_lines 0 (take k xs) ++ (verdict_lines k (take n (drop k xs)) ++ others))
+verdict_lines-batches xs k n le =
+    let rest = drop (k + n) xs in
+    let i = 0 + length (take (k + n) xs) in (
+      verdict_lines i rest,
+      ap (verdict_lines 0) (sym (take-append-drop (k + n) xs)) ∙ verdict_lines-append 0 (take (k + n) xs) rest ∙ ap (λ (t : List ℕ). t ++ verdict_lines i rest) (verdict_lines-batch xs k n le)
+          ∙ append_assoc (verdict_lines 0 (take k xs)) (verdict_lines k (take n (drop k xs))) (verdict_lines i rest),
+    )
+
+-- a whole batch, or what is left
+pub taken_batch : (xs : List Verdict) (k m : ℕ) → k ≤ length xs → m ≡ min 128 (length xs - k) → take (k + 128) xs ≡ take (k + m) xs
+taken_batch xs k m le is =
+    let one : min (k + 128) (length xs) ≡ min (k + m) (length xs) = omega (arith, is, le) in
+    sym (take_min (k + 128) xs) ∙ ap (λ n. take n xs) one ∙ take_min (k + m) xs

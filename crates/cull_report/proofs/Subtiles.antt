@@ -1,10 +1,10 @@
 -- The samples of an area in a subtile.
-use Rattle.std.proofs.Common.{◌≡◌, ℕ, zero, suc, ◌+◌, ◌*◌, ◌/◌, ◌%◌, ◌<◌, List, [], ◌∷◌, Bool, true, false, ◌&&◌, not, cond, nat_lt, arith, refl, sym, ◌∙◌, IsTrue}
+use Rattle.std.proofs.Common.{◌≡◌, ℕ, zero, suc, ◌+◌, ◌*◌, ◌/◌, ◌%◌, ◌<◌, List, [], ◌∷◌, Bool, true, false, cond, nat_lt, arith, refl, sym, ◌∙◌, IsTrue}
 use Rattle.std.proofs.lemmas.Bool.Decides.{nat_tests}
 use Rattle.cull_base.specs.State.{State, is_none, has, hides, samples_of}
 use Rattle.cull_base.specs.Fold.{IsLayered}
 use Rattle.cull_report.specs.declared.area.Area.{Area}
-use Rattle.cull_report.specs.Area.{IsIn, SubHides, is_sample_in}
+use Rattle.cull_report.specs.Area.{SubHides, is_sample_in}
 use Rattle.cull_report.specs.Pixels.{sample_of_pixel}
 use Rattle.cull_report.proofs.Pixels.{sample_below, pixel_is_in, pixel_of_sample, column_of_sample, row_of_sample, sample_of_sample}
 

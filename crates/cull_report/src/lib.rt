@@ -4,6 +4,7 @@
 mod area;
 mod built;
 mod line;
+mod lines;
 mod objects;
 mod rectangle;
 mod report;

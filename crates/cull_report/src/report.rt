@@ -1,14 +1,18 @@
 //! The texts of the report.
-ghost use Rattle.std.specs.Prelude.{◌≡◌, ℕ, List, [], ◌∷◌, ◌++◌, ◌<◌, ◌≤◌, ◌^◌, length, count_by};
+ghost use Rattle.std.specs.Prelude.{◌≡◌, ℕ, List, [], ◌∷◌, ◌++◌, ◌+◌, ◌<◌, ◌≤◌, ◌^◌, length, count_by};
 ghost use Rattle.cull_report.specs.Text.{header_text, frame_line, verdict_line, verdict_lines, end_line, frame_text, verdict_word, is_visible, is_occluded, is_outside};
 ghost use Rattle.cull_base.specs.Stream.{Writes};
 ghost use Rattle.cull_report.specs.Scene.{scene_header};
 
 use crate::line::Line;
+use crate::lines::Lines;
 use cull_base::{Sink, SinkError, Verdict};
 use scene_reader::Scene;
 
 const REPORT_VERSION: u64 = 1;
+
+// How many verdicts' lines are handed to the sink at once.
+const BATCH: usize = 128;
 
 #[tactic(auto, unfolding(crate::specs::Text::header_text))]
 fn header_line(width: u16, height: u16, frames: usize, objects: usize) -> Line
@@ -49,7 +53,8 @@ fn word_of(verdict: Verdict) -> &'static [u8]
 
 #[tactic(auto, unfolding(crate::specs::Text::verdict_line))]
 fn verdict_line(object: usize, verdict: Verdict) -> Line
-    ensures { result ≡ verdict_line object verdict }
+    ensures value { result ≡ verdict_line object verdict }
+    ensures short { length result ≤ 30 }
 {
     let mut line = Line::begin(b"");
     line.push_number(object as u64);
@@ -74,11 +79,26 @@ fn end_line(frame: u32, visible: usize, occluded: usize, outside: usize) -> Line
     line
 }
 
+// The lines of some verdicts, numbered from a first.
+fn lines_from(first: usize, verdicts: &[Verdict]) -> Lines
+    requires room { length verdicts.now ≤ 128 }
+    requires numbers { first + length verdicts.now < 2 ^ 64 }
+    ensures { result ≡ verdict_lines first verdicts.now }
+{
+    let mut lines = Lines::empty();
+    for (k, verdict) in verdicts.iter().enumerate() {
+        lines.push(&verdict_line(first + k, *verdict));
+    }
+    lines
+}
+
 fn write_verdicts<W: Sink>(sink: &mut W, verdicts: &[Verdict]) -> Result<(), SinkError>
     ensures { Writes (W.says sink.old) (W.says sink.new) result (verdict_lines 0 verdicts.now) }
 {
-    for (object, verdict) in verdicts.iter().enumerate() {
-        verdict_line(object, *verdict).write_to(sink)?;
+    for batch in 0..verdicts.len().div_ceil(BATCH) {
+        let first = BATCH * batch;
+        let end = first + BATCH.min(verdicts.len() - first);
+        lines_from(first, &verdicts[first..end]).write_to(sink)?;
     }
     Ok(())
 }

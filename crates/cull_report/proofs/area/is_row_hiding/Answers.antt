@@ -1,4 +1,4 @@
-use Rattle.std.proofs.Common.{◌≡◌, ℕ, ◌+◌, ◌*◌, ◌/◌, ◌<◌, max, arith}
+use Rattle.std.proofs.Common.{◌≡◌, ℕ, ◌*◌, ◌<◌, max, arith}
 use Rattle.std.specs.Int.{div_ceil}
 use Rattle.cull_base.specs.Screen.{tile_columns_of}
 use Rattle.cull_report.proofs.Pixels.{pixel_of_tile, column_of_tile, row_of_tile, tile_is}

@@ -1,4 +1,4 @@
-use Rattle.std.proofs.Common.{◌≡◌, ℕ, FitsSigned, w32, rules, sym, subst}
+use Rattle.std.proofs.Common.{◌≡◌, ℕ, FitsSigned, w32, rules, subst}
 use Rattle.std.proofs.lemmas.Int.{to_z-of_z}
 use Rattle.cull_base.specs.declared.nearness.TheConstants.{GRADE_TOP}
 use Rattle.cull_base.specs.Screen.{Dimensions}

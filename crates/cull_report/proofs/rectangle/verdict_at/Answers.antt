@@ -1,4 +1,4 @@
-use Rattle.std.proofs.Common.{◌≡◌, Bool, true, false, sym, ◌∙◌}
+use Rattle.std.proofs.Common.{true, false, sym, ◌∙◌}
 use Rattle.cull_report.specs.Pixels.{state_in}
 use Rattle.cull_report.proofs.Hiding.{area_hidden, flat_tested, met}
 use Rattle.cull_report.proofs.Areas.{holds_area}

@@ -1,4 +1,4 @@
-use Rattle.std.proofs.Common.{◌≡◌, ℕ, ◌++◌, List, Option, Err, refl}
+use Rattle.std.proofs.Common.{◌≡◌, ℕ, ◌++◌, List, Err, refl}
 use Rattle.std.specs.Prelude.{count_by}
 use Rattle.std.proofs.lemmas.Result.{err_from_is_err_and}
 use Rattle.cull_report.specs.Text.{frame_line, verdict_lines, end_line, frame_text, is_visible, is_occluded, is_outside}
