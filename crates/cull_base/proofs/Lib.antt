@@ -9,3 +9,4 @@ pub mod Masks
 pub mod Streams
 pub mod Rows
 pub mod Ranges
+pub mod Reciprocals

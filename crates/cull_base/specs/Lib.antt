@@ -3,6 +3,7 @@ pub mod Rectangle
 pub mod Bounds
 pub mod Piece
 pub mod Depth
+pub mod Divisor
 pub mod Fraction
 pub mod State
 pub mod Fold

@@ -1,8 +1,7 @@
 //! Steps of arithmetic on screen coordinates that stay inside their width, each with its value and its bound.
-ghost use Rattle.std.specs.Prelude.{◌≡◌, ℕ, ℤ, pos, ◌^◌, ◌-ℤ◌, ◌*ℤ◌, ◌<ℤ◌};
+ghost use Rattle.std.specs.Prelude.{◌≡◌, ℕ, ℤ, pos, ◌^◌, ◌*◌, ◌-ℤ◌, ◌*ℤ◌};
 ghost use Rattle.cull_base.specs.Piece.{IsCoordinate, point, edge_value};
 ghost use Rattle.cull_base.specs.Bounds.{Bounded};
-ghost use Rattle.cull_base.specs.Depth.{floor_of};
 
 /// a - b.
 #[inline(always)]
@@ -26,13 +25,13 @@ pub fn product(a: i64, b: i64) -> i64
     a * b
 }
 
-/// a - b, of products.
+/// a - b, within twice what both are within.
 #[inline(always)]
 pub fn minus(a: i64, b: i64) -> i64
     requires a_bounded { Bounded (2 ^ 60) a }
     requires b_bounded { Bounded (2 ^ 60) b }
     ensures value { result ≡ a -ℤ b }
-    ensures bounded { Bounded (2 ^ 61) result }
+    ensures bounded { (n : ℕ) → Bounded n a → Bounded n b → Bounded (2 * n) result }
 {
     a - b
 }
@@ -54,20 +53,4 @@ pub fn edge_value(ax: i32, ay: i32, bx: i32, by: i32, px: i32, py: i32) -> i64
         product(difference(bx, ax), difference(py, ay)),
         product(difference(by, ay), difference(px, ax)),
     )
-}
-
-/// Below this size a numerator is divided in 64 bits, in a third of the time.
-const NARROW: i128 = 0x4000_0000_0000_0000;
-
-/// The floor of n/d, below 0 too. Condition: d is positive.
-#[inline(always)]
-pub fn floor_quotient(n: i128, d: i64) -> i128
-    requires { pos 0 <ℤ d }
-    ensures { result ≡ floor_of n d }
-{
-    if -NARROW <= n && n < NARROW {
-        i128::from((n as i64).div_euclid(d))
-    } else {
-        n.div_euclid(i128::from(d))
-    }
 }

@@ -1,7 +1,7 @@
 //! How far coordinates reach along one axis.
 ghost use Rattle.std.specs.Prelude.{◌≡◌, ℤ};
 ghost use Rattle.std.specs.Int.{int_min, int_max};
-ghost use Rattle.cull_base.specs.Piece.{first_pixel, end_pixel};
+ghost use Rattle.cull_base.specs.Piece.{first_pixel, end_pixel, least_of, greatest_of};
 
 /// The least and the greatest of some coordinates, in sixteenths of a pixel.
 #[derive(Clone, Copy)]
@@ -31,6 +31,15 @@ impl Extent {
             least: self.least.min(value),
             greatest: self.greatest.max(value),
         }
+    }
+
+    /// How far three coordinates reach.
+    #[inline(always)]
+    pub fn of_three(values: &[i32; 3]) -> Extent
+        ensures least { result.least ≡ least_of values.now }
+        ensures greatest { result.greatest ≡ greatest_of values.now }
+    {
+        Extent::of(values[0]).with(values[1]).with(values[2])
     }
 
     /// The pixel of the least.

@@ -4,6 +4,7 @@
 
 pub mod arithmetic;
 mod clip;
+mod divisor;
 mod extent;
 mod frame_list;
 mod memory;
@@ -19,6 +20,7 @@ mod tile_span;
 mod triangle;
 
 pub use clip::ClipVertex;
+pub use divisor::Divisor;
 pub use extent::Extent;
 pub use frame_list::FrameList;
 pub use memory::{Failed, Memory, SinkError};

@@ -50,16 +50,8 @@ fn are_nearness(values: &[u32; 3]) -> bool
     values.iter().all(|q| *q <= HELD_TOP)
 }
 
-// How far three coordinates reach.
-#[inline(always)]
-fn extent(values: &[i32; 3]) -> Extent
-    ensures least { result.least ≡ least_of values.now }
-    ensures greatest { result.greatest ≡ greatest_of values.now }
-{
-    Extent::of(values[0]).with(values[1]).with(values[2])
-}
-
 impl ScreenTri {
+    ghost use Rattle.cull_base.specs.Depth.{least_nearness, greatest_nearness};
     ghost use Rattle.cull_base.specs.Piece.{Piece, IsPiece, piece, box_of};
 
     /// None exactly where the doubled area isn't positive, a coordinate isn't strictly between -2^29 and 2^29,
@@ -110,12 +102,32 @@ impl ScreenTri {
         self.q
     }
 
+    /// The least nearness of its vertices.
+    #[inline(always)]
+    pub fn least_nearness(&self) -> u32
+        ensures value { result ≡ least_nearness self.now }
+        ensures valid { IsPiece self.now }
+    {
+        let [q0, q1, q2] = self.q;
+        q0.min(q1.min(q2))
+    }
+
+    /// The greatest nearness of its vertices.
+    #[inline(always)]
+    pub fn greatest_nearness(&self) -> u32
+        ensures value { result ≡ greatest_nearness self.now }
+        ensures valid { IsPiece self.now }
+    {
+        let [q0, q1, q2] = self.q;
+        q0.max(q1.max(q2))
+    }
+
     /// The pixels that the piece may reach, not cut to the screen.
     pub fn boxed(&self) -> Rect
         ensures { result ≡ box_of self.now }
     {
-        let across = extent(&self.x);
-        let down = extent(&self.y);
+        let across = Extent::of_three(&self.x);
+        let down = Extent::of_three(&self.y);
         Rect {
             x0: across.first_pixel(),
             y0: down.first_pixel(),

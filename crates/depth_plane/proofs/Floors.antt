@@ -3,7 +3,6 @@ use Rattle.std.proofs.Common.{◌≡◌, ◌^◌, FitsSigned, ℕ, ℤ, pos, neg
 use Rattle.std.specs.Int.{int_max, w128}
 use Rattle.std.proofs.lemmas.Int.{ints, clamps}
 use Rattle.cull_base.proofs.Bounds.{bounded-mul}
-use Rattle.cull_base.specs.Bounds.{Bounded}
 use Rattle.cull_base.specs.Depth.{floor_of, ceiling_of}
 use Rattle.depth_plane.proofs.Products.{neg-mul, le_from_times}
 
@@ -19,12 +18,6 @@ floor_of-lt (negsuc a) (pos b) h = let p : 0 < b = omega (arith, ints, h) in ome
 
 pub ceiling_of-ge : (n d : ℤ) → pos 0 <ℤ d → n ≤ℤ (ceiling_of n d *ℤ d)
 ceiling_of-ge n d h = let l = floor_of-le (neg_ℤ n) d h in let e = neg-mul (floor_of (neg_ℤ n) d) d in rw e (omega (arith, ints, l))
-
--- a quotient by a positive number lies no further away from 0 than what was divided
-pub bounded-floor_of : (m : ℕ) (n d : ℤ) → pos 0 <ℤ d → Bounded m n → Bounded m (floor_of n d)
-bounded-floor_of m n (negsuc b) h k = absurd (omega (arith, ints, h))
-bounded-floor_of m (pos a) (pos b) h k = let p : 0 < b = omega (arith, ints, h) in omega (arith, ints, k)
-bounded-floor_of m (negsuc a) (pos b) h k = let p : 0 < b = omega (arith, ints, h) in omega (arith, ints, k)
 
 -- a fraction that is no greater than a nearness has no greater floor
 pub least_of_floor : (n : ℤ) (q : ℕ) (l a d : ℤ) → q < 2 ^ 32 → l ≡ pos q → a ≡ d → pos 0 <ℤ d → d ≤ℤ pos (2 ^ 61) → FitsSigned w128 (l *ℤ a) × (n ≤ℤ (l *ℤ a) → l ≡ int_max (pos q) (floor_of n d))

@@ -1,5 +1,4 @@
 pub mod Nearness
-pub mod Reciprocals
 pub mod Products
 pub mod Corners
 pub mod Mean

@@ -33,6 +33,14 @@ pub area-plane_of : (t : Piece) → (plane_of t).area ≡ denominator t
 unfolding plane_of
 area-plane_of t = refl
 
+-- from its vertices
+pub area_of-vertices : (t : Piece) (v : Vertices) → IsVertex v.a t 0 → IsVertex v.b t 1 → IsVertex v.c t 2 → area_of v ≡ denominator t
+area_of-vertices t v ia ib ic =
+    let ax = ia.x in let ay = ia.y in
+    let bx = ib.x in let by = ib.y in
+    let cx = ic.x in let cy = ic.y in
+    rw (ax, ay, bx, by, cx, cy) refl
+
 -- from the coefficients as they are computed
 pub plane_of-computed : (t : Piece) (v : Vertices) (a d l n : ℤ) → IsVertex v.a t 0 → IsVertex v.b t 1 → IsVertex v.c t 2 → a ≡ across_of v → d ≡ down_of v → l ≡ level_of v → n ≡ area_of v →
     record { across = a; down = d; level = l; area = n } ≡ plane_of t

@@ -1,8 +1,8 @@
 -- Products of integers, their laws and their order.
-use Rattle.std.proofs.Common.{◌≡◌, ℕ, ℤ, pos, negsuc, suc, ◌≤◌, ◌+ℤ◌, ◌*ℤ◌, ◌≤ℤ◌, ◌<ℤ◌, neg_ℤ, arith}
+use Rattle.std.proofs.Common.{◌≡◌, ℤ, pos, negsuc, suc, ◌≤◌, ◌+ℤ◌, ◌*ℤ◌, ◌≤ℤ◌, ◌<ℤ◌, neg_ℤ, arith}
 use Rattle.std.proofs.lemmas.Int.{ints, by_lt_z}
 use Rattle.std.proofs.Math.Nat.{mul-le-mul_left}
-use Rattle.cull_base.proofs.Ring.{diff-neg, diff, diff-add, diff-mul, diff-same, over2, over3, over4}
+use Rattle.cull_base.proofs.Ring.{diff-neg, diff-add, diff-mul, diff-same, over2, over3, over4}
 
 pub mul_comm : (a b : ℤ) → a *ℤ b ≡ b *ℤ a
 mul_comm = over2 (λ a b. a *ℤ b ≡ b *ℤ a) (λ a a' b b'. simp diff-mul (diff-same _ _ _ _ (omega arith)))

@@ -1,4 +1,3 @@
 pub mod Plane
 pub mod Corner
 pub mod Vertices
-pub mod Reciprocal

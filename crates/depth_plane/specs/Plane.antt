@@ -5,7 +5,6 @@ use Rattle.cull_base.specs.Piece.{Piece, Point, vertex, nearness, middle, covers
 use Rattle.cull_base.specs.Depth.{numerator, denominator, DepthAtLeast, DepthLess}
 use Rattle.cull_base.specs.declared.place.Sample.{Sample}
 use Rattle.cull_base.specs.declared.place.Sub.{Sub}
-use Rattle.depth_plane.specs.Reciprocal.{reciprocal_of}
 
 -- the depth at (x, y) is (across * x + down * y + level) / area
 pub record Coefficients : Type 0 where
@@ -17,14 +16,13 @@ pub record Coefficients : Type 0 where
 abbrev pub coefficients : ℤ → ℤ → ℤ → ℤ → Coefficients
 coefficients across down level area = record { across = across; down = down; level = level; area = area }
 
--- the area is positive and has this reciprocal, and the sizes keep products inside 128 bits
-pub record IsPlane (c : Coefficients) (reciprocal : ℕ) : Type 0 where
+-- the area is positive, and the sizes keep products inside 128 bits
+pub record IsPlane (c : Coefficients) : Type 0 where
   pub across : Bounded (2 ^ 56) c.across
   pub down : Bounded (2 ^ 56) c.down
   pub level : Bounded (2 ^ 87) c.level
   pub positive_area : pos 0 <ℤ c.area
   pub area_within : c.area ≤ℤ pos (2 ^ 61)
-  pub is_reciprocal : reciprocal ≡ reciprocal_of c.area
 
 -- the sum of three terms, each weighted by the nearness of its vertex
 abbrev pub weighted : Piece → ℤ → ℤ → ℤ → ℤ

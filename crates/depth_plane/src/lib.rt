@@ -4,7 +4,6 @@
 mod corner;
 mod plane;
 mod quotient;
-mod reciprocal;
 #[cfg(test)]
 mod tests;
 mod vertices;

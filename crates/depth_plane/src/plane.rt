@@ -8,10 +8,9 @@ ghost use Rattle.cull_base.specs.declared.nearness.TheConstants.{HELD_TOP};
 ghost use Rattle.depth_plane.specs.Plane.{plane_of, numerator_at, IsNearer, point_of, IsLowBound, IsHighBound, TellsNearerPiece};
 
 use crate::corner::{greatest_along, least_along, numerator_at};
-use crate::quotient::{ceiling, cut_to_range, floor, is_greater};
-use crate::reciprocal::{narrow_floor, reciprocal};
+use crate::quotient::{ceiling, cut_to_range, is_greater};
 use crate::vertices::Vertices;
-use cull_base::{Sample, ScreenTri, Sub};
+use cull_base::{Divisor, Sample, ScreenTri, Sub};
 use std::marker::Model;
 
 /// From the first sample of a subtile to the last in its row, in sixteenths of a pixel.
@@ -26,31 +25,26 @@ pub struct Plane {
     across: i64,
     down: i64,
     level: i128,
-    area: i64,
-    // of the area, for the divisions of `low`
-    reciprocal: u64,
+    area: Divisor,
 }
 
 impl Model for Plane {
-    ghost use Rattle.std.proofs.Common.{ap, sym};
+    ghost use Rattle.std.specs.Int.RustNames.{unsigned_abs};
+    ghost use Rattle.std.specs.Prelude.{pos};
     ghost use Rattle.depth_plane.specs.Plane.{Coefficients, coefficients, IsPlane};
-    ghost use Rattle.depth_plane.specs.Reciprocal.{reciprocal_of};
 
     ghost Value = { Coefficients };
 
-    ghost view = { λ p. coefficients p.across p.down p.level p.area };
+    ghost view = { λ p. coefficients p.across p.down p.level (pos p.area) };
 
-    ghost invariant = { λ p. IsPlane (coefficients p.across p.down p.level p.area) p.reciprocal };
+    ghost invariant = { λ p. IsPlane (coefficients p.across p.down p.level (pos p.area)) };
 
     ghost inverse = { λ c. record {
       across = c.across;
       down = c.down;
       level = c.level;
-      area = c.area;
-      reciprocal = reciprocal_of c.area;
+      area = unsigned_abs c.area;
     } };
-
-    ghost inverse_ok = { λ p h. ap (λ r. record p { reciprocal = r }) (sym h.is_reciprocal) };
 }
 
 // Where the sample of a pixel stands, in sixteenths of a pixel.
@@ -62,24 +56,6 @@ fn place(pixel: u16) -> u32
     16 * u32::from(pixel) + 8
 }
 
-#[inline(always)]
-fn least_nearness(tri: &ScreenTri) -> u32
-    ensures value { result ≡ least_nearness tri.now }
-    ensures valid { IsPiece tri.now }
-{
-    let [q0, q1, q2] = tri.q();
-    q0.min(q1.min(q2))
-}
-
-#[inline(always)]
-fn greatest_nearness(tri: &ScreenTri) -> u32
-    ensures value { result ≡ greatest_nearness tri.now }
-    ensures valid { IsPiece tri.now }
-{
-    let [q0, q1, q2] = tri.q();
-    q0.max(q1.max(q2))
-}
-
 impl Plane {
     /// At each point the plane's fraction is the piece's depth.
     pub fn of(tri: &ScreenTri) -> Plane
@@ -89,13 +65,11 @@ impl Plane {
         ensures positive { pos 0 <ℤ result.area }
     {
         let vertices = Vertices::of(tri);
-        let area = vertices.area();
         Plane {
             across: vertices.across(),
             down: vertices.down(),
             level: vertices.level(),
-            area,
-            reciprocal: reciprocal(area),
+            area: Divisor::of(vertices.area().unsigned_abs()),
         }
     }
 
@@ -109,7 +83,7 @@ impl Plane {
         ensures within { result ≤ HELD_TOP }
         ensures below { IsLowBound tri.now sub result }
     {
-        cut_to_range(self.floor_from(least_nearness(tri), self.least(sub)))
+        cut_to_range(self.floor_from(tri.least_nearness(), self.least(sub)))
     }
 
     /// The high bound of a subtile: nearness, from 0 to the top that pieces hold, that no touched sample is above.
@@ -122,8 +96,8 @@ impl Plane {
         ensures within { result ≤ HELD_TOP }
         ensures above { IsHighBound tri.now sub result }
     {
-        let nearness = i128::from(greatest_nearness(tri));
-        cut_to_range(nearness.min(ceiling(self.greatest(sub), self.area)))
+        let nearness = i128::from(tri.greatest_nearness());
+        cut_to_range(nearness.min(ceiling(self.greatest(sub), &self.area)))
     }
 
     // The floor of a numerator over the area, and no less than a nearness: where the fraction is no greater than that,
@@ -134,23 +108,10 @@ impl Plane {
         ensures { result ≡ int_max (pos nearness) (floor_of numerator self.now.area) }
     {
         let least = i128::from(nearness);
-        if numerator <= least * i128::from(self.area) {
+        if numerator <= least * i128::from(self.area.number()) {
             least
         } else {
-            least.max(self.floor(numerator))
-        }
-    }
-
-    // Of numerators that fit 64 bits, which most do, by the reciprocal.
-    #[inline(always)]
-    fn floor(&self, numerator: i128) -> i128
-        requires { Bounded (2 ^ 88) numerator }
-        ensures { result ≡ floor_of numerator self.now.area }
-    {
-        if 0 <= numerator && numerator <= i128::from(u64::MAX) {
-            narrow_floor(numerator, self.area, self.reciprocal)
-        } else {
-            floor(numerator, self.area)
+            least.max(self.area.wide_floor(numerator))
         }
     }
 
@@ -200,6 +161,6 @@ impl Plane {
         ensures value { IsTrue result ↔ IsNearer self.now other.now (point_of sample) }
         ensures pieces { TellsNearerPiece self.now other.now (point_of sample) result }
     {
-        is_greater(self.at(sample), self.area, other.at(sample), other.area)
+        is_greater(self.at(sample), &self.area, other.at(sample), &other.area)
     }
 }

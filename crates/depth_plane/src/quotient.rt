@@ -1,27 +1,17 @@
 //! Whole quotients by a positive area, and their cut to the range of nearness.
-ghost use Rattle.std.specs.Prelude.{◌≡◌, ℕ, ℤ, pos, ◌≤◌, ◌^◌, ◌≤ℤ◌, ◌<ℤ◌, ◌+ℤ◌, ◌*ℤ◌, neg_ℤ, IsTrue, ◌↔◌};
+ghost use Rattle.std.specs.Prelude.{◌≡◌, ℕ, ℤ, pos, ◌*◌, ◌≤◌, ◌^◌, ◌≤ℤ◌, ◌<ℤ◌, ◌+ℤ◌, ◌*ℤ◌, neg_ℤ, IsTrue, ◌↔◌};
 ghost use Rattle.cull_base.specs.Bounds.{Bounded};
 ghost use Rattle.cull_base.specs.declared.nearness.TheConstants.{HELD_TOP};
 ghost use Rattle.cull_base.specs.Depth.{floor_of, ceiling_of, cut_to_range};
 
-use cull_base::HELD_TOP;
-use cull_base::arithmetic::floor_quotient;
+use cull_base::{Divisor, HELD_TOP};
 
-pub fn floor(numerator: i128, area: i64) -> i128
-    requires numerator { Bounded (2 ^ 88) numerator }
-    requires area { pos 0 <ℤ area }
-    ensures value { result ≡ floor_of numerator area }
-    ensures bounded { Bounded (2 ^ 88) result }
+#[inline(always)]
+pub fn ceiling(numerator: i128, area: &Divisor) -> i128
+    requires { Bounded (2 ^ 88) numerator }
+    ensures { result ≡ ceiling_of numerator (pos area.now) }
 {
-    floor_quotient(numerator, area)
-}
-
-pub fn ceiling(numerator: i128, area: i64) -> i128
-    requires numerator { Bounded (2 ^ 88) numerator }
-    requires area { pos 0 <ℤ area }
-    ensures { result ≡ ceiling_of numerator area }
-{
-    -floor(-numerator, area)
+    -area.wide_floor(-numerator)
 }
 
 /// The nearest number from 0 to the top that pieces hold.
@@ -33,33 +23,30 @@ pub fn cut_to_range(depth: i128) -> u32
 }
 
 // What a whole quotient leaves of the numerator: from 0 to below the area.
-fn remainder(numerator: i128, area: i64, whole: i128) -> i64
+fn remainder(numerator: i128, area: &Divisor, whole: i128) -> u64
     requires numerator { Bounded (2 ^ 88) numerator }
-    requires area { pos 0 <ℤ area }
-    requires whole { whole ≡ floor_of numerator area }
-    ensures { numerator ≡ (whole *ℤ area) +ℤ result }
+    requires whole { whole ≡ floor_of numerator (pos area.now) }
+    ensures { numerator ≡ (whole *ℤ pos area.now) +ℤ pos result }
 {
-    (numerator - whole * i128::from(area)) as i64
+    (numerator - whole * i128::from(area.number())) as u64
 }
 
 #[inline(always)]
-fn product(a: i64, b: i64) -> i128
-    ensures { result ≡ a *ℤ b }
+fn product(a: u64, b: &Divisor) -> u128
+    ensures { result ≡ a * b.now }
 {
-    i128::from(a) * i128::from(b)
+    u128::from(a) * u128::from(b.number())
 }
 
 /// Whether the first fraction is strictly greater. A bare cross product would leave 128 bits, so whole quotients come
 /// first, and remainders where these agree.
-pub fn is_greater(numerator: i128, area: i64, other: i128, other_area: i64) -> bool
+pub fn is_greater(numerator: i128, area: &Divisor, other: i128, other_area: &Divisor) -> bool
     requires numerator { Bounded (2 ^ 88) numerator }
-    requires area { pos 0 <ℤ area }
     requires other { Bounded (2 ^ 88) other }
-    requires other_area { pos 0 <ℤ other_area }
-    ensures { IsTrue result ↔ ((other *ℤ area) <ℤ (numerator *ℤ other_area)) }
+    ensures { IsTrue result ↔ ((other *ℤ pos area.now) <ℤ (numerator *ℤ pos other_area.now)) }
 {
-    let whole = floor(numerator, area);
-    let other_whole = floor(other, other_area);
+    let whole = area.wide_floor(numerator);
+    let other_whole = other_area.wide_floor(other);
     if whole == other_whole {
         let left = remainder(numerator, area, whole);
         let other_left = remainder(other, other_area, other_whole);

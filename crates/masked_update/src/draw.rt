@@ -10,7 +10,7 @@ ghost use Rattle.masked_update.specs.Least.{NoneBelowIn};
 ghost use Rattle.masked_update.specs.TileOf.{tile_at, empty_tile};
 
 use crate::canvas::Canvas;
-use crate::piece_setup::{PieceSetup, greatest_nearness};
+use crate::piece_setup::PieceSetup;
 use crate::tile_state::TileState;
 use cull_base::{FrameList, Memory, ScreenTri, Size, Tile, TileSpan};
 use std::alloc::Global;
@@ -91,7 +91,7 @@ fn draw_piece(canvas: &mut Canvas, tri: &ScreenTri, size: Size)
     ensures sized { IsSize size.width size.height }
 {
     let span = TileSpan::of(&tri.boxed(), size);
-    if !count_in_span(canvas, size, span, greatest_nearness(tri)) {
+    if !count_in_span(canvas, size, span, tri.greatest_nearness()) {
         merge_in_span(canvas, &PieceSetup::of(tri), size, span);
     }
 }

@@ -38,14 +38,6 @@ impl Model for PieceSetup {
     ghost invariant = { IsSetUp };
 }
 
-pub fn greatest_nearness(tri: &ScreenTri) -> u32
-    ensures value { result ≡ greatest_nearness tri.now }
-    ensures valid { IsPiece tri.now }
-{
-    let [q0, q1, q2] = tri.q();
-    q0.max(q1.max(q2))
-}
-
 impl PieceSetup {
     /// Sets a piece up.
     pub fn of(tri: &ScreenTri) -> PieceSetup
@@ -57,7 +49,7 @@ impl PieceSetup {
             edges: Edges::of(tri, Side::Occluder),
             plane: Plane::of(tri),
             reached: tri.boxed(),
-            nearest: greatest_nearness(tri),
+            nearest: tri.greatest_nearness(),
         }
     }
 

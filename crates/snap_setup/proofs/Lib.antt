@@ -1,5 +1,4 @@
 pub mod Floors
-pub mod Reciprocals
 pub mod Reached
 pub mod Areas
 pub mod KeptPieces

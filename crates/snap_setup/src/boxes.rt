@@ -11,15 +11,6 @@ use crate::snapping::place_of;
 use cull_base::{ClipVertex, Extent, Rect, Size};
 use near_clip::clip_near;
 
-// How far three coordinates reach.
-#[inline(always)]
-fn extent(a: i32, b: i32, c: i32) -> Extent
-    ensures least { result.least ≡ least_of (a ∷ b ∷ c ∷ []) }
-    ensures greatest { result.greatest ≡ greatest_of (a ∷ b ∷ c ∷ []) }
-{
-    Extent::of(a).with(b).with(c)
-}
-
 fn rect_between(across: Extent, down: Extent) -> Rect
     ensures { result ≡ rect_between across down }
 {
@@ -47,8 +38,8 @@ pub fn near_box(tri: &[ClipVertex; 3], near: u16, size: Size) -> Option<Rect>
     let p0 = place_of(&polygon.get(0), near, size);
     let p1 = place_of(&polygon.get(1), near, size);
     let p2 = place_of(&polygon.get(2), near, size);
-    let across = extent(p0.x, p1.x, p2.x);
-    let down = extent(p0.y, p1.y, p2.y);
+    let across = Extent::of_three(&[p0.x, p1.x, p2.x]);
+    let down = Extent::of_three(&[p0.y, p1.y, p2.y]);
     if polygon.len() == 3 {
         return Some(rect_between(across, down));
     }

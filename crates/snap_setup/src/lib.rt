@@ -3,7 +3,6 @@
 #![tactic(auto)]
 
 mod boxes;
-mod divisor;
 mod frame;
 mod pieces;
 mod snapping;

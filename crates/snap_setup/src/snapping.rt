@@ -6,8 +6,7 @@ ghost use Rattle.cull_base.specs.declared.nearness.TheConstants.{GRADE_TOP};
 ghost use Rattle.near_clip.specs.Reach.{IsInReach};
 ghost use Rattle.snap_setup.specs.Snapping.{round_half, screen_x, screen_y, nearness_of, addend_of, snapped, place_of, IsInSight, IsSnapped};
 
-use crate::divisor::Divisor;
-use cull_base::{GRADE_TOP, Side, Size};
+use cull_base::{Divisor, GRADE_TOP, Side, Size};
 use near_clip::HomPoint;
 
 /// A point on the screen: coordinates in sixteenths of a pixel, y downwards, and nearness from 0 to the top of

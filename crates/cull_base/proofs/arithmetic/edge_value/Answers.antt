@@ -1,4 +1,4 @@
-use Rattle.std.proofs.Common.{◌≡◌, ◌*ℤ◌, ◌-ℤ◌, ℤ, FitsSigned, w64, rules, w32, refl}
+use Rattle.std.proofs.Common.{◌≡◌, ◌^◌, ◌*ℤ◌, ◌-ℤ◌, ℤ, FitsSigned, w64, rules, w32, refl}
 use Rattle.std.proofs.lemmas.Int.{to_z-of_z}
 use Rattle.cull_base.specs.Piece.{Point, edge_value}
 use Rattle.cull_base.proofs.arithmetic.edge_value.Goals as goal
@@ -22,3 +22,10 @@ returns-clause-value c =
     c.args.ax c.args.ay c.args.bx c.args.by c.args.px c.args.py
     (simp to_z-of_z at c.minus.ensures.value) (simp to_z-of_z at c.product.ensures.value) (simp to_z-of_z at c.product-2.ensures.value)
     (simp to_z-of_z at c.difference.ensures.value) (simp to_z-of_z at c.difference-2.ensures.value) (simp to_z-of_z at c.difference-3.ensures.value) (simp to_z-of_z at c.difference-4.ensures.value))
+
+pub returns-clause-bounded : goal.returns-clause-bounded
+returns-clause-bounded c =
+    let fm : FitsSigned w64 c.minus.result = search rules in
+    let fp : FitsSigned w64 c.product.result = search rules in let fq : FitsSigned w64 c.product-2.result = search rules in
+    let within = simp to_z-of_z at (c.minus.ensures.bounded (2 ^ 60)) in
+    simp to_z-of_z (within c.product.ensures.bounded c.product-2.ensures.bounded)

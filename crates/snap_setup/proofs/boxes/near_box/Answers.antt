@@ -35,11 +35,11 @@ returns-then-len-eq3-clause-value c =
     let fqx = coordinate_fits q.result.x q.ensures.x_within in let fqy = coordinate_fits q.result.y q.ensures.y_within in
     let frx = coordinate_fits r.result.x r.ensures.x_within in let fry = coordinate_fits r.result.y r.ensures.y_within in
     box_three (corner v 0) (corner v 1) (corner v 2) c.args.near c.args.size c.clip_near-polygon.result
-    c.get.result c.get-2.result c.get-3.result p.result q.result r.result c.extent-across.result c.extent-down.result c.rect_between.result
+    c.get.result c.get-2.result c.get-3.result p.result q.result r.result c.of_three-across.result c.of_three-down.result c.rect_between.result
     c.clip_near-polygon.ensures.value (omega (arith, c.len-2.ensures.value, c.if-len-eq3.true))
     c.get.ensures c.get-2.ensures c.get-3.ensures p.ensures.value q.ensures.value r.ensures.value
-    (record { least = simp to_z-of_z at c.extent-across.ensures.least; greatest = simp to_z-of_z at c.extent-across.ensures.greatest })
-    (record { least = simp to_z-of_z at c.extent-down.ensures.least; greatest = simp to_z-of_z at c.extent-down.ensures.greatest })
+    (record { least = simp to_z-of_z at c.of_three-across.ensures.least; greatest = simp to_z-of_z at c.of_three-across.ensures.greatest })
+    (record { least = simp to_z-of_z at c.of_three-down.ensures.least; greatest = simp to_z-of_z at c.of_three-down.ensures.greatest })
     c.rect_between.ensures
 
 pub returns-clause-value : goal.returns-clause-value
@@ -52,12 +52,12 @@ returns-clause-value c =
     let fsx = coordinate_fits s.result.x s.ensures.x_within in let fsy = coordinate_fits s.result.y s.ensures.y_within in
     box_four (corner v 0) (corner v 1) (corner v 2) c.args.near c.args.size c.clip_near-polygon.result
     c.get.result c.get-2.result c.get-3.result c.get-4.result p.result q.result r.result s.result
-    c.extent-across.result c.extent-down.result c.with.result c.with-2.result c.rect_between-2.result
+    c.of_three-across.result c.of_three-down.result c.with.result c.with-2.result c.rect_between-2.result
     c.clip_near-polygon.ensures.value
     (omega (arith, c.len.ensures.value, c.len.ensures.most, c.len.ensures.not_one, c.len.ensures.not_two, c.if-len-eq0.false, c.len-2.ensures.value, c.if-len-eq3.false))
     c.get.ensures c.get-2.ensures c.get-3.ensures c.get-4.ensures p.ensures.value q.ensures.value r.ensures.value s.ensures.value
-    (record { least = simp to_z-of_z at c.extent-across.ensures.least; greatest = simp to_z-of_z at c.extent-across.ensures.greatest })
-    (record { least = simp to_z-of_z at c.extent-down.ensures.least; greatest = simp to_z-of_z at c.extent-down.ensures.greatest })
+    (record { least = simp to_z-of_z at c.of_three-across.ensures.least; greatest = simp to_z-of_z at c.of_three-across.ensures.greatest })
+    (record { least = simp to_z-of_z at c.of_three-down.ensures.least; greatest = simp to_z-of_z at c.of_three-down.ensures.greatest })
     (record { least = simp to_z-of_z at c.with.ensures.least; greatest = simp to_z-of_z at c.with.ensures.greatest })
     (record { least = simp to_z-of_z at c.with-2.ensures.least; greatest = simp to_z-of_z at c.with-2.ensures.greatest })
     c.rect_between-2.ensures

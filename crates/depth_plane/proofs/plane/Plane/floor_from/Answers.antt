@@ -1,5 +1,5 @@
 use lib.Signed.{le_z}
-use Rattle.std.proofs.Common.{ℤ, pos, true, ◌≤ℤ◌, arith, ◌≡◌, ◌∙◌, ap, rules, FitsSigned, w64}
+use Rattle.std.proofs.Common.{ℤ, pos, true, ◌≤ℤ◌, arith, ◌≡◌, ◌∙◌, ap, rules, FitsSigned}
 use Rattle.std.specs.Int.{w128, int_max}
 use Rattle.std.proofs.lemmas.Int.{ints, to_z-of_z}
 use Rattle.cull_base.specs.Depth.{floor_of}
@@ -13,8 +13,7 @@ from_test x y h = grind (arith, ints, h)
 pub returns-then-numerator-least : goal.returns-then-numerator-least
 returns-then-numerator-least c =
     let fn : FitsSigned w128 c.args.numerator = c.ranges.numerator in let fl : FitsSigned w128 c.from-least.result = search rules in
-    let fd : FitsSigned w64 c.self.inside.area = search rules in let fa : FitsSigned w128 c.from.result = search rules in
-    let e = simp to_z-of_z at c.from.ensures in
-    let k = least_of_floor c.args.numerator c.args.nearness c.from-least.result c.from.result c.self.inside.area c.ranges.nearness.fits c.from-least.ensures e c.self.invariant.positive_area c.self.invariant.area_within in
+    let fa : FitsSigned w128 c.from.result = search rules in
+    let k = least_of_floor c.args.numerator c.args.nearness c.from-least.result c.from.result (pos c.self.inside.area) c.ranges.nearness.fits c.from-least.ensures (c.from.ensures ∙ ap pos c.number.ensures.value) c.self.invariant.positive_area c.self.invariant.area_within in
     let fp = k.0 in
     simp to_z-of_z (k.1 (from_test _ _ (simp to_z-of_z at c.if-numerator-least.true)) ∙ ap (λ (v : Coefficients). int_max (pos c.args.nearness) (floor_of c.args.numerator v.area)) c.self.view_is)

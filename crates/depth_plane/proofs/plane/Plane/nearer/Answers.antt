@@ -1,4 +1,4 @@
-use Rattle.std.proofs.Common.{◌≡◌, ℤ, ◌*ℤ◌, ◌<ℤ◌, ap, rules, FitsSigned, w64, Bool, IsTrue}
+use Rattle.std.proofs.Common.{◌≡◌, ℤ, pos, ◌*ℤ◌, ◌<ℤ◌, ap, rules, FitsSigned, Bool, IsTrue}
 use Rattle.std.specs.Int.{w128}
 use Rattle.std.proofs.lemmas.Int.{to_z-of_z}
 use Rattle.cull_base.specs.Piece.{Piece, Point}
@@ -19,10 +19,9 @@ of_pieces c o s t p b h ec eo =
 
 pub returns-clause-value : goal.returns-clause-value
 returns-clause-value c =
-    let fd : FitsSigned w64 c.self.inside.area = search rules in let fe : FitsSigned w64 c.other.inside.area = search rules in
     let fn : FitsSigned w128 c.at.result = search rules in let fm : FitsSigned w128 c.at-2.result = search rules in
     let h = simp to_z-of_z at c.is_greater.ensures in
-    joined c.args.self.now c.args.other.now (point_of c.args.sample) c.is_greater.result c.at.result c.at-2.result c.self.inside.area c.other.inside.area h
+    joined c.args.self.now c.args.other.now (point_of c.args.sample) c.is_greater.result c.at.result c.at-2.result (pos c.self.inside.area) (pos c.other.inside.area) h
     c.at.ensures.value c.at-2.ensures.value (ap (λ (v : Coefficients). v.area) c.self.view_is) (ap (λ (v : Coefficients). v.area) c.other.view_is)
 
 pub returns-clause-pieces : goal.returns-clause-pieces

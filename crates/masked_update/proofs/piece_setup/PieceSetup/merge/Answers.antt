@@ -1,12 +1,11 @@
-use Rattle.std.proofs.Common.{◌≡◌, ◌<◌, ℕ, arith, refl, sym, ap, ◌∙◌, bit_and}
+use Rattle.std.proofs.Common.{◌≡◌, ℕ, arith, refl, sym, ap, ◌∙◌}
 use Rattle.std.specs.Int.{bit_at}
 use Rattle.std.proofs.lemmas.Nat.Bits.{shr_and_one}
-use Rattle.cull_base.specs.Piece.{Piece, covered}
+use Rattle.cull_base.specs.Piece.{Piece}
 use Rattle.cull_base.specs.Fold.{step}
-use Rattle.cull_base.specs.State.{is_none, samples_of, no_samples}
 use Rattle.edge_lanes.specs.Inside.{sub_of}
 use Rattle.edge_lanes.specs.Tiles.{inside_at}
-use Rattle.masked_update.proofs.Unchanged.{step_behind, step_empty, step_none}
+use Rattle.masked_update.proofs.Unchanged.{step_behind, step_empty}
 use Rattle.masked_update.proofs.piece_setup.PieceSetup.merge.Goals as goal
 use Rattle.masked_update.proofs.piece_setup.PieceSetup.merge.Goals.{else-candidates-j-eq1-via-then-candidates-j-eq1+else-reference-self, else-candidates-j-eq1-via-else-candidates-j-eq1}
 

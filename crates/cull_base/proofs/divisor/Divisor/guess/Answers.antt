@@ -1,6 +1,6 @@
 use Rattle.std.proofs.Common.{arith}
-use Rattle.snap_setup.proofs.Reciprocals.{estimate_of}
-use Rattle.snap_setup.proofs.divisor.Divisor.guess.Goals as goal
+use Rattle.cull_base.proofs.Reciprocals.{estimate_of}
+use Rattle.cull_base.proofs.divisor.Divisor.guess.Goals as goal
 
 pub returns-clause-least : goal.returns-clause-least
 returns-clause-least c =

@@ -1,6 +1,7 @@
 -- A quotient estimated by the reciprocal of its divisor.
 use Rattle.std.proofs.Common.{◌≡◌, ℕ, suc, ◌+◌, ◌*◌, ◌-◌, ◌/◌, ◌%◌, ◌^◌, ◌<◌, ◌≤◌, arith, refl}
 use Rattle.std.proofs.Math.Nat.{mul-le-mul_left, div-add-mod, mod-lt}
+use Rattle.cull_base.specs.Divisor.{IsDivisor}
 
 not_less : (a b : ℕ) → (b < a → 1 ≤ 0) → a ≤ b
 not_less a b h = grind (arith, h)
@@ -38,5 +39,5 @@ estimate n d m h e lt =
     }
 
 -- by the numbers that the code took
-pub estimate_of : (n d m a b e : ℕ) → e ≡ d → (0 < e) × (m ≡ (2 ^ 64 - 1) / e) → n < 2 ^ 64 → a ≡ n → b ≡ m → IsEstimate n d (a * b / 2 ^ 64)
-estimate_of n d m a b e h i lt ea eb = rw (ea, eb, ← h) (estimate n e m i.0 i.1 lt)
+pub estimate_of : (n d m a b e : ℕ) → e ≡ d → IsDivisor e m → n < 2 ^ 64 → a ≡ n → b ≡ m → IsEstimate n d (a * b / 2 ^ 64)
+estimate_of n d m a b e h i lt ea eb = rw (ea, eb, ← h) (estimate n e m i.positive i.is_reciprocal lt)

@@ -1,5 +1,6 @@
 //! Quotients by one divisor, from its reciprocal.
-ghost use Rattle.std.specs.Prelude.{◌≡◌, pos, ◌+◌, ◌*◌, ◌/◌, ◌<◌, ◌≤◌};
+ghost use Rattle.std.specs.Prelude.{◌≡◌, ℕ, pos, ◌+◌, ◌*◌, ◌/◌, ◌<◌, ◌≤◌};
+ghost use Rattle.cull_base.specs.Bounds.{Bounded};
 ghost use Rattle.cull_base.specs.Depth.{floor_of};
 
 use std::marker::Model;
@@ -8,27 +9,33 @@ use std::marker::Model;
 const NARROW: i128 = 0x4000_0000_0000_0000;
 
 /// A positive number to divide by more than once.
-#[derive(Drop)]
-pub(crate) struct Divisor {
+#[derive(Clone, Copy)]
+pub struct Divisor {
     number: u64,
     // (2^64 - 1) over the number, rounded down
     reciprocal: u64,
 }
 
 impl Model for Divisor {
-    ghost use Rattle.std.specs.Prelude.{ℕ, ◌≡◌, ◌<◌, ◌/◌, ◌-◌, ◌^◌};
+    ghost use Rattle.std.specs.Prelude.{ℕ, ◌/◌, ◌-◌, ◌^◌};
+    ghost use Rattle.std.proofs.Common.{ap, sym};
+    ghost use Rattle.cull_base.specs.Divisor.{IsDivisor};
 
     ghost Value = { ℕ };
 
     ghost view = { λ d. d.number };
 
-    ghost invariant = { λ d. (0 < d.number) × (d.reciprocal ≡ (2 ^ 64 - 1) / d.number) };
+    ghost invariant = { λ d. IsDivisor d.number d.reciprocal };
+
+    ghost inverse = { λ n. record { number = n; reciprocal = (2 ^ 64 - 1) / n } };
+
+    ghost inverse_ok = { λ d h. ap (λ r. record d { reciprocal = r }) (sym h.is_reciprocal) };
 }
 
 impl Divisor {
     /// The one division that is paid for. Condition: the number is positive.
     #[inline(always)]
-    pub(crate) fn of(number: u64) -> Divisor
+    pub fn of(number: u64) -> Divisor
         requires { 0 < number }
         ensures { result ≡ number }
     {
@@ -36,6 +43,15 @@ impl Divisor {
             number,
             reciprocal: u64::MAX / number,
         }
+    }
+
+    /// The number itself.
+    #[inline(always)]
+    pub fn number(&self) -> u64
+        ensures value { result ≡ self.now }
+        ensures positive { 0 < result }
+    {
+        self.number
     }
 
     // Never too great, and at most one too small.
@@ -49,7 +65,7 @@ impl Divisor {
 
     /// n over the number, rounded down.
     #[inline(always)]
-    pub(crate) fn quotient(&self, n: u64) -> u64
+    pub fn quotient(&self, n: u64) -> u64
         ensures { result ≡ n / self.now }
     {
         let guess = self.guess(n);
@@ -62,7 +78,7 @@ impl Divisor {
 
     /// The floor of n over the number, below 0 too.
     #[inline(always)]
-    pub(crate) fn floor(&self, n: i64) -> i64
+    pub fn floor(&self, n: i64) -> i64
         ensures { result ≡ floor_of n (pos self.now) }
     {
         if 0 <= n {
@@ -72,10 +88,12 @@ impl Divisor {
         }
     }
 
-    /// The same of a wide number: most fit 64 bits all the same.
+    /// The same of a wide number: most fit 64 bits all the same. It lies no further away from 0 than n.
     #[inline(always)]
-    pub(crate) fn wide_floor(&self, n: i128) -> i128
-        ensures { result ≡ floor_of n (pos self.now) }
+    pub fn wide_floor(&self, n: i128) -> i128
+        ensures value { result ≡ floor_of n (pos self.now) }
+        ensures bounded { (m : ℕ) → Bounded m n → Bounded m result }
+        ensures positive { 0 < self.now }
     {
         if -NARROW <= n && n < NARROW {
             i128::from(self.floor(n as i64))

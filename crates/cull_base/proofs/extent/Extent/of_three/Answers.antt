@@ -3,7 +3,7 @@ use Rattle.std.specs.Int.{int_min, int_max}
 use Rattle.std.proofs.lemmas.Int.{to_z-of_z}
 use Rattle.cull_base.specs.declared.extent.Extent.{Extent}
 use Rattle.cull_base.proofs.Extents.{least_of_three, greatest_of_three}
-use Rattle.cull_base.proofs.screen_tri.extent.Goals as goal
+use Rattle.cull_base.proofs.extent.Extent.of_three.Goals as goal
 
 joined : (f : ℤ → ℤ → ℤ) (z y x a b c : ℤ) → z ≡ f y c → y ≡ f x b → x ≡ a → z ≡ f (f a b) c
 joined f z y x a b c e g h = e ∙ ap (λ t. f t c) (g ∙ ap (λ t. f t b) h)
