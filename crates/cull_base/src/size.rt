@@ -56,6 +56,7 @@ impl Size {
         ensures value { result ≡ self.now.width }
         ensures valid { IsSize self.now.width self.now.height }
     {
+        // what is held of both is known where both are read
         let _height = self.height;
         self.width
     }
@@ -65,6 +66,7 @@ impl Size {
         ensures value { result ≡ self.now.height }
         ensures valid { IsSize self.now.width self.now.height }
     {
+        // as above
         let _width = self.width;
         self.height
     }

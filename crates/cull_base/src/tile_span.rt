@@ -35,6 +35,7 @@ impl TileSpan {
         ensures span { IsSpan size result }
         ensures sized { IsSize size.width size.height }
     {
+        // an accessor tells what is held of a size
         let _width = size.width();
         let reached = rect.cut(&size.screen());
         TileSpan {

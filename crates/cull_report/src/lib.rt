@@ -3,14 +3,13 @@
 
 mod area;
 mod built;
-mod line;
-mod lines;
 mod objects;
 mod rectangle;
 mod report;
+mod text;
 
 pub use built::{identity_clips, is_built};
-pub use line::Line;
 pub use objects::verdicts;
 pub use rectangle::{rect_near, rect_test};
 pub use report::{write_frame, write_header};
+pub use text::Line;

@@ -4,8 +4,7 @@ ghost use Rattle.cull_report.specs.Text.{header_text, frame_line, verdict_line, 
 ghost use Rattle.cull_base.specs.Stream.{Writes};
 ghost use Rattle.cull_report.specs.Scene.{scene_header};
 
-use crate::line::Line;
-use crate::lines::Lines;
+use crate::text::{Line, Lines};
 use cull_base::{Sink, SinkError, Verdict};
 use scene_reader::Scene;
 
@@ -87,7 +86,7 @@ fn lines_from(first: usize, verdicts: &[Verdict]) -> Lines
 {
     let mut lines = Lines::empty();
     for (k, verdict) in verdicts.iter().enumerate() {
-        lines.push(&verdict_line(first + k, *verdict));
+        lines.push(verdict_line(first + k, *verdict).as_slice());
     }
     lines
 }

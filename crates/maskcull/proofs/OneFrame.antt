@@ -1,10 +1,8 @@
 -- A built scene has one frame, and its report is the header and that frame's lines.
-use Rattle.std.proofs.Common.{◌≡◌, ℕ, ◌<◌, ◌++◌, List, [], ◌∷◌, length, arith, refl, ap, ◌∙◌, subst, sym}
+use Rattle.std.proofs.Common.{◌≡◌, ℕ, ◌<◌, ◌++◌, List, length, arith, refl, ap, subst, sym}
 use Rattle.std.proofs.lemmas.List.{append-nil}
 use Rattle.scene_reader.specs.Layout.{Parts}
-use Rattle.cull_base.specs.Fold.{after, IsSound}
 use Rattle.cull_base.specs.Tiles.{ArePieces}
-use Rattle.cull_base.specs.declared.place.Sub.{Sub}
 use Rattle.cull_report.specs.Text.{header_text}
 use Rattle.cull_report.specs.Scene.{IsBuilt, frame_pieces, frame_report, report_text}
 use Rattle.masked_update.proofs.Drawing.{after_is_sound}

@@ -109,6 +109,11 @@ GainsFront source before after = EachDrawable source (λ s. AppendsPrefix before
 abbrev pub WithoutScene : SourceSays → Type 0 → Type 0
 WithoutScene source P = IfBytes source (λ bytes. ((s : Parts) → IsDrawable bytes s → ⊥) → P)
 
+-- no count of faults rose, neither of the source nor of the sink
+abbrev pub WithoutFault : SourceSays → SourceSays → SinkSays → SinkSays → Type 0
+WithoutFault before after sink_before sink_after =
+    (Rose before.faults after.faults → ⊥) × (Rose sink_before.faults sink_after.faults → ⊥)
+
 -- the bytes have a first fault, and that refusal was noted with its numbers
 abbrev pub NotesFault : SourceSays → SinkSays → SinkSays → Type 0
 NotesFault source before after = (e : SceneError) × IsRefusal e × HasFault source e × IsNoted before after (refusal_text e)

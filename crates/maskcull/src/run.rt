@@ -1,7 +1,7 @@
 //! The top call: from command words and the bytes of a scene to the report.
 ghost use Rattle.std.specs.Prelude.{◌≡◌, ℕ, ◌⊎◌, ◌↔◌, map, string_bytes};
 ghost use Rattle.cull_base.specs.Stream.{Rose, IsNoted};
-ghost use Rattle.maskcull.specs.Culling.{IsCulled, NotesFault, IsUndrawn, EachFault, EachDrawable, EachUndrawn, GainsFront, WithoutScene, StatusIs, MayHaveWritten};
+ghost use Rattle.maskcull.specs.Culling.{IsCulled, WithoutFault, NotesFault, IsUndrawn, EachFault, EachDrawable, EachUndrawn, GainsFront, WithoutScene, StatusIs, MayHaveWritten};
 ghost use Rattle.maskcull.specs.Notes.{status_text};
 ghost use Rattle.maskcull.specs.Words.{IsAccepted};
 
@@ -41,9 +41,9 @@ pub fn run<R: Threads + Wait + Sync, S: Source, W: Sink, E: Sink>(
         → EachFault (S.says input.old) (λ _. StatusIs result Status.Scene) }
     ensures undrawn { IsAccepted (map string_bytes words.now)
         → EachUndrawn (S.says input.old) (StatusIs result Status.NotBuilt) }
-    ensures complete { IsAccepted (map string_bytes words.now) → EachDrawable (S.says input.old) (λ _.
-        (Rose (S.says input.old).faults (S.says input.new).faults → ⊥) → (Rose (W.says report.old).faults (W.says report.new).faults → ⊥)
-        → (result ≡ Status.Done) ⊎ (result ≡ Status.Memory)) }
+    ensures complete { IsAccepted (map string_bytes words.now)
+        → WithoutFault (S.says input.old) (S.says input.new) (W.says report.old) (W.says report.new)
+        → EachDrawable (S.says input.old) (λ _. (result ≡ Status.Done) ⊎ (result ≡ Status.Memory)) }
 
     // What stands on the sinks.
     ensures unread { result ≡ Status.Usage → input.new ≡ input.old }

@@ -1,9 +1,8 @@
-use Rattle.std.proofs.Common.{◌≡◌, ℕ, List, length, subst, sym, ap, ◌∙◌}
-use Rattle.cull_base.specs.Tiles.{PieceList, ArePieces, tile_after}
+use Rattle.std.proofs.Common.{◌≡◌, length, subst, ap, ◌∙◌}
+use Rattle.cull_base.specs.Tiles.{PieceList, ArePieces}
 use Rattle.cull_base.specs.Screen.{tile_count_of}
 use Rattle.masked_update.specs.Drawn.{AreDrawn}
-use Rattle.masked_update.specs.TileOf.{TileOf, tile_at}
-use Rattle.cull_report.specs.Scene.{frame_list, frame_pieces}
+use Rattle.cull_report.specs.Scene.{frame_list}
 use Rattle.maskcull.proofs.OneFrame.{one_hides}
 use Rattle.maskcull.proofs.cull.draw.Goals as goal
 

@@ -9,9 +9,8 @@ use Rattle.cull_base.specs.declared.memory.Memory.{Memory}
 use Rattle.cull_base.specs.declared.scene_types.Tri.{Tri}
 use Rattle.snap_setup.specs.Pieces.{HasClips, list_of_clips}
 use Rattle.cull_base.specs.declared.nearness.TheConstants.{GRADE_TOP}
-use Rattle.camera_path.specs.Clip.{clip_of}
 use Rattle.scene_reader.specs.Layout.{Parts}
-use Rattle.cull_report.specs.Scene.{frame_clips, frame_list, size_of, camera_at}
+use Rattle.cull_report.specs.Scene.{frame_clips, frame_list}
 use Rattle.maskcull.proofs.cull.pieces_of.Goals as goal
 
 clip_count : (s : Parts) → length (frame_clips s 0) ≡ length s.vertices

@@ -1,10 +1,10 @@
-use Rattle.std.proofs.Common.{◌≡◌, ℕ, List, length, sym, subst}
+use Rattle.std.proofs.Common.{ℕ, List, length, subst}
 use Rattle.std.proofs.lemmas.Result.{err_from_is_err_and}
 use Rattle.cull_base.specs.declared.scene_types.Verdict.{Verdict}
 use Rattle.cull_base.specs.Stream.{Writes}
 use Rattle.cull_base.proofs.Streams.{writes_then, writes_no_more}
 use Rattle.cull_report.specs.Text.{header_text, frame_text}
-use Rattle.cull_report.specs.Scene.{report_text, frame_pieces, frame_verdicts, frame_report}
+use Rattle.cull_report.specs.Scene.{frame_verdicts, frame_report}
 use Rattle.maskcull.proofs.OneFrame.{one_report}
 use Rattle.maskcull.proofs.cull.write_report.Goals as goal
 

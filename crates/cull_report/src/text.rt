@@ -1,4 +1,4 @@
-//! A line of text, put together on the stack.
+//! A text, put together on the stack in so much room.
 ghost use Rattle.std.specs.Prelude.{◌≡◌, ℕ, List, [], ◌∷◌, ◌++◌, ◌+◌, ◌<◌, ◌≤◌, length};
 ghost use Rattle.std.specs.Fmt.{decimal};
 ghost use Rattle.cull_base.specs.Stream.{Writes};
@@ -9,42 +9,51 @@ use cull_base::{Sink, SinkError, write_whole};
 use itoa::Buffer;
 use std::marker::Model;
 
-/// What a line has room for, its newline too.
-const ROOM: usize = 128;
-
-/// Fields parted by one space. It holds at most 128 bytes.
+/// Bytes, at most `ROOM`.
 #[derive(Drop)]
-pub struct Line {
-    bytes: ArrayVec<u8, 128>,
+pub struct Text<const ROOM: usize> {
+    bytes: ArrayVec<u8, ROOM>,
 }
 
-impl Model for Line {
+/// A line, its newline too: fields parted by one space.
+pub type Line = Text<128>;
+
+/// Some lines, one after the other, that a sink is asked once to take.
+pub type Lines = Text<4096>;
+
+impl<const ROOM: usize> Model for Text<ROOM> {
     ghost use Rattle.std.specs.Prelude.{ℕ, List};
 
     ghost Value = { List ℕ };
 
-    ghost view = { λ line. line.bytes.items };
+    ghost view = { λ text. text.bytes.items };
 }
 
-impl Line {
-    /// A line that begins with a word. Condition: it has room.
-    pub fn begin(word: &[u8]) -> Line
-        requires { length word.now ≤ 128 }
+impl<const ROOM: usize> Text<ROOM> {
+    pub fn empty() -> Text<ROOM>
+        ensures { result ≡ [] }
+    {
+        Text {
+            bytes: ArrayVec::new(),
+        }
+    }
+
+    /// A text that begins with a word. Condition: it has room.
+    pub fn begin(word: &[u8]) -> Text<ROOM>
+        requires { length word.now ≤ ROOM }
         ensures { result ≡ word.now }
     {
-        let mut line = Line {
-            bytes: ArrayVec::new(),
-        };
-        line.push(word);
-        line
+        let mut text = Text::empty();
+        text.push(word);
+        text
     }
 
     /// Appends bytes as they stand. Condition: there is room.
-    pub fn push(&mut self, text: &[u8])
-        requires { length self.old + length text.now ≤ 128 }
-        ensures { self.new ≡ self.old ++ text.now }
+    pub fn push(&mut self, bytes: &[u8])
+        requires { length self.old + length bytes.now ≤ ROOM }
+        ensures { self.new ≡ self.old ++ bytes.now }
     {
-        match self.bytes.try_extend_from_slice(text) {
+        match self.bytes.try_extend_from_slice(bytes) {
             Ok(()) => {}
             Err(_) => unreachable!(),
         }
@@ -52,7 +61,7 @@ impl Line {
 
     /// Appends a number in decimal. Condition: there is room for 20 digits.
     pub fn push_number(&mut self, number: u64)
-        requires { length self.old + 20 ≤ 128 }
+        requires { length self.old + 20 ≤ ROOM }
         ensures value { self.new ≡ self.old ++ decimal number }
         ensures room { length self.new ≤ length self.old + 20 }
     {
@@ -62,7 +71,7 @@ impl Line {
 
     /// The next field: a word. Condition: there is room.
     pub fn word(&mut self, word: &[u8])
-        requires { length self.old + 1 + length word.now ≤ 128 }
+        requires { length self.old + 1 + length word.now ≤ ROOM }
         ensures { self.new ≡ self.old ++ (32 ∷ word.now) }
     {
         self.push(b" ");
@@ -71,7 +80,7 @@ impl Line {
 
     /// The next field: a number in decimal. Condition: there is room for a space and 20 digits.
     pub fn number(&mut self, number: u64)
-        requires { length self.old + 21 ≤ 128 }
+        requires { length self.old + 21 ≤ ROOM }
         ensures value { self.new ≡ self.old ++ (32 ∷ decimal number) }
         ensures room { length self.new ≤ length self.old + 21 }
     {
@@ -79,9 +88,9 @@ impl Line {
         self.push_number(number);
     }
 
-    /// Ends the line. Condition: there is room for one byte.
+    /// Ends a line. Condition: there is room for one byte.
     pub fn end(&mut self)
-        requires { length self.old < 128 }
+        requires { length self.old < ROOM }
         ensures { self.new ≡ self.old ++ 10 ∷ [] }
     {
         self.push(b"\n");
@@ -93,7 +102,7 @@ impl Line {
         self.bytes.as_slice()
     }
 
-    /// Writes the line whole. Failed and Memory are the sink's; after an error a front of the line that isn't the whole
+    /// Writes the text whole. Failed and Memory are the sink's; after an error a front of the text that isn't the whole
     /// was appended.
     pub fn write_to<W: Sink>(&self, sink: &mut W) -> Result<(), SinkError>
         ensures { Writes (W.says sink.old) (W.says sink.new) result self.now }
