@@ -9,3 +9,6 @@ pub mod Masks
 pub mod Streams
 pub mod Rows
 pub mod Ranges
+pub mod Pixels
+pub mod HiddenObjects
+pub mod Nearer

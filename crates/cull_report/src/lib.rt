@@ -1,16 +1,13 @@
 //! The verdicts of a frame, and the texts that are written of it.
 #![tactic(auto)]
 
-mod area;
 mod built;
 mod line;
 mod lines;
 mod objects;
-mod rectangle;
 mod report;
 
 pub use built::{identity_clips, is_built};
 pub use line::Line;
 pub use objects::verdicts;
-pub use rectangle::{rect_near, rect_test};
 pub use report::{write_frame, write_header};

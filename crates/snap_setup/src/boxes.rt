@@ -20,7 +20,8 @@ fn extent(a: i32, b: i32, c: i32) -> Extent
     Extent::of(a).with(b).with(c)
 }
 
-fn rect_between(across: Extent, down: Extent) -> Rect
+/// The pixels that two extents reach, from the first to before the end of each.
+pub fn rect_between(across: Extent, down: Extent) -> Rect
     ensures { result ≡ rect_between across down }
 {
     Rect {
