@@ -10,3 +10,6 @@ pub mod Streams
 pub mod Rows
 pub mod Ranges
 pub mod Reciprocals
+pub mod Pixels
+pub mod HiddenObjects
+pub mod Nearer

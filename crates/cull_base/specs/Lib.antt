@@ -10,4 +10,8 @@ pub mod Fold
 pub mod Tiles
 pub mod Span
 pub mod Guard
+pub mod NearPlane
+pub mod Pixels
+pub mod Shape
+pub mod Nearer
 pub mod Stream

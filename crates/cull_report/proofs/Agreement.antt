@@ -10,10 +10,10 @@ use Rattle.cull_base.specs.Piece.{middle, touches}
 use Rattle.cull_base.specs.Depth.{high_of}
 use Rattle.cull_base.specs.State.{State, hides}
 use Rattle.scene_reader.specs.Layout.{Parts}
-use Rattle.cull_report.specs.Pixels.{sub_of_pixel, sample_of_pixel, at_each_pixel}
-use Rattle.cull_report.specs.Shape.{Shape, AlwaysOutside, AlwaysVisible, Flat, Pieces, has_sample, is_hidden_at, is_hidden, verdict_of}
+use Rattle.cull_base.specs.Pixels.{sub_of_pixel, sample_of_pixel, at_each_pixel}
+use Rattle.cull_base.specs.Shape.{Shape, AlwaysOutside, AlwaysVisible, Flat, Pieces, has_sample, is_hidden_at, is_hidden, verdict_of}
 use Rattle.cull_report.specs.Scene.{size_of, object_shape, object_verdict}
-use Rattle.cull_report.proofs.Hiding.{each_to, each_from}
+use Rattle.cull_base.proofs.HiddenObjects.{each_to, each_from}
 
 -- the same states at each pixel of the screen
 abbrev pub Agrees : Dimensions → (Sub → State) → (Sub → State) → Type 0

@@ -1,7 +1,3 @@
 pub mod ReportLines
-pub mod Pixels
-pub mod Hiding
-pub mod Areas
-pub mod Subtiles
 pub mod Agreement
 pub mod Occluders

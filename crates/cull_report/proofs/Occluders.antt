@@ -23,47 +23,18 @@ use Rattle.cull_base.specs.State.{State, bound_at, hides}
 use Rattle.cull_base.specs.Fold.{after, IsSound}
 use Rattle.cull_base.specs.Tiles.{ArePieces}
 use Rattle.scene_reader.specs.Layout.{Parts}
-use Rattle.cull_report.specs.Pixels.{sub_of_pixel, sample_of_pixel}
-use Rattle.cull_report.specs.Shape.{Shape, AlwaysOutside, AlwaysVisible, Flat, Pieces, has_sample, near_at, is_hidden, verdict_of}
-use Rattle.cull_report.specs.Shapes.{nearness_at, rectangle_shape}
+use Rattle.cull_base.specs.Pixels.{sub_of_pixel, sample_of_pixel}
+use Rattle.cull_base.specs.Shape.{Shape, AlwaysOutside, AlwaysVisible, Flat, Pieces, has_sample, near_at, is_hidden, verdict_of}
+use Rattle.rect_query.specs.Rectangles.{nearness_at, rectangle_shape}
 use Rattle.cull_report.specs.Scene.{IsBuilt, IsBuiltObject, frame_pieces, frame_verdicts, size_of, object_shape, object_verdict}
-use Rattle.cull_report.specs.Hiding.{HasNearerPiece, HidesTruly}
-use Rattle.cull_report.proofs.Hiding.{hidden_each}
-use Rattle.cull_report.proofs.Pixels.{sample_below}
-
--- the sample of a pixel stands in its middle
-sample_is_middle : (px py : ℕ) → sample (sub_of_pixel px py) (sample_of_pixel px py) ≡ middle px py
-sample_is_middle px py =
-    let x : 8 * (px / 8) + (8 * (py % 4) + px % 8) % 8 ≡ px = omega arith in
-    let y : 4 * (py / 4) + (8 * (py % 4) + px % 8) / 8 ≡ py = omega arith in
-    rw (x, y) refl
-
--- a depth that reaches a bound is strictly above what is below the bound
-above : (q b : ℕ) (d n : ℤ) → q < b → pos 0 <ℤ d → (pos b *ℤ d) ≤ℤ n → (pos q *ℤ d) <ℤ (n *ℤ pos 1)
-above q b (pos d) n lt p le = let m : suc q * d ≤ b * d = mul-le-mul_right d (omega arith) in let some : 0 < d = omega (arith, ints, p) in omega (arith, ints, le)
-above q b (negsuc d) n lt p le = absurd (omega (arith, ints, p))
+use Rattle.cull_report.specs.Hiding.{HidesTruly}
+use Rattle.cull_base.specs.Nearer.{HasNearerPiece}
+use Rattle.cull_base.proofs.HiddenObjects.{hidden_each, occluded_is_hidden}
+use Rattle.cull_base.proofs.Nearer.{nearer_piece}
+use Rattle.cull_base.proofs.Pixels.{sample_below, sample_is_middle}
 
 below : (m n : ℕ) → nat_lt m n ≡ true → m < n
 below m n e = grind (arith, nat_tests)
-
--- a sample that hides a nearness has a piece strictly nearer
-nearer_piece : (pieces : List Piece) (u : Sub) (k q : ℕ) (p : Point) → ArePieces pieces → IsSound u pieces (after u pieces) → k < 32 → sample u k ≡ p → hides (after u pieces) k q ≡ true
-    → HasNearerPiece pieces p (whole_number (pos q))
-nearer_piece pieces u k q p all sound lt at h =
-    let under = below q (bound_at (after u pieces) k) h in
-    elim (sound k lt) [
-      | inl z ↦ absurd (omega arith)
-      | inr best ↦ let (t, has, reach) = best in
-          let positive = (all t has.member).positive_area in
-          (t, has.member, rw (← at) has.covering, rw (← at) (above q (bound_at (after u pieces) k) (denominator t) (numerator t (sample u k)) under positive reach))
-    ]
-
-flat_occluded : (size : Dimensions) (f : Sub → State) (r : Rect) (q : ℕ) → verdict_of size f (Flat r q) ≡ Occluded → is_hidden size f (Flat r q) ≡ true
-flat_occluded size f r q e = by (is_hidden size f (Flat r q)) e
-  where
-    by : (b : Bool) → cond b Occluded Visible ≡ Occluded → b ≡ true
-    by true g = refl
-    by false g = absurd cc
 
 -- the object at a place, and the verdict there
 verdict_there : (f : Object → Verdict) (os : List Object) (o : ℕ) (x : Object) (v : Verdict) → slice_get os o ≡ Some x → slice_get (map f os) o ≡ Some v → f x ≡ v
@@ -84,8 +55,8 @@ flat_hides size pieces AlwaysOutside px py flat all sound occluded x y has = abs
 flat_hides size pieces AlwaysVisible px py flat all sound occluded x y has = absurd cc
 flat_hides size pieces (Flat r q) px py flat all sound occluded x y has =
     let f : Sub → State = λ u. after u pieces in
-    let h = hidden_each size f (Flat r q) (flat_occluded size f r q occluded) px py x y has in
-    nearer_piece pieces (sub_of_pixel px py) (sample_of_pixel px py) q (middle px py) all (sound (sub_of_pixel px py)) (sample_below px py) (sample_is_middle px py) h
+    let h = hidden_each size f (Flat r q) (occluded_is_hidden size f (Flat r q) occluded) px py x y has in
+    nearer_piece pieces (sub_of_pixel px py) (after (sub_of_pixel px py) pieces) (sample_of_pixel px py) q (middle px py) all (sound (sub_of_pixel px py)) (sample_below px py) (sample_is_middle px py) h
 flat_hides size pieces (Pieces ps hull) px py flat all sound occluded x y has = absurd flat
 
 rectangle_is_flat : (top near : ℕ) (size : Dimensions) (r : Rect) (w : ℤ) → IsFlat (rectangle_shape top near size r w)

@@ -1,16 +1,11 @@
 -- Why hidden is never a hole.
-use Rattle.std.specs.Prelude.{ℕ, ◌≡◌, ◌<◌, true, List, length, slice_get, Some}
-use Rattle.std.specs.List.{Contains}
+use Rattle.std.specs.Prelude.{ℕ, ◌≡◌, ◌<◌, true, length, slice_get, Some}
 use Rattle.cull_base.specs.declared.scene_types.Object.{Object}
 use Rattle.cull_base.specs.declared.scene_types.Verdict.TheVariants.{Occluded}
-use Rattle.cull_base.specs.Piece.{Piece, Point, middle, covers}
-use Rattle.cull_base.specs.Fraction.{Fraction, IsBelow, depth_at}
+use Rattle.cull_base.specs.Piece.{middle}
+use Rattle.cull_base.specs.Nearer.{HasNearerPiece}
 use Rattle.scene_reader.specs.Layout.{Parts}
 use Rattle.cull_report.specs.Scene.{frame_pieces, frame_verdicts, object_samples, object_near}
-
--- a piece of the list covers the point, and its depth there is strictly above a nearness
-abbrev pub HasNearerPiece : List Piece → Point → Fraction → Type 0
-HasNearerPiece pieces p nearness = (t : Piece) × Contains pieces t × (covers t p ≡ true) × IsBelow nearness (depth_at t p)
 
 -- In each frame, an object that is called occluded has at each of its samples in the screen a piece of the frame strictly nearer than it is there.
 pub record HidesTruly (s : Parts) : Type 0 where

@@ -14,14 +14,16 @@ use Rattle.cull_base.specs.Screen.{Dimensions}
 use Rattle.cull_base.specs.Piece.{Piece}
 use Rattle.cull_base.specs.State.{State}
 use Rattle.cull_base.specs.Fold.{after}
+use Rattle.cull_base.specs.Shape.{Shape, has_sample, near_at, area_of, verdict_of}
 use Rattle.cull_base.specs.Tiles.{PieceList}
 use Rattle.scene_reader.specs.Layout.{Parts}
 use Rattle.camera_path.specs.Clip.{clip_of, identity_camera}
 use Rattle.snap_setup.specs.Pieces.{list_of_clips}
 use Rattle.masked_update.specs.TileOf.{TileOf}
-use Rattle.cull_report.specs.Pixels.{state_in}
-use Rattle.cull_report.specs.Shape.{Shape, has_sample, near_at, area_of, verdict_of}
-use Rattle.cull_report.specs.Shapes.{rectangle_shape, box_shape, mesh_shape, corners_of}
+use Rattle.masked_update.specs.Views.{state_in}
+use Rattle.rect_query.specs.Rectangles.{rectangle_shape}
+use Rattle.rect_query.specs.Boxes.{box_shape}
+use Rattle.cull_report.specs.Shapes.{mesh_shape, corners_of}
 use Rattle.cull_report.specs.Text.{header_text, frame_text}
 
 -- a rectangle that doesn't stand before the near distance

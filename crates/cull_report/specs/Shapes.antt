@@ -1,38 +1,19 @@
--- The shapes of rectangles, boxes and meshes. The top is that of the scene's grade of nearness.
-use Rattle.std.specs.Prelude.{ℕ, ℤ, pos, ◌*◌, ◌∷◌, [], List, map, Bool, not, ◌||◌, cond, int_lt, slice_index_or}
-use Rattle.std.specs.Int.{div_ceil}
+-- The corners of boxes, and the shapes of meshes. The top is that of the scene's grade of nearness.
+use Rattle.std.specs.Prelude.{ℕ, ℤ, pos, ◌∷◌, [], List, map, cond, slice_index_or}
 use Rattle.std.specs.Option.{option_to_list}
 use Rattle.std.specs.List.{list_all, list_any, flat_map}
 use Rattle.cull_base.specs.declared.clip.ClipVertex.{ClipVertex}
 use Rattle.cull_base.specs.declared.rect.Rect.{Rect}
-use Rattle.cull_base.specs.declared.place.Sub.{Sub}
 use Rattle.cull_base.specs.declared.scene_types.Tri.{Tri}
-use Rattle.cull_base.specs.declared.scene_types.Verdict.{Verdict}
 use Rattle.cull_base.specs.declared.triangle.Side.TheVariants.{Object}
 use Rattle.cull_base.specs.declared.triangle.Winding.TheVariants.{Both}
-use Rattle.cull_base.specs.State.{State}
 use Rattle.cull_base.specs.Guard.{is_past_guard}
 use Rattle.cull_base.specs.Screen.{Dimensions, screen_of}
 use Rattle.cull_base.specs.Rectangle.{meets}
-use Rattle.cull_base.specs.Piece.{least_of, greatest_of, box_around}
-use Rattle.near_clip.specs.NearPart.{is_in_front, whole}
-use Rattle.snap_setup.specs.Snapping.{screen_x, screen_y}
+use Rattle.cull_base.specs.Piece.{least_of, greatest_of}
 use Rattle.snap_setup.specs.Pieces.{pieces_of, near_box_of, clip_at}
-use Rattle.cull_report.specs.Pixels.{natural}
-use Rattle.cull_report.specs.Shape.{Shape, AlwaysOutside, AlwaysVisible, Flat, Pieces, flat_shape, verdict_of}
-
--- the nearness of what is asked for at distance w, rounded up: top * near / w
-abbrev pub nearness_at : ℕ → ℕ → ℤ → ℕ
-nearness_at top near w = div_ceil (top * near) (natural w)
-
--- a rectangle at distance w: outside without a pixel in the screen, visible before the near distance
-abbrev pub rectangle_shape : ℕ → ℕ → Dimensions → Rect → ℤ → Shape
-rectangle_shape top near size rect w =
-    cond (meets rect (screen_of size)) (cond (int_lt w (pos near)) AlwaysVisible (Flat rect (nearness_at top near w))) AlwaysOutside
-
--- the verdict of a rectangle at distance w
-abbrev pub rectangle_verdict : ℕ → ℕ → Dimensions → (Sub → State) → Rect → ℤ → Verdict
-rectangle_verdict top near size state_of rect w = verdict_of size state_of (rectangle_shape top near size rect w)
+use Rattle.cull_base.specs.NearPlane.{is_behind}
+use Rattle.cull_base.specs.Shape.{Shape, AlwaysOutside, AlwaysVisible, Pieces}
 
 -- the eight corners of a box between its least and its greatest
 abbrev pub corners_of : List ℤ → List ℤ → List (List ℤ)
@@ -41,25 +22,6 @@ corners_of low high =
     let x1 = slice_index_or high 0 (pos 0) in let y1 = slice_index_or high 1 (pos 0) in let z1 = slice_index_or high 2 (pos 0) in
     (x0 ∷ y0 ∷ z0 ∷ []) ∷ (x1 ∷ y0 ∷ z0 ∷ []) ∷ (x0 ∷ y1 ∷ z0 ∷ []) ∷ (x1 ∷ y1 ∷ z0 ∷ [])
     ∷ (x0 ∷ y0 ∷ z1 ∷ []) ∷ (x1 ∷ y0 ∷ z1 ∷ []) ∷ (x0 ∷ y1 ∷ z1 ∷ []) ∷ (x1 ∷ y1 ∷ z1 ∷ []) ∷ []
-
--- behind the near plane
-abbrev pub is_behind : ℕ → ClipVertex → Bool
-is_behind near v = not (is_in_front v near)
-
--- the pixels around a box's corners on the screen, and its nearness, which is that of its least w
-abbrev pub box_rect_of : Dimensions → List ClipVertex → Rect
-box_rect_of size corners = box_around (map (λ v. screen_x (whole v) size) corners) (map (λ v. screen_y (whole v) size) corners)
-
-abbrev pub box_nearness : ℕ → ℕ → List ClipVertex → ℕ
-box_nearness top near corners = nearness_at top near (least_of (map (λ v. v.w) corners))
-
--- A box, by the clip vertices of its corners: outside where all are behind the near plane, else visible where one is or is past the
--- guard, else its rectangle on the screen.
-abbrev pub box_shape : ℕ → ℕ → Dimensions → List ClipVertex → Shape
-box_shape top near size corners =
-    cond (list_all (is_behind near) corners) AlwaysOutside
-    (cond (list_any (λ v. is_past_guard v near || is_behind near v) corners) AlwaysVisible
-    (flat_shape size (box_rect_of size corners) (box_nearness top near corners)))
 
 abbrev pub vertices_of : List ClipVertex → Tri → List ClipVertex
 vertices_of clips t = clip_at clips t 0 ∷ clip_at clips t 1 ∷ clip_at clips t 2 ∷ []

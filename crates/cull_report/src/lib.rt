@@ -1,15 +1,12 @@
 //! The verdicts of a frame, and the texts that are written of it.
 #![tactic(auto)]
 
-mod area;
 mod built;
 mod objects;
-mod rectangle;
 mod report;
 mod text;
 
 pub use built::{identity_clips, is_built};
 pub use objects::verdicts;
-pub use rectangle::{rect_near, rect_test};
 pub use report::{write_frame, write_header};
 pub use text::Line;

@@ -2,14 +2,34 @@
 ghost use Rattle.std.specs.Prelude.{◌≡◌, ℕ, ◌<◌, ◌≤◌, true, map, length, IfOk};
 ghost use Rattle.std.specs.List.{All};
 ghost use Rattle.cull_base.specs.Screen.{tile_count_of};
-ghost use Rattle.cull_report.specs.Pixels.{state_in};
+ghost use Rattle.cull_base.specs.declared.nearness.TheConstants.{GRADE_TOP};
+ghost use Rattle.cull_base.specs.Shape.{verdict_of};
+ghost use Rattle.masked_update.specs.Views.{HoldsMet, state_in};
+ghost use Rattle.rect_query.specs.Rectangles.{rectangle_shape};
 ghost use Rattle.cull_report.specs.Scene.{IsBuiltObject, IsMarkedRight, size_of, frame_clips, object_verdict, verdict_in};
 
-use crate::rectangle::rectangle_verdict;
-use cull_base::{ClipVertex, Memory, Object, Verdict};
+use cull_base::{ClipVertex, Memory, Object, Rect, Size, Verdict};
 use masked_update::TileView;
+use rect_query::{rect_near, rect_test};
 use scene_reader::Scene;
 use std::alloc::Global;
+
+// The verdict of a rectangle at distance w: visible before the near distance where it has a pixel in the screen.
+fn rectangle_verdict<V: TileView>(view: &V, size: Size, near: u16, rect: &Rect, w: i32) -> Verdict
+    requires least { 1 ≤ near }
+    requires most { near ≤ 1024 }
+    requires holds { HoldsMet (V.held view.now) size rect.now }
+    ensures { result ≡ verdict_of size (state_in size (V.tile_of view.now)) (rectangle_shape GRADE_TOP near size rect.now w) }
+{
+    match rect_near(w, near) {
+        Some(q) => rect_test(view, size, *rect, q),
+        None => if rect.meets(&size.screen()) {
+            Verdict::Visible
+        } else {
+            Verdict::Outside
+        },
+    }
+}
 
 // The verdict of one object. Condition: it is a rectangle.
 fn verdict_of<V: TileView>(scene: &Scene, _frame: u32, object: &Object, view: &V) -> Verdict

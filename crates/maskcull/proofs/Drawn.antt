@@ -11,9 +11,10 @@ use Rattle.cull_base.specs.State.{State, empty_state}
 use Rattle.cull_base.specs.Fold.{after}
 use Rattle.cull_base.specs.Tiles.{tile_after}
 use Rattle.masked_update.specs.TileOf.{TileOf, tile_at}
-use Rattle.cull_report.specs.Pixels.{state_in, sub_of_pixel}
+use Rattle.cull_base.specs.Pixels.{sub_of_pixel}
+use Rattle.masked_update.specs.Views.{state_in}
 use Rattle.cull_report.proofs.Agreement.{Agrees}
-use Rattle.cull_report.proofs.Pixels.{tile_below}
+use Rattle.cull_base.proofs.Pixels.{tile_below}
 
 column_below : (s : Dimensions) (px : ℕ) → px < s.width → px / 8 / 4 < tile_columns_of s
 column_below s px lt = omega arith

@@ -2,6 +2,7 @@ pub mod SubTile
 pub mod Fields
 pub mod Setup
 pub mod TileOf
+pub mod Views
 pub mod Grid
 pub mod Merged
 pub mod Taken

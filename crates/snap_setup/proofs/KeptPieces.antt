@@ -18,10 +18,10 @@ use Rattle.snap_setup.specs.declared.snapping.Snapped.{Snapped}
 use Rattle.snap_setup.specs.Snapping.{snapped}
 use Rattle.snap_setup.specs.Pieces.{triangle, triangles_of, piece_if, is_left_out, turned, kept_of, snapped_part, is_any_past_guard, is_all_in_front, pieces_of, GivesNone}
 
-abbrev kept_from : Winding → List Piece → List Piece
+abbrev pub kept_from : Winding → List Piece → List Piece
 kept_from winding ts = map turned (filter (λ t. not (is_left_out winding t)) ts)
 
-kept_cons : (winding : Winding) (t : Piece) (ts : List Piece) → kept_from winding (t ∷ ts) ≡ option_to_list (piece_if winding t) ++ kept_from winding ts
+pub kept_cons : (winding : Winding) (t : Piece) (ts : List Piece) → kept_from winding (t ∷ ts) ≡ option_to_list (piece_if winding t) ++ kept_from winding ts
 kept_cons winding t ts =
     by_test (is_left_out winding t)
   where

@@ -5,3 +5,5 @@ pub mod KeptPieces
 pub mod FrameLists
 pub mod BoxSteps
 pub mod Rows
+pub mod ValidPieces
+pub mod PieceBoxes

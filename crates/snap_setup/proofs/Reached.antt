@@ -127,7 +127,7 @@ nearness_along : (top near : ℕ) (x y s' w' : ℤ) (s w : ℕ) → s' ≡ pos s
     IsNearness top near p (top * near * unsigned_abs s' / unsigned_abs w') (div_ceil (top * near * unsigned_abs s') (unsigned_abs w'))
 nearness_along top near x y s' w' s w es ew hn hs le = rw (es, ew) (nearness_in top near x y s w hn hs le)
 
-nearness_is : (top near : ℕ) (p : HomPoint) → 1 ≤ near → near ≤ 1024 → IsInReach near p →
+pub nearness_is : (top near : ℕ) (p : HomPoint) → 1 ≤ near → near ≤ 1024 → IsInReach near p →
     IsNearness top near p (top * near * unsigned_abs p.scale / unsigned_abs p.w) (div_ceil (top * near * unsigned_abs p.scale) (unsigned_abs p.w))
 nearness_is top near p hn le h = let (s, w, r) = reached near p le h in nearness_along top near p.x p.y p.scale p.w s w r.scale_is r.w_is hn r.scale_least r.w_least
 

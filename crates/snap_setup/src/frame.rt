@@ -34,8 +34,9 @@ pub fn frame_list(
     Ok(list)
 }
 
+/// The vertices of a triangle among some clip vertices. Condition: each index is below their number.
 #[inline(always)]
-fn corners(clips: &[ClipVertex], tri: &Tri) -> [ClipVertex; 3]
+pub fn corners(clips: &[ClipVertex], tri: &Tri) -> [ClipVertex; 3]
     requires { HasClips (length clips.now) tri.now }
     ensures first { corner result 0 ≡ clip_at clips.now tri.now 0 }
     ensures second { corner result 1 ≡ clip_at clips.now tri.now 1 }

@@ -8,10 +8,10 @@ mod pieces;
 mod snapping;
 mod triangle;
 
-pub use boxes::near_box;
-pub use frame::frame_list;
+pub use boxes::{near_box, rect_between};
+pub use frame::{corners, frame_list};
 pub use pieces::Pieces;
-pub use snapping::{Snapped, snap};
+pub use snapping::{Place, Snapped, place_of, snap};
 pub use triangle::set_up;
 
 #[cfg(test)]

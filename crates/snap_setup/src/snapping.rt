@@ -81,15 +81,15 @@ fn place_y(point: &HomPoint, size: Size, doubled: &Divisor) -> i32
 }
 
 /// Where a point stands: in sixteenths of a pixel, y downwards.
-#[derive(Clone, Copy)]
-pub(crate) struct Place {
-    pub(crate) x: i32,
-    pub(crate) y: i32,
+#[derive(Clone, Copy, Debug, PartialEq, Eq)]
+pub struct Place {
+    pub x: i32,
+    pub y: i32,
 }
 
-/// The place of a point that is in reach.
+/// The place of a point that is in reach. Conditions as for `snap`.
 #[inline(always)]
-pub(crate) fn place_of(point: &HomPoint, near: u16, size: Size) -> Place
+pub fn place_of(point: &HomPoint, near: u16, size: Size) -> Place
     requires near_least { 1 ≤ near }
     requires near_most { near ≤ 1024 }
     requires reach { IsInReach near point.now }

@@ -2,9 +2,9 @@ use Rattle.std.proofs.Common.{◌≡◌, ℕ, FitsSigned, w32, rules, subst}
 use Rattle.std.proofs.lemmas.Int.{to_z-of_z}
 use Rattle.cull_base.specs.declared.nearness.TheConstants.{GRADE_TOP}
 use Rattle.cull_base.specs.Screen.{Dimensions}
-use Rattle.cull_report.specs.Pixels.{state_in}
-use Rattle.cull_report.specs.Shape.{verdict_of}
-use Rattle.cull_report.specs.Shapes.{rectangle_shape}
+use Rattle.cull_base.specs.Shape.{verdict_of}
+use Rattle.masked_update.specs.Views.{state_in}
+use Rattle.rect_query.specs.Rectangles.{rectangle_shape}
 use Rattle.cull_report.specs.Scene.{size_of, object_shape}
 use Rattle.cull_report.proofs.objects.verdict_of.Goals as goal
 

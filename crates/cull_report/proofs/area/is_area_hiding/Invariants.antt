@@ -1,9 +1,0 @@
-use Rattle.std.proofs.Common.{◌≡◌, ℕ, ◌/◌, ◌<◌, true}
-use Rattle.cull_base.specs.State.{hides}
-use Rattle.cull_report.specs.Area.{IsIn}
-use Rattle.cull_report.specs.Pixels.{sub_of_pixel, sample_of_pixel, state_in}
-use Rattle.cull_report.proofs.area.is_area_hiding.Given as goal
-
-abbrev pub invariant-loop-row : goal.invariant-loop-row
-invariant-loop-row g l = (px py : ℕ) → IsIn l.area px py → py / 8 < l.row
-    → hides (state_in l.size (g.V.TileView.tile_of l.view) (sub_of_pixel px py)) (sample_of_pixel px py) l.q ≡ true

@@ -1,0 +1,94 @@
+-- The pixels of the screen that a rectangle has.
+use Rattle.std.proofs.Common.{◌≡◌, ℕ, ℤ, pos, ◌+◌, ◌*◌, ◌/◌, ◌%◌, ◌≤◌, ◌<◌, ◌≤ℤ◌, ◌<ℤ◌, Bool, true, ◌&&◌, cond, arith, refl, ap, ◌∙◌, int_lt, int_le}
+use Rattle.std.specs.Int.{int_min, int_max, div_ceil}
+use Rattle.std.proofs.lemmas.Bool.{and_parts}
+use Rattle.std.proofs.lemmas.Int.{ints}
+use Rattle.std.proofs.lemmas.Nat.{div-mul-add}
+use Rattle.std.proofs.Math.Nat.{mul-add-mod_self_right, mod-eq_of_lt}
+use Rattle.cull_base.proofs.Rectangles.{meets_pixel}
+use Rattle.cull_base.proofs.Pixels.{tile_below}
+use Rattle.cull_base.specs.declared.rect.Rect.{Rect}
+use Rattle.cull_base.specs.Screen.{Dimensions, IsSize, screen_of, tile_columns_of, tile_rows_of, tile_rect_of}
+use Rattle.cull_base.specs.Rectangle.{HasPixel, meets, cut_of, common, no_pixels}
+use Rattle.masked_update.specs.Views.{HoldsMet}
+use Rattle.rect_query.specs.declared.area.Area.{Area}
+use Rattle.rect_query.specs.Area.{IsAreaOf, HoldsArea}
+
+-- one axis: from the greater first to before the lesser end
+pub record Axis (a0 a1 : ℤ) (w m n : ℕ) : Type 0 where
+  pub some : m < n
+  pub within : n ≤ w
+  pub has : (p : ℕ) → m ≤ p → p < n → (int_le a0 (pos p) && int_lt (pos p) a1) ≡ true
+  pub from : (p : ℕ) → p < w → (int_le a0 (pos p) && int_lt (pos p) a1) ≡ true → (m ≤ p) × (p < n)
+
+axis : (a0 a1 : ℤ) (w m n : ℕ) → int_lt (int_max a0 (pos 0)) (int_min a1 (pos w)) ≡ true → pos m ≡ int_max a0 (pos 0) → pos n ≡ int_min a1 (pos w) → Axis a0 a1 w m n
+axis a0 a1 w m n lt em en = record {
+  some = grind (arith, ints);
+  within = grind (arith, ints);
+  has = λ p ge below. grind (arith, ints);
+  from = λ p below t. (grind (arith, ints), grind (arith, ints));
+}
+
+pub area_is : (a : Area) (r cut screen : Rect) (size : Dimensions) → IsSize size.width size.height → meets r (screen_of size) ≡ true → cut ≡ cut_of r screen → screen ≡ screen_of size
+    → pos a.x0 ≡ cut.x0 → pos a.y0 ≡ cut.y0 → pos a.x1 ≡ cut.x1 → pos a.y1 ≡ cut.y1 → IsAreaOf a r size
+area_is a r cut screen size valid m ec es x0 y0 x1 y1 =
+    let is : cut ≡ common r (screen_of size) = ec ∙ ap (cut_of r) es ∙ ap (λ (b : Bool). cond b (common r (screen_of size)) no_pixels) m in
+    let both = and_parts (int_lt (int_max r.x0 (pos 0)) (int_min r.x1 (pos size.width))) (int_lt (int_max r.y0 (pos 0)) (int_min r.y1 (pos size.height))) m in
+    let across = axis r.x0 r.x1 size.width a.x0 a.x1 both.0 (x0 ∙ ap (λ (c : Rect). c.x0) is) (x1 ∙ ap (λ (c : Rect). c.x1) is) in
+    let down = axis r.y0 r.y1 size.height a.y0 a.y1 both.1 (y0 ∙ ap (λ (c : Rect). c.y0) is) (y1 ∙ ap (λ (c : Rect). c.y1) is) in
+    record {
+      area = record {
+        wide = across.some;
+        high = down.some;
+        width_within = across.within;
+        height_within = down.within;
+        width_small = omega (arith, across.within, valid.within_width);
+        height_small = omega (arith, down.within, valid.within_height);
+      };
+      has = λ px py inside. let h = across.has px inside.left inside.right in let v = down.has py inside.above inside.below in rw (h, v) refl;
+      from = λ px py x y t.
+          let both = and_parts (int_le r.x0 (pos px) && int_lt (pos px) r.x1) (int_le r.y0 (pos py) && int_lt (pos py) r.y1) t in
+          let h = across.from px x both.0 in let v = down.from py y both.1 in
+          record { left = h.0; right = h.1; above = v.0; below = v.1 };
+    }
+
+-- the corners of the cut rectangle aren't negative
+pub cut_whole : (r cut screen : Rect) (size : Dimensions) → meets r (screen_of size) ≡ true → cut ≡ cut_of r screen → screen ≡ screen_of size
+    → (pos 0 ≤ℤ cut.x0) × (pos 0 ≤ℤ cut.y0) × (pos 0 ≤ℤ cut.x1) × (pos 0 ≤ℤ cut.y1)
+cut_whole r cut screen size m ec es =
+    let is : cut ≡ common r (screen_of size) = ec ∙ ap (cut_of r) es ∙ ap (λ (b : Bool). cond b (common r (screen_of size)) no_pixels) m in
+    let both = and_parts (int_lt (int_max r.x0 (pos 0)) (int_min r.x1 (pos size.width))) (int_lt (int_max r.y0 (pos 0)) (int_min r.y1 (pos size.height))) m in
+    let x = ends r.x0 r.x1 size.width both.0 in let y = ends r.y0 r.y1 size.height both.1 in
+    rw is (x.0, y.0, x.1, y.1)
+  where
+    ends : (a0 a1 : ℤ) (w : ℕ) → int_lt (int_max a0 (pos 0)) (int_min a1 (pos w)) ≡ true → (pos 0 ≤ℤ int_max a0 (pos 0)) × (pos 0 ≤ℤ int_min a1 (pos w))
+    ends a0 a1 w lt = (grind (arith, ints), grind (arith, ints))
+
+held_axis : (a0 a1 : ℤ) (p : ℕ) → (int_le a0 (pos p) && int_lt (pos p) a1) ≡ true → (a0 ≤ℤ pos p) × (pos p <ℤ a1)
+held_axis a0 a1 p t = (grind (arith, ints), grind (arith, ints))
+
+-- a view that holds the tiles that a rectangle meets holds the tile of each pixel of its area
+pub holds_area : (held : ℕ → Bool) (size : Dimensions) (a : Area) (r : Rect) → IsSize size.width size.height → IsAreaOf a r size → HoldsMet held size r → HoldsArea held size a
+holds_area held size a r valid is holds px py inside =
+    let x : px < size.width = omega (arith, inside.right, is.area.width_within) in let y : py < size.height = omega (arith, inside.below, is.area.height_within) in
+    let columns = tile_columns_of size in
+    let column : px / 32 < columns = column_below size.width px x in
+    let row : py / 8 < tile_rows_of size = row_below size.height py y in
+    let t = py / 8 * columns + px / 32 in
+    let at_row = div-mul-add (py / 8) columns (px / 32) column in
+    let at_column : t % columns ≡ px / 32 = mul-add-mod_self_right (py / 8) columns (px / 32) ∙ mod-eq_of_lt column in
+    let both = and_parts (int_le r.x0 (pos px) && int_lt (pos px) r.x1) (int_le r.y0 (pos py) && int_lt (pos py) r.y1) (is.has px py inside) in
+    let h = held_axis r.x0 r.x1 px both.0 in let v = held_axis r.y0 r.y1 py both.1 in
+    let here : HasPixel (tile_rect_of size t) (pos px) (pos py) = rw (at_row, at_column) (
+      omega (arith, ints),
+      omega (arith, ints, x),
+      omega (arith, ints),
+      omega (arith, ints, y),
+    ) in
+    holds t (tile_below (py / 8) (tile_rows_of size) (px / 32) columns row column) ((meets_pixel r (tile_rect_of size t)).1 (pos px, pos py, (h.0, h.1, v.0, v.1), here))
+  where
+    column_below : (w px : ℕ) → px < w → px / 32 < div_ceil w 32
+    column_below w px lt = omega arith
+
+    row_below : (h py : ℕ) → py < h → py / 8 < div_ceil h 8
+    row_below h py lt = omega arith

@@ -1,0 +1,5 @@
+pub mod Pixels
+pub mod Hiding
+pub mod Areas
+pub mod Subtiles
+pub mod Corners

@@ -1,0 +1,101 @@
+//! Boxes in space, each by the clip vertices of its corners, and their rectangles on the screen.
+ghost use Rattle.std.specs.Prelude.{◌≡◌, pos, ◌≤◌, ◌≤ℤ◌, ◌*◌, ◌||◌, false, map};
+ghost use Rattle.std.specs.List.{All, list_all, list_any};
+ghost use Rattle.cull_base.specs.declared.nearness.TheConstants.{GRADE_TOP};
+ghost use Rattle.cull_base.specs.Guard.{is_past_guard};
+ghost use Rattle.cull_base.specs.NearPlane.{is_behind};
+ghost use Rattle.cull_base.specs.Piece.{least_of};
+ghost use Rattle.rect_query.specs.Boxes.{box_answer, box_rect_of};
+
+use crate::rectangle::nearness;
+use camera_path::past_guard;
+use cull_base::{ClipVertex, Extent, Rect, Size};
+use near_clip::whole;
+use snap_setup::{place_of, rect_between};
+
+/// Where a box stands: behind the near plane, on both sides of it or past the guard, or before the viewer with a
+/// rectangle on the screen, which isn't cut to it, and one nearness.
+#[derive(Clone, Copy, Debug, PartialEq, Eq)]
+pub enum BoxAnswer {
+    Outside,
+    Straddles,
+    At { rect: Rect, q: u32 },
+}
+
+fn is_behind(corner: &ClipVertex, near: u16) -> bool
+    ensures { result ≡ is_behind near corner.now }
+{
+    corner.w < i64::from(near)
+}
+
+fn are_all_behind(corners: &[ClipVertex; 8], near: u16) -> bool
+    ensures { result ≡ list_all (is_behind near) corners.now }
+{
+    corners.iter().all(|corner| is_behind(corner, near))
+}
+
+// Whether a corner is past the guard or behind the near plane.
+fn is_one_astray(corners: &[ClipVertex; 8], near: u16) -> bool
+    requires least { 1 ≤ near }
+    requires most { near ≤ 1024 }
+    ensures { result ≡ list_any (λ v. is_past_guard v near || is_behind near v) corners.now }
+{
+    corners.iter().any(|corner| past_guard(corner, near) || is_behind(corner, near))
+}
+
+// The least distance of some corners.
+fn least_w(corners: &[ClipVertex; 8], near: u16) -> i32
+    requires most { near ≤ 1024 }
+    requires guarded { All (λ v. is_past_guard v near ≡ false) corners.now }
+    requires front { All (λ v. is_behind near v ≡ false) corners.now }
+    ensures value { result ≡ least_of (map (λ v. v.w) corners.now) }
+    ensures front { pos near ≤ℤ result }
+{
+    let rest = &corners[1..];
+    let mut least = corners[0].w;
+    for corner in rest {
+        least = least.min(corner.w);
+    }
+    least as i32
+}
+
+// The pixels that the corners reach on the screen.
+fn rect_around(corners: &[ClipVertex; 8], near: u16, size: Size) -> Rect
+    requires least { 1 ≤ near }
+    requires most { near ≤ 1024 }
+    requires guarded { All (λ v. is_past_guard v near ≡ false) corners.now }
+    requires front { All (λ v. is_behind near v ≡ false) corners.now }
+    ensures { result ≡ box_rect_of size corners.now }
+{
+    let rest = &corners[1..];
+    let first = place_of(&whole(&corners[0]), near, size);
+    let mut across = Extent::of(first.x);
+    let mut down = Extent::of(first.y);
+    for corner in rest {
+        let place = place_of(&whole(corner), near, size);
+        across = across.with(place.x);
+        down = down.with(place.y);
+    }
+    rect_between(across, down)
+}
+
+/// Where a box stands, by its eight corners: outside where all are before the near distance, else straddling where one
+/// is or is past the guard, else at the rectangle around them on the screen, with the nearness of the least distance.
+/// Condition: `near` is 1 to 1024.
+#[tactic(auto, unfolding(crate::specs::Boxes::box_answer))]
+pub fn box_rect(corners: &[ClipVertex; 8], near: u16, size: Size) -> BoxAnswer
+    requires least { 1 ≤ near }
+    requires most { near ≤ 1024 }
+    ensures { result ≡ box_answer GRADE_TOP near size corners.now }
+{
+    if are_all_behind(corners, near) {
+        return BoxAnswer::Outside;
+    }
+    if is_one_astray(corners, near) {
+        return BoxAnswer::Straddles;
+    }
+    BoxAnswer::At {
+        rect: rect_around(corners, near, size),
+        q: nearness(least_w(corners, near), near),
+    }
+}

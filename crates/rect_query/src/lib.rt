@@ -1,0 +1,11 @@
+//! Rectangles and boxes, asked of the tiles: whether each of their samples in the screen is hidden.
+#![tactic(auto)]
+
+mod area;
+mod boxes;
+mod rectangle;
+#[cfg(test)]
+mod tests;
+
+pub use boxes::{BoxAnswer, box_rect};
+pub use rectangle::{rect_near, rect_test};

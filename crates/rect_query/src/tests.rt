@@ -1,0 +1,131 @@
+//! Rectangles over a tile that is drawn in part, and boxes before, across and behind the near plane.
+use super::*;
+use cull_base::{ClipVertex, Rect, Size, Verdict};
+use masked_update::{PlainView, SubTile, TileState};
+use std::test::Fail;
+
+const FIRST_FOUR: Rect = Rect {
+    x0: 0,
+    y0: 0,
+    x1: 4,
+    y1: 4,
+};
+
+// The corners of a box as the identity camera sees them.
+fn corners(low: [i64; 3], high: [i64; 3]) -> [ClipVertex; 8] {
+    let at = |x: i64, y: i64, w: i64| ClipVertex { x, y, w };
+    [
+        at(low[0], low[1], low[2]),
+        at(high[0], low[1], low[2]),
+        at(low[0], high[1], low[2]),
+        at(high[0], high[1], low[2]),
+        at(low[0], low[1], high[2]),
+        at(high[0], low[1], high[2]),
+        at(low[0], high[1], high[2]),
+        at(high[0], high[1], high[2]),
+    ]
+}
+
+// Where a box stands on a screen of 32 by 8 with the near distance 1.
+fn answer(low: [i64; 3], high: [i64; 3]) -> Result<BoxAnswer, &'static str> {
+    let size = Size::new(32, 8).ok_or("size")?;
+    Ok(box_rect(&corners(low, high), 1, size))
+}
+
+// The verdict of a rectangle over a tile of which the first subtile is drawn.
+fn verdict(sub: SubTile, rect: Rect, q: u32) -> Result<Verdict, &'static str> {
+    let size = Size::new(32, 8).ok_or("size")?;
+    let mut subs = [SubTile::empty(); 8];
+    subs[0] = sub;
+    let states = [TileState::of(subs, 1)];
+    Ok(rect_test(&PlainView::new(&states), size, rect, q))
+}
+
+#[test]
+fn a_rectangle_is_hidden_by_a_working_layer_until_it_is_dropped(
+    rt: HostRuntime,
+) -> Result<(), Fail> {
+    let mut sub = SubTile::empty();
+    sub.merge(100, 0x0F0F_0F0F);
+    assert_eq!(rt; verdict(sub, FIRST_FOUR, 50)?, Verdict::Occluded);
+    assert_eq!(rt; verdict(sub, FIRST_FOUR, 99)?, Verdict::Occluded);
+    assert_eq!(rt; verdict(sub, FIRST_FOUR, 100)?, Verdict::Visible);
+    assert_eq!(rt;
+        verdict(
+            sub,
+            Rect {
+                x1: 5,
+                ..FIRST_FOUR
+            },
+            50
+        )?,
+        Verdict::Visible
+    );
+    sub.merge(201, 0x10);
+    assert_eq!(rt; verdict(sub, FIRST_FOUR, 50)?, Verdict::Visible);
+    Ok(())
+}
+
+#[test]
+fn a_rectangle_beside_the_screen_is_outside(rt: HostRuntime) -> Result<(), Fail> {
+    let empty = SubTile::empty();
+    for rect in [
+        Rect {
+            x0: 5,
+            x1: 5,
+            ..FIRST_FOUR
+        },
+        Rect {
+            x0: 32,
+            x1: 40,
+            ..FIRST_FOUR
+        },
+        Rect {
+            y0: -4,
+            y1: 0,
+            ..FIRST_FOUR
+        },
+    ] {
+        assert_eq!(rt; verdict(empty, rect, 50)?, Verdict::Outside);
+    }
+    Ok(())
+}
+
+#[test]
+fn nearness_is_rounded_up(rt: HostRuntime) {
+    assert_eq!(rt; rect_near(1, 1), Some(65535));
+    assert_eq!(rt; rect_near(2, 1), Some(32768));
+    assert_eq!(rt; rect_near(3, 1), Some(21845));
+    assert_eq!(rt; rect_near(16384, 1), Some(4));
+    assert_eq!(rt; rect_near(0, 1), None);
+    assert_eq!(rt; rect_near(-1, 1), None);
+}
+
+#[test]
+fn a_box_before_the_viewer_has_a_rectangle_and_the_nearness_of_its_least_distance(
+    rt: HostRuntime,
+) -> Result<(), Fail> {
+    let rect = Rect {
+        x0: 10,
+        y0: 2,
+        x1: 22,
+        y1: 6,
+    };
+    assert_eq!(rt;
+        answer([-1, -1, 3], [1, 1, 6])?,
+        BoxAnswer::At { rect, q: 21845 }
+    );
+    Ok(())
+}
+
+#[test]
+fn a_box_that_straddles_the_near_plane_or_the_guard_has_no_rectangle(
+    rt: HostRuntime,
+) -> Result<(), Fail> {
+    assert_eq!(rt; answer([0, 0, 0], [1, 1, 5])?, BoxAnswer::Straddles);
+    assert_eq!(rt; answer([16385, 0, 5], [16385, 1, 6])?, BoxAnswer::Straddles);
+    assert_eq!(rt; answer([0, 0, -5], [1, 1, 0])?, BoxAnswer::Outside);
+    let far = 0x100_0000;
+    assert_eq!(rt; answer([-far, 0, -far], [far, 1, 0])?, BoxAnswer::Outside);
+    Ok(())
+}
