@@ -1,9 +1,12 @@
 pub mod SubTile
 pub mod Fields
 pub mod Setup
+pub mod Lanes
+pub mod LanesBack
 pub mod TileOf
 pub mod Grid
 pub mod Merged
+pub mod Coverage
 pub mod Taken
 pub mod Least
 pub mod Drawn
