@@ -103,7 +103,7 @@ lane_by a w m l c t k b n false full h hl hc et ek eb en e f =
       | inl z ↦ inl z
       | inr nz ↦ inr (grind (arith, nat_tests))
     ]) in
-    record { step = sym (stays (seen a w m) l c hc behind); layers = h; }
+    record { step = sym (stays (seen a w m) l c hc behind); layers = h }
 lane_by a w m l c t k b n true full h hl hc et ek eb en e f = by full f
   where
     some : c ≢ 0

@@ -33,7 +33,7 @@ lanes_of r w m = record { references = r; workings = w; masks = m }
 
 pub lanes_back : (s : Inside) → AreLayers s.references s.workings s.masks
     → let v = states_of s.references s.workings s.masks in
-      record { references = map (λ (t : State). t.reference) v; workings = map (λ (t : State). t.working) v; masks = map (λ (t : State). mask_l t.samples) v } ≡ s
+    record { references = map (λ (t : State). t.reference) v; workings = map (λ (t : State). t.working) v; masks = map (λ (t : State). mask_l t.samples) v } ≡ s
 unfolding lanes_of
 lanes_back s h =
     let v = states_of s.references s.workings s.masks in

@@ -124,9 +124,7 @@ impl TileLayers {
         let left = (bound + reference)
             .simd_gt(working + working)
             .select(none, mask);
-        let lowered = left
-            .simd_eq(none)
-            .select(bound, working.simd_min(bound));
+        let lowered = left.simd_eq(none).select(bound, working.simd_min(bound));
         let joined = left | covered;
         let full = joined.simd_eq(all);
         let nearer = bound.simd_gt(reference);
@@ -136,8 +134,6 @@ impl TileLayers {
         self.workings = nearer
             .select(full.select(none, lowered), working)
             .to_array();
-        self.masks = nearer
-            .select(full.select(none, joined), mask)
-            .to_array();
+        self.masks = nearer.select(full.select(none, joined), mask).to_array();
     }
 }
