@@ -8,6 +8,11 @@ pub mod MergeSound
 pub mod Boxes
 pub mod Grid
 pub mod SubSpans
+pub mod SubBits
+pub mod Lanes
+pub mod LaneMerge
+pub mod Covering
+pub mod Wanting
 pub mod Merging
 pub mod OwnList
 pub mod Tiles

@@ -1,5 +1,5 @@
 -- The step of a state, by the fields of the subtile that is seen as it.
-use Rattle.std.proofs.Common.{◌≡◌, ℕ, ◌+◌, ◌*◌, ◌<◌, ◌≤◌, ◌^◌, true, false, ◌&&◌, ◌||◌, not, cond, nat_eq, nat_lt, nat_le, arith, refl, ◌⊎◌, ◌≢◌, bit_or, min, subst, sym, ◌∙◌}
+use Rattle.std.proofs.Common.{◌≡◌, ℕ, ◌+◌, ◌*◌, ◌<◌, ◌≤◌, ◌^◌, true, false, ◌&&◌, ◌||◌, not, cond, nat_eq, nat_lt, nat_le, arith, refl, ◌⊎◌, ◌≢◌, ◌-◌, ap, bit_or, min, subst, sym, ◌∙◌}
 use Rattle.std.proofs.lemmas.Bool.Decides.{nat_tests}
 use Rattle.std.proofs.lemmas.Nat.{or_lt, le_or_r}
 use Rattle.cull_base.specs.declared.nearness.TheConstants.{HELD_TOP}
@@ -83,3 +83,21 @@ filled_layers b h = record {
 
 pub lowered_within : (b t k b' : ℕ) → b ≤ HELD_TOP → t ≤ HELD_TOP → b' ≡ cond (nat_eq k 0) t (min b t) → b' ≤ HELD_TOP
 lowered_within b t k b' hb ht e = grind (arith, nat_tests)
+
+-- the layers of a state are those of the fields that it shows
+pub layers_of : (a b m : ℕ) (s : State) → a ≡ s.reference → b ≡ s.working → samples_of m ≡ s.samples → a ≤ HELD_TOP → b ≤ HELD_TOP → m < 2 ^ 32 - 1 → IsLayered s → Layers a b m
+layers_of a b m s ea eb em ha hb hm is =
+    let tested = none-samples_of m (omega (arith, hm)) in
+    let none : is_none s.samples ≡ nat_eq m 0 = sym (ap is_none em) ∙ tested in
+    let above = is.above in
+    let empty = is.none in
+    record {
+      reference_within = ha;
+      working_within = hb;
+      working_nearer = λ some. let test : nat_eq m 0 ≡ false = grind (arith, nat_tests) in let lt = above (none ∙ test) in omega (arith, lt, ea, eb);
+      working_empty = λ z. let test : nat_eq m 0 ≡ true = grind (arith, nat_tests) in eb ∙ empty (none ∙ test);
+      not_full = hm;
+    }
+
+pub seen_is : (a b m : ℕ) (s : State) → a ≡ s.reference → b ≡ s.working → samples_of m ≡ s.samples → seen a b m ≡ s
+seen_is a b m s ea eb em = rw (ea, eb, em) refl

@@ -69,3 +69,7 @@ step_behind u s t p le = step_unless_covered u s t (λ k below c. step_not_neare
 -- a piece that covers none of its samples
 pub step_empty : (u : Sub) (s : State) (t : Piece) (mask : ℕ) → samples_of mask ≡ covered t u → mask ≡ 0 → step u s t ≡ s
 step_empty u s t mask is e = step_none u s t (ap is_none (sym is ∙ ap samples_of e) ∙ none-no_samples)
+
+pub step_with-none : (s : State) (t : ℕ) → step_with s t (samples_of 0) ≡ s
+unfolding step_with
+step_with-none s t = cond-true _ _ _ (or_left _ _ none-no_samples)

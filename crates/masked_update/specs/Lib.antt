@@ -1,10 +1,13 @@
 pub mod SubTile
 pub mod Fields
 pub mod Setup
+pub mod Lanes
+pub mod LanesBack
 pub mod TileOf
 pub mod Views
 pub mod Grid
 pub mod Merged
+pub mod Coverage
 pub mod Taken
 pub mod Least
 pub mod Drawn

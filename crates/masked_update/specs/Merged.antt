@@ -12,7 +12,7 @@ use Rattle.cull_base.specs.Fold.{step}
 use Rattle.edge_lanes.specs.Inside.{sub_of}
 use Rattle.edge_lanes.specs.Tiles.{inside_at}
 use Rattle.edge_lanes.specs.declared.tile_edges.TileEdges.{TileEdges}
-use Rattle.masked_update.specs.Grid.{ChangedWhere, is_in_rows}
+use Rattle.masked_update.specs.Grid.{is_in_rows}
 use Rattle.masked_update.specs.declared.sub_span.SubSpan.{SubSpan}
 
 -- the pixels of a subtile
@@ -33,10 +33,7 @@ merged_by size place x subs = map (merged_at size place x subs) (range_with_len 
 abbrev pub AreEdgesOf : TileEdges → Tile → Piece → Type 0
 AreEdgesOf edges place x = (j : ℕ) → inside_at edges j ≡ covered x (sub_of place j)
 
--- the piece is merged into the subtiles of a tile where the test holds, and the others stay
-abbrev pub MergedWhere : (ℕ → Bool) → Tile → Piece → List State → List State → Type 0
-MergedWhere test place x old new = ChangedWhere empty_state 8 test (λ j s. step (sub_of place j) s x) old new
-
+-- subtile j of a tile stands in the span
 abbrev pub has_sub : SubSpan → ℕ → Bool
 has_sub span j = is_in_rows 4 span.first_row span.end_row span.first_column span.end_column j
 

@@ -3,6 +3,7 @@
 #![tactic(auto)]
 
 mod canvas;
+mod coverage;
 mod draw;
 mod member;
 mod piece_setup;
@@ -10,6 +11,7 @@ mod sub_span;
 mod sub_tile;
 #[cfg(test)]
 mod tests;
+mod tile_layers;
 mod tile_state;
 mod tile_view;
 

@@ -1,16 +1,16 @@
 //! A piece set up for the tiles that take it: what each subtile asks of it is computed once.
-ghost use Rattle.std.specs.Prelude.{◌≡◌, ◌<◌, ◌≤◌, length};
-ghost use Rattle.cull_base.specs.Fold.{step};
+ghost use Rattle.std.specs.Prelude.{◌≡◌, ◌<◌, ◌^◌, length};
 ghost use Rattle.cull_base.specs.Piece.{IsPiece, box_of};
 ghost use Rattle.cull_base.specs.Depth.{greatest_nearness};
 ghost use Rattle.cull_base.specs.Screen.{tile_columns_of, tile_rows_of};
 ghost use Rattle.edge_lanes.specs.Inside.{sub_of};
-ghost use Rattle.edge_lanes.specs.Tiles.{inside_at, AreCandidates};
-ghost use Rattle.masked_update.specs.Grid.{is_in_row};
-ghost use Rattle.masked_update.specs.Merged.{AreEdgesOf, MergedWhere, merged_by};
+ghost use Rattle.masked_update.specs.Coverage.{CoveredAt, IsCoverage, AreWanted};
+ghost use Rattle.masked_update.specs.Lanes.{IsMergeable};
+ghost use Rattle.masked_update.specs.Merged.{AreEdgesOf, merged_by};
 
+use crate::coverage::Coverage;
 use crate::sub_span::SubSpan;
-use crate::sub_tile::SubTile;
+use crate::tile_layers::TileLayers;
 use cull_base::{Rect, ScreenTri, Side, Size, Sub, Tile};
 use depth_plane::Plane;
 use edge_lanes::{Edges, TileEdges};
@@ -36,6 +36,23 @@ impl Model for PieceSetup {
     ghost view = { λ s. s.tri };
 
     ghost invariant = { IsSetUp };
+}
+
+// Subtile j of a tile.
+#[inline(always)]
+fn subtile(place: Tile, j: u32) -> Sub
+    requires column { place.column < 64 }
+    requires row { place.row < 256 }
+    requires j { j < 8 }
+    ensures value { result ≡ sub_of place j }
+    ensures column { result.column < 256 }
+    ensures row { result.row < 512 }
+{
+    let j = j as u16;
+    Sub {
+        column: 4 * place.column + j % 4,
+        row: 2 * place.row + j / 4,
+    }
 }
 
 impl PieceSetup {
@@ -69,69 +86,71 @@ impl PieceSetup {
         self.nearest
     }
 
-    // Merges the piece into subtile j of a tile. Nothing is asked where an edge rejects the whole subtile, or where the
-    // piece is no nearer than the reference.
+    // Subtile j of the tile: its covered samples, and its bound if there are any.
     #[inline(always)]
-    fn merge(&self, sub_tile: &mut SubTile, edges: &TileEdges, candidates: u32, place: Tile, j: u16)
+    fn cover(&self, coverage: &mut Coverage, edges: &TileEdges, place: Tile, j: u32)
         requires column { place.column < 64 }
         requires row { place.row < 256 }
         requires j { j < 8 }
         requires edges { AreEdgesOf edges.now place self.now }
-        requires candidates { AreCandidates (inside_at edges.now) candidates }
-        ensures { sub_tile.new ≡ step (sub_of place j) sub_tile.old self.now }
+        requires mergeable { IsMergeable coverage.old }
+        ensures { CoveredAt place self.now j coverage.old coverage.new }
     {
-        if (candidates >> j) & 1 == 1 && sub_tile.reference() < self.nearest {
-            let mask = edges.mask(u32::from(j));
-            if mask != 0 {
-                let sub = Sub {
-                    column: 4 * place.column + j % 4,
-                    row: 2 * place.row + j / 4,
-                };
-                sub_tile.merge(self.plane.low(&self.tri, sub), mask);
-            }
+        let mask = edges.mask(j);
+        coverage.masks[j as usize] = mask;
+        if mask != 0 {
+            coverage.lows[j as usize] = self.plane.low(&self.tri, subtile(place, j));
         }
     }
 
-    // Merges the piece into the subtiles of one row of a tile, in the columns of a span.
+    // The wanted subtiles of a tile. The others get an empty mask.
     #[inline(always)]
-    fn merge_in_row(
-        &self,
-        subs: &mut [SubTile; 8],
-        edges: &TileEdges,
-        candidates: u32,
-        place: Tile,
-        span: SubSpan,
-        row: u16,
-    )
+    fn coverage(&self, edges: &TileEdges, place: Tile, wanted: u32) -> Coverage
         requires column { place.column < 64 }
         requires row { place.row < 256 }
-        requires span { span.first_column ≤ span.end_column }
-        requires within { span.end_column ≤ 4 }
-        requires sub_row { row < 2 }
         requires edges { AreEdgesOf edges.now place self.now }
-        requires candidates { AreCandidates (inside_at edges.now) candidates }
-        ensures merged { MergedWhere (is_in_row 4 row span.first_column span.end_column)
-            place self.now subs.old subs.new }
-        ensures eight { length subs.new ≡ 8 }
+        requires byte { wanted < 2 ^ 8 }
+        ensures { IsCoverage place self.now wanted result }
     {
-        for column in span.first_column..span.end_column {
-            let j = row * 4 + column;
-            self.merge(&mut subs[j as usize], edges, candidates, place, j);
+        let mut coverage = Coverage {
+            lows: [0; 8],
+            masks: [0; 8],
+        };
+        let mut left = wanted;
+        while left != 0 {
+            let j = left.trailing_zeros();
+            self.cover(&mut coverage, edges, place, j);
+            left &= !(1 << j);
         }
+        coverage
     }
 
-    // Merges the piece into a tile's subtiles on the screen. Only those that its box reaches are visited: the others
-    // lie outside the box, and a piece covers nothing outside its box.
-    pub(crate) fn merge_into(&self, subs: &mut [SubTile; 8], size: Size, place: Tile)
+    // The subtiles of a tile that the piece may change. It changes none that its box doesn't reach, since it covers
+    // nothing outside its box, none that an edge rejects whole, and none whose reference is nowhere behind it.
+    #[inline(always)]
+    fn wanted(&self, layers: &TileLayers, edges: &TileEdges, size: Size, place: Tile) -> u32
         requires column { place.column < tile_columns_of size }
         requires row { place.row < tile_rows_of size }
-        ensures { subs.new ≡ merged_by size place self.now subs.old }
+        requires edges { AreEdgesOf edges.now place self.now }
+        ensures wanted { AreWanted size place self.now layers.now result }
+        ensures eight { length layers.now ≡ 8 }
+        ensures byte { result < 2 ^ 8 }
     {
-        let span = SubSpan::of(&self.reached, size, place);
+        SubSpan::of(&self.reached, size, place).bits()
+            & layers.below(self.nearest)
+            & edges.candidates()
+    }
+
+    // Merges the piece into a tile's subtiles on the screen.
+    pub(crate) fn merge_into(&self, layers: &mut TileLayers, size: Size, place: Tile)
+        requires column { place.column < tile_columns_of size }
+        requires row { place.row < tile_rows_of size }
+        ensures { layers.new ≡ merged_by size place self.now layers.old }
+    {
         let edges = self.edges.at_tile(place);
-        let candidates = edges.candidates();
-        for row in span.first_row..span.end_row {
-            self.merge_in_row(subs, &edges, candidates, place, span, row);
+        let wanted = self.wanted(layers, &edges, size, place);
+        if wanted != 0 {
+            layers.merge(self.coverage(&edges, place, wanted));
         }
     }
 }

@@ -4,7 +4,7 @@ ghost use Rattle.std.specs.Prelude.{◌≡◌, ◌<◌, ◌≤◌, ◌^◌, ◌+
 use std::marker::Model;
 
 /// All 32 samples of a subtile.
-const ALL_SAMPLES: u32 = 0xFFFF_FFFF;
+pub(crate) const ALL_SAMPLES: u32 = 0xFFFF_FFFF;
 
 /// The depths are nearness from 0 to the top that subtiles hold. The working depth is above the reference where the
 /// mask isn't empty, and 0 elsewhere.
@@ -36,7 +36,7 @@ impl Model for SubTile {
 ghost use Rattle.cull_base.specs.declared.nearness.TheConstants.{HELD_TOP};
 ghost use Rattle.cull_base.specs.State.{samples_of, empty_state, step_with};
 ghost use Rattle.cull_base.specs.Fold.{IsLayered};
-ghost use Rattle.masked_update.specs.SubTile.{KeepsSound, AllBelow, AllHide};
+ghost use Rattle.masked_update.specs.SubTile.{seen, Layers, KeepsSound, AllBelow, AllHide};
 
 // The mask that an incoming bound t leaves: it drops a working layer that is further behind it than above the
 // reference.
@@ -78,6 +78,19 @@ impl SubTile {
             reference: 0,
             working: 0,
             mask: 0,
+        }
+    }
+
+    /// A subtile of these layers.
+    #[inline(always)]
+    pub(crate) fn of_layers(reference: u32, working: u32, mask: u32) -> SubTile
+        requires { Layers reference working mask }
+        ensures { result ≡ seen reference working mask }
+    {
+        SubTile {
+            reference,
+            working,
+            mask,
         }
     }
 

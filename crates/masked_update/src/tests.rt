@@ -130,6 +130,56 @@ fn piece_set_up_once_is_taken_by_two_tiles(rt: HostRuntime) -> Result<(), Fail> 
     Ok(())
 }
 
+// A subtile with a reference, and a working layer at these samples.
+fn layered(reference: u32, working: (u32, u32)) -> SubTile
+    requires reference { reference ≤ HELD_TOP }
+    requires working { working.0 ≤ HELD_TOP }
+{
+    let mut sub = SubTile::empty();
+    sub.merge(reference, EVERY_SAMPLE);
+    sub.merge(working.0, working.1);
+    sub
+}
+
+// A piece of twenty columns of pixels: it covers two subtiles of a row whole, the next to its half, and not the last.
+#[test]
+fn each_subtile_of_a_tile_takes_its_own_step(rt: HostRuntime) -> Result<(), Fail> {
+    let (left, right) = (0x0F0F_0F0F, 0xF0F0_F0F0);
+    let mut tile = TileState::of(
+        [
+            SubTile::empty(),
+            layered(200, (0, 0)),
+            SubTile::empty(),
+            SubTile::empty(),
+            layered(150, (0, 0)),
+            layered(100, (130, left)),
+            layered(100, (120, right)),
+            layered(100, (130, right)),
+        ],
+        0,
+    );
+    let size = Size::new(32, 8).ok_or("a size")?;
+    let piece = ScreenTri::new([-3200, 320, 320], [0, -1024, 1024], [150; 3]).ok_or("a piece")?;
+    tile.take(&piece, size, 0);
+    assert_eq!(rt; layers(&tile.sub(0)), (150, 0, 0), "filled at once");
+    assert_eq!(rt; layers(&tile.sub(1)), (200, 0, 0), "the piece is behind");
+    assert_eq!(rt; layers(&tile.sub(2)), (0, 150, left), "to its half");
+    assert_eq!(rt; layers(&tile.sub(3)), (0, 0, 0), "not covered");
+    assert_eq!(rt; layers(&tile.sub(4)), (150, 0, 0), "as near");
+    assert_eq!(rt;
+        layers(&tile.sub(5)),
+        (130, 0, 0),
+        "filled by the lesser bound"
+    );
+    assert_eq!(rt;
+        layers(&tile.sub(6)),
+        (100, 150, left),
+        "the working layer is dropped"
+    );
+    assert_eq!(rt; layers(&tile.sub(7)), (100, 130, right), "not covered");
+    Ok(())
+}
+
 // One piece over the tile, and then one behind it.
 #[test]
 fn piece_behind_each_reference_is_counted(rt: HostRuntime) -> Result<(), Fail> {

@@ -5,13 +5,14 @@ ghost use Rattle.cull_base.specs.Screen.{IsSize, tile_columns_of, tile_rows_of, 
 
 use crate::piece_setup::PieceSetup;
 use crate::sub_tile::SubTile;
+use crate::tile_layers::TileLayers;
 use cull_base::{ScreenTri, Size, Tile};
 use std::marker::Model;
 
 /// Eight subtiles in two rows of four, and a count of pieces.
 #[derive(Clone, Copy)]
 pub struct TileState {
-    subs: [SubTile; 8],
+    layers: TileLayers,
     count: u32,
 }
 
@@ -20,9 +21,9 @@ impl Model for TileState {
 
     ghost Value = { TileOf };
 
-    ghost view = { λ t. record { subs = t.subs; count = t.count } };
+    ghost view = { λ t. record { subs = t.layers; count = t.count } };
 
-    ghost inverse = { λ v. record { subs = v.subs; count = v.count } };
+    ghost inverse = { λ v. record { layers = v.subs; count = v.count } };
 }
 
 impl TileState {
@@ -34,7 +35,7 @@ impl TileState {
         ensures { result ≡ empty_tile }
     {
         TileState {
-            subs: [SubTile::empty(); 8],
+            layers: TileLayers::empty(),
             count: 0,
         }
     }
@@ -44,7 +45,10 @@ impl TileState {
         ensures value { result ≡ record { subs = subs; count = count } }
         ensures eight { length result.subs ≡ 8 }
     {
-        TileState { subs, count }
+        TileState {
+            layers: TileLayers::of(&subs),
+            count,
+        }
     }
 
     /// Condition: j is below 8.
@@ -53,7 +57,7 @@ impl TileState {
         ensures value { result ≡ sub_at self.now j }
         ensures eight { length self.now.subs ≡ 8 }
     {
-        self.subs[j as usize]
+        self.layers.sub(j as usize)
     }
 
     /// How many pieces the tile took.
@@ -102,7 +106,7 @@ impl TileState {
         requires row { place.row < tile_rows_of size }
         ensures { self.new ≡ merged_tile size place piece.now self.old }
     {
-        piece.merge_into(&mut self.subs, size, place);
+        piece.merge_into(&mut self.layers, size, place);
     }
 
     /// Counts a piece, and doesn't merge it.
@@ -117,10 +121,6 @@ impl TileState {
     pub(crate) fn least_reference(&self) -> u32
         ensures { (j : ℕ) → j < 8 → result ≤ (sub_at self.now j).reference }
     {
-        let mut least = u32::MAX;
-        for j in 0..8usize {
-            least = least.min(self.subs[j].reference());
-        }
-        least
+        self.layers.least_reference()
     }
 }

@@ -1,0 +1,15 @@
+use Rattle.masked_update.proofs.Covering.{lowest_within, cleared_less, next_visited}
+use Rattle.masked_update.proofs.piece_setup.PieceSetup.coverage.Goals as goal
+
+pub cover-requires-clause-j : goal.cover-requires-clause-j
+cover-requires-clause-j c = (lowest_within c.loop-left.left c.loop-left-test.true c.loop-left.invariant.byte).0
+
+pub loop-left-smaller : goal.loop-left-smaller
+loop-left-smaller c =
+    let lowest = lowest_within c.loop-left.left c.loop-left-test.true c.loop-left.invariant.byte in
+    cleared_less c.loop-left.left _ lowest.0 lowest.1
+
+pub loop-left-preserved : goal.loop-left-preserved
+loop-left-preserved c =
+    let lowest = lowest_within c.loop-left.left c.loop-left-test.true c.loop-left.invariant.byte in
+    next_visited c.args.place c.args.self.now c.args.wanted c.loop-left.left _ c.loop-left.coverage c.cover.new.coverage lowest.0 lowest.1 c.loop-left.invariant c.cover.ensures

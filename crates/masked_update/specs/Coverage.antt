@@ -1,0 +1,37 @@
+-- What a piece brings to the subtiles of a tile, and to which of them.
+use Rattle.std.specs.Prelude.{ℕ, ◌≡◌, ◌≢◌, ◌<◌, true, List, slice_index_or}
+use Rattle.std.specs.Int.{bit_at}
+use Rattle.cull_base.specs.Screen.{Dimensions, is_on_screen}
+use Rattle.cull_base.specs.Piece.{Piece, covered}
+use Rattle.cull_base.specs.Depth.{low_of}
+use Rattle.cull_base.specs.State.{State, empty_state, samples_of}
+use Rattle.cull_base.specs.Fold.{step}
+use Rattle.cull_base.specs.declared.place.Sub.{Sub}
+use Rattle.cull_base.specs.declared.place.Tile.{Tile}
+use Rattle.edge_lanes.specs.Inside.{sub_of}
+use Rattle.masked_update.specs.Lanes.{low_at, mask_at, IsMergeable}
+use Rattle.masked_update.specs.declared.coverage.Coverage.{Coverage}
+
+-- the mask has the samples of a subtile that the piece covers, and where there are any, the bound is the piece's
+pub record IsCovered (u : Sub) (x : Piece) (low mask : ℕ) : Type 0 where
+  pub samples : samples_of mask ≡ covered x u
+  pub bound : mask ≢ 0 → low ≡ low_of x u
+
+-- subtile j of a tile is now covered by the piece, and the others stay
+pub record CoveredAt (place : Tile) (x : Piece) (j : ℕ) (old new : Coverage) : Type 0 where
+  pub mergeable : IsMergeable new
+  pub here : IsCovered (sub_of place j) x (low_at new j) (mask_at new j)
+  pub low_stays : (k : ℕ) → k < 8 → k ≢ j → low_at new k ≡ low_at old k
+  pub mask_stays : (k : ℕ) → k < 8 → k ≢ j → mask_at new k ≡ mask_at old k
+
+-- the subtiles of the bits are covered by the piece, and the others get nothing
+pub record IsCoverage (place : Tile) (x : Piece) (bits : ℕ) (c : Coverage) : Type 0 where
+  pub mergeable : IsMergeable c
+  pub inside : (j : ℕ) → j < 8 → bit_at bits j ≡ 1 → IsCovered (sub_of place j) x (low_at c j) (mask_at c j)
+  pub others : (j : ℕ) → j < 8 → bit_at bits j ≡ 0 → mask_at c j ≡ 0
+
+-- The subtiles of the bits are on the screen. Of the others the piece changes none that is on the screen.
+pub record AreWanted (size : Dimensions) (place : Tile) (x : Piece) (subs : List State) (bits : ℕ) : Type 0 where
+  pub on_screen : (j : ℕ) → j < 8 → bit_at bits j ≡ 1 → is_on_screen size (sub_of place j) ≡ true
+  pub unchanged : (j : ℕ) → j < 8 → bit_at bits j ≡ 0 → is_on_screen size (sub_of place j) ≡ true
+      → step (sub_of place j) (slice_index_or subs j empty_state) x ≡ slice_index_or subs j empty_state
