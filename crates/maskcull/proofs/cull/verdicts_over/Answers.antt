@@ -8,7 +8,7 @@ use Rattle.cull_base.specs.Fold.{after}
 use Rattle.cull_base.specs.Tiles.{tile_after}
 use Rattle.masked_update.specs.TileOf.{tile_at}
 use Rattle.masked_update.specs.Views.{state_in}
-use Rattle.cull_report.specs.Scene.{frame_verdicts, frame_pieces, size_of, object_verdict, verdict_in}
+use Rattle.cull_report.specs.Scene.{frame_verdicts, frame_pieces, size_of, object_verdict}
 use Rattle.cull_report.proofs.Agreement.{objects_alike}
 use Rattle.maskcull.proofs.Drawn.{drawn_agrees}
 use Rattle.maskcull.proofs.cull.verdicts_over.Goals as goal
