@@ -1,5 +1,5 @@
 -- The subtiles of a tile that a piece may change.
-use Rattle.std.proofs.Common.{◌≡◌, ℕ, ◌<◌, ◌≤◌, Bool, true, false, List, cond, min, arith, refl, ap, ◌∙◌, sym, inl, inr, bit_and, slice_index_or}
+use Rattle.std.proofs.Common.{◌≡◌, ℕ, ◌<◌, ◌≤◌, Bool, true, false, List, cond, arith, refl, ◌∙◌, sym, inl, inr, bit_and, slice_index_or}
 use Rattle.std.specs.Int.{bit_at}
 use Rattle.std.proofs.lemmas.Bool.{both_ways, cases_eq, false_from_ne_true}
 use Rattle.std.proofs.lemmas.Nat.Bits.{bit_at_and, bit_at-lt}

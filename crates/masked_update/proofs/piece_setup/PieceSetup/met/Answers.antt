@@ -1,4 +1,4 @@
-use Rattle.std.proofs.Common.{◌<◌, ◌^◌, arith}
+use Rattle.std.proofs.Common.{arith}
 use Rattle.std.proofs.lemmas.Nat.{and_le_r}
 use Rattle.masked_update.proofs.Wanting.{met_of}
 use Rattle.masked_update.proofs.piece_setup.PieceSetup.met.Goals as goal
