@@ -21,11 +21,11 @@ abbrev bit_of : Bool → ℕ
 bit_of b = cond b 1 0
 
 -- the bits of the subtiles that a span has, and of those whose reference is below the piece
-pub nearer_of : (size : Dimensions) (place : Tile) (x : Piece) (subs : List State) (span : SubSpan) (reached below : ℕ) → IsPiece x → IsSubSpan (box_of x) size place span
+pub behind_of : (size : Dimensions) (place : Tile) (x : Piece) (subs : List State) (span : SubSpan) (reached below : ℕ) → IsPiece x → IsSubSpan (box_of x) size place span
     → ((j : ℕ) → j < 8 → bit_at reached j ≡ cond (has_sub span j) 1 0)
     → ((j : ℕ) → j < 8 → bit_at below j ≡ 0 → greatest_nearness x ≤ (slice_index_or subs j empty_state).reference)
     → AreWanted size place x subs (bit_and reached below)
-nearer_of size place x subs span reached below piece is reached_are below_are = record {
+behind_of size place x subs span reached below piece is reached_are below_are = record {
   on_screen = λ j lt one.
       let set : bit_at reached j ≡ 1 = omega (arith, bit_at_and reached below j, one, bit_at-lt reached j, bit_at-lt below j) in
       is.on_screen j (held (has_sub span j) (sym (reached_are j lt) ∙ set));

@@ -133,34 +133,14 @@ impl PieceSetup {
         coverage
     }
 
-    // The subtiles of a tile on the screen that the box reaches and whose reference is below the piece. It changes no
-    // other: it covers nothing outside its box, and its bound is nowhere above its greatest nearness.
+    // The subtiles of a tile, as bits, that the box reaches on the screen and whose reference is below the piece. It
+    // changes no other: it covers nothing outside its box, and its bound is nowhere above its greatest nearness.
     #[inline(always)]
-    fn nearer(&self, layers: &TileLayers, size: Size, place: Tile) -> u32
-        requires column { place.column < tile_columns_of size }
-        requires row { place.row < tile_rows_of size }
+    fn subtiles_behind(&self, layers: &TileLayers, size: Size, place: Tile) -> u32
         ensures wanted { AreWanted size place self.now layers.now result }
         ensures eight { length layers.now ≡ 8 }
     {
         SubSpan::of(&self.reached, size, place).bits() & layers.below(self.nearest)
-    }
-
-    // Of wanted subtiles those that no edge rejects whole: the piece covers nothing in the others.
-    #[inline(always)]
-    fn met(
-        &self,
-        layers: &TileLayers,
-        size: Size,
-        place: Tile,
-        edges: &TileEdges,
-        wanted: u32,
-    ) -> u32
-        requires edges { AreEdgesOf edges.now place self.now }
-        requires wanted { AreWanted size place self.now layers.now wanted }
-        ensures wanted { AreWanted size place self.now layers.now result }
-        ensures byte { result < 2 ^ 8 }
-    {
-        wanted & edges.candidates()
     }
 
     /// Merges the piece into a tile's subtiles on the screen, and says whether any may have changed.
@@ -170,12 +150,13 @@ impl PieceSetup {
         ensures merged { layers.new ≡ merged_by size place self.now layers.old }
         ensures same { result ≡ false → layers.new ≡ layers.old }
     {
-        let nearer = self.nearer(layers, size, place);
-        if nearer == 0 {
+        let behind = self.subtiles_behind(layers, size, place);
+        if behind == 0 {
             return false;
         }
         let edges = self.edges.at_tile(place);
-        let met = self.met(layers, size, place, &edges, nearer);
+        // in a subtile that an edge rejects whole the piece covers nothing
+        let met = behind & edges.candidates();
         if met == 0 {
             return false;
         }
