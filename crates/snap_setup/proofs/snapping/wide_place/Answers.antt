@@ -5,7 +5,7 @@ use Rattle.cull_base.specs.Piece.{IsCoordinate}
 use Rattle.cull_base.specs.Depth.{floor_of}
 use Rattle.snap_setup.specs.Snapping.{round_half}
 use Rattle.snap_setup.proofs.Floors.{rounded_is, rounded_near}
-use Rattle.snap_setup.proofs.snapping.place_of_offset.Goals as goal
+use Rattle.snap_setup.proofs.snapping.wide_place.Goals as goal
 
 -- what the quotient is
 record IsPlace (p : ℕ) (o w q : ℤ) : Type 0 where
