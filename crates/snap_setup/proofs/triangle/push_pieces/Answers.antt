@@ -1,4 +1,4 @@
-use Rattle.std.proofs.Common.{[], sym, ◌∙◌, arith, length, option_to_list}
+use Rattle.std.proofs.Common.{[], sym, ◌∙◌, arith, option_to_list}
 use Rattle.cull_base.specs.declared.nearness.TheConstants.{GRADE_TOP}
 use Rattle.cull_base.specs.declared.triangle.Side.TheVariants.{Occluder}
 use Rattle.snap_setup.proofs.KeptPieces.{grown, grown_by_none, few, few_by_option, past, held}
