@@ -67,6 +67,7 @@ fn sixteenth(value: i64) -> i64
     value >> 4
 }
 
+// A value in 31 bits, with its sign.
 #[inline(always)]
 fn near(value: i64) -> i32
     ensures value { result ≡ clamped value }
@@ -105,6 +106,7 @@ fn narrow_lowest(column: i32, row: i32) -> i32
     (column * 7).min(0) + (row * 3).min(0)
 }
 
+// What each of a tile's eight subtiles adds.
 #[inline(always)]
 fn narrow_subtiles(column: i32, row: i32) -> [i32; 8]
     requires column { Bounded (2 ^ 20) column }
