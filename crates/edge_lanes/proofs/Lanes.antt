@@ -1,5 +1,5 @@
 -- What lanes compute where nothing wraps.
-use Rattle.std.proofs.Common.{◌^◌, ◌+◌, negsuc, ◌*ℤ◌, ◌≤ℤ◌, ◌≡◌, ℤ, pos, ◌%◌, ◌+ℤ◌, arith, w32, w64, FitsSigned, to_z, of_z, Bool, true, false, cond, refl, ap, ◌∙◌, int_le, [], ◌∷◌}
+use Rattle.std.proofs.Common.{ℕ, ◌<◌, ◌^◌, ◌+◌, negsuc, ◌*ℤ◌, ◌≤ℤ◌, ◌≡◌, ℤ, pos, ◌%◌, ◌+ℤ◌, arith, w32, w64, FitsSigned, to_z, of_z, Bool, true, false, cond, refl, ap, ◌∙◌, int_le, [], ◌∷◌}
 use Rattle.std.specs.Cmp.{both_ways}
 use Rattle.cull_base.specs.Bounds.{Bounded}
 use Rattle.std.specs.Int.{int_div_euclid}
@@ -63,10 +63,17 @@ fourth_row_test s o r bs bo br =
     let v : to_z w32 (of_z w32 (to_z w32 (of_z w32 (to_z w32 (of_z w32 (to_z w32 (of_z w32 (to_z w32 (of_z w32 s) +ℤ to_z w32 (of_z w32 o))) +ℤ to_z w32 (of_z w32 r))) +ℤ to_z w32 (of_z w32 r))) +ℤ to_z w32 (of_z w32 r))) ≡ (s +ℤ (r *ℤ pos 3)) +ℤ o = simp to_z-of_z (omega (arith, ints)) in
     narrow_lane_top _ ∙ ap is_not_negative v
 
-pub mask_of_eight : (a b c d e f g h a' b' c' d' e' f' g' h' : Bool) → a ≡ a' → b ≡ b' → c ≡ c' → d ≡ d' → e ≡ e' → f ≡ f' → g ≡ g' → h ≡ h' →
-    mask_l (a ∷ b ∷ c ∷ d ∷ e ∷ f ∷ g ∷ h ∷ []) % 18446744073709551616 ≡ mask_l (a' ∷ b' ∷ c' ∷ d' ∷ e' ∷ f' ∷ g' ∷ h' ∷ [])
-mask_of_eight a b c d e f g h a' b' c' d' e' f' g' h' ea eb ec ed ee ef eg eh =
-    mask_l-mod (a ∷ b ∷ c ∷ d ∷ e ∷ f ∷ g ∷ h ∷ []) 64 (omega arith) ∙ cc
+-- eight lanes, one after the other
+pub mask_of_eight : (f g : ℕ → Bool) → ((k : ℕ) → k < 8 → f k ≡ g k) →
+    mask_l (f 0 ∷ f 1 ∷ f 2 ∷ f 3 ∷ f 4 ∷ f 5 ∷ f 6 ∷ f 7 ∷ []) % 18446744073709551616 ≡ mask_l (g 0 ∷ g 1 ∷ g 2 ∷ g 3 ∷ g 4 ∷ g 5 ∷ g 6 ∷ g 7 ∷ [])
+mask_of_eight f g h =
+    let a = h 0 (omega arith) in let b = h 1 (omega arith) in let c = h 2 (omega arith) in let d = h 3 (omega arith) in
+    let i = h 4 (omega arith) in let j = h 5 (omega arith) in let k = h 6 (omega arith) in let l = h 7 (omega arith) in
+    mask_l-mod (f 0 ∷ f 1 ∷ f 2 ∷ f 3 ∷ f 4 ∷ f 5 ∷ f 6 ∷ f 7 ∷ []) 64 (omega arith) ∙ cc
+
+pub each_of_eight : (P : ℕ → Type 0) → ((k : ℕ) → k < 8 → P k) → P 0 × (P 1 × (P 2 × (P 3 × (P 4 × (P 5 × (P 6 × (P 7 × Unit {0})))))))
+each_of_eight P h =
+    (h 0 (omega arith), (h 1 (omega arith), (h 2 (omega arith), (h 3 (omega arith), (h 4 (omega arith), (h 5 (omega arith), (h 6 (omega arith), (h 7 (omega arith), tt))))))))
 
 -- a sixteenth, rounded down, and moved by sixteenths of steps isn't negative exactly where the value isn't
 pub is_not_negative-sixteenth : (e k : ℤ) → is_not_negative (int_div_euclid e (pos 16) +ℤ k) ≡ is_not_negative (e +ℤ (pos 16 *ℤ k))

@@ -1,16 +1,18 @@
 -- The edges of a piece over one tile.
-use Rattle.std.proofs.Common.{◌≡◌, ◌<◌, ◌^◌, ℕ, ℤ}
+use Rattle.std.proofs.Common.{◌≡◌, ◌<◌, ◌^◌, ℕ, ℤ, FitsSigned, to_z, of_z, w32, w64, arith}
 use Rattle.std.specs.Simd.Lanes.{mask_l}
+use Rattle.std.proofs.lemmas.Int.{ints, to_z-of_z}
 use Rattle.cull_base.specs.Bounds.{Bounded}
+use Rattle.cull_base.specs.State.{samples_of}
 use Rattle.cull_base.specs.declared.place.Tile.{Tile}
 use Rattle.edge_lanes.specs.Lines.{Line, candidates_of_all, mask_of_all}
-use Rattle.edge_lanes.specs.Inside.{StartsAt, inside_of, lines_of_kind, narrow_line, wide_line}
+use Rattle.edge_lanes.specs.Inside.{StartsAt, inside_of, lines_of_kind, narrow_line, sub_of, wide_line}
 use Rattle.edge_lanes.specs.Tiles.{AreCandidates, inside_at}
 use Rattle.edge_lanes.specs.declared.edges.Kind.{Kind}
 use Rattle.edge_lanes.specs.declared.edges.Kind.TheVariants.{Narrow, Wide}
 use Rattle.edge_lanes.specs.declared.narrow_edges.NarrowEdges.{NarrowEdges}
 use Rattle.edge_lanes.specs.declared.tile_edges.TileEdges.{TileEdges}
-use Rattle.edge_lanes.proofs.Inside.{Begins, begins_clamped, begins_exact}
+use Rattle.edge_lanes.proofs.Inside.{Begins, begins_clamped, begins_exact, samples_of-mask_l_inside}
 use Rattle.edge_lanes.proofs.Subtiles.{mask_of_all-begun, no_samples-clear}
 
 begins_first : (k : Kind) (tile : Tile) (v : ℤ) → StartsAt k (lines_of_kind k).first tile v → Begins (lines_of_kind k).first tile v
@@ -38,6 +40,34 @@ mask_of_all-inside t j l =
     let k = t.edges.now.kind in
     mask_of_all-begun (lines_of_kind k) t.tile t.first t.second t.third j l (begins_first k t.tile t.first t.first_starts) (begins_second k t.tile t.second t.second_starts) (begins_third k t.tile t.third t.third_starts)
 
--- narrow edges hold 31 bits
-pub narrow_start-bounded : (k : Kind) (e : NarrowEdges) (l : Line) (tile : Tile) (v : ℤ) → k ≡ Narrow e → StartsAt k l tile v → Bounded (2 ^ 30) v
+pub samples_of-mask_l_inside_at : (t : TileEdges) (j : ℕ) → samples_of (mask_l (inside_at t j)) ≡ inside_at t j
+unfolding inside_at inside_of
+samples_of-mask_l_inside_at t j = samples_of-mask_l_inside (lines_of_kind t.edges.now.kind) (sub_of t.tile j)
+
+narrow_start-bounded : (k : Kind) (e : NarrowEdges) (l : Line) (tile : Tile) (v : ℤ) → k ≡ Narrow e → StartsAt k l tile v → Bounded (2 ^ 30) v
 narrow_start-bounded k e l tile v is h = (rw is at h).1
+
+-- as 32 bits hold it
+abbrev held : ℤ → ℤ
+held v = to_z w32 (of_z w32 (to_z w64 (of_z w64 v)))
+
+held_is : (v : ℤ) → Bounded (2 ^ 30) v → held v ≡ v
+held_is v b = let f : FitsSigned w64 v = omega (arith, ints) in let g : FitsSigned w32 v = omega (arith, ints) in simp to_z-of_z
+
+-- the values of narrow edges at a tile are held in 32 bits
+pub record AreHeld (t : TileEdges) : Type 0 where
+  pub first_is : to_z w32 (of_z w32 (to_z w64 (of_z w64 t.first))) ≡ t.first
+  pub second_is : to_z w32 (of_z w32 (to_z w64 (of_z w64 t.second))) ≡ t.second
+  pub third_is : to_z w32 (of_z w32 (to_z w64 (of_z w64 t.third))) ≡ t.third
+  pub first_bounded : Bounded (2 ^ 30) (to_z w32 (of_z w32 (to_z w64 (of_z w64 t.first))))
+  pub second_bounded : Bounded (2 ^ 30) (to_z w32 (of_z w32 (to_z w64 (of_z w64 t.second))))
+  pub third_bounded : Bounded (2 ^ 30) (to_z w32 (of_z w32 (to_z w64 (of_z w64 t.third))))
+
+pub are_held : (t : TileEdges) (e : NarrowEdges) → t.edges.now.kind ≡ Narrow e → AreHeld t
+are_held t e is =
+    let k = t.edges.now.kind in
+    let a = narrow_start-bounded k e (lines_of_kind k).first t.tile t.first is t.first_starts in
+    let b = narrow_start-bounded k e (lines_of_kind k).second t.tile t.second is t.second_starts in
+    let d = narrow_start-bounded k e (lines_of_kind k).third t.tile t.third is t.third_starts in
+    let p = held_is t.first a in let q = held_is t.second b in let r = held_is t.third d in
+    record { first_is = p; second_is = q; third_is = r; first_bounded = rw p a; second_bounded = rw q b; third_bounded = rw r d }

@@ -70,7 +70,8 @@ pub fn total(a: i64, b: i64) -> i64
 pub fn highest(column: i64, row: i64) -> i64
     requires column { Bounded (2 ^ 34) column }
     requires row { Bounded (2 ^ 34) row }
-    ensures { result ≡ highest_of column row }
+    ensures value { result ≡ highest_of column row }
+    ensures bounded { Bounded (2 ^ 46) result }
 {
     total(rise(column, 7), rise(row, 3))
 }
@@ -79,7 +80,8 @@ pub fn highest(column: i64, row: i64) -> i64
 pub fn lowest(column: i64, row: i64) -> i64
     requires column { Bounded (2 ^ 34) column }
     requires row { Bounded (2 ^ 34) row }
-    ensures { result ≡ lowest_of column row }
+    ensures value { result ≡ lowest_of column row }
+    ensures bounded { Bounded (2 ^ 46) result }
 {
     total(fall(column, 7), fall(row, 3))
 }

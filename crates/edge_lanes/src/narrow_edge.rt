@@ -7,7 +7,7 @@ ghost use Rattle.cull_base.specs.Bounds.{Bounded};
 ghost use Rattle.edge_lanes.specs.Lanes.{offsets_of, highest_of, lowest_of, subtile_step, subtile_steps, subtile_signs, row_of};
 ghost use Rattle.edge_lanes.specs.Lines.{IsEdge, IsShort, candidates_of, clamped, inside_from, line, moved_to, tile_value};
 
-use crate::arithmetic::{highest, lowest, shift, steps};
+use crate::arithmetic::{shift, steps};
 use crate::bias::first_value;
 use cull_base::{Side, Tile};
 use std::simd::prelude::*;
@@ -67,6 +67,7 @@ fn sixteenth(value: i64) -> i64
     value >> 4
 }
 
+// A value in 31 bits, with its sign.
 #[inline(always)]
 fn near(value: i64) -> i32
     ensures value { result ≡ clamped value }
@@ -86,13 +87,14 @@ fn narrow_steps(step: i32, count: u32) -> i64
     steps(i64::from(step), count)
 }
 
+// The most and the least that a subtile's samples add.
 #[inline(always)]
 fn narrow_highest(column: i32, row: i32) -> i32
     requires column { Bounded (2 ^ 20) column }
     requires row { Bounded (2 ^ 20) row }
     ensures { result ≡ highest_of column row }
 {
-    highest(i64::from(column), i64::from(row)) as i32
+    (column * 7).max(0) + (row * 3).max(0)
 }
 
 #[inline(always)]
@@ -101,9 +103,10 @@ fn narrow_lowest(column: i32, row: i32) -> i32
     requires row { Bounded (2 ^ 20) row }
     ensures { result ≡ lowest_of column row }
 {
-    lowest(i64::from(column), i64::from(row)) as i32
+    (column * 7).min(0) + (row * 3).min(0)
 }
 
+// What each of a tile's eight subtiles adds.
 #[inline(always)]
 fn narrow_subtiles(column: i32, row: i32) -> [i32; 8]
     requires column { Bounded (2 ^ 20) column }

@@ -85,7 +85,8 @@ impl NarrowEdges {
         requires first { Bounded (2 ^ 30 + 2 ^ 25) first }
         requires second { Bounded (2 ^ 30 + 2 ^ 25) second }
         requires third { Bounded (2 ^ 30 + 2 ^ 25) third }
-        ensures { IsTrue result → mask_l (each_sample (inside_all (narrow_lines self.now) first second third)) ≡ 2 ^ 32 - 1 }
+        ensures { IsTrue result →
+            mask_l (each_sample (inside_all (narrow_lines self.now) first second third)) ≡ 2 ^ 32 - 1 }
     {
         self.first.accepts_all(first)
             & self.second.accepts_all(second)

@@ -20,17 +20,9 @@ pub struct WideEdge {
     // what a pixel to the right adds, and one below
     column: i64,
     row: i64,
-    // the most and the least that a sample of a subtile adds to its first
-    highest: i64,
-    lowest: i64,
-    // what each of a tile's eight subtiles adds to the value at the tile's first sample
-    subtiles: [i64; 8],
     ghost start_bounded: { Bounded (2 ^ 61 + 1) start },
     ghost column_bounded: { Bounded (2 ^ 34) column },
     ghost row_bounded: { Bounded (2 ^ 34) row },
-    ghost is_highest: { highest ≡ highest_of column row },
-    ghost is_lowest: { lowest ≡ lowest_of column row },
-    ghost are_subtiles: { subtiles ≡ subtile_steps column row },
 }
 
 // What subtile j of a tile adds to the value at the tile's first sample.
@@ -63,33 +55,16 @@ fn subtile_steps(column: i64, row: i64) -> [i64; 8]
     ]
 }
 
+// A value moved within a tile.
 #[inline(always)]
-fn from_steps(start: i64, column: i64, row: i64) -> WideEdge
-    requires start { Bounded (2 ^ 61 + 1) start }
-    requires column { Bounded (2 ^ 34) column }
-    requires row { Bounded (2 ^ 34) row }
-    ensures start { result.start ≡ start }
-    ensures column { result.column ≡ column }
-    ensures row { result.row ≡ row }
-{
-    WideEdge {
-        start,
-        column,
-        row,
-        highest: highest(column, row),
-        lowest: lowest(column, row),
-        subtiles: subtile_steps(column, row),
-    }
-}
-
-#[inline(always)]
-fn row_start(start: i64, down: i64) -> i64
-    requires start { Bounded (2 ^ 61 + 2 ^ 48) start }
-    requires down { Bounded (2 ^ 45) down }
-    ensures value { result ≡ start +ℤ down }
+fn moved(start: i64, by: i64) -> i64
+    requires start { Bounded (2 ^ 61 + 2 ^ 49) start }
+    requires by { Bounded (2 ^ 46) by }
+    ensures value { result ≡ start +ℤ by }
     ensures bounded { Bounded (2 ^ 62) result }
+    ensures near { Bounded (2 ^ 61 + 2 ^ 47) start → Bounded (2 ^ 61 + 2 ^ 49) result }
 {
-    start + down
+    start + by
 }
 
 impl WideEdge {
@@ -105,11 +80,11 @@ impl WideEdge {
     {
         let across = difference(bx, ax);
         let down = difference(by, ay);
-        from_steps(
-            first_value(ax, ay, bx, by, side),
-            opposite(pixel_step(down)),
-            pixel_step(across),
-        )
+        WideEdge {
+            start: first_value(ax, ay, bx, by, side),
+            column: opposite(pixel_step(down)),
+            row: pixel_step(across),
+        }
     }
 
     /// The value at the first sample of a tile.
@@ -132,9 +107,9 @@ impl WideEdge {
         requires start { Bounded (2 ^ 61 + 2 ^ 47) start }
         requires j { j < 8 }
         ensures value { result ≡ moved_to (wide_line self.now) start j }
-        ensures bounded { Bounded (2 ^ 61 + 2 ^ 48) result }
+        ensures bounded { Bounded (2 ^ 61 + 2 ^ 49) result }
     {
-        start + self.subtiles[j as usize]
+        moved(start, subtile_step(self.column, self.row, j))
     }
 
     // Bit j is set where this value isn't negative with what subtile j of a tile adds.
@@ -144,19 +119,9 @@ impl WideEdge {
         ensures { result ≡ subtile_signs self.now.column self.now.row value }
     {
         i64x8::splat(value)
-            .strict_add(i64x8::from_array(self.subtiles))
+            .strict_add(i64x8::from_array(subtile_steps(self.column, self.row)))
             .simd_ge(i64x8::splat(0))
             .to_bitmask()
-    }
-
-    // The most that a subtile holds which begins with this value.
-    #[inline(always)]
-    fn with_highest(&self, start: i64) -> i64
-        requires { Bounded (2 ^ 61 + 2 ^ 48) start }
-        ensures value { result ≡ start +ℤ highest_of self.now.column self.now.row }
-        ensures bounded { Bounded (2 ^ 61 + 2 ^ 49) result }
-    {
-        start + self.highest
     }
 
     /// The subtiles of a tile that begins with this value: bit j is clear where no sample of subtile j is inside.
@@ -165,16 +130,16 @@ impl WideEdge {
         requires { Bounded (2 ^ 61 + 2 ^ 47) start }
         ensures { result ≡ candidates_of (wide_line self.now) start }
     {
-        self.subtile_signs(self.with_highest(start))
+        self.subtile_signs(moved(start, highest(self.column, self.row)))
     }
 
     /// Whether each sample of such a subtile is inside.
     #[inline(always)]
     fn accepts_all(&self, start: i64) -> bool
-        requires { Bounded (2 ^ 61 + 2 ^ 48) start }
-        ensures { IsTrue result ↔ (pos 0 ≤ℤ (start +ℤ lowest_of self.now.column self.now.row)) }
+        requires { Bounded (2 ^ 61 + 2 ^ 49) start }
+        ensures { IsTrue result → pos 0 ≤ℤ (start +ℤ lowest_of self.now.column self.now.row) }
     {
-        start + self.lowest >= 0
+        moved(start, lowest(self.column, self.row)) >= 0
     }
 
     // Bit c is set where the value at column c isn't negative, in a row that begins with this value.
@@ -195,18 +160,18 @@ impl WideEdge {
     // The same for a row of a subtile that begins with this value.
     #[inline(always)]
     fn row_of(&self, start: i64, row: u32) -> u64
-        requires start { Bounded (2 ^ 61 + 2 ^ 48) start }
+        requires start { Bounded (2 ^ 61 + 2 ^ 49) start }
         requires row { row < 4 }
         ensures value { result ≡ row_of (inside_from (wide_line self.now) start) row }
         ensures byte { result < 2 ^ 8 }
     {
-        self.columns(row_start(start, steps(self.row, row)))
+        self.columns(moved(start, steps(self.row, row)))
     }
 
     // The mask of a subtile that begins with this value, row by row.
     #[inline(always)]
     fn rows(&self, start: i64) -> u32
-        requires { Bounded (2 ^ 61 + 2 ^ 48) start }
+        requires { Bounded (2 ^ 61 + 2 ^ 49) start }
         ensures { result ≡ mask_l (each_sample (inside_from (wide_line self.now) start)) }
     {
         let upper = self.row_of(start, 0) + self.row_of(start, 1) * 256;
@@ -217,7 +182,7 @@ impl WideEdge {
     /// The samples of a subtile that are inside this edge, where the subtile begins with this value.
     #[inline(always)]
     pub fn mask(&self, start: i64) -> u32
-        requires { Bounded (2 ^ 61 + 2 ^ 48) start }
+        requires { Bounded (2 ^ 61 + 2 ^ 49) start }
         ensures { result ≡ mask_l (each_sample (inside_from (wide_line self.now) start)) }
     {
         if self.accepts_all(start) {

@@ -8,7 +8,7 @@ pub returns-then-accepts_all : goal.returns-then-accepts_all
 returns-then-accepts_all c =
     let fs : FitsSigned w64 c.args.start = c.ranges.start in
     let h = simp to_z-of_z at c.accepts_all.ensures in
-    sym (accepted (wide_line c.args.self.now) c.args.start (h.0 c.if-accepts_all.true))
+    sym (accepted (wide_line c.args.self.now) c.args.start (h c.if-accepts_all.true))
 
 pub returns-else-accepts_all : goal.returns-else-accepts_all
 returns-else-accepts_all c =

@@ -4,7 +4,6 @@ use Rattle.cull_base.specs.Piece.{edge_value, is_top_or_left, middle, point}
 use Rattle.cull_base.specs.declared.triangle.Side.{Side}
 use Rattle.edge_lanes.specs.Lanes.{bias_of, is_not_negative}
 use Rattle.edge_lanes.specs.Lines.{Line, value_at}
-use Rattle.edge_lanes.specs.Inside.{wide_line}
 use Rattle.edge_lanes.proofs.Steps.{value-pixel}
 use Rattle.edge_lanes.proofs.wide_edge.WideEdge.of.Goals as goal
 
@@ -25,8 +24,8 @@ returns c =
     let fp : FitsSigned w64 c.pixel_step.result = search rules in
     let fo : FitsSigned w64 c.opposite.result = search rules in
     let fr : FitsSigned w64 c.pixel_step-2.result = search rules in
-    λ x y. ap is_not_negative (joined (wide_line c.from_steps.result) c.args.side c.difference-across.result c.difference-down.result c.first_value.result c.pixel_step.result c.opposite.result c.pixel_step-2.result c.args.ax c.args.ay c.args.bx c.args.by
+    λ x y. ap is_not_negative (joined _ c.args.side c.difference-across.result c.difference-down.result c.first_value.result c.pixel_step.result c.opposite.result c.pixel_step-2.result c.args.ax c.args.ay c.args.bx c.args.by
     (simp to_z-of_z at c.difference-across.ensures.value) (simp to_z-of_z at c.difference-down.ensures.value)
     (simp to_z-of_z at c.first_value.ensures.value)
     (simp to_z-of_z at c.pixel_step.ensures.value) (simp to_z-of_z at c.opposite.ensures.value) (simp to_z-of_z at c.pixel_step-2.ensures.value)
-    (simp to_z-of_z at c.from_steps.ensures.start) (simp to_z-of_z at c.from_steps.ensures.column) (simp to_z-of_z at c.from_steps.ensures.row) x y)
+    (simp to_z-of_z) (simp to_z-of_z) (simp to_z-of_z) x y)
