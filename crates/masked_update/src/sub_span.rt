@@ -37,7 +37,7 @@ fn past(number: u32, start: u32, most: u32) -> u32
     number.saturating_sub(start).min(most)
 }
 
-// The bits from a first to before an end.
+// The ones from a first bit to before an end.
 #[inline(always)]
 fn ones_between(first: u32, end: u32) -> u32
     requires ordered { first ≤ end }
@@ -80,6 +80,7 @@ impl SubSpan {
     {
         let columns = ones_between(self.first_column, self.end_column);
         let rows = ones_between(4 * self.first_row, 4 * self.end_row);
+        // the same four bits in each of the two rows
         columns * 17 & rows
     }
 }
