@@ -167,6 +167,27 @@ fn push_if(piece: Option<ScreenTri>, list: &mut FrameList)
     }
 }
 
+// Out of line, so that no pieces are held where none are clipped.
+#[inline(never)]
+fn push_clipped(
+    v0: &ClipVertex,
+    v1: &ClipVertex,
+    v2: &ClipVertex,
+    near: u16,
+    size: Size,
+    winding: Winding,
+    list: &mut FrameList,
+)
+    requires near_least { 1 ≤ near }
+    requires near_most { near ≤ 1024 }
+    requires guarded { is_any_past_guard v0.now v1.now v2.now near ≡ false }
+    requires room { length list.old.list.members + 2 ≤ list.old.room }
+    ensures value { list.new ≡ with_pieces list.old (kept_of (snapped_part v0.now v1.now v2.now GRADE_TOP near size Occluder) winding) }
+    ensures most { length (kept_of (snapped_part v0.now v1.now v2.now GRADE_TOP near size Occluder) winding) ≤ 2 }
+{
+    clipped_pieces(v0, v1, v2, near, size, winding, Side::Occluder).push_onto(list);
+}
+
 /// Appends the pieces of an occluder's triangle to a list, as `set_up` makes them. Most have one, which goes straight
 /// to its place. Condition: `near` is 1 to 1024, and there is room for two.
 #[inline(always)]
@@ -188,10 +209,12 @@ pub(crate) fn push_pieces(
     if is_any_past_guard(v0, v1, v2, near) {
         return;
     }
-    let side = Side::Occluder;
     if is_all_in_front(v0, v1, v2, near) {
-        push_if(whole_piece(v0, v1, v2, near, size, winding, side), list);
+        push_if(
+            whole_piece(v0, v1, v2, near, size, winding, Side::Occluder),
+            list,
+        );
     } else {
-        clipped_pieces(v0, v1, v2, near, size, winding, side).push_onto(list);
+        push_clipped(v0, v1, v2, near, size, winding, list);
     }
 }

@@ -1,4 +1,4 @@
-use Rattle.std.proofs.Common.{[], sym, ◌∙◌, arith, length, option_to_list}
+use Rattle.std.proofs.Common.{[], sym, ◌∙◌, arith, refl, option_to_list}
 use Rattle.cull_base.specs.declared.nearness.TheConstants.{GRADE_TOP}
 use Rattle.cull_base.specs.declared.triangle.Side.TheVariants.{Occluder}
 use Rattle.snap_setup.proofs.KeptPieces.{grown, grown_by_none, few, few_by_option, past, held}
@@ -25,11 +25,11 @@ returns-then-is_all_in_front-clause-most c =
 
 pub returns-else-is_all_in_front-clause-value : goal.returns-else-is_all_in_front-clause-value
 returns-else-is_all_in_front-clause-value c =
-    grown c.args.list.now c.push_onto.new.list _ _ c.push_onto.ensures.value
-    (held c.args.v0.now c.args.v1.now c.args.v2.now GRADE_TOP c.args.near c.args.size c.args.winding Occluder c.clipped_pieces.result (sym c.is_any_past_guard.ensures ∙ c.if-is_any_past_guard.false) c.clipped_pieces.ensures)
+    grown c.args.list.now c.push_clipped.new.list _ _ c.push_clipped.ensures.value
+    (held c.args.v0.now c.args.v1.now c.args.v2.now GRADE_TOP c.args.near c.args.size c.args.winding Occluder _ (sym c.is_any_past_guard.ensures ∙ c.if-is_any_past_guard.false) refl)
 
 pub returns-else-is_all_in_front-clause-most : goal.returns-else-is_all_in_front-clause-most
 returns-else-is_all_in_front-clause-most c =
-    few c.clipped_pieces.result _
-    (held c.args.v0.now c.args.v1.now c.args.v2.now GRADE_TOP c.args.near c.args.size c.args.winding Occluder c.clipped_pieces.result (sym c.is_any_past_guard.ensures ∙ c.if-is_any_past_guard.false) c.clipped_pieces.ensures)
-    c.push_onto.ensures.most
+    few _ _
+    (held c.args.v0.now c.args.v1.now c.args.v2.now GRADE_TOP c.args.near c.args.size c.args.winding Occluder _ (sym c.is_any_past_guard.ensures ∙ c.if-is_any_past_guard.false) refl)
+    c.push_clipped.ensures.most
