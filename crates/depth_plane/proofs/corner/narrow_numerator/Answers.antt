@@ -1,4 +1,4 @@
-use Rattle.std.proofs.Common.{◌≡◌, ℤ, ◌+◌, ◌+ℤ◌, ◌*ℤ◌, ◌^◌, FitsSigned, w64, arith, rules, refl}
+use Rattle.std.proofs.Common.{◌≡◌, ℤ, ◌+◌, ◌+ℤ◌, ◌^◌, FitsSigned, w64, arith, rules, refl}
 use Rattle.std.proofs.lemmas.Int.{ints, to_z-of_z}
 use Rattle.cull_base.specs.Bounds.{Bounded}
 use Rattle.depth_plane.proofs.corner.narrow_numerator.Goals as goal
