@@ -4,7 +4,7 @@ ghost use Rattle.std.specs.List.{All};
 ghost use Rattle.cull_base.specs.declared.nearness.TheConstants.{GRADE_TOP};
 ghost use Rattle.snap_setup.specs.Pieces.{list_of_clips, clip_at, HasClips};
 
-use crate::triangle::push_pieces;
+use crate::triangle::{Corners, push_pieces};
 use cull_base::{ClipVertex, FrameList, Memory, Size, Tri, Winding};
 use std::alloc::Global;
 
@@ -27,22 +27,22 @@ pub fn frame_list(
 {
     let mut list = FrameList::with_room(alloc, size, 2 * tris.len() as u32)?;
     for tri in tris {
-        let (v0, v1, v2) = corners(clips, tri);
-        push_pieces(v0, v1, v2, near, size, winding, &mut list);
+        push_pieces(&corners(clips, tri), near, size, winding, &mut list);
     }
     Ok(list)
 }
 
 #[inline(always)]
-fn corners<'a>(
-    clips: &'a [ClipVertex],
-    tri: &Tri,
-) -> (&'a ClipVertex, &'a ClipVertex, &'a ClipVertex)
+fn corners<'a>(clips: &'a [ClipVertex], tri: &Tri) -> Corners<'a>
     requires { HasClips (length clips.now) tri.now }
-    ensures first { result.0.now ≡ clip_at clips.now tri.now 0 }
-    ensures second { result.1.now ≡ clip_at clips.now tri.now 1 }
-    ensures third { result.2.now ≡ clip_at clips.now tri.now 2 }
+    ensures first { result.v0.now ≡ clip_at clips.now tri.now 0 }
+    ensures second { result.v1.now ≡ clip_at clips.now tri.now 1 }
+    ensures third { result.v2.now ≡ clip_at clips.now tri.now 2 }
 {
     let [a, b, c] = tri.0;
-    (&clips[a as usize], &clips[b as usize], &clips[c as usize])
+    Corners {
+        v0: &clips[a as usize],
+        v1: &clips[b as usize],
+        v2: &clips[c as usize],
+    }
 }

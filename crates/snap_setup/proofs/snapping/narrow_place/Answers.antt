@@ -26,7 +26,7 @@ pub overflow_add-from : goal.overflow_add-from
 overflow_add-from c =
     let fo : FitsSigned w64 c.args.offset = c.ranges.offset in let fw : FitsSigned w64 c.args.w = c.ranges.w in
     let fr : FitsSigned w64 c.from.result = search rules in
-    let k = are_narrow c.args.pixels c.from.result c.args.offset c.args.w c.from.ensures c.requires.pixels c.requires.low c.requires.high c.requires.w_least c.requires.w_most in
+    let k = are_narrow c.args.pixels c.from.result c.args.offset c.args.w c.from.ensures c.requires.within c.requires.low c.requires.high c.requires.w_least c.requires.w_most in
     let fs = k.sixteenths in let fp = k.product in
     simp to_z-of_z k.sum
 
@@ -34,17 +34,17 @@ pub overflow_cast-result : goal.overflow_cast-result
 overflow_cast-result c =
     let fo : FitsSigned w64 c.args.offset = c.ranges.offset in let fw : FitsSigned w64 c.args.w = c.ranges.w in
     let fr : FitsSigned w64 c.from.result = search rules in let fq : FitsSigned w64 c.floor.result = search rules in
-    let k = are_narrow c.args.pixels c.from.result c.args.offset c.args.w c.from.ensures c.requires.pixels c.requires.low c.requires.high c.requires.w_least c.requires.w_most in
+    let k = are_narrow c.args.pixels c.from.result c.args.offset c.args.w c.from.ensures c.requires.within c.requires.low c.requires.high c.requires.w_least c.requires.w_most in
     let fs = k.sixteenths in let fp = k.product in let fn = k.sum in
-    simp to_z-of_z (placed c.args.pixels c.from.result c.args.offset c.args.w _ c.floor.result c.from.ensures c.requires.doubled (simp to_z-of_z at c.floor.ensures) c.requires.pixels c.requires.w_least c.requires.low c.requires.high).fits
+    simp to_z-of_z (placed c.args.pixels c.from.result c.args.offset c.args.w _ c.floor.result c.from.ensures c.requires.twice (simp to_z-of_z at c.floor.ensures) c.requires.within c.requires.w_least c.requires.low c.requires.high).fits
 
 pub returns-clause-value : goal.returns-clause-value
 returns-clause-value c =
     let fo : FitsSigned w64 c.args.offset = c.ranges.offset in let fw : FitsSigned w64 c.args.w = c.ranges.w in
     let fr : FitsSigned w64 c.from.result = search rules in let fq : FitsSigned w64 c.floor.result = search rules in
-    let k = are_narrow c.args.pixels c.from.result c.args.offset c.args.w c.from.ensures c.requires.pixels c.requires.low c.requires.high c.requires.w_least c.requires.w_most in
+    let k = are_narrow c.args.pixels c.from.result c.args.offset c.args.w c.from.ensures c.requires.within c.requires.low c.requires.high c.requires.w_least c.requires.w_most in
     let fs = k.sixteenths in let fp = k.product in let fn = k.sum in
-    let m = placed c.args.pixels c.from.result c.args.offset c.args.w _ c.floor.result c.from.ensures c.requires.doubled (simp to_z-of_z at c.floor.ensures) c.requires.pixels c.requires.w_least c.requires.low c.requires.high in
+    let m = placed c.args.pixels c.from.result c.args.offset c.args.w _ c.floor.result c.from.ensures c.requires.twice (simp to_z-of_z at c.floor.ensures) c.requires.within c.requires.w_least c.requires.low c.requires.high in
     let ff = m.fits in
     simp to_z-of_z m.value
 
@@ -52,8 +52,8 @@ pub returns-clause-within : goal.returns-clause-within
 returns-clause-within c =
     let fo : FitsSigned w64 c.args.offset = c.ranges.offset in let fw : FitsSigned w64 c.args.w = c.ranges.w in
     let fr : FitsSigned w64 c.from.result = search rules in let fq : FitsSigned w64 c.floor.result = search rules in
-    let k = are_narrow c.args.pixels c.from.result c.args.offset c.args.w c.from.ensures c.requires.pixels c.requires.low c.requires.high c.requires.w_least c.requires.w_most in
+    let k = are_narrow c.args.pixels c.from.result c.args.offset c.args.w c.from.ensures c.requires.within c.requires.low c.requires.high c.requires.w_least c.requires.w_most in
     let fs = k.sixteenths in let fp = k.product in let fn = k.sum in
-    let m = placed c.args.pixels c.from.result c.args.offset c.args.w _ c.floor.result c.from.ensures c.requires.doubled (simp to_z-of_z at c.floor.ensures) c.requires.pixels c.requires.w_least c.requires.low c.requires.high in
+    let m = placed c.args.pixels c.from.result c.args.offset c.args.w _ c.floor.result c.from.ensures c.requires.twice (simp to_z-of_z at c.floor.ensures) c.requires.within c.requires.w_least c.requires.low c.requires.high in
     let ff = m.fits in
     simp to_z-of_z m.within
