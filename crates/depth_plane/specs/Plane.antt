@@ -49,10 +49,10 @@ numerator_at c p = ((c.across *ℤ p.x) +ℤ (c.down *ℤ p.y)) +ℤ c.level
 
 -- At the samples of a screen of 2048 by 2048 pixels the numerators fit 64 bits; this is the least over the first subtile.
 pub record IsNarrow (c : Coefficients) (first : ℤ) : Type 0 where
-  pub across : Bounded (2 ^ 45) c.across
-  pub down : Bounded (2 ^ 45) c.down
+  pub across : Bounded (2 ^ 46) c.across
+  pub down : Bounded (2 ^ 46) c.down
   pub value : first ≡ numerator_at c (point (pos (8 + least_place c.across 112)) (pos (8 + least_place c.down 48)))
-  pub within : Bounded (2 ^ 62) first
+  pub within : Bounded (2 ^ 61 + 2 ^ 54) first
 
 -- the low bound of a subtile by a plane, and by a nearness that it isn't below
 abbrev pub low_from : Coefficients → ℕ → Sub → ℕ

@@ -13,11 +13,11 @@ pub const SPAN_DOWN: u32 = 48;
 /// Where the screen's first sample stands along each axis.
 const FIRST: u32 = 8;
 
-/// The steepest slope of a narrow plane: over a screen of 2048 pixels, below 2^15 sixteenths, it adds less than 2^60.
-const STEEPEST: i64 = 0x2000_0000_0000;
+/// The steepest slope of a narrow plane: over a screen of 2048 pixels, below 2^15 sixteenths, it adds less than 2^61.
+const STEEPEST: i64 = 0x4000_0000_0000;
 
-/// The greatest numerator of a narrow plane at the first subtile.
-const GREATEST: i128 = 0x4000_0000_0000_0000;
+/// The greatest numerator of a narrow plane at the origin.
+const GREATEST: i128 = 0x2000_0000_0000_0000;
 
 /// The place of the least value along one axis, from the first sample on.
 #[inline(always)]
@@ -77,41 +77,23 @@ pub fn numerator_at(across: i64, down: i64, level: i128, x: u32, y: u32) -> i128
 }
 
 fn is_gentle(slope: i64) -> bool
-    ensures { IsTrue result ↔ Bounded (2 ^ 45) slope }
+    ensures { IsTrue result ↔ Bounded (2 ^ 46) slope }
 {
     -STEEPEST <= slope && slope <= STEEPEST
 }
 
 fn is_small(numerator: i128) -> bool
-    ensures { IsTrue result ↔ Bounded (2 ^ 62) numerator }
+    ensures { IsTrue result ↔ Bounded (2 ^ 61) numerator }
 {
     -GREATEST <= numerator && numerator <= GREATEST
 }
 
-/// The least value over the first subtile, where the values at a screen's samples fit 64 bits.
-#[inline(always)]
-pub fn narrow_first(across: i64, down: i64, level: i128) -> Option<i64>
-    requires across { Bounded (2 ^ 56) across }
-    requires down { Bounded (2 ^ 56) down }
-    requires level { Bounded (2 ^ 87) level }
-    ensures { (area : ℤ) → IfSome result (IsNarrow (coefficients across down level area)) }
-{
-    let x = least_along(across, FIRST, SPAN_ACROSS);
-    let y = least_along(down, FIRST, SPAN_DOWN);
-    let first = numerator_at(across, down, level, x, y);
-    if is_gentle(across) && is_gentle(down) && is_small(first) {
-        Some(first as i64)
-    } else {
-        None
-    }
-}
-
 #[inline(always)]
 fn narrow_term(slope: i64, place: u32) -> i64
-    requires slope { Bounded (2 ^ 45) slope }
+    requires slope { Bounded (2 ^ 46) slope }
     requires place { place < 2 ^ 15 }
     ensures value { result ≡ slope *ℤ pos place }
-    ensures bounded { Bounded (2 ^ 60) result }
+    ensures bounded { Bounded (2 ^ 61) result }
 {
     slope * i64::from(place)
 }
@@ -119,12 +101,26 @@ fn narrow_term(slope: i64, place: u32) -> i64
 /// The value of a narrow plane so far to the right and below of a place where it is `first`.
 #[inline(always)]
 pub fn narrow_numerator(across: i64, down: i64, first: i64, right: u32, below: u32) -> i64
-    requires across { Bounded (2 ^ 45) across }
-    requires down { Bounded (2 ^ 45) down }
-    requires first { Bounded (2 ^ 62) first }
+    requires across { Bounded (2 ^ 46) across }
+    requires down { Bounded (2 ^ 46) down }
+    requires first { Bounded (2 ^ 61 + 2 ^ 54) first }
     requires right { right < 2 ^ 15 }
     requires below { below < 2 ^ 15 }
     ensures { result ≡ (first +ℤ (across *ℤ pos right)) +ℤ (down *ℤ pos below) }
 {
     first + narrow_term(across, right) + narrow_term(down, below)
+}
+
+/// The least value over the first subtile, where the values at a screen's samples fit 64 bits.
+#[inline(always)]
+pub fn narrow_first(across: i64, down: i64, level: i128) -> Option<i64>
+    ensures { (area : ℤ) → IfSome result (IsNarrow (coefficients across down level area)) }
+{
+    if is_gentle(across) && is_gentle(down) && is_small(level) {
+        let x = least_along(across, FIRST, SPAN_ACROSS);
+        let y = least_along(down, FIRST, SPAN_DOWN);
+        Some(narrow_numerator(across, down, level as i64, x, y))
+    } else {
+        None
+    }
 }

@@ -84,7 +84,7 @@ impl Plane {
         self.low_above(tri.least_nearness(), sub)
     }
 
-    // The low bound of a subtile, of a piece with so great a least nearness.
+    // The low bound of a subtile, for a piece whose least nearness is this.
     #[inline(always)]
     fn low_above(&self, nearness: u32, sub: Sub) -> u32
         requires column { sub.column < 256 }

@@ -23,7 +23,8 @@ pub fn cut_to_range(depth: i128) -> u32
     depth.clamp(0, i128::from(HELD_TOP)) as u32
 }
 
-/// The floor of a numerator over the area, no less than a nearness, cut to the range.
+/// The floor of a numerator over the area, no less than a nearness, cut to the range. A numerator below 0 is taken for
+/// 0: the nearness is no less than either floor.
 #[inline(always)]
 pub fn narrow_floor(numerator: i64, area: &Divisor, nearness: u32) -> u32
     ensures { result ≡ cut_to_range HELD_TOP (int_max (pos nearness) (floor_of numerator (pos area.now))) }

@@ -1,10 +1,11 @@
 -- Floors and ceilings of quotients by a positive number.
-use Rattle.std.proofs.Common.{◌≡◌, ℕ, ℤ, pos, negsuc, neg_ℤ, suc, zero, ◌+◌, ◌*◌, ◌/◌, ◌%◌, ◌<◌, ◌≤◌, ◌<ℤ◌, ◌≤ℤ◌, ◌+ℤ◌, ◌*ℤ◌, ◌⊎◌, inl, inr, min, arith, refl, ap}
+use Rattle.std.proofs.Common.{◌≡◌, ℕ, ℤ, pos, negsuc, neg_ℤ, suc, zero, ◌+◌, ◌*◌, ◌/◌, ◌%◌, ◌<◌, ◌≤◌, ◌<ℤ◌, ◌≤ℤ◌, ◌+ℤ◌, ◌*ℤ◌, ◌⊎◌, inl, inr, min, FitsSigned, w32, arith, refl, ap}
 use Rattle.std.proofs.lemmas.Int.{ints}
 use Rattle.std.proofs.Math.Nat.{mul-le-mul_left, div-lt_iff_lt-mul, div-eq_of_lt-le, div-add-mod, mod-lt, zero-div, mod-eq_of_lt}
 use Rattle.std.specs.Int.RustNames.{unsigned_abs}
 use Rattle.cull_base.specs.Bounds.{Bounded}
 use Rattle.cull_base.proofs.Bounds.{times-bounded}
+use Rattle.cull_base.specs.Piece.{IsCoordinate}
 use Rattle.cull_base.specs.Depth.{floor_of, ceiling_of}
 use Rattle.snap_setup.specs.Snapping.{round_half}
 
@@ -53,11 +54,11 @@ doubled_twice : (p : ℕ) (o : ℤ) → pos (16 * p) *ℤ o ≡ pos 2 *ℤ (pos 
 doubled_twice p (pos b) = omega (arith, ints)
 doubled_twice p (negsuc b) = omega (arith, ints)
 
-pub rounded_is : (p : ℕ) (o w d s e q : ℤ) → d ≡ pos (16 * p) *ℤ o → s ≡ d +ℤ w → e ≡ pos 2 *ℤ w → q ≡ floor_of s e → q ≡ round_half (pos (8 * p) *ℤ o) w
+rounded_is : (p : ℕ) (o w d s e q : ℤ) → d ≡ pos (16 * p) *ℤ o → s ≡ d +ℤ w → e ≡ pos 2 *ℤ w → q ≡ floor_of s e → q ≡ round_half (pos (8 * p) *ℤ o) w
 rounded_is p o w d s e q ed es ee eq = let t = doubled_twice p o in rw (eq, es, ee, ed, t) refl
 
 -- 8 * 2048 * 16385, which is below 2^29
-pub rounded_near : (p : ℕ) (o w : ℤ) → p ≤ 2048 → pos 1 ≤ℤ w → neg_ℤ (pos 16385 *ℤ w) ≤ℤ o → o ≤ℤ (pos 16385 *ℤ w) → Bounded 268451840 (round_half (pos (8 * p) *ℤ o) w)
+rounded_near : (p : ℕ) (o w : ℤ) → p ≤ 2048 → pos 1 ≤ℤ w → neg_ℤ (pos 16385 *ℤ w) ≤ℤ o → o ≤ℤ (pos 16385 *ℤ w) → Bounded 268451840 (round_half (pos (8 * p) *ℤ o) w)
 rounded_near p o (pos b) hp h low high =
     let near : Bounded (16385 * b) o = (omega (arith, ints, low), omega (arith, ints, high)) in
     let t = times-bounded (16385 * b) (8 * p) o near in
@@ -65,3 +66,16 @@ rounded_near p o (pos b) hp h low high =
     let m = mul-le-mul_left (16385 * b) le in
     round_half_near 268451840 (pos (8 * p) *ℤ o) (pos b) h (omega (arith, ints, t, m)) (omega (arith, ints, t, m))
 rounded_near p o (negsuc b) hp h low high = absurd (omega (arith, ints, h))
+
+-- what the quotient is
+pub record IsPlace (p : ℕ) (o w q : ℤ) : Type 0 where
+  pub value : q ≡ round_half (pos (8 * p) *ℤ o) w
+  pub within : IsCoordinate q
+  pub fits : FitsSigned w32 q
+
+pub is_place : (p : ℕ) (o w d s e q : ℤ) → d ≡ pos (16 * p) *ℤ o → s ≡ d +ℤ w → e ≡ pos 2 *ℤ w → q ≡ floor_of s e →
+    p ≤ 2048 → pos 1 ≤ℤ w → neg_ℤ (pos 16385 *ℤ w) ≤ℤ o → o ≤ℤ (pos 16385 *ℤ w) → IsPlace p o w q
+is_place p o w d s e q ed es ee eq hp hw low high =
+    let v = rounded_is p o w d s e q ed es ee eq in
+    let n = rounded_near p o w hp hw low high in
+    record { value = v; within = rw v (omega (arith, ints, n), omega (arith, ints, n)); fits = rw v (omega (arith, ints, n)) }

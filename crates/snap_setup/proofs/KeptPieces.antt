@@ -12,7 +12,7 @@ use Rattle.cull_base.specs.Piece.{Piece}
 use Rattle.cull_base.specs.Tiles.{FrameListOf}
 use Rattle.snap_setup.specs.Members.{with_pieces}
 use Rattle.near_clip.specs.declared.hom_point.HomPoint.{HomPoint}
-use Rattle.near_clip.specs.NearPart.{near_part, corner, is_in_front, whole}
+use Rattle.near_clip.specs.NearPart.{near_part, is_in_front, whole}
 use Rattle.near_clip.specs.Reach.{IsInReach}
 use Rattle.near_clip.proofs.Guarded.{guarded}
 use Rattle.near_clip.proofs.Reaches.{all_corners, near_part-outside, whole_reaches}

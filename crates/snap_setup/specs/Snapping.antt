@@ -1,5 +1,5 @@
 -- From clip space to the screen: coordinates in sixteenths of a pixel, and nearness.
-use Rattle.std.specs.Prelude.{ℕ, ℤ, pos, ◌*◌, ◌-◌, ◌^◌, ◌≤◌, ◌≤ℤ◌, ◌+ℤ◌, ◌-ℤ◌, ◌*ℤ◌}
+use Rattle.std.specs.Prelude.{◌≡◌, ℕ, ℤ, pos, neg_ℤ, ◌*◌, ◌-◌, ◌^◌, ◌≤◌, ◌≤ℤ◌, ◌+ℤ◌, ◌-ℤ◌, ◌*ℤ◌}
 use Rattle.std.specs.Int.RustNames.{unsigned_abs}
 use Rattle.cull_base.specs.declared.triangle.Side.{Side}
 use Rattle.cull_base.specs.declared.triangle.Side.TheVariants.{Occluder, Object}
@@ -53,6 +53,15 @@ pub record IsInSight (p : HomPoint) : Type 0 where
   pub y_beside : WithinScaled 16384 p.w p.y
   pub x_bounded : Bounded (2 ^ 49) p.x
   pub y_bounded : Bounded (2 ^ 49) p.y
+
+-- An offset on a scale of so many pixels from 0 to twice w: it lies at most 16385 times w away from 0, and w is at most `most`.
+pub record IsOnScale (pixels : ℕ) (offset w : ℤ) (doubled most : ℕ) : Type 0 where
+  pub within : pixels ≤ 2048
+  pub low : neg_ℤ (pos 16385 *ℤ w) ≤ℤ offset
+  pub high : offset ≤ℤ (pos 16385 *ℤ w)
+  pub w_least : pos 1 ≤ℤ w
+  pub w_most : w ≤ℤ pos most
+  pub twice : pos doubled ≡ pos 2 *ℤ w
 
 -- what is true of each snapped point
 pub record IsSnapped (s : Snapped) : Type 0 where

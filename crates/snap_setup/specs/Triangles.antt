@@ -6,11 +6,7 @@ use Rattle.cull_base.specs.declared.triangle.Winding.{Winding}
 use Rattle.cull_base.specs.Piece.{Piece}
 use Rattle.cull_base.specs.Screen.{Dimensions}
 use Rattle.near_clip.specs.NearPart.{corner}
-use Rattle.snap_setup.specs.declared.snapping.Snapped.{Snapped}
-use Rattle.snap_setup.specs.Pieces.{snapped_part, pieces_of, GivesNone}
-
-abbrev pub part_of_triangle : List ClipVertex → ℕ → ℕ → Dimensions → Side → List Snapped
-part_of_triangle v top near size side = snapped_part (corner v 0) (corner v 1) (corner v 2) top near size side
+use Rattle.snap_setup.specs.Pieces.{pieces_of, GivesNone}
 
 abbrev pub pieces_of_triangle : List ClipVertex → ℕ → ℕ → Dimensions → Winding → Side → List Piece
 pieces_of_triangle v top near size winding side = pieces_of (corner v 0) (corner v 1) (corner v 2) top near size winding side

@@ -5,7 +5,7 @@ ghost use Rattle.cull_base.specs.declared.nearness.TheConstants.{GRADE_TOP};
 ghost use Rattle.near_clip.specs.NearPart.{corner};
 ghost use Rattle.snap_setup.specs.Pieces.{list_of_clips, clip_at, HasClips};
 
-use crate::triangle::push_pieces;
+use crate::triangle::{Corners, push_pieces};
 use cull_base::{ClipVertex, FrameList, Memory, Size, Tri, Winding};
 use std::alloc::Global;
 
@@ -28,25 +28,25 @@ pub fn frame_list(
 {
     let mut list = FrameList::with_room(alloc, size, 2 * tris.len() as u32)?;
     for tri in tris {
-        let (v0, v1, v2) = corner_references(clips, tri);
-        push_pieces(v0, v1, v2, near, size, winding, &mut list);
+        push_pieces(&corner_references(clips, tri), near, size, winding, &mut list);
     }
     Ok(list)
 }
 
 // Where the vertices of a triangle stand among some clip vertices.
 #[inline(always)]
-fn corner_references<'a>(
-    clips: &'a [ClipVertex],
-    tri: &Tri,
-) -> (&'a ClipVertex, &'a ClipVertex, &'a ClipVertex)
+fn corner_references<'a>(clips: &'a [ClipVertex], tri: &Tri) -> Corners<'a>
     requires { HasClips (length clips.now) tri.now }
-    ensures first { result.0.now ≡ clip_at clips.now tri.now 0 }
-    ensures second { result.1.now ≡ clip_at clips.now tri.now 1 }
-    ensures third { result.2.now ≡ clip_at clips.now tri.now 2 }
+    ensures first { result.v0.now ≡ clip_at clips.now tri.now 0 }
+    ensures second { result.v1.now ≡ clip_at clips.now tri.now 1 }
+    ensures third { result.v2.now ≡ clip_at clips.now tri.now 2 }
 {
     let [a, b, c] = tri.0;
-    (&clips[a as usize], &clips[b as usize], &clips[c as usize])
+    Corners {
+        v0: &clips[a as usize],
+        v1: &clips[b as usize],
+        v2: &clips[c as usize],
+    }
 }
 
 /// The vertices of a triangle among some clip vertices. Condition: each index is below their number.
@@ -57,6 +57,6 @@ pub fn corners(clips: &[ClipVertex], tri: &Tri) -> [ClipVertex; 3]
     ensures second { corner result 1 ≡ clip_at clips.now tri.now 1 }
     ensures third { corner result 2 ≡ clip_at clips.now tri.now 2 }
 {
-    let (v0, v1, v2) = corner_references(clips, tri);
+    let Corners { v0, v1, v2 } = corner_references(clips, tri);
     [*v0, *v1, *v2]
 }

@@ -4,7 +4,7 @@ ghost use Rattle.cull_base.specs.Bounds.{Bounded};
 ghost use Rattle.cull_base.specs.Piece.{IsCoordinate};
 ghost use Rattle.cull_base.specs.declared.nearness.TheConstants.{GRADE_TOP};
 ghost use Rattle.near_clip.specs.Reach.{IsInReach};
-ghost use Rattle.snap_setup.specs.Snapping.{round_half, screen_x, screen_y, nearness_of, addend_of, snapped, place_of, IsInSight, IsSnapped};
+ghost use Rattle.snap_setup.specs.Snapping.{round_half, screen_x, screen_y, nearness_of, addend_of, snapped, place_of, IsInSight, IsOnScale, IsSnapped};
 
 use cull_base::{Divisor, GRADE_TOP, Side, Size};
 use near_clip::HomPoint;
@@ -50,12 +50,7 @@ const NARROW_W: i64 = 0x1_0000_0000;
 
 #[inline(always)]
 fn narrow_place(pixels: u16, offset: i64, w: i64, doubled: &Divisor) -> i32
-    requires pixels { pixels ≤ 2048 }
-    requires low { neg_ℤ (pos 16385 *ℤ w) ≤ℤ offset }
-    requires high { offset ≤ℤ (pos 16385 *ℤ w) }
-    requires w_least { pos 1 ≤ℤ w }
-    requires w_most { w ≤ℤ pos (2 ^ 32) }
-    requires doubled { pos doubled.now ≡ pos 2 *ℤ w }
+    requires { IsOnScale pixels offset w doubled.now (2 ^ 32) }
     ensures value { result ≡ round_half (pos (8 * pixels) *ℤ offset) w }
     ensures within { IsCoordinate result }
 {
@@ -64,12 +59,7 @@ fn narrow_place(pixels: u16, offset: i64, w: i64, doubled: &Divisor) -> i32
 
 #[inline(never)]
 fn wide_place(pixels: u16, offset: i64, w: i64, doubled: &Divisor) -> i32
-    requires pixels { pixels ≤ 2048 }
-    requires low { neg_ℤ (pos 16385 *ℤ w) ≤ℤ offset }
-    requires high { offset ≤ℤ (pos 16385 *ℤ w) }
-    requires w_least { pos 1 ≤ℤ w }
-    requires w_most { w ≤ℤ pos (2 ^ 49) }
-    requires doubled { pos doubled.now ≡ pos 2 *ℤ w }
+    requires { IsOnScale pixels offset w doubled.now (2 ^ 49) }
     ensures value { result ≡ round_half (pos (8 * pixels) *ℤ offset) w }
     ensures within { IsCoordinate result }
 {
@@ -80,12 +70,7 @@ fn wide_place(pixels: u16, offset: i64, w: i64, doubled: &Divisor) -> i32
 // So many pixels are reached by offsets from 0 to twice w. The place of an offset in sixteenths of a pixel, rounded.
 #[inline(always)]
 fn place_of_offset(pixels: u16, offset: i64, w: i64, doubled: &Divisor) -> i32
-    requires pixels { pixels ≤ 2048 }
-    requires low { neg_ℤ (pos 16385 *ℤ w) ≤ℤ offset }
-    requires high { offset ≤ℤ (pos 16385 *ℤ w) }
-    requires w_least { pos 1 ≤ℤ w }
-    requires w_most { w ≤ℤ pos (2 ^ 49) }
-    requires doubled { pos doubled.now ≡ pos 2 *ℤ w }
+    requires { IsOnScale pixels offset w doubled.now (2 ^ 49) }
     ensures value { result ≡ round_half (pos (8 * pixels) *ℤ offset) w }
     ensures within { IsCoordinate result }
 {

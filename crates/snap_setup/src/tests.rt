@@ -102,6 +102,32 @@ fn the_farthest_points_are_exact(rt: HostRuntime) -> Result<(), Fail> {
     Ok(())
 }
 
+// The same places as of the farthest cut points, by 64 bits.
+#[test]
+fn the_farthest_vertices_are_exact(rt: HostRuntime) -> Result<(), Fail> {
+    let size = Size::new(2048, 2048).ok_or("size")?;
+    let right_below = HomPoint {
+        x: 0x100_0000,
+        y: -0x100_0000,
+        w: 0x400,
+        scale: 1,
+    };
+    let point = snap(&right_below, 1024, size, Side::Object);
+    assert_eq!(rt; (point.x, point.y, point.q), (268451840, 268451840, 65535));
+    let left_above = HomPoint {
+        x: -0x100_0000,
+        y: 0x100_0000,
+        w: 0x400,
+        scale: 1,
+    };
+    let point = snap(&left_above, 1024, size, Side::Object);
+    assert_eq!(rt;
+        (point.x, point.y, point.q),
+        (-268419072, -268419072, 65535)
+    );
+    Ok(())
+}
+
 #[test]
 fn a_cut_triangle_has_two_pieces(rt: HostRuntime) -> Result<(), Fail> {
     let size = Size::new(32, 8).ok_or("size")?;

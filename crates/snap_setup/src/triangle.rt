@@ -4,7 +4,8 @@ ghost use Rattle.cull_base.specs.declared.nearness.TheConstants.{GRADE_TOP};
 ghost use Rattle.cull_base.specs.declared.triangle.Side.TheVariants.{Occluder};
 ghost use Rattle.cull_base.specs.Piece.{doubled_area};
 ghost use Rattle.snap_setup.specs.Members.{with_pieces};
-ghost use Rattle.snap_setup.specs.Pieces.{triangle, is_dropped, piece_if, kept_of, snapped_part, pieces_of, is_any_past_guard, is_all_in_front};
+ghost use Rattle.snap_setup.specs.Pieces.{triangle, is_dropped, piece_if, kept_of, is_any_past_guard, is_all_in_front};
+ghost use Rattle.snap_setup.specs.Corners.{part_of, pieces_of_corners};
 ghost use Rattle.snap_setup.specs.Triangles.{pieces_of_triangle, TriangleGivesNone};
 ghost use Rattle.snap_setup.specs.Snapping.{IsSnapped};
 
@@ -65,28 +66,34 @@ fn piece(a: &Snapped, b: &Snapped, c: &Snapped, winding: Winding) -> Option<Scre
     }
 }
 
-#[inline(always)]
-fn is_any_past_guard(v0: &ClipVertex, v1: &ClipVertex, v2: &ClipVertex, near: u16) -> bool
-    requires near_least { 1 ≤ near }
-    requires near_most { near ≤ 1024 }
-    ensures { result ≡ is_any_past_guard v0.now v1.now v2.now near }
-{
-    past_guard(v0, near) || past_guard(v1, near) || past_guard(v2, near)
+/// The vertices of a triangle, where they stand.
+#[derive(Clone, Copy)]
+pub(crate) struct Corners<'a> {
+    pub(crate) v0: &'a ClipVertex,
+    pub(crate) v1: &'a ClipVertex,
+    pub(crate) v2: &'a ClipVertex,
 }
 
 #[inline(always)]
-fn is_all_in_front(v0: &ClipVertex, v1: &ClipVertex, v2: &ClipVertex, near: u16) -> bool
-    ensures { result ≡ is_all_in_front v0.now v1.now v2.now near }
+fn is_any_past_guard(tri: &Corners, near: u16) -> bool
+    requires near_least { 1 ≤ near }
+    requires near_most { near ≤ 1024 }
+    ensures { result ≡ is_any_past_guard tri.now.v0.now tri.now.v1.now tri.now.v2.now near }
 {
-    is_in_front(v0, near) && is_in_front(v1, near) && is_in_front(v2, near)
+    past_guard(tri.v0, near) || past_guard(tri.v1, near) || past_guard(tri.v2, near)
+}
+
+#[inline(always)]
+fn is_all_in_front(tri: &Corners, near: u16) -> bool
+    ensures { result ≡ is_all_in_front tri.now.v0.now tri.now.v1.now tri.now.v2.now near }
+{
+    is_in_front(tri.v0, near) && is_in_front(tri.v1, near) && is_in_front(tri.v2, near)
 }
 
 // The piece of a triangle that no plane cuts: it is its own polygon.
 #[inline(always)]
 fn whole_piece(
-    v0: &ClipVertex,
-    v1: &ClipVertex,
-    v2: &ClipVertex,
+    tri: &Corners,
     near: u16,
     size: Size,
     winding: Winding,
@@ -94,33 +101,25 @@ fn whole_piece(
 ) -> Option<ScreenTri>
     requires near_least { 1 ≤ near }
     requires near_most { near ≤ 1024 }
-    requires guarded { is_any_past_guard v0.now v1.now v2.now near ≡ false }
-    requires front { is_all_in_front v0.now v1.now v2.now near ≡ true }
-    ensures { option_to_list result ≡ kept_of (snapped_part v0.now v1.now v2.now GRADE_TOP near size side) winding }
+    requires guarded { is_any_past_guard tri.now.v0.now tri.now.v1.now tri.now.v2.now near ≡ false }
+    requires front { is_all_in_front tri.now.v0.now tri.now.v1.now tri.now.v2.now near ≡ true }
+    ensures { option_to_list result ≡ kept_of (part_of tri.now near size side) winding }
 {
-    let p0 = snap(&whole(v0), near, size, side);
-    let p1 = snap(&whole(v1), near, size, side);
-    let p2 = snap(&whole(v2), near, size, side);
+    let p0 = snap(&whole(tri.v0), near, size, side);
+    let p1 = snap(&whole(tri.v1), near, size, side);
+    let p2 = snap(&whole(tri.v2), near, size, side);
     piece(&p0, &p1, &p2, winding)
 }
 
 // The pieces of a triangle that the near plane cuts, or that lies behind it.
 #[inline(never)]
-fn clipped_pieces(
-    v0: &ClipVertex,
-    v1: &ClipVertex,
-    v2: &ClipVertex,
-    near: u16,
-    size: Size,
-    winding: Winding,
-    side: Side,
-) -> Pieces
+fn clipped_pieces(tri: &Corners, near: u16, size: Size, winding: Winding, side: Side) -> Pieces
     requires near_least { 1 ≤ near }
     requires near_most { near ≤ 1024 }
-    requires guarded { is_any_past_guard v0.now v1.now v2.now near ≡ false }
-    ensures { result ≡ kept_of (snapped_part v0.now v1.now v2.now GRADE_TOP near size side) winding }
+    requires guarded { is_any_past_guard tri.now.v0.now tri.now.v1.now tri.now.v2.now near ≡ false }
+    ensures { result ≡ kept_of (part_of tri.now near size side) winding }
 {
-    let polygon = clip_near(&[*v0, *v1, *v2], near);
+    let polygon = clip_near(&[*tri.v0, *tri.v1, *tri.v2], near);
     if polygon.len() == 0 {
         return Pieces::none();
     }
@@ -148,12 +147,13 @@ pub fn set_up(tri: &[ClipVertex; 3], near: u16, size: Size, winding: Winding, si
     ensures none { (result ≡ []) ↔ TriangleGivesNone tri.now GRADE_TOP near size winding side }
 {
     let [v0, v1, v2] = tri;
-    if is_any_past_guard(v0, v1, v2, near) {
+    let tri = &Corners { v0, v1, v2 };
+    if is_any_past_guard(tri, near) {
         Pieces::none()
-    } else if is_all_in_front(v0, v1, v2, near) {
-        Pieces::of(whole_piece(v0, v1, v2, near, size, winding, side), None)
+    } else if is_all_in_front(tri, near) {
+        Pieces::of(whole_piece(tri, near, size, winding, side), None)
     } else {
-        clipped_pieces(v0, v1, v2, near, size, winding, side)
+        clipped_pieces(tri, near, size, winding, side)
     }
 }
 
@@ -167,13 +167,24 @@ fn push_if(piece: Option<ScreenTri>, list: &mut FrameList)
     }
 }
 
+// Out of line, so that no pieces are held where none are clipped.
+#[inline(never)]
+fn push_clipped(tri: &Corners, near: u16, size: Size, winding: Winding, list: &mut FrameList)
+    requires near_least { 1 ≤ near }
+    requires near_most { near ≤ 1024 }
+    requires guarded { is_any_past_guard tri.now.v0.now tri.now.v1.now tri.now.v2.now near ≡ false }
+    requires room { length list.old.list.members + 2 ≤ list.old.room }
+    ensures value { list.new ≡ with_pieces list.old (kept_of (part_of tri.now near size Occluder) winding) }
+    ensures most { length (kept_of (part_of tri.now near size Occluder) winding) ≤ 2 }
+{
+    clipped_pieces(tri, near, size, winding, Side::Occluder).push_onto(list);
+}
+
 /// Appends the pieces of an occluder's triangle to a list, as `set_up` makes them. Most have one, which goes straight
 /// to its place. Condition: `near` is 1 to 1024, and there is room for two.
 #[inline(always)]
 pub(crate) fn push_pieces(
-    v0: &ClipVertex,
-    v1: &ClipVertex,
-    v2: &ClipVertex,
+    tri: &Corners,
     near: u16,
     size: Size,
     winding: Winding,
@@ -182,16 +193,15 @@ pub(crate) fn push_pieces(
     requires near_least { 1 ≤ near }
     requires near_most { near ≤ 1024 }
     requires room { length list.old.list.members + 2 ≤ list.old.room }
-    ensures value { list.new ≡ with_pieces list.old (pieces_of v0.now v1.now v2.now GRADE_TOP near size winding Occluder) }
-    ensures most { length (pieces_of v0.now v1.now v2.now GRADE_TOP near size winding Occluder) ≤ 2 }
+    ensures value { list.new ≡ with_pieces list.old (pieces_of_corners tri.now near size winding) }
+    ensures most { length (pieces_of_corners tri.now near size winding) ≤ 2 }
 {
-    if is_any_past_guard(v0, v1, v2, near) {
+    if is_any_past_guard(tri, near) {
         return;
     }
-    let side = Side::Occluder;
-    if is_all_in_front(v0, v1, v2, near) {
-        push_if(whole_piece(v0, v1, v2, near, size, winding, side), list);
+    if is_all_in_front(tri, near) {
+        push_if(whole_piece(tri, near, size, winding, Side::Occluder), list);
     } else {
-        clipped_pieces(v0, v1, v2, near, size, winding, side).push_onto(list);
+        push_clipped(tri, near, size, winding, list);
     }
 }

@@ -1,13 +1,13 @@
-use Rattle.std.proofs.Common.{◌≡◌, ℤ, ◌+ℤ◌, ◌*ℤ◌, ◌^◌, FitsSigned, w64, arith, rules, refl}
+use Rattle.std.proofs.Common.{◌≡◌, ℤ, ◌+◌, ◌+ℤ◌, ◌^◌, FitsSigned, w64, arith, rules, refl}
 use Rattle.std.proofs.lemmas.Int.{ints, to_z-of_z}
 use Rattle.cull_base.specs.Bounds.{Bounded}
 use Rattle.depth_plane.proofs.corner.narrow_numerator.Goals as goal
 
 -- both sums fit
-fit_one : (f a : ℤ) → Bounded (2 ^ 62) f → Bounded (2 ^ 60) a → FitsSigned w64 (f +ℤ a)
+fit_one : (f a : ℤ) → Bounded (2 ^ 61 + 2 ^ 54) f → Bounded (2 ^ 61) a → FitsSigned w64 (f +ℤ a)
 fit_one f a h i = omega (arith, ints, h, i)
 
-fit_both : (f a b : ℤ) → Bounded (2 ^ 62) f → Bounded (2 ^ 60) a → Bounded (2 ^ 60) b → FitsSigned w64 ((f +ℤ a) +ℤ b)
+fit_both : (f a b : ℤ) → Bounded (2 ^ 61 + 2 ^ 54) f → Bounded (2 ^ 61) a → Bounded (2 ^ 61) b → FitsSigned w64 ((f +ℤ a) +ℤ b)
 fit_both f a b h i j = omega (arith, ints, h, i, j)
 
 joined : (f a b p q : ℤ) → a ≡ p → b ≡ q → (f +ℤ a) +ℤ b ≡ (f +ℤ p) +ℤ q

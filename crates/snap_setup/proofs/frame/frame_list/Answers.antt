@@ -20,7 +20,7 @@ loop-tri-preserved c =
     let i = c.loop-tri.invariant in
     let d : Tri = record { 0 = [] } in
     let r = c.corner_references.result in
-    let ps = by_corners c.args.clips.now r.0.now r.1.now r.2.now GRADE_TOP c.args.near c.args.size c.args.winding (get_or c.args.tris.now c.loop-tri.tri-index d) c.corner_references.ensures.first c.corner_references.ensures.second c.corner_references.ensures.third in
+    let ps = by_corners c.args.clips.now r.v0.now r.v1.now r.v2.now GRADE_TOP c.args.near c.args.size c.args.winding (get_or c.args.tris.now c.loop-tri.tri-index d) c.corner_references.ensures.first c.corner_references.ensures.second c.corner_references.ensures.third in
     record {
       size = rw e i.size;
       room = rw e i.room;

@@ -1,11 +1,9 @@
-use Rattle.std.proofs.Common.{◌≡◌, ◌≤◌, ◌^◌, ◌*ℤ◌, ◌+ℤ◌, ◌≤ℤ◌, ℕ, ℤ, pos, neg_ℤ, FitsSigned, w32, w64, arith, rules, refl, ◌*◌}
+use Rattle.std.proofs.Common.{◌≡◌, ◌≤◌, ◌^◌, ◌*ℤ◌, ◌+ℤ◌, ◌≤ℤ◌, ℕ, ℤ, pos, neg_ℤ, FitsSigned, w64, arith, rules, refl, ◌*◌}
 use Rattle.std.proofs.lemmas.Int.{ints, to_z-of_z}
 use Rattle.cull_base.specs.Bounds.{Bounded}
 use Rattle.cull_base.proofs.Bounds.{bounded-mul}
-use Rattle.cull_base.specs.Piece.{IsCoordinate}
 use Rattle.cull_base.specs.Depth.{floor_of}
-use Rattle.snap_setup.specs.Snapping.{round_half}
-use Rattle.snap_setup.proofs.Floors.{rounded_is, rounded_near}
+use Rattle.snap_setup.proofs.Floors.{IsPlace, is_place}
 use Rattle.snap_setup.proofs.snapping.narrow_place.Goals as goal
 
 -- 2^15 * 16385 * 2^32 + 2^32 is below 2^63
@@ -20,24 +18,15 @@ are_narrow p r o w er hp low high least most =
     let n = bounded-mul (2 ^ 15) (16385 * 2 ^ 32) (pos (16 * p)) o (omega (arith, ints, hp), omega (arith, ints, hp)) b in
     rw er (record { sixteenths = omega (arith, ints, hp); product = omega (arith, ints, n); sum = omega (arith, ints, n, least, most) })
 
--- what the quotient is
-record IsPlace (p : ℕ) (o w q : ℤ) : Type 0 where
-  value : q ≡ round_half (pos (8 * p) *ℤ o) w
-  within : IsCoordinate q
-  fits : FitsSigned w32 q
-
-is_place : (p : ℕ) (r o w e q : ℤ) → r ≡ pos p → e ≡ pos 2 *ℤ w → q ≡ floor_of (((pos 16 *ℤ r) *ℤ o) +ℤ w) e →
+placed : (p : ℕ) (r o w e q : ℤ) → r ≡ pos p → e ≡ pos 2 *ℤ w → q ≡ floor_of (((pos 16 *ℤ r) *ℤ o) +ℤ w) e →
     p ≤ 2048 → pos 1 ≤ℤ w → neg_ℤ (pos 16385 *ℤ w) ≤ℤ o → o ≤ℤ (pos 16385 *ℤ w) → IsPlace p o w q
-is_place p r o w e q er ee eq hp hw low high =
-    let v = rounded_is p o w (pos (16 * p) *ℤ o) ((pos (16 * p) *ℤ o) +ℤ w) e q refl refl ee (rw er at eq) in
-    let n = rounded_near p o w hp hw low high in
-    record { value = v; within = rw v (omega (arith, ints, n), omega (arith, ints, n)); fits = rw v (omega (arith, ints, n)) }
+placed p r o w e q er ee eq hp hw low high = is_place p o w (pos (16 * p) *ℤ o) ((pos (16 * p) *ℤ o) +ℤ w) e q refl refl ee (rw er at eq) hp hw low high
 
 pub overflow_add-from : goal.overflow_add-from
 overflow_add-from c =
     let fo : FitsSigned w64 c.args.offset = c.ranges.offset in let fw : FitsSigned w64 c.args.w = c.ranges.w in
     let fr : FitsSigned w64 c.from.result = search rules in
-    let k = are_narrow c.args.pixels c.from.result c.args.offset c.args.w c.from.ensures c.requires.pixels c.requires.low c.requires.high c.requires.w_least c.requires.w_most in
+    let k = are_narrow c.args.pixels c.from.result c.args.offset c.args.w c.from.ensures c.requires.within c.requires.low c.requires.high c.requires.w_least c.requires.w_most in
     let fs = k.sixteenths in let fp = k.product in
     simp to_z-of_z k.sum
 
@@ -45,17 +34,17 @@ pub overflow_cast-result : goal.overflow_cast-result
 overflow_cast-result c =
     let fo : FitsSigned w64 c.args.offset = c.ranges.offset in let fw : FitsSigned w64 c.args.w = c.ranges.w in
     let fr : FitsSigned w64 c.from.result = search rules in let fq : FitsSigned w64 c.floor.result = search rules in
-    let k = are_narrow c.args.pixels c.from.result c.args.offset c.args.w c.from.ensures c.requires.pixels c.requires.low c.requires.high c.requires.w_least c.requires.w_most in
+    let k = are_narrow c.args.pixels c.from.result c.args.offset c.args.w c.from.ensures c.requires.within c.requires.low c.requires.high c.requires.w_least c.requires.w_most in
     let fs = k.sixteenths in let fp = k.product in let fn = k.sum in
-    simp to_z-of_z (is_place c.args.pixels c.from.result c.args.offset c.args.w _ c.floor.result c.from.ensures c.requires.doubled (simp to_z-of_z at c.floor.ensures) c.requires.pixels c.requires.w_least c.requires.low c.requires.high).fits
+    simp to_z-of_z (placed c.args.pixels c.from.result c.args.offset c.args.w _ c.floor.result c.from.ensures c.requires.twice (simp to_z-of_z at c.floor.ensures) c.requires.within c.requires.w_least c.requires.low c.requires.high).fits
 
 pub returns-clause-value : goal.returns-clause-value
 returns-clause-value c =
     let fo : FitsSigned w64 c.args.offset = c.ranges.offset in let fw : FitsSigned w64 c.args.w = c.ranges.w in
     let fr : FitsSigned w64 c.from.result = search rules in let fq : FitsSigned w64 c.floor.result = search rules in
-    let k = are_narrow c.args.pixels c.from.result c.args.offset c.args.w c.from.ensures c.requires.pixels c.requires.low c.requires.high c.requires.w_least c.requires.w_most in
+    let k = are_narrow c.args.pixels c.from.result c.args.offset c.args.w c.from.ensures c.requires.within c.requires.low c.requires.high c.requires.w_least c.requires.w_most in
     let fs = k.sixteenths in let fp = k.product in let fn = k.sum in
-    let m = is_place c.args.pixels c.from.result c.args.offset c.args.w _ c.floor.result c.from.ensures c.requires.doubled (simp to_z-of_z at c.floor.ensures) c.requires.pixels c.requires.w_least c.requires.low c.requires.high in
+    let m = placed c.args.pixels c.from.result c.args.offset c.args.w _ c.floor.result c.from.ensures c.requires.twice (simp to_z-of_z at c.floor.ensures) c.requires.within c.requires.w_least c.requires.low c.requires.high in
     let ff = m.fits in
     simp to_z-of_z m.value
 
@@ -63,8 +52,8 @@ pub returns-clause-within : goal.returns-clause-within
 returns-clause-within c =
     let fo : FitsSigned w64 c.args.offset = c.ranges.offset in let fw : FitsSigned w64 c.args.w = c.ranges.w in
     let fr : FitsSigned w64 c.from.result = search rules in let fq : FitsSigned w64 c.floor.result = search rules in
-    let k = are_narrow c.args.pixels c.from.result c.args.offset c.args.w c.from.ensures c.requires.pixels c.requires.low c.requires.high c.requires.w_least c.requires.w_most in
+    let k = are_narrow c.args.pixels c.from.result c.args.offset c.args.w c.from.ensures c.requires.within c.requires.low c.requires.high c.requires.w_least c.requires.w_most in
     let fs = k.sixteenths in let fp = k.product in let fn = k.sum in
-    let m = is_place c.args.pixels c.from.result c.args.offset c.args.w _ c.floor.result c.from.ensures c.requires.doubled (simp to_z-of_z at c.floor.ensures) c.requires.pixels c.requires.w_least c.requires.low c.requires.high in
+    let m = placed c.args.pixels c.from.result c.args.offset c.args.w _ c.floor.result c.from.ensures c.requires.twice (simp to_z-of_z at c.floor.ensures) c.requires.within c.requires.w_least c.requires.low c.requires.high in
     let ff = m.fits in
     simp to_z-of_z m.within

@@ -56,14 +56,16 @@ invariant_of-result c =
     let fn : FitsSigned w64 c.area-area.result = search rules in
     let v = c.of-vertices.ensures in
     let p = positive c.args.tri.now c.of-vertices.result c.area-area.result v.valid v.value c.area-area.ensures.value in
-    let is = area_is c.area-area.result c.unsigned_abs.result c.of.result p (simp to_z-of_z at c.unsigned_abs.ensures.value) c.of.ensures in
-    (simp to_z-of_z (record {
-      across = c.across-across.ensures.bounded;
-      down = c.down-down.ensures.bounded;
-      level = c.level-level.ensures.bounded;
-      positive_area = rw is p;
-      area_within = within c.area-area.result _ c.area-area.ensures.bounded is;
-    }), simp to_z-of_z (simp to_z-of_z at (c.narrow_first.ensures (pos c.of.result))))
+    let is = area_is c.area-area.result c.unsigned_abs.result c.of.result p (simp to_z-of_z at c.unsigned_abs.ensures.value) c.of.ensures in (
+      simp to_z-of_z (record {
+        across = c.across-across.ensures.bounded;
+        down = c.down-down.ensures.bounded;
+        level = c.level-level.ensures.bounded;
+        positive_area = rw is p;
+        area_within = within c.area-area.result _ c.area-area.ensures.bounded is;
+      }),
+      simp to_z-of_z (simp to_z-of_z at (c.narrow_first.ensures (pos c.of.result))),
+    )
 
 pub returns-clause-numerator : goal.returns-clause-numerator
 returns-clause-numerator c p = ap (λ v. numerator_at v p) (returns-clause-value c) ∙ numerator_at-plane_of c.args.tri.now p

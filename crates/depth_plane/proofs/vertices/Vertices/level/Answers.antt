@@ -1,9 +1,8 @@
-use Rattle.std.proofs.Common.{◌≡◌, ◌*ℤ◌, ◌-ℤ◌, ◌^◌, ℕ, ℤ, pos, FitsSigned, w32, w64, arith, rules, refl}
+use Rattle.std.proofs.Common.{◌≡◌, ◌*ℤ◌, ◌-ℤ◌, ◌^◌, ℤ, pos, FitsSigned, w32, w64, arith, rules, refl}
 use Rattle.std.specs.Int.{w128}
 use Rattle.std.proofs.lemmas.Int.{ints, to_z-of_z}
 use Rattle.cull_base.specs.Bounds.{Bounded}
 use Rattle.cull_base.specs.Piece.{IsCoordinate}
-use Rattle.cull_base.specs.declared.nearness.TheConstants.{HELD_TOP}
 use Rattle.depth_plane.proofs.Nearness.{nearness-bounded}
 use Rattle.depth_plane.proofs.vertices.Vertices.level.Goals as goal
 
