@@ -58,7 +58,7 @@ rounded_is : (p : ℕ) (o w d s e q : ℤ) → d ≡ pos (16 * p) *ℤ o → s �
 rounded_is p o w d s e q ed es ee eq = let t = doubled_twice p o in rw (eq, es, ee, ed, t) refl
 
 -- 8 * 2048 * 16385, which is below 2^29
-rounded_near : (p : ℕ) (o w : ℤ) → p ≤ 2048 → pos 1 ≤ℤ w → neg_ℤ (pos 16385 *ℤ w) ≤ℤ o → o ≤ℤ (pos 16385 *ℤ w) → Bounded 268451840 (round_half (pos (8 * p) *ℤ o) w)
+pub rounded_near : (p : ℕ) (o w : ℤ) → p ≤ 2048 → pos 1 ≤ℤ w → neg_ℤ (pos 16385 *ℤ w) ≤ℤ o → o ≤ℤ (pos 16385 *ℤ w) → Bounded 268451840 (round_half (pos (8 * p) *ℤ o) w)
 rounded_near p o (pos b) hp h low high =
     let near : Bounded (16385 * b) o = (omega (arith, ints, low), omega (arith, ints, high)) in
     let t = times-bounded (16385 * b) (8 * p) o near in

@@ -1,33 +1,29 @@
 -- What the pieces of a triangle have in common: each is a piece, and its box lies in the triangle's near box.
-use Rattle.std.proofs.Common.{◌≡◌, ℕ, ℤ, pos, negsuc, zero, suc, ◌+◌, ◌*◌, ◌<◌, ◌≤◌, ◌≤ℤ◌, ◌<ℤ◌, ◌+ℤ◌, ◌-ℤ◌, ◌*ℤ◌, List, [], ◌∷◌, ◌++◌, map, filter, length, get_or, Bool, true, false, not, cond, Option, Some, None, option_to_list, arith, refl, sym, ap, ◌∙◌, subst, int_lt}
-use Rattle.std.specs.Int.{int_min, int_max}
+use Rattle.std.proofs.Common.{◌≡◌, ℕ, ℤ, pos, suc, ◌≤◌, ◌<ℤ◌, ◌+ℤ◌, ◌-ℤ◌, List, [], ◌∷◌, ◌++◌, map, Bool, true, false, cond, Some, None, option_to_list, arith, refl, sym, subst, int_lt}
 use Rattle.std.specs.List.{All, Contains}
 use Rattle.std.specs.Ordering.{int_eq}
 use Rattle.std.proofs.lemmas.Bool.{or_parts}
-use Rattle.std.proofs.lemmas.Int.{ints, clamps}
+use Rattle.std.proofs.lemmas.Int.{ints}
 use Rattle.std.proofs.lemmas.List.Elements.{All-nil, All-cons}
 use Rattle.cull_base.specs.declared.clip.ClipVertex.{ClipVertex}
 use Rattle.cull_base.specs.declared.nearness.TheConstants.{GRADE_TOP, HELD_TOP}
-use Rattle.cull_base.specs.declared.rect.Rect.{Rect}
 use Rattle.cull_base.specs.declared.triangle.Side.{Side}
 use Rattle.cull_base.specs.declared.triangle.Side.TheVariants.{Occluder, Object}
 use Rattle.cull_base.specs.declared.triangle.Winding.{Winding}
-use Rattle.cull_base.specs.Guard.{is_past_guard}
-use Rattle.cull_base.specs.Piece.{Piece, IsPiece, IsCoordinate, doubled_area, least_of, greatest_of, first_pixel, end_pixel, box_around, box_of}
-use Rattle.cull_base.specs.Rectangle.{HasPixel}
+use Rattle.cull_base.specs.Piece.{Piece, IsPiece, IsCoordinate, doubled_area}
 use Rattle.cull_base.specs.Screen.{Dimensions, IsSize}
 use Rattle.near_clip.specs.declared.hom_point.HomPoint.{HomPoint}
-use Rattle.near_clip.specs.NearPart.{near_part, is_in_front, whole}
+use Rattle.near_clip.specs.NearPart.{near_part}
 use Rattle.near_clip.specs.Reach.{IsInReach}
 use Rattle.near_clip.proofs.Guarded.{guarded}
 use Rattle.near_clip.proofs.Reaches.{near_part_reaches}
 use Rattle.snap_setup.specs.declared.snapping.Snapped.{Snapped}
-use Rattle.snap_setup.specs.Snapping.{snapped, screen_x, screen_y, nearness_of, IsSnapped}
-use Rattle.snap_setup.specs.Pieces.{triangle, triangles_of, is_left_out, is_dropped, exchanged, turned, piece_if, kept_of, snapped_part, is_any_past_guard, is_all_in_front, pieces_of, polygon_box, near_box_of}
+use Rattle.snap_setup.specs.Snapping.{snapped, nearness_of, IsSnapped}
+use Rattle.snap_setup.specs.Pieces.{triangle, triangles_of, is_left_out, is_dropped, exchanged, turned, kept_of, snapped_part, is_any_past_guard, pieces_of}
 use Rattle.snap_setup.proofs.Areas.{turned_area}
 use Rattle.snap_setup.proofs.Floors.{rounded_near}
-use Rattle.snap_setup.proofs.KeptPieces.{kept_from, kept_cons, fronts}
-use Rattle.snap_setup.proofs.Reached.{in_sight, nearness_is, IsNearness}
+use Rattle.snap_setup.proofs.KeptPieces.{kept_from, kept_cons}
+use Rattle.snap_setup.proofs.Reached.{in_sight, nearness_is}
 
 -- what holds of each holds of a member
 pub held_by_member : (P : Piece → Type 0) (ts : List Piece) (t : Piece) → All P ts → Contains ts t → P t
