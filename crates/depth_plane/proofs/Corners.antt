@@ -1,5 +1,5 @@
 -- A plane is least and greatest over the samples of a subtile at a corner.
-use Rattle.std.proofs.Common.{◌≡◌, ℕ, ℤ, pos, negsuc, suc, zero, ◌+◌, ◌*◌, ◌/◌, ◌%◌, ◌<◌, ◌≤◌, ◌*ℤ◌, ◌≤ℤ◌, arith, refl, List, map, length, get_or, ◌⊎◌, inl, inr}
+use Rattle.std.proofs.Common.{◌≡◌, ℕ, ℤ, pos, negsuc, suc, zero, ◌+◌, ◌*◌, ◌/◌, ◌%◌, ◌<◌, ◌≤◌, ◌+ℤ◌, ◌*ℤ◌, ◌≤ℤ◌, ◌∙◌, arith, refl, List, map, length, get_or, ◌⊎◌, inl, inr}
 use Rattle.std.specs.Int.{int_min, int_max}
 use Rattle.std.specs.List.{fold, range_with_len, All, Contains}
 use Rattle.std.proofs.Math.Nat.{mul-le-mul_left}
@@ -8,8 +8,9 @@ use Rattle.std.proofs.lemmas.List.FromFn.{length-map-range_with_len, get_or-map-
 use Rattle.std.proofs.lemmas.List.Elements.{All-get_or}
 use Rattle.cull_base.specs.Piece.{least_of, greatest_of, Point, sample, each_sample}
 use Rattle.cull_base.specs.declared.place.Sub.{Sub}
-use Rattle.depth_plane.specs.Plane.{Coefficients, numerator_at}
+use Rattle.depth_plane.specs.Plane.{Coefficients, numerator_at, IsNarrow}
 use Rattle.depth_plane.specs.Corner.{least_place, greatest_place}
+use Rattle.depth_plane.proofs.Products.{mul-add}
 
 abbrev rest : (ℕ → ℤ) → List ℤ
 rest f = map f (range_with_len 1 31)
@@ -114,6 +115,19 @@ corner_least c u x y ex ey =
     let a = least_axis c.across (16 * (8 * u.column) + 8) 112 (16 * (m % 8)) (omega arith) in
     let b = least_axis c.down (16 * (4 * u.row) + 8) 48 (16 * (m / 8)) (omega arith) in
     rw (s, ex, ey) (omega (arith, ints, a, b)))
+
+-- by what it is at the first subtile
+pub least_from_first : (c : Coefficients) (u : Sub) (first : ℤ) → IsNarrow c first →
+    (first +ℤ (c.across *ℤ pos (128 * u.column))) +ℤ (c.down *ℤ pos (64 * u.row)) ≡ least_of (each_sample (λ k. numerator_at c (sample u k)))
+least_from_first c u first h =
+    moved c.across c.down c.level first (8 + least_place c.across 112) (8 + least_place c.down 48) (128 * u.column) (64 * u.row) _ _ h.value (omega arith) (omega arith)
+    ∙ corner_least c u ((16 * (8 * u.column) + 8) + least_place c.across 112) ((16 * (4 * u.row) + 8) + least_place c.down 48) refl refl
+  where
+    moved : (a d l f : ℤ) (x y i j p q : ℕ) → f ≡ ((a *ℤ pos x) +ℤ (d *ℤ pos y)) +ℤ l → p ≡ x + i → q ≡ y + j →
+        (f +ℤ (a *ℤ pos i)) +ℤ (d *ℤ pos j) ≡ ((a *ℤ pos p) +ℤ (d *ℤ pos q)) +ℤ l
+    moved a d l f x y i j p q ef ep eq =
+        let s = mul-add a (pos x) (pos i) in let t = mul-add d (pos y) (pos j) in
+        rw (ef, ep, eq) (omega (arith, ints, s, t))
 
 pub corner_greatest : (c : Coefficients) (u : Sub) (x y : ℕ) → x ≡ (16 * (8 * u.column) + 8) + greatest_place c.across 112 → y ≡ (16 * (4 * u.row) + 8) + greatest_place c.down 48 →
     numerator_at c (at x y) ≡ greatest_of (each_sample (λ k. numerator_at c (sample u k)))

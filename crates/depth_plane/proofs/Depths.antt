@@ -7,7 +7,7 @@ use Rattle.cull_base.specs.Piece.{least_of, greatest_of, Piece, IsPiece, touches
 use Rattle.cull_base.specs.declared.nearness.TheConstants.{HELD_TOP}
 use Rattle.cull_base.specs.Depth.{numerator, denominator, floor_of, ceiling_of, cut_to_range, least_nearness, greatest_nearness, low_of, high_of, DepthAtLeast}
 use Rattle.cull_base.specs.declared.place.Sub.{Sub}
-use Rattle.depth_plane.specs.Plane.{Coefficients, plane_of, numerator_at, DepthAtMost}
+use Rattle.depth_plane.specs.Plane.{Coefficients, plane_of, numerator_at, low_from, DepthAtMost}
 use Rattle.depth_plane.proofs.Products.{le_times}
 use Rattle.depth_plane.proofs.Floors.{floor_of-le, ceiling_of-ge}
 use Rattle.depth_plane.proofs.Corners.{least_of-le, greatest_of-ge}
@@ -83,12 +83,11 @@ high_of-above t u k h lt e =
     small n z l p = omega (arith, ints)
 
 -- the bounds as they are computed
-pub low_of-computed : (t : Piece) (u : Sub) (v : Coefficients) (q r : ℕ) (l m : ℤ) → v ≡ plane_of t → q ≡ least_nearness t →
-    l ≡ least_of (each_sample (λ k. numerator_at v (sample u k))) → m ≡ int_max (pos q) (floor_of l v.area) → r ≡ cut_to_range HELD_TOP m → r ≡ low_of t u
+pub low_of-computed : (t : Piece) (u : Sub) (v : Coefficients) (q r : ℕ) → v ≡ plane_of t → q ≡ least_nearness t → r ≡ low_from v q u → r ≡ low_of t u
 unfolding low_of
-low_of-computed t u v q r l m ev eq el em er =
+low_of-computed t u v q r ev eq er =
     let s = each_sample-plane_of t u in let n = area-plane_of t in
-    rw (er, em, eq, el, ev, s, n) refl
+    rw (er, eq, ev, s, n) refl
 
 pub high_of-computed : (t : Piece) (u : Sub) (v : Coefficients) (q r : ℕ) (x l d f m : ℤ) → v ≡ plane_of t → q ≡ greatest_nearness t →
     x ≡ pos q → l ≡ greatest_of (each_sample (λ k. numerator_at v (sample u k))) → d ≡ v.area → f ≡ ceiling_of l d → m ≡ int_min x f → r ≡ cut_to_range HELD_TOP m → r ≡ high_of t u

@@ -1,10 +1,13 @@
 -- The depth of a piece as a plane over the screen.
-use Rattle.std.specs.Prelude.{ℕ, ℤ, pos, true, Bool, IsTrue, ◌↔◌, ◌<◌, ◌≡◌, ◌^◌, ◌+ℤ◌, ◌-ℤ◌, ◌*ℤ◌, ◌≤ℤ◌, ◌<ℤ◌}
+use Rattle.std.specs.Prelude.{ℕ, ℤ, pos, true, Bool, IsTrue, ◌↔◌, ◌+◌, ◌<◌, ◌≡◌, ◌^◌, ◌+ℤ◌, ◌-ℤ◌, ◌*ℤ◌, ◌≤ℤ◌, ◌<ℤ◌}
 use Rattle.cull_base.specs.Bounds.{Bounded}
-use Rattle.cull_base.specs.Piece.{Piece, Point, vertex, nearness, middle, covers, touches, sample}
-use Rattle.cull_base.specs.Depth.{numerator, denominator, DepthAtLeast, DepthLess}
+use Rattle.std.specs.Int.{int_max}
+use Rattle.cull_base.specs.Piece.{Piece, Point, point, vertex, nearness, middle, covers, touches, sample, each_sample, least_of}
+use Rattle.cull_base.specs.declared.nearness.TheConstants.{HELD_TOP}
+use Rattle.cull_base.specs.Depth.{numerator, denominator, floor_of, cut_to_range, DepthAtLeast, DepthLess}
 use Rattle.cull_base.specs.declared.place.Sample.{Sample}
 use Rattle.cull_base.specs.declared.place.Sub.{Sub}
+use Rattle.depth_plane.specs.Corner.{least_place}
 
 -- the depth at (x, y) is (across * x + down * y + level) / area
 pub record Coefficients : Type 0 where
@@ -43,6 +46,17 @@ plane_of t =
 
 abbrev pub numerator_at : Coefficients → Point → ℤ
 numerator_at c p = ((c.across *ℤ p.x) +ℤ (c.down *ℤ p.y)) +ℤ c.level
+
+-- At the samples of a screen of 2048 by 2048 pixels the numerators fit 64 bits; this is the least over the first subtile.
+pub record IsNarrow (c : Coefficients) (first : ℤ) : Type 0 where
+  pub across : Bounded (2 ^ 45) c.across
+  pub down : Bounded (2 ^ 45) c.down
+  pub value : first ≡ numerator_at c (point (pos (8 + least_place c.across 112)) (pos (8 + least_place c.down 48)))
+  pub within : Bounded (2 ^ 62) first
+
+-- the low bound of a subtile by a plane, and by a nearness that it isn't below
+abbrev pub low_from : Coefficients → ℕ → Sub → ℕ
+low_from c nearness u = cut_to_range HELD_TOP (int_max (pos nearness) (floor_of (least_of (each_sample (λ k. numerator_at c (sample u k)))) c.area))
 
 -- the depth of the first at p is strictly greater than that of the second
 abbrev pub IsNearer : Coefficients → Coefficients → Point → Type 0

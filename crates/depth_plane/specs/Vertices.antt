@@ -1,35 +1,31 @@
 -- The coefficients of a plane, by the vertices of its piece.
-use Rattle.std.specs.Prelude.{ℕ, ℤ, pos, ◌≡◌, ◌+ℤ◌, ◌-ℤ◌, ◌*ℤ◌}
-use Rattle.cull_base.specs.Piece.{Piece, Point, vertex, nearness, edge_value}
-use Rattle.depth_plane.specs.Plane.{origin}
-use Rattle.depth_plane.specs.declared.vertices.Vertex.{Vertex}
+use Rattle.std.specs.Prelude.{ℕ, ℤ, pos, ◌≡◌, ◌-ℤ◌, ◌*ℤ◌}
+use Rattle.cull_base.specs.Piece.{Piece, vertex, nearness}
+use Rattle.depth_plane.specs.declared.vertices.Offset.{Offset}
 use Rattle.depth_plane.specs.declared.vertices.Vertices.{Vertices}
 
--- v is vertex k of the piece
-pub record IsVertex (v : Vertex) (t : Piece) (k : ℕ) : Type 0 where
-  pub x : v.x ≡ (vertex t k).x
-  pub y : v.y ≡ (vertex t k).y
-  pub q : v.q ≡ nearness t k
+-- o is how vertex k of the piece lies from the first one
+pub record IsOffset (o : Offset) (t : Piece) (k : ℕ) : Type 0 where
+  pub x : o.x ≡ (vertex t k).x -ℤ (vertex t 0).x
+  pub y : o.y ≡ (vertex t k).y -ℤ (vertex t 0).y
+  pub q : o.q ≡ pos (nearness t k) -ℤ pos (nearness t 0)
 
-abbrev pub place_of : Vertex → Point
-place_of v = record { x = v.x; y = v.y }
-
--- the sum of three values, each weighted by the nearness of its vertex
-abbrev pub weighted_of : Vertices → ℤ → ℤ → ℤ → ℤ
-weighted_of v a b c = ((pos v.a.q *ℤ a) +ℤ (pos v.b.q *ℤ b)) +ℤ (pos v.c.q *ℤ c)
+pub record AreVertices (v : Vertices) (t : Piece) : Type 0 where
+  pub x : v.x ≡ (vertex t 0).x
+  pub y : v.y ≡ (vertex t 0).y
+  pub q : v.q ≡ nearness t 0
+  pub second : IsOffset v.second t 1
+  pub third : IsOffset v.third t 2
 
 abbrev pub across_of : Vertices → ℤ
-across_of v = weighted_of v (v.b.y -ℤ v.c.y) (v.c.y -ℤ v.a.y) (v.a.y -ℤ v.b.y)
+across_of v = (v.second.q *ℤ v.third.y) -ℤ (v.third.q *ℤ v.second.y)
 
 abbrev pub down_of : Vertices → ℤ
-down_of v = weighted_of v (v.c.x -ℤ v.b.x) (v.a.x -ℤ v.c.x) (v.b.x -ℤ v.a.x)
-
--- the value at the origin of the edge from a to b
-abbrev pub from_origin : Vertex → Vertex → ℤ
-from_origin a b = edge_value (place_of a) (place_of b) origin
-
-abbrev pub level_of : Vertices → ℤ
-level_of v = weighted_of v (from_origin v.b v.c) (from_origin v.c v.a) (from_origin v.a v.b)
+down_of v = (v.third.q *ℤ v.second.x) -ℤ (v.second.q *ℤ v.third.x)
 
 abbrev pub area_of : Vertices → ℤ
-area_of v = edge_value (place_of v.a) (place_of v.b) (place_of v.c)
+area_of v = (v.second.x *ℤ v.third.y) -ℤ (v.second.y *ℤ v.third.x)
+
+-- the numerator at the origin, by those at the first vertex and the slopes from there
+abbrev pub level_of : Vertices → ℤ → ℤ → ℤ → ℤ
+level_of v across down area = ((area *ℤ pos v.q) -ℤ (across *ℤ v.x)) -ℤ (down *ℤ v.y)

@@ -1,7 +1,23 @@
 //! The corner of a subtile where a plane is least or greatest, picked by the slopes' signs.
-ghost use Rattle.std.specs.Prelude.{◌≡◌, ℕ, ℤ, pos, ◌+◌, ◌*◌, ◌<◌, ◌≤◌, ◌^◌, ◌+ℤ◌, ◌*ℤ◌, ◌≤ℤ◌};
+ghost use Rattle.std.specs.Prelude.{◌≡◌, ℕ, ℤ, pos, ◌+◌, ◌*◌, ◌<◌, ◌≤◌, ◌^◌, ◌+ℤ◌, ◌*ℤ◌, ◌≤ℤ◌, IfSome, IsTrue, ◌↔◌};
 ghost use Rattle.cull_base.specs.Bounds.{Bounded};
 ghost use Rattle.depth_plane.specs.Corner.{least_place, greatest_place};
+ghost use Rattle.depth_plane.specs.Plane.{coefficients, IsNarrow};
+
+/// From the first sample of a subtile to the last in its row, in sixteenths of a pixel.
+pub const SPAN_ACROSS: u32 = 112;
+
+/// From the first sample of a subtile to the last in its column.
+pub const SPAN_DOWN: u32 = 48;
+
+/// Where the screen's first sample stands along each axis.
+const FIRST: u32 = 8;
+
+/// The steepest slope of a narrow plane: over a screen of 2048 pixels, below 2^15 sixteenths, it adds less than 2^60.
+const STEEPEST: i64 = 0x2000_0000_0000;
+
+/// The greatest numerator of a narrow plane at the first subtile.
+const GREATEST: i128 = 0x4000_0000_0000_0000;
 
 /// The place of the least value along one axis, from the first sample on.
 #[inline(always)]
@@ -58,4 +74,57 @@ pub fn numerator_at(across: i64, down: i64, level: i128, x: u32, y: u32) -> i128
     ensures bounded { Bounded (2 ^ 88) result }
 {
     sum(term(across, x), term(down, y), level)
+}
+
+fn is_gentle(slope: i64) -> bool
+    ensures { IsTrue result ↔ Bounded (2 ^ 45) slope }
+{
+    -STEEPEST <= slope && slope <= STEEPEST
+}
+
+fn is_small(numerator: i128) -> bool
+    ensures { IsTrue result ↔ Bounded (2 ^ 62) numerator }
+{
+    -GREATEST <= numerator && numerator <= GREATEST
+}
+
+/// The least value over the first subtile, where the values at a screen's samples fit 64 bits.
+#[inline(always)]
+pub fn narrow_first(across: i64, down: i64, level: i128) -> Option<i64>
+    requires across { Bounded (2 ^ 56) across }
+    requires down { Bounded (2 ^ 56) down }
+    requires level { Bounded (2 ^ 87) level }
+    ensures { (area : ℤ) → IfSome result (IsNarrow (coefficients across down level area)) }
+{
+    let x = least_along(across, FIRST, SPAN_ACROSS);
+    let y = least_along(down, FIRST, SPAN_DOWN);
+    let first = numerator_at(across, down, level, x, y);
+    if is_gentle(across) && is_gentle(down) && is_small(first) {
+        Some(first as i64)
+    } else {
+        None
+    }
+}
+
+#[inline(always)]
+fn narrow_term(slope: i64, place: u32) -> i64
+    requires slope { Bounded (2 ^ 45) slope }
+    requires place { place < 2 ^ 15 }
+    ensures value { result ≡ slope *ℤ pos place }
+    ensures bounded { Bounded (2 ^ 60) result }
+{
+    slope * i64::from(place)
+}
+
+/// The value of a narrow plane so far to the right and below of a place where it is `first`.
+#[inline(always)]
+pub fn narrow_numerator(across: i64, down: i64, first: i64, right: u32, below: u32) -> i64
+    requires across { Bounded (2 ^ 45) across }
+    requires down { Bounded (2 ^ 45) down }
+    requires first { Bounded (2 ^ 62) first }
+    requires right { right < 2 ^ 15 }
+    requires below { below < 2 ^ 15 }
+    ensures { result ≡ (first +ℤ (across *ℤ pos right)) +ℤ (down *ℤ pos below) }
+{
+    first + narrow_term(across, right) + narrow_term(down, below)
 }

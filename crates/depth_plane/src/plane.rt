@@ -5,46 +5,38 @@ ghost use Rattle.std.specs.Int.{int_max};
 ghost use Rattle.cull_base.specs.Depth.{floor_of, least_nearness, greatest_nearness, numerator, denominator, low_of, high_of};
 ghost use Rattle.cull_base.specs.Bounds.{Bounded};
 ghost use Rattle.cull_base.specs.declared.nearness.TheConstants.{HELD_TOP};
-ghost use Rattle.depth_plane.specs.Plane.{plane_of, numerator_at, IsNearer, point_of, IsLowBound, IsHighBound, TellsNearerPiece};
+ghost use Rattle.depth_plane.specs.Plane.{plane_of, numerator_at, IsNearer, point_of, IsLowBound, IsHighBound, TellsNearerPiece, IsNarrow, low_from};
 
-use crate::corner::{greatest_along, least_along, numerator_at};
-use crate::quotient::{ceiling, cut_to_range, is_greater};
+use crate::corner::{
+    SPAN_ACROSS, SPAN_DOWN, greatest_along, least_along, narrow_first, narrow_numerator,
+    numerator_at,
+};
+use crate::quotient::{ceiling, cut_to_range, is_greater, narrow_floor};
 use crate::vertices::Vertices;
 use cull_base::{Divisor, Sample, ScreenTri, Sub};
 use std::marker::Model;
 
-/// From the first sample of a subtile to the last in its row, in sixteenths of a pixel.
-const SPAN_ACROSS: u32 = 112;
-
-/// From the first sample of a subtile to the last in its column.
-const SPAN_DOWN: u32 = 48;
-
 /// The depth of a piece at (x, y), in sixteenths of a pixel: `(across * x + down * y + level) / area`.
-#[derive(Clone, Copy)]
+#[derive(Drop)]
 pub struct Plane {
     across: i64,
     down: i64,
     level: i128,
+    // the least numerator over the first subtile, where numerators over the screen fit 64 bits
+    first: Option<i64>,
     area: Divisor,
 }
 
 impl Model for Plane {
-    ghost use Rattle.std.specs.Int.RustNames.{unsigned_abs};
-    ghost use Rattle.std.specs.Prelude.{pos};
-    ghost use Rattle.depth_plane.specs.Plane.{Coefficients, coefficients, IsPlane};
+    ghost use Rattle.std.specs.Prelude.{pos, IfSome};
+    ghost use Rattle.depth_plane.specs.Plane.{Coefficients, coefficients, IsPlane, IsNarrow};
 
     ghost Value = { Coefficients };
 
     ghost view = { λ p. coefficients p.across p.down p.level (pos p.area) };
 
-    ghost invariant = { λ p. IsPlane (coefficients p.across p.down p.level (pos p.area)) };
-
-    ghost inverse = { λ c. record {
-      across = c.across;
-      down = c.down;
-      level = c.level;
-      area = unsigned_abs c.area;
-    } };
+    ghost invariant = { λ p.
+        let c = coefficients p.across p.down p.level (pos p.area) in IsPlane c × IfSome p.first (IsNarrow c) };
 }
 
 // Where the sample of a pixel stands, in sixteenths of a pixel.
@@ -65,16 +57,22 @@ impl Plane {
         ensures positive { pos 0 <ℤ result.area }
     {
         let vertices = Vertices::of(tri);
+        let across = vertices.across();
+        let down = vertices.down();
+        let area = vertices.area();
+        let level = vertices.level(across, down, area);
         Plane {
-            across: vertices.across(),
-            down: vertices.down(),
-            level: vertices.level(),
-            area: Divisor::of(vertices.area().unsigned_abs()),
+            across,
+            down,
+            level,
+            first: narrow_first(across, down, level),
+            area: Divisor::of(area.unsigned_abs()),
         }
     }
 
     /// The low bound of a subtile: nearness, from 0 to the top that pieces hold, that no covered sample is below.
     /// Conditions: the plane is the piece's, and the subtile lies within 2048 by 2048 pixels.
+    #[inline(always)]
     pub fn low(&self, tri: &ScreenTri, sub: Sub) -> u32
         requires plane { self.now ≡ plane_of tri.now }
         requires column { sub.column < 256 }
@@ -83,7 +81,30 @@ impl Plane {
         ensures within { result ≤ HELD_TOP }
         ensures below { IsLowBound tri.now sub result }
     {
-        cut_to_range(self.floor_from(tri.least_nearness(), self.least(sub)))
+        self.low_above(tri.least_nearness(), sub)
+    }
+
+    // The low bound of a subtile, of a piece with so great a least nearness.
+    #[inline(always)]
+    fn low_above(&self, nearness: u32, sub: Sub) -> u32
+        requires column { sub.column < 256 }
+        requires row { sub.row < 512 }
+        ensures { result ≡ low_from self.now nearness sub }
+    {
+        match self.first {
+            Some(first) => narrow_floor(self.narrow_least(first, sub), &self.area, nearness),
+            None => self.wide_low(nearness, sub),
+        }
+    }
+
+    // The same by 128 bits.
+    #[inline(never)]
+    fn wide_low(&self, nearness: u32, sub: Sub) -> u32
+        requires column { sub.column < 256 }
+        requires row { sub.row < 512 }
+        ensures { result ≡ low_from self.now nearness sub }
+    {
+        cut_to_range(self.floor_from(nearness, self.least(sub)))
     }
 
     /// The high bound of a subtile: nearness, from 0 to the top that pieces hold, that no touched sample is above.
@@ -141,6 +162,19 @@ impl Plane {
         let x = least_along(self.across, place(8 * sub.column), SPAN_ACROSS);
         let y = least_along(self.down, place(4 * sub.row), SPAN_DOWN);
         numerator_at(self.across, self.down, self.level, x, y)
+    }
+
+    // The same of a narrow plane: what it is at the first subtile, and what it rises by from there.
+    #[inline(always)]
+    fn narrow_least(&self, first: i64, sub: Sub) -> i64
+        requires first { IsNarrow self.now first }
+        requires column { sub.column < 256 }
+        requires row { sub.row < 512 }
+        ensures { result ≡ least_of (each_sample (λ k. numerator_at self.now (sample sub k))) }
+    {
+        let right = 128 * u32::from(sub.column);
+        let below = 64 * u32::from(sub.row);
+        narrow_numerator(self.across, self.down, first, right, below)
     }
 
     // The greatest numerator over the 32 samples of a subtile.

@@ -1,5 +1,6 @@
 //! Whole quotients by a positive area, and their cut to the range of nearness.
 ghost use Rattle.std.specs.Prelude.{◌≡◌, ℕ, ℤ, pos, ◌*◌, ◌≤◌, ◌^◌, ◌≤ℤ◌, ◌<ℤ◌, ◌+ℤ◌, ◌*ℤ◌, neg_ℤ, IsTrue, ◌↔◌};
+ghost use Rattle.std.specs.Int.{int_max};
 ghost use Rattle.cull_base.specs.Bounds.{Bounded};
 ghost use Rattle.cull_base.specs.declared.nearness.TheConstants.{HELD_TOP};
 ghost use Rattle.cull_base.specs.Depth.{floor_of, ceiling_of, cut_to_range};
@@ -20,6 +21,15 @@ pub fn cut_to_range(depth: i128) -> u32
     ensures within { result ≤ HELD_TOP }
 {
     depth.clamp(0, i128::from(HELD_TOP)) as u32
+}
+
+/// The floor of a numerator over the area, no less than a nearness, cut to the range.
+#[inline(always)]
+pub fn narrow_floor(numerator: i64, area: &Divisor, nearness: u32) -> u32
+    ensures { result ≡ cut_to_range HELD_TOP (int_max (pos nearness) (floor_of numerator (pos area.now))) }
+{
+    let whole = area.quotient(numerator.max(0) as u64);
+    whole.max(u64::from(nearness)).min(u64::from(HELD_TOP)) as u32
 }
 
 // What a whole quotient leaves of the numerator: from 0 to below the area.

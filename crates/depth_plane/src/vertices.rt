@@ -5,174 +5,157 @@ ghost use Rattle.cull_base.specs.Bounds.{Bounded};
 ghost use Rattle.cull_base.specs.declared.nearness.TheConstants.{HELD_TOP};
 
 use cull_base::ScreenTri;
-use cull_base::arithmetic::{difference, edge_value};
+use cull_base::arithmetic::{difference, minus, product};
 
-/// A vertex of a piece.
+#[inline(always)]
+fn nearness_difference(a: u32, b: u32) -> i64
+    requires a { a ≤ HELD_TOP }
+    requires b { b ≤ HELD_TOP }
+    ensures value { result ≡ pos a -ℤ pos b }
+    ensures bounded { Bounded (2 ^ 24) result }
+{
+    i64::from(a) - i64::from(b)
+}
+
+/// How a vertex of a piece lies from the first one.
 #[derive(Clone, Copy)]
-pub struct Vertex {
+pub struct Offset {
+    x: i64,
+    y: i64,
+    q: i64,
+    ghost x_within: { Bounded (2 ^ 30) x },
+    ghost y_within: { Bounded (2 ^ 30) y },
+    ghost q_within: { Bounded (2 ^ 24) q },
+}
+
+impl Offset {
+    ghost use Rattle.depth_plane.specs.Vertices.{IsOffset};
+
+    // Condition: k is below 3.
+    #[inline(always)]
+    fn of(tri: &ScreenTri, k: usize) -> Offset
+        requires { k < 3 }
+        ensures { IsOffset result tri.now k }
+    {
+        Offset {
+            x: difference(tri.x()[k], tri.x()[0]),
+            y: difference(tri.y()[k], tri.y()[0]),
+            q: nearness_difference(tri.q()[k], tri.q()[0]),
+        }
+    }
+}
+
+// A difference of nearness times one of coordinates.
+#[inline(always)]
+fn slope(q: i64, v: i64) -> i64
+    requires q { Bounded (2 ^ 24) q }
+    requires v { Bounded (2 ^ 30) v }
+    ensures value { result ≡ q *ℤ v }
+    ensures bounded { Bounded (2 ^ 54) result }
+{
+    q * v
+}
+
+#[inline(always)]
+fn wide_product(a: i64, b: i64) -> i128
+    ensures value { result ≡ a *ℤ b }
+    ensures bounded { (m n : ℕ) → Bounded m a → Bounded n b → Bounded (m * n) result }
+{
+    i128::from(a) * i128::from(b)
+}
+
+// a - b - c
+#[inline(always)]
+fn less_both(a: i128, b: i128, c: i128) -> i128
+    requires a { Bounded (2 ^ 85) a }
+    requires b { Bounded (2 ^ 85) b }
+    requires c { Bounded (2 ^ 85) c }
+    ensures value { result ≡ (a -ℤ b) -ℤ c }
+    ensures bounded { Bounded (2 ^ 87) result }
+{
+    a - b - c
+}
+
+/// The vertices of a piece: the first, and how the two others lie from it.
+#[derive(Clone, Copy)]
+pub struct Vertices {
     x: i32,
     y: i32,
     q: u32,
+    second: Offset,
+    third: Offset,
     ghost x_within: { IsCoordinate x },
     ghost y_within: { IsCoordinate y },
     ghost q_within: { q ≤ HELD_TOP },
 }
 
-impl Vertex {
-    ghost use Rattle.depth_plane.specs.Vertices.{IsVertex, from_origin};
-
-    /// Condition: k is below 3.
-    fn of(tri: &ScreenTri, k: usize) -> Vertex
-        requires { k < 3 }
-        ensures value { IsVertex result tri.now k }
-        ensures valid { IsPiece tri.now }
-    {
-        Vertex {
-            x: tri.x()[k],
-            y: tri.y()[k],
-            q: tri.q()[k],
-        }
-    }
-
-    // The value at the origin of the edge from here to another vertex.
-    #[inline(always)]
-    fn origin_value(&self, other: &Vertex) -> i64
-        ensures value { result ≡ from_origin self.now other.now }
-        ensures bounded { Bounded (2 ^ 61) result }
-    {
-        edge_value(self.x, self.y, other.x, other.y, 0, 0)
-    }
-}
-
-#[inline(always)]
-fn x_difference(a: &Vertex, b: &Vertex) -> i64
-    ensures value { result ≡ a.now.x -ℤ b.now.x }
-    ensures bounded { Bounded (2 ^ 30) result }
-{
-    difference(a.x, b.x)
-}
-
-#[inline(always)]
-fn y_difference(a: &Vertex, b: &Vertex) -> i64
-    ensures value { result ≡ a.now.y -ℤ b.now.y }
-    ensures bounded { Bounded (2 ^ 30) result }
-{
-    difference(a.y, b.y)
-}
-
-#[inline(always)]
-fn times_nearness(a: &Vertex, value: i64) -> i128
-    requires { Bounded (2 ^ 61) value }
-    ensures value { result ≡ pos a.now.q *ℤ value }
-    ensures bounded { (n : ℕ) → Bounded n value → Bounded (2 ^ 24 * n) result }
-{
-    i128::from(a.q) * i128::from(value)
-}
-
-#[inline(always)]
-fn sum(a: i128, b: i128, c: i128) -> i128
-    requires a { Bounded (2 ^ 85) a }
-    requires b { Bounded (2 ^ 85) b }
-    requires c { Bounded (2 ^ 85) c }
-    ensures { result ≡ (a +ℤ b) +ℤ c }
-{
-    a + b + c
-}
-
-/// The three vertices of a piece.
-#[derive(Clone, Copy)]
-pub struct Vertices {
-    pub a: Vertex,
-    pub b: Vertex,
-    pub c: Vertex,
-}
-
 impl Vertices {
-    ghost use Rattle.depth_plane.specs.Vertices.{IsVertex, weighted_of, across_of, down_of, level_of, area_of};
+    ghost use Rattle.depth_plane.specs.Vertices.{AreVertices, across_of, down_of, level_of, area_of};
 
+    #[inline(always)]
     pub fn of(tri: &ScreenTri) -> Vertices
-        ensures a { IsVertex result.a tri.now 0 }
-        ensures b { IsVertex result.b tri.now 1 }
-        ensures c { IsVertex result.c tri.now 2 }
+        ensures value { AreVertices result tri.now }
         ensures valid { IsPiece tri.now }
     {
         Vertices {
-            a: Vertex::of(tri, 0),
-            b: Vertex::of(tri, 1),
-            c: Vertex::of(tri, 2),
+            x: tri.x()[0],
+            y: tri.y()[0],
+            q: tri.q()[0],
+            second: Offset::of(tri, 1),
+            third: Offset::of(tri, 2),
         }
     }
 
-    // The sum of three values, each weighted by the nearness of its vertex.
-    #[inline(always)]
-    fn weighted_sum(&self, a: i64, b: i64, c: i64) -> i128
-        requires a { Bounded (2 ^ 61) a }
-        requires b { Bounded (2 ^ 61) b }
-        requires c { Bounded (2 ^ 61) c }
-        ensures value { result ≡ weighted_of self.now a b c }
-        ensures bounded { (n : ℕ) → Bounded n a → Bounded n b → Bounded n c → Bounded (2 ^ 26 * n) result }
-    {
-        sum(
-            times_nearness(&self.a, a),
-            times_nearness(&self.b, b),
-            times_nearness(&self.c, c),
-        )
-    }
-
-    // The same of differences of coordinates, which are smaller.
-    #[inline(always)]
-    fn slope(&self, a: i64, b: i64, c: i64) -> i64
-        requires a { Bounded (2 ^ 30) a }
-        requires b { Bounded (2 ^ 30) b }
-        requires c { Bounded (2 ^ 30) c }
-        ensures value { result ≡ weighted_of self.now a b c }
-        ensures bounded { Bounded (2 ^ 56) result }
-    {
-        self.weighted_sum(a, b, c) as i64
-    }
-
     /// What the depth's numerator rises by for each sixteenth of a pixel to the right.
+    #[inline(always)]
     pub fn across(&self) -> i64
         ensures value { result ≡ across_of self.now }
         ensures bounded { Bounded (2 ^ 56) result }
     {
-        self.slope(
-            y_difference(&self.b, &self.c),
-            y_difference(&self.c, &self.a),
-            y_difference(&self.a, &self.b),
+        minus(
+            slope(self.second.q, self.third.y),
+            slope(self.third.q, self.second.y),
         )
     }
 
     /// What it rises by for each sixteenth of a pixel down.
+    #[inline(always)]
     pub fn down(&self) -> i64
         ensures value { result ≡ down_of self.now }
         ensures bounded { Bounded (2 ^ 56) result }
     {
-        self.slope(
-            x_difference(&self.c, &self.b),
-            x_difference(&self.a, &self.c),
-            x_difference(&self.b, &self.a),
-        )
-    }
-
-    /// The depth's numerator at the origin.
-    pub fn level(&self) -> i128
-        ensures value { result ≡ level_of self.now }
-        ensures bounded { Bounded (2 ^ 87) result }
-    {
-        self.weighted_sum(
-            self.b.origin_value(&self.c),
-            self.c.origin_value(&self.a),
-            self.a.origin_value(&self.b),
+        minus(
+            slope(self.third.q, self.second.x),
+            slope(self.second.q, self.third.x),
         )
     }
 
     /// The doubled area.
+    #[inline(always)]
     pub fn area(&self) -> i64
         ensures value { result ≡ area_of self.now }
         ensures bounded { Bounded (2 ^ 61) result }
     {
-        let Vertices { a, b, c } = self;
-        edge_value(a.x, a.y, b.x, b.y, c.x, c.y)
+        minus(
+            product(self.second.x, self.third.y),
+            product(self.second.y, self.third.x),
+        )
+    }
+
+    /// The depth's numerator at the origin, from the other coefficients: at the first vertex it is the nearness there
+    /// times the area.
+    #[inline(always)]
+    pub fn level(&self, across: i64, down: i64, area: i64) -> i128
+        requires across { Bounded (2 ^ 56) across }
+        requires down { Bounded (2 ^ 56) down }
+        requires area { Bounded (2 ^ 61) area }
+        ensures value { result ≡ level_of self.now across down area }
+        ensures bounded { Bounded (2 ^ 87) result }
+    {
+        less_both(
+            wide_product(area, i64::from(self.q)),
+            wide_product(across, i64::from(self.x)),
+            wide_product(down, i64::from(self.y)),
+        )
     }
 }

@@ -8,9 +8,7 @@ use Rattle.std.proofs.lemmas.Bool.Decides.{nat_tests}
 use Rattle.cull_base.specs.Piece.{each_sample}
 use Rattle.cull_base.proofs.Masks.{each_sample-same}
 use Rattle.edge_lanes.specs.Lanes.{is_not_negative, highest_of, lowest_of}
-use Rattle.edge_lanes.specs.Inside.{inside_from, inside_all}
-use Rattle.edge_lanes.specs.declared.edge.Edge.{Edge}
-use Rattle.edge_lanes.specs.declared.edges.Edges.{Edges}
+use Rattle.edge_lanes.specs.Lines.{Line, Lines, inside_from, inside_all}
 
 -- a step taken up to n times
 pub step_most : (s : ℤ) (n k : ℕ) → k ≤ n → (s *ℤ pos k) ≤ℤ int_max (s *ℤ pos n) (pos 0)
@@ -29,7 +27,7 @@ pub not_negative : (v : ℤ) → pos 0 ≤ℤ v → is_not_negative v ≡ true
 not_negative (pos n) h = grind (arith, nat_tests)
 not_negative (negsuc n) h = absurd (omega (arith, ints, h))
 
-rejects : (e : Edge) (s : ℤ) (k : ℕ) → k < 32 → (s +ℤ highest_of e.column e.row) <ℤ pos 0 → inside_from e s k ≡ false
+rejects : (e : Line) (s : ℤ) (k : ℕ) → k < 32 → (s +ℤ highest_of e.column e.row) <ℤ pos 0 → inside_from e s k ≡ false
 rejects e s k l h =
     let p = step_most e.column 7 (k % 8) (omega arith) in let q = step_most e.row 3 (k / 8) (omega arith) in
     negative _ (below s (e.row *ℤ pos (k / 8)) (e.column *ℤ pos (k % 8)) _ _ q p h)
@@ -37,7 +35,7 @@ rejects e s k l h =
     below : (s a b x y : ℤ) → a ≤ℤ x → b ≤ℤ y → (s +ℤ (y +ℤ x)) <ℤ pos 0 → ((s +ℤ a) +ℤ b) <ℤ pos 0
     below s a b x y p q h = omega (arith, ints)
 
-accepts : (e : Edge) (s : ℤ) (k : ℕ) → k < 32 → pos 0 ≤ℤ (s +ℤ lowest_of e.column e.row) → inside_from e s k ≡ true
+accepts : (e : Line) (s : ℤ) (k : ℕ) → k < 32 → pos 0 ≤ℤ (s +ℤ lowest_of e.column e.row) → inside_from e s k ≡ true
 accepts e s k l h =
     let p = step_least e.column 7 (k % 8) (omega arith) in let q = step_least e.row 3 (k / 8) (omega arith) in
     not_negative _ (above s (e.row *ℤ pos (k / 8)) (e.column *ℤ pos (k % 8)) _ _ q p h)
@@ -61,10 +59,10 @@ any_false true true c (inl e) = cc
 any_false true true c (inr (inl e)) = cc
 any_false true true c (inr (inr e)) = e
 
-abbrev pub Rejects : Edge → ℤ → Type 0
+abbrev pub Rejects : Line → ℤ → Type 0
 Rejects e s = (s +ℤ highest_of e.column e.row) <ℤ pos 0
 
-pub rejected : (e : Edges) (s t u : ℤ) → Rejects e.first s ⊎ (Rejects e.second t ⊎ Rejects e.third u) → mask_l (each_sample (inside_all e s t u)) ≡ 0
+pub rejected : (e : Lines) (s t u : ℤ) → Rejects e.first s ⊎ (Rejects e.second t ⊎ Rejects e.third u) → mask_l (each_sample (inside_all e s t u)) ≡ 0
 rejected e s t u h = mask_l-none (inside_all e s t u) (λ k l. any_false _ _ _ (at k l h))
   where
     at : (k : ℕ) → k < 32 → Rejects e.first s ⊎ (Rejects e.second t ⊎ Rejects e.third u) → (inside_from e.first s k ≡ false) ⊎ ((inside_from e.second t k ≡ false) ⊎ (inside_from e.third u k ≡ false))
@@ -72,5 +70,13 @@ rejected e s t u h = mask_l-none (inside_all e s t u) (λ k l. any_false _ _ _ (
     at k l (inr (inl x)) = inr (inl (rejects e.second t k l x))
     at k l (inr (inr x)) = inr (inr (rejects e.third u k l x))
 
-pub accepted : (e : Edge) (s : ℤ) → pos 0 ≤ℤ (s +ℤ lowest_of e.column e.row) → mask_l (each_sample (inside_from e s)) ≡ 2 ^ 32 - 1
+pub accepted : (e : Line) (s : ℤ) → pos 0 ≤ℤ (s +ℤ lowest_of e.column e.row) → mask_l (each_sample (inside_from e s)) ≡ 2 ^ 32 - 1
 accepted e s h = mask_l-all (inside_from e s) (λ k l. accepts e s k l h)
+
+abbrev pub Accepts : Line → ℤ → Type 0
+Accepts e s = pos 0 ≤ℤ (s +ℤ lowest_of e.column e.row)
+
+pub accepted_by_all : (e : Lines) (s t u : ℤ) → Accepts e.first s → Accepts e.second t → Accepts e.third u → mask_l (each_sample (inside_all e s t u)) ≡ 2 ^ 32 - 1
+accepted_by_all e s t u f g h =
+    mask_l-all (inside_all e s t u)
+    (λ k l. let a = accepts e.first s k l f in let b = accepts e.second t k l g in let c = accepts e.third u k l h in rw (a, b, c) refl)

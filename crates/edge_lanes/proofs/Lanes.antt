@@ -1,12 +1,12 @@
 -- What lanes compute where nothing wraps.
-use Rattle.std.proofs.Common.{ℕ, negsuc, sym, ◌*ℤ◌, ◌≤ℤ◌, ◌≡◌, ℤ, pos, ◌%◌, ◌+ℤ◌, arith, w32, w64, FitsSigned, to_z, of_z, Bool, true, false, cond, refl, ap, ◌∙◌, int_le, [], ◌∷◌, map}
+use Rattle.std.proofs.Common.{◌^◌, ◌+◌, negsuc, ◌*ℤ◌, ◌≤ℤ◌, ◌≡◌, ℤ, pos, ◌%◌, ◌+ℤ◌, arith, w32, w64, FitsSigned, to_z, of_z, Bool, true, false, cond, refl, ap, ◌∙◌, int_le, [], ◌∷◌}
 use Rattle.std.specs.Cmp.{both_ways}
+use Rattle.cull_base.specs.Bounds.{Bounded}
 use Rattle.std.specs.Int.{int_div_euclid}
 use Rattle.std.proofs.lemmas.Int.{ints, to_z-of_z}
-use Rattle.cull_base.proofs.Ring.{diff-mul, diff-same, over3}
 use Rattle.std.proofs.lemmas.Simd.{mask_l-mod}
 use Rattle.std.specs.Simd.Lanes.{mask_l, top}
-use Rattle.edge_lanes.specs.Lanes.{is_not_negative, columns}
+use Rattle.edge_lanes.specs.Lanes.{is_not_negative}
 
 -- the top bit of a comparison's lane
 lane_top : (b : Bool) → top 63 (cond b 18446744073709551615 0) ≡ b
@@ -24,6 +24,45 @@ lane_test s o fs fo f = let v : to_z w64 (of_z w64 (to_z w64 (of_z w64 s) +ℤ t
 pub narrow_lane_test : (s o : ℤ) → FitsSigned w32 s → FitsSigned w32 o → FitsSigned w32 (s +ℤ o) → top 31 (cond (int_le (pos 0) (to_z w32 (of_z w32 (to_z w32 (of_z w32 s) +ℤ to_z w32 (of_z w32 o))))) 4294967295 0) ≡ is_not_negative (s +ℤ o)
 narrow_lane_test s o fs fo f = let v : to_z w32 (of_z w32 (to_z w32 (of_z w32 s) +ℤ to_z w32 (of_z w32 o))) ≡ s +ℤ o = simp to_z-of_z in narrow_lane_top _ ∙ ap is_not_negative v
 
+-- of a row of a subtile, below its first by so many steps
+pub first_row_test : (s o r : ℤ) → Bounded (2 ^ 30 + 2 ^ 25) s → Bounded (2 ^ 25) o → Bounded (2 ^ 20) r →
+    top 31 (cond (int_le (pos 0) (to_z w32 (of_z w32 (to_z w32 (of_z w32 s) +ℤ to_z w32 (of_z w32 o))))) 4294967295 0) ≡ is_not_negative ((s +ℤ (r *ℤ pos 0)) +ℤ o)
+first_row_test s o r bs bo br =
+    let fs : FitsSigned w32 s = omega (arith, ints) in let fo : FitsSigned w32 o = omega (arith, ints) in let fr : FitsSigned w32 r = omega (arith, ints) in
+    let f0 : FitsSigned w32 (s +ℤ o) = omega (arith, ints) in
+    let v : to_z w32 (of_z w32 (to_z w32 (of_z w32 s) +ℤ to_z w32 (of_z w32 o))) ≡ (s +ℤ (r *ℤ pos 0)) +ℤ o = simp to_z-of_z (omega (arith, ints)) in
+    narrow_lane_top _ ∙ ap is_not_negative v
+
+pub second_row_test : (s o r : ℤ) → Bounded (2 ^ 30 + 2 ^ 25) s → Bounded (2 ^ 25) o → Bounded (2 ^ 20) r →
+    top 31 (cond (int_le (pos 0) (to_z w32 (of_z w32 (to_z w32 (of_z w32 (to_z w32 (of_z w32 s) +ℤ to_z w32 (of_z w32 o))) +ℤ to_z w32 (of_z w32 r))))) 4294967295 0) ≡ is_not_negative ((s +ℤ (r *ℤ pos 1)) +ℤ o)
+second_row_test s o r bs bo br =
+    let fs : FitsSigned w32 s = omega (arith, ints) in let fo : FitsSigned w32 o = omega (arith, ints) in let fr : FitsSigned w32 r = omega (arith, ints) in
+    let f0 : FitsSigned w32 (s +ℤ o) = omega (arith, ints) in
+    let f1 : FitsSigned w32 ((s +ℤ o) +ℤ r) = omega (arith, ints) in
+    let v : to_z w32 (of_z w32 (to_z w32 (of_z w32 (to_z w32 (of_z w32 s) +ℤ to_z w32 (of_z w32 o))) +ℤ to_z w32 (of_z w32 r))) ≡ (s +ℤ (r *ℤ pos 1)) +ℤ o = simp to_z-of_z (omega (arith, ints)) in
+    narrow_lane_top _ ∙ ap is_not_negative v
+
+pub third_row_test : (s o r : ℤ) → Bounded (2 ^ 30 + 2 ^ 25) s → Bounded (2 ^ 25) o → Bounded (2 ^ 20) r →
+    top 31 (cond (int_le (pos 0) (to_z w32 (of_z w32 (to_z w32 (of_z w32 (to_z w32 (of_z w32 (to_z w32 (of_z w32 s) +ℤ to_z w32 (of_z w32 o))) +ℤ to_z w32 (of_z w32 r))) +ℤ to_z w32 (of_z w32 r))))) 4294967295 0) ≡ is_not_negative ((s +ℤ (r *ℤ pos 2)) +ℤ o)
+third_row_test s o r bs bo br =
+    let fs : FitsSigned w32 s = omega (arith, ints) in let fo : FitsSigned w32 o = omega (arith, ints) in let fr : FitsSigned w32 r = omega (arith, ints) in
+    let f0 : FitsSigned w32 (s +ℤ o) = omega (arith, ints) in
+    let f1 : FitsSigned w32 ((s +ℤ o) +ℤ r) = omega (arith, ints) in
+    let f2 : FitsSigned w32 (((s +ℤ o) +ℤ r) +ℤ r) = omega (arith, ints) in
+    let v : to_z w32 (of_z w32 (to_z w32 (of_z w32 (to_z w32 (of_z w32 (to_z w32 (of_z w32 s) +ℤ to_z w32 (of_z w32 o))) +ℤ to_z w32 (of_z w32 r))) +ℤ to_z w32 (of_z w32 r))) ≡ (s +ℤ (r *ℤ pos 2)) +ℤ o = simp to_z-of_z (omega (arith, ints)) in
+    narrow_lane_top _ ∙ ap is_not_negative v
+
+pub fourth_row_test : (s o r : ℤ) → Bounded (2 ^ 30 + 2 ^ 25) s → Bounded (2 ^ 25) o → Bounded (2 ^ 20) r →
+    top 31 (cond (int_le (pos 0) (to_z w32 (of_z w32 (to_z w32 (of_z w32 (to_z w32 (of_z w32 (to_z w32 (of_z w32 (to_z w32 (of_z w32 s) +ℤ to_z w32 (of_z w32 o))) +ℤ to_z w32 (of_z w32 r))) +ℤ to_z w32 (of_z w32 r))) +ℤ to_z w32 (of_z w32 r))))) 4294967295 0) ≡ is_not_negative ((s +ℤ (r *ℤ pos 3)) +ℤ o)
+fourth_row_test s o r bs bo br =
+    let fs : FitsSigned w32 s = omega (arith, ints) in let fo : FitsSigned w32 o = omega (arith, ints) in let fr : FitsSigned w32 r = omega (arith, ints) in
+    let f0 : FitsSigned w32 (s +ℤ o) = omega (arith, ints) in
+    let f1 : FitsSigned w32 ((s +ℤ o) +ℤ r) = omega (arith, ints) in
+    let f2 : FitsSigned w32 (((s +ℤ o) +ℤ r) +ℤ r) = omega (arith, ints) in
+    let f3 : FitsSigned w32 ((((s +ℤ o) +ℤ r) +ℤ r) +ℤ r) = omega (arith, ints) in
+    let v : to_z w32 (of_z w32 (to_z w32 (of_z w32 (to_z w32 (of_z w32 (to_z w32 (of_z w32 (to_z w32 (of_z w32 s) +ℤ to_z w32 (of_z w32 o))) +ℤ to_z w32 (of_z w32 r))) +ℤ to_z w32 (of_z w32 r))) +ℤ to_z w32 (of_z w32 r))) ≡ (s +ℤ (r *ℤ pos 3)) +ℤ o = simp to_z-of_z (omega (arith, ints)) in
+    narrow_lane_top _ ∙ ap is_not_negative v
+
 pub mask_of_eight : (a b c d e f g h a' b' c' d' e' f' g' h' : Bool) → a ≡ a' → b ≡ b' → c ≡ c' → d ≡ d' → e ≡ e' → f ≡ f' → g ≡ g' → h ≡ h' →
     mask_l (a ∷ b ∷ c ∷ d ∷ e ∷ f ∷ g ∷ h ∷ []) % 18446744073709551616 ≡ mask_l (a' ∷ b' ∷ c' ∷ d' ∷ e' ∷ f' ∷ g' ∷ h' ∷ [])
 mask_of_eight a b c d e f g h a' b' c' d' e' f' g' h' ea eb ec ed ee ef eg eh =
@@ -40,17 +79,3 @@ is_not_negative-sixteenth e k = both_ways _ _ (λ h. grind (arith, ints, forth e
     back : (e k : ℤ) → pos 0 ≤ℤ (e +ℤ (pos 16 *ℤ k)) → pos 0 ≤ℤ (int_div_euclid e (pos 16) +ℤ k)
     back (pos n) k h = omega (arith, ints, h)
     back (negsuc n) k h = omega (arith, ints, h)
-
--- one column
-pub narrow_column : (start column sixteenth v : ℤ) (c : ℕ) → v ≡ int_div_euclid start (pos 16) → column ≡ pos 16 *ℤ sixteenth → is_not_negative (v +ℤ (sixteenth *ℤ pos c)) ≡ is_not_negative (start +ℤ (column *ℤ pos c))
-narrow_column start column sixteenth v c ev ec = rw (ev, ec) (is_not_negative-sixteenth start (sixteenth *ℤ pos c) ∙ ap (λ (w : ℤ). is_not_negative (start +ℤ w)) (sym (mul_assoc (pos 16) sixteenth (pos c))))
-  where
-    mul_assoc : (a b c : ℤ) → (a *ℤ b) *ℤ c ≡ a *ℤ (b *ℤ c)
-    mul_assoc = over3 (λ a b c. (a *ℤ b) *ℤ c ≡ a *ℤ (b *ℤ c)) (λ a a' b b' c c'. simp diff-mul (diff-same _ _ _ _ (omega arith)))
-
-pub narrow_columns-same : (start column sixteenth v : ℤ) (m : ℕ) → v ≡ int_div_euclid start (pos 16) → column ≡ pos 16 *ℤ sixteenth → m ≡ mask_l (map (λ c. is_not_negative (v +ℤ (sixteenth *ℤ pos c))) columns) →
-    m ≡ mask_l (map (λ c. is_not_negative (start +ℤ (column *ℤ pos c))) columns)
-narrow_columns-same start column sixteenth v m ev ec em =
-    let e : (c : ℕ) → is_not_negative (v +ℤ (sixteenth *ℤ pos c)) ≡ is_not_negative (start +ℤ (column *ℤ pos c)) = λ c. narrow_column start column sixteenth v c ev ec in
-    let a = e 0 in let b = e 1 in let c = e 2 in let d = e 3 in let f = e 4 in let g = e 5 in let h = e 6 in let i = e 7 in
-    em ∙ cc

@@ -6,3 +6,4 @@ pub mod Inside
 pub mod Extremes
 pub mod Sharing
 pub mod Subtiles
+pub mod Tiles

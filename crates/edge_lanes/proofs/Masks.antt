@@ -39,6 +39,10 @@ pub mask_l-and_samples : (f g h : ℕ → Bool) → bit_and (bit_and (mask_l (ea
 unfolding each_sample
 mask_l-and_samples f g h = mask_l-and f g h (range_with_len 0 32)
 
+pub row_of-and : (f g h : ℕ → Bool) (r : ℕ) → bit_and (bit_and (row_of f r) (row_of g r)) (row_of h r) ≡ row_of (λ k. f k && (g k && h k)) r
+unfolding row_of
+row_of-and f g h r = mask_l-and (λ c. f (8 * r + c)) (λ c. g (8 * r + c)) (λ c. h (8 * r + c)) columns
+
 -- a mask is made of its four rows
 pub mask_of_rows : (p : ℕ → Bool) → mask_l (each_sample p) ≡ (row_of p 0 + row_of p 1 * 256) + (row_of p 2 + row_of p 3 * 256) * 65536
 unfolding each_sample row_of

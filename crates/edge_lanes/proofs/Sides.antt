@@ -1,5 +1,5 @@
 -- One test for both sides: the bias of an edge's value.
-use Rattle.std.proofs.Common.{List, length, slice_index_or, ◌<◌, ◌+◌, ◌*◌, ◌/◌, ◌%◌, ◌≡◌, ℕ, ℤ, pos, negsuc, zero, suc, ◌+ℤ◌, arith, refl, Bool, true, false, cond, ◌&&◌, ◌||◌, int_lt, int_le, ap, ◌∙◌}
+use Rattle.std.proofs.Common.{List, length, slice_index_or, ◌<◌, ◌+◌, ◌*◌, ◌/◌, ◌%◌, ◌≡◌, ℕ, ℤ, pos, negsuc, zero, suc, ◌+ℤ◌, arith, refl, Bool, true, false, cond, ◌&&◌, ◌||◌, int_lt, int_le, ◌∙◌}
 use Rattle.std.specs.Ordering.{int_eq}
 use Rattle.std.specs.List.{All}
 use Rattle.std.proofs.lemmas.Int.{ints}
@@ -10,9 +10,7 @@ use Rattle.cull_base.specs.declared.triangle.Side.{Side}
 use Rattle.cull_base.specs.declared.triangle.Side.TheVariants.{Occluder, Object}
 use Rattle.cull_base.specs.declared.place.Sub.{Sub}
 use Rattle.edge_lanes.specs.Lanes.{is_not_negative}
-use Rattle.edge_lanes.specs.Inside.{value_at, is_inside, inside_of, IsEdge}
-use Rattle.edge_lanes.specs.declared.edge.Edge.{Edge}
-use Rattle.edge_lanes.specs.declared.edges.Edges.{Edges}
+use Rattle.edge_lanes.specs.Lines.{AreEdges, IsEdge, Line, Lines, counts_at, inside_lines, is_inside}
 use Rattle.cull_base.proofs.Masks.{each_sample-same}
 
 not_negative : (n : ℕ) → int_le (pos 0) (pos n) ≡ true
@@ -44,19 +42,13 @@ is_not_negative-plain v = let e : v +ℤ pos 0 ≡ v = omega (arith, ints) in rw
 pub coordinate_at : (xs : List ℤ) (k : ℕ) → All IsCoordinate xs → length xs ≡ 3 → k < 3 → IsCoordinate (slice_index_or xs k (pos 0))
 coordinate_at xs k h l lt = All-get_or IsCoordinate xs k (pos 0) (omega arith) h
 
-edge_of_occluder : (e : Edge) (a b : Point) → IsEdge e Occluder a b → (x y : ℕ) → is_not_negative (value_at e x y) ≡ edge_covers a b (middle x y)
-edge_of_occluder e a b h x y = ap is_not_negative (h x y) ∙ is_not_negative-biased (edge_value a b (middle x y)) (is_top_or_left a b)
+edge_of_occluder : (e : Line) (a b : Point) → IsEdge e Occluder a b → (x y : ℕ) → counts_at e x y ≡ edge_covers a b (middle x y)
+edge_of_occluder e a b h x y = h x y ∙ is_not_negative-biased (edge_value a b (middle x y)) (is_top_or_left a b)
 
-edge_of_object : (e : Edge) (a b : Point) → IsEdge e Object a b → (x y : ℕ) → is_not_negative (value_at e x y) ≡ edge_touches a b (middle x y)
-edge_of_object e a b h x y = ap is_not_negative (h x y) ∙ is_not_negative-plain (edge_value a b (middle x y))
+edge_of_object : (e : Line) (a b : Point) → IsEdge e Object a b → (x y : ℕ) → counts_at e x y ≡ edge_touches a b (middle x y)
+edge_of_object e a b h x y = h x y ∙ is_not_negative-plain (edge_value a b (middle x y))
 
--- the edges are those of a piece, for one side
-pub record AreEdges (e : Edges) (side : Side) (t : Piece) : Type 0 where
-  pub first : IsEdge e.first side (vertex t 0) (vertex t 1)
-  pub second : IsEdge e.second side (vertex t 1) (vertex t 2)
-  pub third : IsEdge e.third side (vertex t 2) (vertex t 0)
-
-occluder_at : (e : Edges) (t : Piece) → AreEdges e Occluder t → (x y : ℕ) → is_inside e x y ≡ covers t (middle x y)
+occluder_at : (e : Lines) (t : Piece) → AreEdges e Occluder t → (x y : ℕ) → is_inside e x y ≡ covers t (middle x y)
 unfolding covers
 occluder_at e t h x y =
     let a = edge_of_occluder e.first (vertex t 0) (vertex t 1) h.first x y in
@@ -64,7 +56,7 @@ occluder_at e t h x y =
     let c = edge_of_occluder e.third (vertex t 2) (vertex t 0) h.third x y in
     rw (a, b, c) refl
 
-object_at : (e : Edges) (t : Piece) → AreEdges e Object t → (x y : ℕ) → is_inside e x y ≡ touches t (middle x y)
+object_at : (e : Lines) (t : Piece) → AreEdges e Object t → (x y : ℕ) → is_inside e x y ≡ touches t (middle x y)
 unfolding touches
 object_at e t h x y =
     let a = edge_of_object e.first (vertex t 0) (vertex t 1) h.first x y in
@@ -72,14 +64,14 @@ object_at e t h x y =
     let c = edge_of_object e.third (vertex t 2) (vertex t 0) h.third x y in
     rw (a, b, c) refl
 
-pub inside_of-covered : (e : Edges) (side : Side) (t : Piece) → AreEdges e side t → side ≡ Occluder → (u : Sub) → inside_of e u ≡ covered t u
-unfolding inside_of covered
-inside_of-covered e side t h is u =
+pub inside_lines-covered : (e : Lines) (side : Side) (t : Piece) → AreEdges e side t → side ≡ Occluder → (u : Sub) → inside_lines e u ≡ covered t u
+unfolding inside_lines covered
+inside_lines-covered e side t h is u =
     let g = rw is at h in
     each_sample-same (λ k. is_inside e (8 * u.column + k % 8) (4 * u.row + k / 8)) (λ k. covers t (sample u k)) (λ k l. occluder_at e t g (8 * u.column + k % 8) (4 * u.row + k / 8))
 
-pub inside_of-touched : (e : Edges) (side : Side) (t : Piece) → AreEdges e side t → side ≡ Object → (u : Sub) → inside_of e u ≡ touched t u
-unfolding inside_of touched
-inside_of-touched e side t h is u =
+pub inside_lines-touched : (e : Lines) (side : Side) (t : Piece) → AreEdges e side t → side ≡ Object → (u : Sub) → inside_lines e u ≡ touched t u
+unfolding inside_lines touched
+inside_lines-touched e side t h is u =
     let g = rw is at h in
     each_sample-same (λ k. is_inside e (8 * u.column + k % 8) (4 * u.row + k / 8)) (λ k. touches t (sample u k)) (λ k l. object_at e t g (8 * u.column + k % 8) (4 * u.row + k / 8))

@@ -1,48 +1,50 @@
 -- Which samples lie inside the three edges of a piece.
-use Rattle.std.specs.Prelude.{ℕ, ℤ, pos, ◌≡◌, ◌+◌, ◌*◌, ◌/◌, ◌%◌, ◌^◌, ◌+ℤ◌, ◌*ℤ◌, List, Bool, ◌&&◌}
+use Rattle.std.specs.Prelude.{ℕ, ℤ, ◌≡◌, ◌+◌, ◌*◌, ◌/◌, ◌%◌, ◌^◌, List, Bool}
 use Rattle.cull_base.specs.Bounds.{Bounded}
-use Rattle.cull_base.specs.Piece.{Point, edge_value, middle, is_top_or_left, each_sample}
-use Rattle.cull_base.specs.declared.triangle.Side.{Side}
 use Rattle.cull_base.specs.declared.place.Sub.{Sub}
 use Rattle.cull_base.specs.declared.place.Tile.{Tile}
-use Rattle.edge_lanes.specs.Lanes.{is_not_negative, bias_of, highest_of, subtile_signs}
-use Rattle.edge_lanes.specs.declared.edge.Edge.{Edge}
+use Rattle.edge_lanes.specs.Lines.{Line, Lines, line, clamped, inside_lines, tile_value}
+use Rattle.edge_lanes.specs.declared.narrow_edge.NarrowEdge.{NarrowEdge}
+use Rattle.edge_lanes.specs.declared.narrow_edges.NarrowEdges.{NarrowEdges}
+use Rattle.edge_lanes.specs.declared.wide_edge.WideEdge.{WideEdge}
+use Rattle.edge_lanes.specs.declared.wide_edges.WideEdges.{WideEdges}
+use Rattle.edge_lanes.specs.declared.edges.Kind.{Kind}
+use Rattle.edge_lanes.specs.declared.edges.Kind.TheVariants.{Narrow, Wide}
 use Rattle.edge_lanes.specs.declared.edges.Edges.{Edges}
 
--- the value of an edge at the sample of a pixel
-abbrev pub value_at : Edge → ℕ → ℕ → ℤ
-value_at e x y = (e.start +ℤ (e.column *ℤ pos x)) +ℤ (e.row *ℤ pos y)
+abbrev pub narrow_line : NarrowEdge → Line
+narrow_line e = line e.start e.column e.row
 
--- the edge from a to b, for one side: its values are the edge's, with the side's bias
-abbrev pub IsEdge : Edge → Side → Point → Point → Type 0
-IsEdge e side a b = (x y : ℕ) → value_at e x y ≡ edge_value a b (middle x y) +ℤ bias_of side (is_top_or_left a b)
+abbrev pub wide_line : WideEdge → Line
+wide_line e = line e.start e.column e.row
 
--- a pixel's sample counts for an edge, and is inside all three
-abbrev pub counts_at : Edge → ℕ → ℕ → Bool
-counts_at e x y = is_not_negative (value_at e x y)
+abbrev pub narrow_lines : NarrowEdges → Lines
+narrow_lines e = record { first = narrow_line e.first; second = narrow_line e.second; third = narrow_line e.third }
 
-abbrev pub is_inside : Edges → ℕ → ℕ → Bool
-is_inside e x y = counts_at e.first x y && (counts_at e.second x y && counts_at e.third x y)
+abbrev pub wide_lines : WideEdges → Lines
+wide_lines e = record { first = wide_line e.first; second = wide_line e.second; third = wide_line e.third }
+
+abbrev pub lines_of_kind : Kind → Lines
+lines_of_kind (Narrow e) = narrow_lines e
+lines_of_kind (Wide e) = wide_lines e
 
 -- which samples of a subtile lie inside all three edges
 unfoldable pub inside_of : Edges → Sub → List Bool
-inside_of e u = each_sample (λ k. is_inside e (8 * u.column + k % 8) (4 * u.row + k / 8))
-
--- sample k of a subtile is inside an edge that has this value at the subtile's first sample, and inside three
-abbrev pub inside_from : Edge → ℤ → ℕ → Bool
-inside_from e start k = is_not_negative ((start +ℤ (e.row *ℤ pos (k / 8))) +ℤ (e.column *ℤ pos (k % 8)))
-
-abbrev pub inside_all : Edges → ℤ → ℤ → ℤ → ℕ → Bool
-inside_all e s t u k = inside_from e.first s k && (inside_from e.second t k && inside_from e.third u k)
+inside_of e u = inside_lines (lines_of_kind e.kind) u
 
 -- subtile j of a tile, of which it has four columns and two rows
 abbrev pub sub_of : Tile → ℕ → Sub
 sub_of tile j = record { column = 4 * tile.column + j % 4; row = 2 * tile.row + j / 4 }
 
--- bit j is clear where an edge rejects all of subtile j, in a tile that begins with this value
-abbrev pub candidates_of : Edge → ℤ → ℕ
-candidates_of e start = subtile_signs e.column e.row (start +ℤ highest_of e.column e.row)
+-- an edge's value at a tile, as it is held, and how far it may lie from 0
+abbrev pub held_value : Kind → ℤ → ℤ
+held_value (Narrow e) v = clamped v
+held_value (Wide e) v = v
 
--- an edge has this value at the first sample of a tile, and it is within 62 bits
-abbrev pub StartsAt : Edge → Tile → ℤ → Type 0
-StartsAt e tile v = (v ≡ value_at e (8 * (4 * tile.column)) (4 * (2 * tile.row))) × Bounded (2 ^ 61 + 2 ^ 47) v
+abbrev pub held_bound : Kind → ℕ
+held_bound (Narrow e) = 2 ^ 30
+held_bound (Wide e) = 2 ^ 61 + 2 ^ 47
+
+-- an edge of a piece begins a tile with this value
+abbrev pub StartsAt : Kind → Line → Tile → ℤ → Type 0
+StartsAt kind e tile v = (v ≡ held_value kind (tile_value e tile)) × Bounded (held_bound kind) v

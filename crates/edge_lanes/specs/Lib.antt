@@ -1,4 +1,5 @@
 pub mod Lanes
+pub mod Lines
 pub mod Inside
 pub mod Shared
 pub mod Tiles

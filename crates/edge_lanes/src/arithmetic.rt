@@ -2,6 +2,7 @@
 ghost use Rattle.std.specs.Prelude.{◌≡◌, ℕ, ℤ, pos, ◌^◌, ◌+◌, ◌<◌, ◌+ℤ◌, ◌*ℤ◌, neg_ℤ};
 ghost use Rattle.std.specs.Int.{int_min, int_max};
 ghost use Rattle.cull_base.specs.Bounds.{Bounded};
+ghost use Rattle.edge_lanes.specs.Lanes.{highest_of, lowest_of};
 
 // What one more pixel adds, which is sixteen sixteenths.
 #[inline(always)]
@@ -62,4 +63,35 @@ pub fn total(a: i64, b: i64) -> i64
     ensures bounded { Bounded (2 ^ 46) result }
 {
     a + b
+}
+
+// The most and the least that a subtile's samples add.
+#[inline(always)]
+pub fn highest(column: i64, row: i64) -> i64
+    requires column { Bounded (2 ^ 34) column }
+    requires row { Bounded (2 ^ 34) row }
+    ensures { result ≡ highest_of column row }
+{
+    total(rise(column, 7), rise(row, 3))
+}
+
+#[inline(always)]
+pub fn lowest(column: i64, row: i64) -> i64
+    requires column { Bounded (2 ^ 34) column }
+    requires row { Bounded (2 ^ 34) row }
+    ensures { result ≡ lowest_of column row }
+{
+    total(fall(column, 7), fall(row, 3))
+}
+
+// A value moved across and down.
+#[inline(always)]
+pub fn shift(start: i64, across: i64, down: i64) -> i64
+    requires start { Bounded (2 ^ 61 + 1) start }
+    requires across { Bounded (2 ^ 45) across }
+    requires down { Bounded (2 ^ 45) down }
+    ensures value { result ≡ (start +ℤ across) +ℤ down }
+    ensures bounded { Bounded (2 ^ 61 + 2 ^ 47) result }
+{
+    start + across + down
 }

@@ -1,62 +1,72 @@
 //! The three edges of a piece, and the masks of the samples inside all of them.
-ghost use Rattle.std.specs.Prelude.{◌≡◌, ℕ, ℤ, ◌+◌, ◌*◌, ◌/◌, ◌%◌, ◌<◌, ◌^◌, slice_index, IsTrue};
+ghost use Rattle.std.specs.Prelude.{◌≡◌, ℕ, pos, ◌+◌, ◌*◌, ◌/◌, ◌%◌, ◌<◌, ◌^◌, ◌-ℤ◌, slice_index, IsTrue};
 ghost use Rattle.std.specs.Simd.Lanes.{mask_l};
-ghost use Rattle.cull_base.specs.Piece.{covered, touched, each_sample, vertex};
 ghost use Rattle.cull_base.specs.Bounds.{Bounded};
+ghost use Rattle.cull_base.specs.Piece.{IsCoordinate, covered, touched};
 ghost use Rattle.cull_base.specs.State.{samples_of};
 ghost use Rattle.cull_base.specs.declared.place.Sub.{Sub};
 ghost use Rattle.cull_base.specs.declared.triangle.Side.{Side};
-ghost use Rattle.edge_lanes.specs.Inside.{IsEdge};
+ghost use Rattle.edge_lanes.specs.Lines.{IsNarrow};
 
-use crate::edge::Edge;
+use crate::narrow_edges::NarrowEdges;
+use crate::wide_edges::WideEdges;
 use cull_base::{ScreenTri, Side, Sub, Tile};
 use std::array;
+
+/// A piece whose box has sides below this many sixteenths of a pixel takes lanes of 32 bits.
+const NARROW: i32 = 0x10_0000;
 
 /// The edges of a piece, for the samples that it covers as an occluder or touches as an object.
 #[derive(Clone, Copy)]
 pub struct Edges {
-    pub(crate) first: Edge,
-    pub(crate) second: Edge,
-    pub(crate) third: Edge,
+    pub(crate) kind: Kind,
 }
 
-// The edge from one vertex of a piece to another.
+/// Nearly all pieces are narrow.
+#[derive(Clone, Copy)]
+pub(crate) enum Kind {
+    Narrow(NarrowEdges),
+    Wide(WideEdges),
+}
+
+// Whether three coordinates lie so near to each other.
 #[inline(always)]
-fn edge_between(tri: &ScreenTri, from: usize, to: usize, side: Side) -> Edge
-    requires from { from < 3 }
-    requires to { to < 3 }
-    ensures { IsEdge result side (vertex tri.now from) (vertex tri.now to) }
+fn are_near(a: i32, b: i32, c: i32) -> bool
+    requires a { IsCoordinate a }
+    requires b { IsCoordinate b }
+    requires c { IsCoordinate c }
+    ensures first { IsTrue result → Bounded (2 ^ 20) (b -ℤ a) }
+    ensures second { IsTrue result → Bounded (2 ^ 20) (c -ℤ b) }
+    ensures third { IsTrue result → Bounded (2 ^ 20) (a -ℤ c) }
+{
+    a.max(b).max(c) - a.min(b).min(c) < NARROW
+}
+
+#[inline(always)]
+fn is_narrow(tri: &ScreenTri) -> bool
+    ensures { IsTrue result → IsNarrow tri.now }
 {
     let x = tri.x();
     let y = tri.y();
-    Edge::of(x[from], y[from], x[to], y[to], side)
+    are_near(x[0], x[1], x[2]) && are_near(y[0], y[1], y[2])
 }
 
 impl Edges {
-    ghost use Rattle.edge_lanes.specs.Inside.{inside_of, inside_all, sub_of};
+    ghost use Rattle.edge_lanes.specs.Inside.{inside_of, sub_of};
 
     pub fn of(tri: &ScreenTri, side: Side) -> Edges
         ensures covered { side ≡ Side.Occluder → (u : Sub) → inside_of result u ≡ covered tri.now u }
         ensures touched { side ≡ Side.Object → (u : Sub) → inside_of result u ≡ touched tri.now u }
     {
-        Edges {
-            first: edge_between(tri, 0, 1, side),
-            second: edge_between(tri, 1, 2, side),
-            third: edge_between(tri, 2, 0, side),
+        if is_narrow(tri) {
+            Edges {
+                kind: Kind::Narrow(NarrowEdges::of(tri, side)),
+            }
+        } else {
+            Edges {
+                kind: Kind::Wide(WideEdges::of(tri, side)),
+            }
         }
-    }
-
-    // Whether an edge rejects each sample of a subtile that begins with these values.
-    #[inline(always)]
-    fn rejects_all(&self, first: i64, second: i64, third: i64) -> bool
-        requires first { Bounded (2 ^ 61 + 2 ^ 48) first }
-        requires second { Bounded (2 ^ 61 + 2 ^ 48) second }
-        requires third { Bounded (2 ^ 61 + 2 ^ 48) third }
-        ensures { IsTrue result → mask_l (each_sample (inside_all self.now first second third)) ≡ 0 }
-    {
-        self.first.rejects_all(first)
-            || self.second.rejects_all(second)
-            || self.third.rejects_all(third)
     }
 
     /// The samples of a subtile that lie inside: bit 8r + c is column c of row r. Condition: the subtile lies within
@@ -68,14 +78,12 @@ impl Edges {
         ensures value { result ≡ mask_l (inside_of self.now sub) }
         ensures samples { samples_of result ≡ inside_of self.now sub }
     {
-        let first = self.first.start_at(sub);
-        let second = self.second.start_at(sub);
-        let third = self.third.start_at(sub);
-        if self.rejects_all(first, second, third) {
-            0
-        } else {
-            self.first.mask(first) & self.second.mask(second) & self.third.mask(third)
-        }
+        let tile = Tile {
+            column: sub.column / 4,
+            row: sub.row / 2,
+        };
+        self.at_tile(tile)
+            .mask(u32::from(sub.row % 2 * 4 + sub.column % 4))
     }
 
     /// The masks of a tile's subtiles, of which it has four columns and two rows. Condition: the tile lies within

@@ -2,12 +2,16 @@
 #![tactic(auto)]
 
 mod arithmetic;
-mod edge;
+mod bias;
 mod edges;
+mod narrow_edge;
+mod narrow_edges;
 mod shared;
 #[cfg(test)]
 mod tests;
 mod tile_edges;
+mod wide_edge;
+mod wide_edges;
 
 pub use edges::Edges;
 pub use shared::shared_edge;

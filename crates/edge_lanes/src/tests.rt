@@ -6,6 +6,9 @@ use crate::shared::shared_edge;
 use cull_base::{ScreenTri, Side, Sub, Tile};
 use std::process::Abort;
 
+// The greatest coordinate of a piece.
+const GUARD: i32 = 536_870_911;
+
 fn number(state: u64, below: u64) -> u64
     requires { 0 < below }
     ensures { result < below }
@@ -19,8 +22,8 @@ fn after(state: u64) -> u64 {
         .wrapping_add(1442695040888963407)
 }
 
-// Three coordinates from `low` on, within a span.
-fn coordinates(state: u64, low: i32, span: u64) -> [i32; 3]
+// Three coordinates from `low` on, within a span, so many times as large.
+fn coordinates(state: u64, low: i32, span: u64, scale: i32) -> [i32; 3]
     requires span { 0 < span }
     requires small { span < 2 ^ 20 }
     requires low_from { negsuc (2 ^ 20) ≤ℤ low }
@@ -28,9 +31,9 @@ fn coordinates(state: u64, low: i32, span: u64) -> [i32; 3]
 {
     let second = after(state);
     [
-        low + number(state, span) as i32,
-        low + number(second, span) as i32,
-        low + number(after(second), span) as i32,
+        scale.wrapping_mul(low + number(state, span) as i32),
+        scale.wrapping_mul(low + number(second, span) as i32),
+        scale.wrapping_mul(low + number(after(second), span) as i32),
     ]
 }
 
@@ -106,8 +109,8 @@ fn an_object_touches_both_sides_of_a_diagonal(rt: HostRuntime) {
 fn a_tile_inside_is_whole_and_one_beside_is_empty(rt: HostRuntime) {
     let edges = edges_at(
         &rt,
-        [-400_000_000, 400_000_000, 400_000_000],
-        [-400_000_000, -400_000_000, 400_000_000],
+        [-GUARD, GUARD, GUARD],
+        [-GUARD, -GUARD, GUARD],
         Side::Occluder,
     );
     assert_eq!(rt;
@@ -148,15 +151,54 @@ fn a_candidate_may_be_empty(rt: HostRuntime) {
     assert_eq!(rt; lower.mask(5), 0);
 }
 
-// A diagonal of steps too wide for 32 bits: its first piece has the samples where x is at least y, its second the others.
+// A diagonal from one corner to another: its first piece has the samples where x is at least y, its second the others.
+fn diagonal_masks(rt: &impl Abort, from: i32, to: i32) -> [u32; 2] {
+    let first = edges_at(rt, [from, to, to], [from, from, to], Side::Occluder);
+    let second = edges_at(rt, [from, to, from], [from, to, to], Side::Occluder);
+    let sub = Sub { column: 4, row: 8 };
+    [first.mask(sub), second.mask(sub)]
+}
+
+// Of sides just narrow, just wide, and as wide as there are: the steps of the last are too wide for 32 bits.
 #[test]
-fn a_wide_diagonal_crosses_a_subtile(rt: HostRuntime) {
-    let far = 400_000_000;
-    let first = edges_at(&rt, [-far, far, far], [-far, -far, far], Side::Occluder);
-    let second = edges_at(&rt, [-far, far, -far], [-far, far, far], Side::Occluder);
-    let sub = Sub { column: 0, row: 0 };
-    assert_eq!(rt; first.mask(sub), 0xF8FC_FEFF);
-    assert_eq!(rt; second.mask(sub), 0x0703_0100);
+fn a_diagonal_crosses_a_subtile(rt: HostRuntime) {
+    let halves = [0xF8FC_FEFF, 0x0703_0100];
+    assert_eq!(rt; diagonal_masks(&rt, -524_288, 524_287), halves);
+    assert_eq!(rt; diagonal_masks(&rt, -524_288, 524_288), halves);
+    assert_eq!(rt; diagonal_masks(&rt, -GUARD, GUARD), halves);
+}
+
+// Its values there are too far from 0 for 32 bits.
+#[test]
+fn a_narrow_piece_far_beside_the_screen_is_empty(rt: HostRuntime) {
+    let tile = Tile { column: 0, row: 0 };
+    let right = [GUARD - 1000, GUARD, GUARD];
+    let left = [-GUARD, 1000 - GUARD, 1000 - GUARD];
+    for x in [left, right] {
+        let edges = edges_at(&rt, x, [0, 0, 1000], Side::Object);
+        assert_eq!(rt; edges.at_tile(tile).candidates(), 0);
+        assert_eq!(rt; edges.tile_masks(tile), [0; 8]);
+    }
+    let above = [-GUARD, -GUARD, 1000 - GUARD];
+    let edges = edges_at(&rt, [0, 1000, 1000], above, Side::Object);
+    assert_eq!(rt; edges.at_tile(tile).candidates(), 0);
+    assert_eq!(rt; edges.tile_masks(tile), [0; 8]);
+}
+
+// From (-500,000, -500,000) to (500,000, 500,000): each edge is far from the screen but the diagonal.
+#[test]
+fn a_narrow_piece_around_the_screen_is_whole_on_one_side(rt: HostRuntime) {
+    let far = 500_000;
+    let edges = edges_at(&rt, [-far, far, far], [-far, -far, far], Side::Occluder);
+    let right = edges.at_tile(Tile { column: 63, row: 0 });
+    assert_eq!(rt; right.candidates(), 0xFF);
+    assert_eq!(rt; right.mask(7), u32::MAX);
+    let below = edges.at_tile(Tile {
+        column: 0,
+        row: 255,
+    });
+    assert_eq!(rt; below.candidates(), 0);
+    assert_eq!(rt; below.mask(0), 0);
 }
 
 // Whether lanes and samples agree at a piece, in the subtile nearest to a place and in its tile.
@@ -179,14 +221,16 @@ fn lanes_agree_with_single_samples(rt: HostRuntime) {
     let mut pieces = 0u32;
     for i in 0..1200u32 {
         state = after(after(state));
-        let (low, span) = match i % 4 {
-            0 => (-20_000, 60_000),
-            1 => (-500, 1000),
-            2 => (1600, 17),
-            _ => (0, 2000),
+        let (low, span, scale) = match i % 6 {
+            0 => (-20_000, 60_000, 1),
+            1 => (-500, 1000, 1),
+            2 => (1600, 17, 1),
+            3 => (0, 2000, 1),
+            4 => (-524_288, 1_048_575, 1),
+            _ => (-500_000, 1_000_000, 1000),
         };
-        let x = coordinates(state, low, span);
-        let y = coordinates(after(after(after(state))), low, span);
+        let x = coordinates(state, low, span, scale);
+        let y = coordinates(after(after(after(state))), low, span, scale);
         if let Some(tri) = ScreenTri::new(x, y, [0; 3]) {
             pieces = pieces.wrapping_add(1);
             for k in 0..3 {

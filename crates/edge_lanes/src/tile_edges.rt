@@ -1,11 +1,10 @@
 //! The edges of a piece over one tile, whose eight subtiles are asked at once.
 ghost use Rattle.std.specs.Prelude.{◌≡◌, ℕ, ℤ, ◌+◌, ◌*◌, ◌<◌, ◌^◌};
 ghost use Rattle.std.specs.Simd.Lanes.{mask_l};
-ghost use Rattle.cull_base.specs.Bounds.{Bounded};
 ghost use Rattle.cull_base.specs.State.{samples_of};
-ghost use Rattle.edge_lanes.specs.Inside.{StartsAt, inside_of, sub_of};
+ghost use Rattle.edge_lanes.specs.Inside.{StartsAt, inside_of, lines_of_kind, sub_of};
 
-use crate::edges::Edges;
+use crate::edges::{Edges, Kind};
 use cull_base::Tile;
 
 /// The edges of a piece over one tile.
@@ -13,13 +12,13 @@ use cull_base::Tile;
 pub struct TileEdges<'a> {
     edges: &'a Edges,
     tile: Tile,
-    // the edges' values at the tile's first sample
+    // the edges' values at the tile's first sample, those of narrow edges in 32 bits
     first: i64,
     second: i64,
     third: i64,
-    ghost first_starts: { StartsAt edges.now.first tile first },
-    ghost second_starts: { StartsAt edges.now.second tile second },
-    ghost third_starts: { StartsAt edges.now.third tile third },
+    ghost first_starts: { StartsAt edges.now.kind (lines_of_kind edges.now.kind).first tile first },
+    ghost second_starts: { StartsAt edges.now.kind (lines_of_kind edges.now.kind).second tile second },
+    ghost third_starts: { StartsAt edges.now.kind (lines_of_kind edges.now.kind).third tile third },
 }
 
 impl Edges {
@@ -32,12 +31,21 @@ impl Edges {
         requires row { tile.row < 256 }
         ensures { (j : ℕ) → inside_at result j ≡ inside_of self.now (sub_of tile j) }
     {
-        TileEdges {
-            edges: self,
-            tile,
-            first: self.first.tile_start(tile),
-            second: self.second.tile_start(tile),
-            third: self.third.tile_start(tile),
+        match &self.kind {
+            Kind::Narrow(edges) => TileEdges {
+                edges: self,
+                tile,
+                first: i64::from(edges.first.tile_start(tile)),
+                second: i64::from(edges.second.tile_start(tile)),
+                third: i64::from(edges.third.tile_start(tile)),
+            },
+            Kind::Wide(edges) => TileEdges {
+                edges: self,
+                tile,
+                first: edges.first.tile_start(tile),
+                second: edges.second.tile_start(tile),
+                third: edges.third.tile_start(tile),
+            },
         }
     }
 }
@@ -52,10 +60,12 @@ impl TileEdges<'_> {
         ensures clear { AreCandidates (inside_at self.now) result }
         ensures byte { result < 2 ^ 8 }
     {
-        let first = self.edges.first.candidates(self.first);
-        let second = self.edges.second.candidates(self.second);
-        let third = self.edges.third.candidates(self.third);
-        (first & second & third) as u32
+        match &self.edges.kind {
+            Kind::Narrow(edges) => {
+                edges.candidates(self.first as i32, self.second as i32, self.third as i32)
+            }
+            Kind::Wide(edges) => edges.candidates(self.first, self.second, self.third),
+        }
     }
 
     /// The samples of subtile j that lie inside: bit 8r + c is column c of row r. Condition: j is below 8.
@@ -65,9 +75,11 @@ impl TileEdges<'_> {
         ensures value { result ≡ mask_l (inside_at self.now j) }
         ensures samples { samples_of result ≡ inside_at self.now j }
     {
-        let first = self.edges.first.subtile_start(self.first, j);
-        let second = self.edges.second.subtile_start(self.second, j);
-        let third = self.edges.third.subtile_start(self.third, j);
-        self.edges.first.mask(first) & self.edges.second.mask(second) & self.edges.third.mask(third)
+        match &self.edges.kind {
+            Kind::Narrow(edges) => {
+                edges.mask(self.first as i32, self.second as i32, self.third as i32, j)
+            }
+            Kind::Wide(edges) => edges.mask(self.first, self.second, self.third, j),
+        }
     }
 }

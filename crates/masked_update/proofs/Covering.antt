@@ -3,7 +3,7 @@ use Rattle.std.proofs.Common.{◌≡◌, ◌≢◌, ℕ, ◌*◌, ◌%◌, ◌<�
 use Rattle.std.specs.Int.{bit_at, bit_not, trailing_zeros}
 use Rattle.std.proofs.lemmas.Bool.{cases_eq, cases_lt}
 use Rattle.std.proofs.lemmas.Nat.{and_le_l}
-use Rattle.std.proofs.lemmas.Nat.Bits.{bit_at-zero, bit_at_above, bit_at-trailing_zeros, bit_at_clear_same, bit_at_clear_other}
+use Rattle.std.proofs.lemmas.Nat.Bits.{bit_at_above, bit_at-trailing_zeros, bit_at_clear_same, bit_at_clear_other}
 use Rattle.std.proofs.lemmas.Grind.{get_or-set_at}
 use Rattle.std.proofs.lemmas.List.{length-set, get_or-set_other}
 use Rattle.cull_base.specs.declared.nearness.TheConstants.{HELD_TOP}
@@ -13,7 +13,7 @@ use Rattle.cull_base.specs.Piece.{Piece, covered}
 use Rattle.cull_base.specs.declared.place.Tile.{Tile}
 use Rattle.edge_lanes.specs.Inside.{sub_of}
 use Rattle.masked_update.specs.Lanes.{low_at, mask_at, IsMergeable}
-use Rattle.masked_update.specs.Coverage.{IsCovered, CoveredAt, IsCoverage}
+use Rattle.masked_update.specs.Coverage.{IsCovered, CoveredAt}
 use Rattle.masked_update.specs.declared.coverage.Coverage.{Coverage}
 
 -- the wanted subtiles but those that are left
@@ -34,7 +34,7 @@ lowest_within left some byte =
       | inr ge ↦ let none = bit_at_above left 8 j byte ge in let one = is.1 in absurd (omega (arith, none, one))
     ]
 
-abbrev pub cleared : ℕ → ℕ → ℕ
+abbrev cleared : ℕ → ℕ → ℕ
 cleared left j = bit_and left (bit_not w32 (1 * 2 ^ j % 2 ^ 32))
 
 pub cleared_less : (left j : ℕ) → j < 8 → bit_at left j ≡ 1 → cleared left j < left
@@ -45,15 +45,6 @@ cleared_less left j lt one =
       | inl e ↦ let same = ap (λ n. bit_at n j) e in absurd (omega (arith, same, clear, one))
       | inr ne ↦ omega (arith, le, ne)
     ]
-
-pub none_visited : (place : Tile) (x : Piece) (wanted : ℕ) (c : Coverage) → wanted < 2 ^ 8 → IsMergeable c → ((j : ℕ) → j < 8 → mask_at c j ≡ 0) → AreVisited place x wanted wanted c
-none_visited place x wanted c byte m empty = record {
-  mergeable = m;
-  byte = byte;
-  among = λ j lt one. one;
-  inside = λ j lt zero one. absurd (omega (arith, zero, one));
-  others = λ j lt zero. empty j lt;
-}
 
 pub next_visited : (place : Tile) (x : Piece) (wanted left j : ℕ) (old new : Coverage) → j < 8 → bit_at left j ≡ 1 → AreVisited place x wanted left old → CoveredAt place x j old new → AreVisited place x wanted (cleared left j) new
 next_visited place x wanted left j old new lt one v at = record {
@@ -79,13 +70,6 @@ next_visited place x wanted left j old new lt one v at = record {
   where
     kept : (k : ℕ) → k < 8 → k ≢ j → bit_at (cleared left j) k ≡ bit_at left k
     kept k below ne = bit_at_clear_other w32 left j (omega arith) k (omega arith) ne
-
-pub all_visited : (place : Tile) (x : Piece) (wanted : ℕ) (left : ℕ) (c : Coverage) → left ≡ 0 → AreVisited place x wanted left c → IsCoverage place x wanted c
-all_visited place x wanted left c none v = record {
-  mergeable = v.mergeable;
-  inside = λ j lt one. v.inside j lt (ap (λ n. bit_at n j) none ∙ bit_at-zero j) one;
-  others = v.others;
-}
 
 -- one subtile more is covered, whose bound is written where its mask isn't empty
 module _ (place : Tile) (x : Piece) (j mask : ℕ) (old : Coverage) (lt : j < 8) (m : IsMergeable old) (is : samples_of mask ≡ covered x (sub_of place j)) where

@@ -92,7 +92,7 @@ told_is true = refl
 told_is false = refl
 
 -- the layers after a step
-pub record IsLaneStep (a w m l c a' w' m' : ℕ) : Type 0 where
+record IsLaneStep (a w m l c a' w' m' : ℕ) : Type 0 where
   pub step : seen a' w' m' ≡ step_with (seen a w m) l (samples_of c)
   pub layers : Layers a' w' m'
 

@@ -1,16 +1,16 @@
 -- The subtiles of a tile that a rectangle reaches, by column and row.
-use Rattle.std.proofs.Common.{◌≡◌, ℕ, ℤ, pos, ◌+◌, ◌*◌, ◌/◌, ◌%◌, ◌<◌, ◌≤◌, ◌≤ℤ◌, ◌<ℤ◌, true, min, int_lt, arith}
+use Rattle.std.proofs.Common.{◌≡◌, ℕ, ℤ, pos, ◌+◌, ◌-◌, ◌*◌, ◌/◌, ◌%◌, ◌<◌, ◌≤◌, ◌≤ℤ◌, ◌<ℤ◌, true, min, int_lt, arith}
 use Rattle.std.specs.Int.{int_min, int_max, div_ceil}
 use Rattle.std.proofs.lemmas.Bool.{and_parts, and_from, lt-ltb, le-leb, ltb-true}
 use Rattle.std.proofs.lemmas.Int.{ints, clamps}
 use Rattle.cull_base.specs.declared.rect.Rect.{Rect}
 use Rattle.cull_base.specs.declared.place.Tile.{Tile}
-use Rattle.cull_base.specs.Screen.{Dimensions, IsSize, tile_columns_of, tile_rows_of}
+use Rattle.cull_base.specs.Screen.{Dimensions, IsSize}
 use Rattle.masked_update.specs.Merged.{IsSubSpan}
 
--- how far a place lies behind a start, cut to an end
-abbrev pub IsPast : ℕ → ℕ → ℤ → ℕ → Type 0
-IsPast start end place n = pos (start + n) ≡ int_min (int_max place (pos start)) (pos end)
+-- how many of some pixels lie before a place
+abbrev pub IsBefore : ℕ → ℤ → ℕ → Type 0
+IsBefore count place n = pos n ≡ int_min (int_max place (pos 0)) (pos count)
 
 -- what holds of a span of so many numbers, of which a place is one where it is on the screen and reached
 pub record IsAlong (first end most : ℕ) (OnScreen Reached : ℕ → Type 0) : Type 0 where
@@ -19,29 +19,29 @@ pub record IsAlong (first end most : ℕ) (OnScreen Reached : ℕ → Type 0) : 
   pub on_screen : (i : ℕ) → i < end → OnScreen i
   pub reached : (i : ℕ) → i < most → OnScreen i → Reached i → (first ≤ i) × (i < end)
 
-columns : (a0 a1 : ℤ) (w c e m n : ℕ) → w % 8 ≡ 0 → 32 * c < w → a0 ≤ℤ a1 → e ≡ min w (32 * c + 32) → IsPast (32 * c) e a0 m → IsPast (32 * c) e a1 n
-    → IsAlong (m / 8) (div_ceil n 8) 4 (λ i. 8 * (4 * c + i) < w) (λ i. int_max a0 (pos (8 * (4 * c + i))) <ℤ int_min a1 (pos (8 * (4 * c + i) + 8)))
-columns a0 a1 w c e m n whole lt le is em en = record {
-  ordered = omega (arith, ints, clamps, le, is, em, en);
-  within = omega (arith, ints, clamps, is, em, en);
-  on_screen = λ i h. omega (arith, ints, clamps, is, em, en, h, whole);
-  reached = λ i h on some. (omega (arith, ints, clamps, is, em, en, h, on, some, le), omega (arith, ints, clamps, is, em, en, h, on, some, le));
+columns : (a0 a1 : ℤ) (w c p0 p1 : ℕ) → w % 8 ≡ 0 → a0 ≤ℤ a1 → IsBefore w a0 p0 → IsBefore w a1 p1
+    → IsAlong (min (p0 / 8 - 4 * c) 4) (min (div_ceil p1 8 - 4 * c) 4) 4 (λ i. 8 * (4 * c + i) < w) (λ i. int_max a0 (pos (8 * (4 * c + i))) <ℤ int_min a1 (pos (8 * (4 * c + i) + 8)))
+columns a0 a1 w c p0 p1 whole le e0 e1 = record {
+  ordered = omega (arith, ints, clamps, le, e0, e1);
+  within = omega arith;
+  on_screen = λ i h. omega (arith, ints, clamps, e1, h, whole);
+  reached = λ i h on some. (omega (arith, ints, clamps, e0, h, on, some, le), omega (arith, ints, clamps, e1, h, on, some, le));
 }
 
-rows : (a0 a1 : ℤ) (w c e m n : ℕ) → w % 4 ≡ 0 → 8 * c < w → a0 ≤ℤ a1 → e ≡ min w (8 * c + 8) → IsPast (8 * c) e a0 m → IsPast (8 * c) e a1 n
-    → IsAlong (m / 4) (div_ceil n 4) 2 (λ i. 4 * (2 * c + i) < w) (λ i. int_max a0 (pos (4 * (2 * c + i))) <ℤ int_min a1 (pos (4 * (2 * c + i) + 4)))
-rows a0 a1 w c e m n whole lt le is em en = record {
-  ordered = omega (arith, ints, clamps, le, is, em, en);
-  within = omega (arith, ints, clamps, is, em, en);
-  on_screen = λ i h. omega (arith, ints, clamps, is, em, en, h, whole);
-  reached = λ i h on some. (omega (arith, ints, clamps, is, em, en, h, on, some, le), omega (arith, ints, clamps, is, em, en, h, on, some, le));
+rows : (a0 a1 : ℤ) (w c p0 p1 : ℕ) → w % 4 ≡ 0 → a0 ≤ℤ a1 → IsBefore w a0 p0 → IsBefore w a1 p1
+    → IsAlong (min (p0 / 4 - 2 * c) 2) (min (div_ceil p1 4 - 2 * c) 2) 2 (λ i. 4 * (2 * c + i) < w) (λ i. int_max a0 (pos (4 * (2 * c + i))) <ℤ int_min a1 (pos (4 * (2 * c + i) + 4)))
+rows a0 a1 w c p0 p1 whole le e0 e1 = record {
+  ordered = omega (arith, ints, clamps, le, e0, e1);
+  within = omega arith;
+  on_screen = λ i h. omega (arith, ints, clamps, e1, h, whole);
+  reached = λ i h on some. (omega (arith, ints, clamps, e0, h, on, some, le), omega (arith, ints, clamps, e1, h, on, some, le));
 }
 
-pub sub_span_is : (r : Rect) (size : Dimensions) (place : Tile) (end_x end_y x0 x1 y0 y1 n m : ℕ) → IsSize size.width size.height → place.column < tile_columns_of size → place.row < tile_rows_of size
-    → r.x0 ≤ℤ r.x1 → r.y0 ≤ℤ r.y1 → end_x ≡ min size.width (32 * place.column + 32) → end_y ≡ min size.height (8 * place.row + 8)
-    → IsPast (32 * place.column) end_x r.x0 x0 → IsPast (32 * place.column) end_x r.x1 x1 → IsPast (8 * place.row) end_y r.y0 y0 → IsPast (8 * place.row) end_y r.y1 y1
-    → n ≡ div_ceil x1 8 → m ≡ div_ceil y1 4 → IsSubSpan r size place (record { first_column = x0 / 8; end_column = n; first_row = y0 / 4; end_row = m })
-sub_span_is r size place end_x end_y x0 x1 y0 y1 n m valid in_columns in_rows across down is_x is_y ex0 ex1 ey0 ey1 en em = rw (en, em) (record {
+pub sub_span_is : (r : Rect) (size : Dimensions) (place : Tile) (x0 x1 y0 y1 a b c d : ℕ) → IsSize size.width size.height → r.x0 ≤ℤ r.x1 → r.y0 ≤ℤ r.y1
+    → IsBefore size.width r.x0 x0 → IsBefore size.width r.x1 x1 → IsBefore size.height r.y0 y0 → IsBefore size.height r.y1 y1
+    → a ≡ min (x0 / 8 - 4 * place.column) 4 → b ≡ min (div_ceil x1 8 - 4 * place.column) 4 → c ≡ min (y0 / 4 - 2 * place.row) 2 → d ≡ min (div_ceil y1 4 - 2 * place.row) 2
+    → IsSubSpan r size place (record { first_column = a; end_column = b; first_row = c; end_row = d })
+sub_span_is r size place x0 x1 y0 y1 a b c d valid across down ex0 ex1 ey0 ey1 ea eb ec ed = rw (ea, eb, ec, ed) (record {
   columns = x.ordered;
   rows = y.ordered;
   columns_within = x.within;
@@ -62,14 +62,8 @@ sub_span_is r size place end_x end_y x0 x1 y0 y1 n m valid in_columns in_rows ac
     less : (m n : ℤ) → int_lt m n ≡ true → m <ℤ n
     less m n e = omega (arith, ints, e)
 
-    x : IsAlong (x0 / 8) (div_ceil x1 8) 4 (λ i. 8 * (4 * place.column + i) < size.width) (λ i. int_max r.x0 (pos (8 * (4 * place.column + i))) <ℤ int_min r.x1 (pos (8 * (4 * place.column + i) + 8)))
-    x = columns r.x0 r.x1 size.width place.column end_x x0 x1 valid.whole_columns (before size.width place.column in_columns) across is_x ex0 ex1
-      where
-        before : (w c : ℕ) → c < div_ceil w 32 → 32 * c < w
-        before w c lt = omega arith
+    x : IsAlong (min (x0 / 8 - 4 * place.column) 4) (min (div_ceil x1 8 - 4 * place.column) 4) 4 (λ i. 8 * (4 * place.column + i) < size.width) (λ i. int_max r.x0 (pos (8 * (4 * place.column + i))) <ℤ int_min r.x1 (pos (8 * (4 * place.column + i) + 8)))
+    x = columns r.x0 r.x1 size.width place.column x0 x1 valid.whole_columns across ex0 ex1
 
-    y : IsAlong (y0 / 4) (div_ceil y1 4) 2 (λ i. 4 * (2 * place.row + i) < size.height) (λ i. int_max r.y0 (pos (4 * (2 * place.row + i))) <ℤ int_min r.y1 (pos (4 * (2 * place.row + i) + 4)))
-    y = rows r.y0 r.y1 size.height place.row end_y y0 y1 valid.whole_rows (before size.height place.row in_rows) down is_y ey0 ey1
-      where
-        before : (w c : ℕ) → c < div_ceil w 8 → 8 * c < w
-        before w c lt = omega arith
+    y : IsAlong (min (y0 / 4 - 2 * place.row) 2) (min (div_ceil y1 4 - 2 * place.row) 2) 2 (λ i. 4 * (2 * place.row + i) < size.height) (λ i. int_max r.y0 (pos (4 * (2 * place.row + i))) <ℤ int_min r.y1 (pos (4 * (2 * place.row + i) + 4)))
+    y = rows r.y0 r.y1 size.height place.row y0 y1 valid.whole_rows down ey0 ey1

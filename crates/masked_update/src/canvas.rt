@@ -73,8 +73,10 @@ impl Canvas {
         ensures { self.new ≡ slice_set self.old tile (merged_tile size place piece.now (tile_at self.old tile)) }
     {
         if !self.has_none_below(tile, piece.nearest()) {
-            self.tiles[tile as usize].merge(piece, size, place);
-            self.least[tile as usize] = self.tiles[tile as usize].least_reference();
+            let changed = self.tiles[tile as usize].merge(piece, size, place);
+            if changed {
+                self.least[tile as usize] = self.tiles[tile as usize].least_reference();
+            }
         }
     }
 

@@ -1,5 +1,5 @@
 //! A piece set up for the tiles that take it: what each subtile asks of it is computed once.
-ghost use Rattle.std.specs.Prelude.{◌≡◌, ◌<◌, ◌^◌, length};
+ghost use Rattle.std.specs.Prelude.{◌≡◌, ◌<◌, ◌^◌, false, length};
 ghost use Rattle.cull_base.specs.Piece.{IsPiece, box_of};
 ghost use Rattle.cull_base.specs.Depth.{greatest_nearness};
 ghost use Rattle.cull_base.specs.Screen.{tile_columns_of, tile_rows_of};
@@ -125,32 +125,34 @@ impl PieceSetup {
         coverage
     }
 
-    // The subtiles of a tile that the piece may change. It changes none that its box doesn't reach, since it covers
-    // nothing outside its box, none that an edge rejects whole, and none whose reference is nowhere behind it.
+    // The subtiles of a tile, as bits, that the box reaches on the screen and whose reference is below the piece. It
+    // changes no other: it covers nothing outside its box, and its bound is nowhere above its greatest nearness.
     #[inline(always)]
-    fn wanted(&self, layers: &TileLayers, edges: &TileEdges, size: Size, place: Tile) -> u32
-        requires column { place.column < tile_columns_of size }
-        requires row { place.row < tile_rows_of size }
-        requires edges { AreEdgesOf edges.now place self.now }
+    fn subtiles_behind(&self, layers: &TileLayers, size: Size, place: Tile) -> u32
         ensures wanted { AreWanted size place self.now layers.now result }
         ensures eight { length layers.now ≡ 8 }
-        ensures byte { result < 2 ^ 8 }
     {
-        SubSpan::of(&self.reached, size, place).bits()
-            & layers.below(self.nearest)
-            & edges.candidates()
+        SubSpan::of(&self.reached, size, place).bits() & layers.below(self.nearest)
     }
 
-    // Merges the piece into a tile's subtiles on the screen.
-    pub(crate) fn merge_into(&self, layers: &mut TileLayers, size: Size, place: Tile)
+    /// Merges the piece into a tile's subtiles on the screen, and says whether any may have changed.
+    pub(crate) fn merge_into(&self, layers: &mut TileLayers, size: Size, place: Tile) -> bool
         requires column { place.column < tile_columns_of size }
         requires row { place.row < tile_rows_of size }
-        ensures { layers.new ≡ merged_by size place self.now layers.old }
+        ensures merged { layers.new ≡ merged_by size place self.now layers.old }
+        ensures same { result ≡ false → layers.new ≡ layers.old }
     {
-        let edges = self.edges.at_tile(place);
-        let wanted = self.wanted(layers, &edges, size, place);
-        if wanted != 0 {
-            layers.merge(self.coverage(&edges, place, wanted));
+        let behind = self.subtiles_behind(layers, size, place);
+        if behind == 0 {
+            return false;
         }
+        let edges = self.edges.at_tile(place);
+        // in a subtile that an edge rejects whole the piece covers nothing
+        let met = behind & edges.candidates();
+        if met == 0 {
+            return false;
+        }
+        layers.merge(self.coverage(&edges, place, met));
+        true
     }
 }

@@ -1,5 +1,5 @@
 //! A tile: eight subtiles, and how many pieces it took.
-ghost use Rattle.std.specs.Prelude.{◌≡◌, ℕ, ◌<◌, ◌≤◌, length};
+ghost use Rattle.std.specs.Prelude.{◌≡◌, ℕ, ◌<◌, ◌≤◌, false, length};
 ghost use Rattle.cull_base.specs.Piece.{IsPiece};
 ghost use Rattle.cull_base.specs.Screen.{IsSize, tile_columns_of, tile_rows_of, tile_count_of};
 
@@ -100,13 +100,15 @@ impl TileState {
         self.count_piece();
     }
 
-    /// Merges a piece, and doesn't count it. Condition: the column and the row are below the screen's.
-    pub(crate) fn merge(&mut self, piece: &PieceSetup, size: Size, place: Tile)
+    /// Merges a piece, doesn't count it, and says whether any subtile may have changed. Condition: the column and the
+    /// row are below the screen's.
+    pub(crate) fn merge(&mut self, piece: &PieceSetup, size: Size, place: Tile) -> bool
         requires column { place.column < tile_columns_of size }
         requires row { place.row < tile_rows_of size }
-        ensures { self.new ≡ merged_tile size place piece.now self.old }
+        ensures merged { self.new ≡ merged_tile size place piece.now self.old }
+        ensures same { result ≡ false → self.new ≡ self.old }
     {
-        piece.merge_into(&mut self.layers, size, place);
+        piece.merge_into(&mut self.layers, size, place)
     }
 
     /// Counts a piece, and doesn't merge it.

@@ -8,7 +8,6 @@ use Rattle.cull_base.specs.declared.triangle.Winding.{Winding}
 use Rattle.cull_base.specs.declared.scene_types.Tri.{Tri}
 use Rattle.cull_base.specs.Screen.{Dimensions}
 use Rattle.cull_base.specs.Piece.{Piece}
-use Rattle.near_clip.specs.NearPart.{corner}
 use Rattle.snap_setup.specs.Pieces.{pieces_of, pieces_at, clip_at, list_of_clips}
 
 pub list_none : (clips : List ClipVertex) (top near : ℕ) (size : Dimensions) (winding : Winding) → [] ≡ list_of_clips clips [] top near size winding
@@ -16,9 +15,9 @@ unfolding list_of_clips
 list_none clips top near size winding = refl
 
 -- by the corners that the code looked up
-pub by_corners : (clips cs : List ClipVertex) (top near : ℕ) (size : Dimensions) (winding : Winding) (t : Tri) (ps : List Piece) →
-    ps ≡ pieces_of (corner cs 0) (corner cs 1) (corner cs 2) top near size winding Occluder → corner cs 0 ≡ clip_at clips t 0 → corner cs 1 ≡ clip_at clips t 1 → corner cs 2 ≡ clip_at clips t 2 → ps ≡ pieces_at clips top near size winding t
-by_corners clips cs top near size winding t ps e e0 e1 e2 = rw (e, e0, e1, e2) refl
+pub by_corners : (clips : List ClipVertex) (v0 v1 v2 : ClipVertex) (top near : ℕ) (size : Dimensions) (winding : Winding) (t : Tri) →
+    v0 ≡ clip_at clips t 0 → v1 ≡ clip_at clips t 1 → v2 ≡ clip_at clips t 2 → pieces_of v0 v1 v2 top near size winding Occluder ≡ pieces_at clips top near size winding t
+by_corners clips v0 v1 v2 top near size winding t e0 e1 e2 = rw (e0, e1, e2) refl
 
 -- one triangle more
 pub list_more : (clips : List ClipVertex) (tris : List Tri) (top near : ℕ) (size : Dimensions) (winding : Winding) (i : ℕ) (d : Tri) (before ps : List Piece) → i < length tris →

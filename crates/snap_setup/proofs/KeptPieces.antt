@@ -1,5 +1,5 @@
 -- The pieces that a snapped polygon keeps.
-use Rattle.std.proofs.Common.{◌≡◌, ℕ, suc, List, [], ◌∷◌, ◌++◌, map, filter, length, get_or, Bool, true, false, not, cond, ◌&&◌, ◌||◌, Option, Some, None, option_to_list, inl, inr, ◌↔◌, append-nil, arith, refl, sym, ◌∙◌}
+use Rattle.std.proofs.Common.{◌≡◌, ◌≤◌, ℕ, suc, List, [], ◌∷◌, ◌++◌, map, filter, length, get_or, Bool, true, false, not, cond, ◌&&◌, ◌||◌, Option, Some, None, option_to_list, inl, inr, ◌↔◌, append-nil, arith, refl, sym, ◌∙◌}
 use Rattle.std.specs.List.{All}
 use Rattle.std.proofs.lemmas.Bool.{and_parts}
 use Rattle.std.proofs.lemmas.List.Elements.{All-nil, All-cons}
@@ -9,6 +9,8 @@ use Rattle.cull_base.specs.declared.triangle.Winding.{Winding}
 use Rattle.cull_base.specs.Screen.{Dimensions}
 use Rattle.cull_base.specs.Guard.{is_past_guard}
 use Rattle.cull_base.specs.Piece.{Piece}
+use Rattle.cull_base.specs.Tiles.{FrameListOf}
+use Rattle.snap_setup.specs.Members.{with_pieces}
 use Rattle.near_clip.specs.declared.hom_point.HomPoint.{HomPoint}
 use Rattle.near_clip.specs.NearPart.{near_part, corner, is_in_front, whole}
 use Rattle.near_clip.specs.Reach.{IsInReach}
@@ -86,15 +88,15 @@ fronts v0 v1 v2 near e =
 pub whole_in_reach : (near : ℕ) (v : ClipVertex) (p : HomPoint) → p ≡ whole v → is_past_guard v near ≡ false → is_in_front v near ≡ true → IsInReach near p
 whole_in_reach near v p e g f = rw e (whole_reaches v near (guarded v near g) f)
 
-pub part_whole : (v0 v1 v2 : ClipVertex) (top near : ℕ) (size : Dimensions) (winding : Winding) (side : Side) (p0 p1 p2 : HomPoint) (s0 s1 s2 : Snapped) (first : Option Piece) (r : List Piece) →
+pub part_whole : (v0 v1 v2 : ClipVertex) (top near : ℕ) (size : Dimensions) (winding : Winding) (side : Side) (p0 p1 p2 : HomPoint) (s0 s1 s2 : Snapped) (first : Option Piece) →
     is_all_in_front v0 v1 v2 near ≡ true → p0 ≡ whole v0 → p1 ≡ whole v1 → p2 ≡ whole v2 →
     s0 ≡ snapped p0 top near size side → s1 ≡ snapped p1 top near size side → s2 ≡ snapped p2 top near size side →
-    first ≡ piece_if winding (triangle s0 s1 s2) → r ≡ option_to_list first ++ [] → r ≡ kept_of (snapped_part v0 v1 v2 top near size side) winding
+    first ≡ piece_if winding (triangle s0 s1 s2) → option_to_list first ≡ kept_of (snapped_part v0 v1 v2 top near size side) winding
 unfolding near_part
-part_whole v0 v1 v2 top near size winding side p0 p1 p2 s0 s1 s2 first r e g0 g1 g2 f0 f1 f2 ef er =
+part_whole v0 v1 v2 top near size winding side p0 p1 p2 s0 s1 s2 first e g0 g1 g2 f0 f1 f2 ef =
     let (a, b, c) = fronts v0 v1 v2 near e in
     let ps : p0 ∷ p1 ∷ p2 ∷ [] ≡ near_part v0 v1 v2 near = rw (a, b, c, g0, g1, g2) refl in
-    part_three v0 v1 v2 top near size winding side (p0 ∷ p1 ∷ p2 ∷ []) p0 p1 p2 s0 s1 s2 first r ps refl refl refl refl f0 f1 f2 ef er
+    sym (append-nil (option_to_list first)) ∙ part_three v0 v1 v2 top near size winding side (p0 ∷ p1 ∷ p2 ∷ []) p0 p1 p2 s0 s1 s2 first (option_to_list first ++ []) ps refl refl refl refl f0 f1 f2 ef refl
 
 -- nothing is kept exactly where each triangle is left out
 kept_nothing : (winding : Winding) (ts : List Piece) → kept_from winding ts ≡ [] → All (λ t. is_left_out winding t ≡ true) ts
@@ -113,7 +115,7 @@ none_kept winding (t ∷ ts) h =
     kept_cons winding t ts ∙ rw l (none_kept winding ts (λ k d lt. h (suc k) d (omega arith)))
 
 -- why a triangle gives no piece
-pub gives_none : (v0 v1 v2 : ClipVertex) (top near : ℕ) (size : Dimensions) (winding : Winding) (side : Side) → (pieces_of v0 v1 v2 top near size winding side ≡ []) ↔ GivesNone v0 v1 v2 top near size winding side
+gives_none : (v0 v1 v2 : ClipVertex) (top near : ℕ) (size : Dimensions) (winding : Winding) (side : Side) → (pieces_of v0 v1 v2 top near size winding side ≡ []) ↔ GivesNone v0 v1 v2 top near size winding side
 unfolding pieces_of kept_of snapped_part
 gives_none v0 v1 v2 top near size winding side = (to (is_any_past_guard v0 v1 v2 near) refl, from)
   where
@@ -133,6 +135,9 @@ gives_none v0 v1 v2 top near size winding side = (to (is_any_past_guard v0 v1 v2
     from (inr (inl h)) = let e = near_part-outside v0 v1 v2 near h.0 h.1 h.2 in let ts : kept_from winding (triangles_of points) ≡ [] = rw e refl in same (is_any_past_guard v0 v1 v2 near) (kept_from winding (triangles_of points)) ts
     from (inr (inr h)) = same (is_any_past_guard v0 v1 v2 near) (kept_from winding (triangles_of points)) (none_kept winding (triangles_of points) h)
 
+pub none_by : (v0 v1 v2 : ClipVertex) (top near : ℕ) (size : Dimensions) (winding : Winding) (side : Side) (r : List Piece) → r ≡ pieces_of v0 v1 v2 top near size winding side → (r ≡ []) ↔ GivesNone v0 v1 v2 top near size winding side
+none_by v0 v1 v2 top near size winding side r e = let g = gives_none v0 v1 v2 top near size winding side in (λ h. g.0 (sym e ∙ h), λ h. e ∙ g.1 h)
+
 -- what the two ways through `set_up` give
 pub past : (v0 v1 v2 : ClipVertex) (top near : ℕ) (size : Dimensions) (winding : Winding) (side : Side) → is_any_past_guard v0 v1 v2 near ≡ true → [] ≡ pieces_of v0 v1 v2 top near size winding side
 unfolding pieces_of
@@ -142,13 +147,29 @@ pub held : (v0 v1 v2 : ClipVertex) (top near : ℕ) (size : Dimensions) (winding
 unfolding pieces_of
 held v0 v1 v2 top near size winding side r e h = rw e h
 
-pub all_within_guard : (vs : List ClipVertex) (near : ℕ) → length vs ≡ 3 → is_any_past_guard (corner vs 0) (corner vs 1) (corner vs 2) near ≡ false → All (λ v. is_past_guard v near ≡ false) vs
-all_within_guard vs near e h =
-    let (a, b, c) = none_of (is_past_guard (corner vs 0) near) (is_past_guard (corner vs 1) near) (is_past_guard (corner vs 2) near) h in
-    all_corners (λ v. is_past_guard v near ≡ false) vs e a b c
+-- a list grows by the pieces of a triangle, of which there are few
+pub grown : (f g : FrameListOf) (r ps : List Piece) → g ≡ with_pieces f r → r ≡ ps → g ≡ with_pieces f ps
+grown f g r ps eg er = rw (← er) eg
+
+pub grown_by_none : (v0 v1 v2 : ClipVertex) (top near : ℕ) (size : Dimensions) (winding : Winding) (side : Side) (f : FrameListOf) → is_any_past_guard v0 v1 v2 near ≡ true → f ≡ with_pieces f (pieces_of v0 v1 v2 top near size winding side)
+grown_by_none v0 v1 v2 top near size winding side f e = grown f f [] _ (let n = append-nil f.list.members in rw n refl) (past v0 v1 v2 top near size winding side e)
+
+pub few : (r ps : List Piece) → r ≡ ps → length r ≤ 2 → length ps ≤ 2
+few r ps e h = rw (← e) h
+
+pub few_by_option : (first : Option Piece) → length (option_to_list first) ≤ 2
+few_by_option None = omega arith
+few_by_option (Some t) = omega arith
+
+-- a triangle of which no vertex is past the guard
+pub guards : (v0 v1 v2 : ClipVertex) (near : ℕ) → is_any_past_guard v0 v1 v2 near ≡ false → (is_past_guard v0 near ≡ false) × (is_past_guard v1 near ≡ false) × (is_past_guard v2 near ≡ false)
+guards v0 v1 v2 near = none_of (is_past_guard v0 near) (is_past_guard v1 near) (is_past_guard v2 near)
   where
     none_of : (x y z : Bool) → (x || (y || z)) ≡ false → (x ≡ false) × (y ≡ false) × (z ≡ false)
     none_of true y z e = absurd (cc)
     none_of false true z e = absurd (cc)
     none_of false false true e = absurd (cc)
     none_of false false false e = (refl, refl, refl)
+
+pub all_within_guard : (v0 v1 v2 : ClipVertex) (near : ℕ) → is_any_past_guard v0 v1 v2 near ≡ false → All (λ v. is_past_guard v near ≡ false) (v0 ∷ v1 ∷ v2 ∷ [])
+all_within_guard v0 v1 v2 near h = let (a, b, c) = guards v0 v1 v2 near h in all_corners (λ v. is_past_guard v near ≡ false) (v0 ∷ v1 ∷ v2 ∷ []) refl a b c

@@ -5,8 +5,8 @@ ghost use Rattle.cull_base.specs.declared.nearness.TheConstants.{GRADE_TOP};
 ghost use Rattle.near_clip.specs.NearPart.{corner};
 ghost use Rattle.snap_setup.specs.Pieces.{list_of_clips, clip_at, HasClips};
 
-use crate::triangle::set_up;
-use cull_base::{ClipVertex, FrameList, Memory, Side, Size, Tri, Winding};
+use crate::triangle::push_pieces;
+use cull_base::{ClipVertex, FrameList, Memory, Size, Tri, Winding};
 use std::alloc::Global;
 
 /// The occluder pieces of the triangles, one triangle after another. All memory is taken first. Condition: `near`
@@ -28,10 +28,25 @@ pub fn frame_list(
 {
     let mut list = FrameList::with_room(alloc, size, 2 * tris.len() as u32)?;
     for tri in tris {
-        let corners = corners(clips, tri);
-        set_up(&corners, near, size, winding, Side::Occluder).push_onto(&mut list);
+        let (v0, v1, v2) = corner_references(clips, tri);
+        push_pieces(v0, v1, v2, near, size, winding, &mut list);
     }
     Ok(list)
+}
+
+// Where the vertices of a triangle stand among some clip vertices.
+#[inline(always)]
+fn corner_references<'a>(
+    clips: &'a [ClipVertex],
+    tri: &Tri,
+) -> (&'a ClipVertex, &'a ClipVertex, &'a ClipVertex)
+    requires { HasClips (length clips.now) tri.now }
+    ensures first { result.0.now ≡ clip_at clips.now tri.now 0 }
+    ensures second { result.1.now ≡ clip_at clips.now tri.now 1 }
+    ensures third { result.2.now ≡ clip_at clips.now tri.now 2 }
+{
+    let [a, b, c] = tri.0;
+    (&clips[a as usize], &clips[b as usize], &clips[c as usize])
 }
 
 /// The vertices of a triangle among some clip vertices. Condition: each index is below their number.
@@ -42,6 +57,6 @@ pub fn corners(clips: &[ClipVertex], tri: &Tri) -> [ClipVertex; 3]
     ensures second { corner result 1 ≡ clip_at clips.now tri.now 1 }
     ensures third { corner result 2 ≡ clip_at clips.now tri.now 2 }
 {
-    let [a, b, c] = tri.0;
-    [clips[a as usize], clips[b as usize], clips[c as usize]]
+    let (v0, v1, v2) = corner_references(clips, tri);
+    [*v0, *v1, *v2]
 }

@@ -78,7 +78,8 @@ impl Pieces {
     #[inline(always)]
     pub(crate) fn push_onto(&self, list: &mut FrameList)
         requires { length list.old.list.members + 2 ≤ list.old.room }
-        ensures { list.new ≡ with_pieces list.old self.now }
+        ensures value { list.new ≡ with_pieces list.old self.now }
+        ensures most { length self.now ≤ 2 }
     {
         match &self.members {
             Members::Nothing => {}

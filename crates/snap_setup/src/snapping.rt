@@ -44,6 +44,39 @@ fn doubled_w(point: &HomPoint) -> Divisor
     Divisor::of(2 * point.w.unsigned_abs())
 }
 
+/// Up to this w the numerators of places fit 64 bits: an offset lies at most 16,385 times w away from 0, and is taken at
+/// most 2^15 times.
+const NARROW_W: i64 = 0x1_0000_0000;
+
+#[inline(always)]
+fn narrow_place(pixels: u16, offset: i64, w: i64, doubled: &Divisor) -> i32
+    requires pixels { pixels ≤ 2048 }
+    requires low { neg_ℤ (pos 16385 *ℤ w) ≤ℤ offset }
+    requires high { offset ≤ℤ (pos 16385 *ℤ w) }
+    requires w_least { pos 1 ≤ℤ w }
+    requires w_most { w ≤ℤ pos (2 ^ 32) }
+    requires doubled { pos doubled.now ≡ pos 2 *ℤ w }
+    ensures value { result ≡ round_half (pos (8 * pixels) *ℤ offset) w }
+    ensures within { IsCoordinate result }
+{
+    doubled.floor(16 * i64::from(pixels) * offset + w) as i32
+}
+
+#[inline(never)]
+fn wide_place(pixels: u16, offset: i64, w: i64, doubled: &Divisor) -> i32
+    requires pixels { pixels ≤ 2048 }
+    requires low { neg_ℤ (pos 16385 *ℤ w) ≤ℤ offset }
+    requires high { offset ≤ℤ (pos 16385 *ℤ w) }
+    requires w_least { pos 1 ≤ℤ w }
+    requires w_most { w ≤ℤ pos (2 ^ 49) }
+    requires doubled { pos doubled.now ≡ pos 2 *ℤ w }
+    ensures value { result ≡ round_half (pos (8 * pixels) *ℤ offset) w }
+    ensures within { IsCoordinate result }
+{
+    let product = wide_product(16 * u32::from(pixels), offset);
+    doubled.wide_floor(wide_sum(product, w)) as i32
+}
+
 // So many pixels are reached by offsets from 0 to twice w. The place of an offset in sixteenths of a pixel, rounded.
 #[inline(always)]
 fn place_of_offset(pixels: u16, offset: i64, w: i64, doubled: &Divisor) -> i32
@@ -56,8 +89,11 @@ fn place_of_offset(pixels: u16, offset: i64, w: i64, doubled: &Divisor) -> i32
     ensures value { result ≡ round_half (pos (8 * pixels) *ℤ offset) w }
     ensures within { IsCoordinate result }
 {
-    let product = wide_product(16 * u32::from(pixels), offset);
-    doubled.wide_floor(wide_sum(product, w)) as i32
+    if w <= NARROW_W {
+        narrow_place(pixels, offset, w, doubled)
+    } else {
+        wide_place(pixels, offset, w, doubled)
+    }
 }
 
 #[inline(always)]

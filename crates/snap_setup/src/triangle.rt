@@ -1,19 +1,18 @@
 //! The pieces of one triangle.
-ghost use Rattle.std.specs.Prelude.{◌≡◌, pos, [], false, ◌≤◌, ◌<ℤ◌, ◌↔◌, length};
-ghost use Rattle.std.specs.List.{All};
+ghost use Rattle.std.specs.Prelude.{◌≡◌, pos, [], false, true, ◌+◌, ◌≤◌, ◌<ℤ◌, ◌↔◌, length, option_to_list};
 ghost use Rattle.cull_base.specs.declared.nearness.TheConstants.{GRADE_TOP};
-ghost use Rattle.cull_base.specs.Guard.{is_past_guard};
+ghost use Rattle.cull_base.specs.declared.triangle.Side.TheVariants.{Occluder};
 ghost use Rattle.cull_base.specs.Piece.{doubled_area};
-ghost use Rattle.near_clip.specs.NearPart.{corner};
-ghost use Rattle.snap_setup.specs.Pieces.{triangle, is_dropped, piece_if, kept_of, is_any_past_guard, is_all_in_front};
-ghost use Rattle.snap_setup.specs.Triangles.{part_of_triangle, pieces_of_triangle, TriangleGivesNone};
+ghost use Rattle.snap_setup.specs.Members.{with_pieces};
+ghost use Rattle.snap_setup.specs.Pieces.{triangle, is_dropped, piece_if, kept_of, snapped_part, pieces_of, is_any_past_guard, is_all_in_front};
+ghost use Rattle.snap_setup.specs.Triangles.{pieces_of_triangle, TriangleGivesNone};
 ghost use Rattle.snap_setup.specs.Snapping.{IsSnapped};
 
 use crate::pieces::Pieces;
 use crate::snapping::{Snapped, snap};
 use camera_path::past_guard;
 use cull_base::arithmetic::edge_value;
-use cull_base::{ClipVertex, ScreenTri, Side, Size, Winding};
+use cull_base::{ClipVertex, FrameList, ScreenTri, Side, Size, Winding};
 use near_clip::{clip_near, is_in_front, whole};
 
 // Positive where the points run clockwise on the screen.
@@ -66,9 +65,51 @@ fn piece(a: &Snapped, b: &Snapped, c: &Snapped, winding: Winding) -> Option<Scre
     }
 }
 
+#[inline(always)]
+fn is_any_past_guard(v0: &ClipVertex, v1: &ClipVertex, v2: &ClipVertex, near: u16) -> bool
+    requires near_least { 1 ≤ near }
+    requires near_most { near ≤ 1024 }
+    ensures { result ≡ is_any_past_guard v0.now v1.now v2.now near }
+{
+    past_guard(v0, near) || past_guard(v1, near) || past_guard(v2, near)
+}
+
+#[inline(always)]
+fn is_all_in_front(v0: &ClipVertex, v1: &ClipVertex, v2: &ClipVertex, near: u16) -> bool
+    ensures { result ≡ is_all_in_front v0.now v1.now v2.now near }
+{
+    is_in_front(v0, near) && is_in_front(v1, near) && is_in_front(v2, near)
+}
+
+// The piece of a triangle that no plane cuts: it is its own polygon.
+#[inline(always)]
+fn whole_piece(
+    v0: &ClipVertex,
+    v1: &ClipVertex,
+    v2: &ClipVertex,
+    near: u16,
+    size: Size,
+    winding: Winding,
+    side: Side,
+) -> Option<ScreenTri>
+    requires near_least { 1 ≤ near }
+    requires near_most { near ≤ 1024 }
+    requires guarded { is_any_past_guard v0.now v1.now v2.now near ≡ false }
+    requires front { is_all_in_front v0.now v1.now v2.now near ≡ true }
+    ensures { option_to_list result ≡ kept_of (snapped_part v0.now v1.now v2.now GRADE_TOP near size side) winding }
+{
+    let p0 = snap(&whole(v0), near, size, side);
+    let p1 = snap(&whole(v1), near, size, side);
+    let p2 = snap(&whole(v2), near, size, side);
+    piece(&p0, &p1, &p2, winding)
+}
+
+// The pieces of a triangle that the near plane cuts, or that lies behind it.
 #[inline(never)]
-fn clipped_triangle(
-    tri: &[ClipVertex; 3],
+fn clipped_pieces(
+    v0: &ClipVertex,
+    v1: &ClipVertex,
+    v2: &ClipVertex,
     near: u16,
     size: Size,
     winding: Winding,
@@ -76,10 +117,10 @@ fn clipped_triangle(
 ) -> Pieces
     requires near_least { 1 ≤ near }
     requires near_most { near ≤ 1024 }
-    requires guarded { All (λ v. is_past_guard v near ≡ false) tri.now }
-    ensures { result ≡ kept_of (part_of_triangle tri.now GRADE_TOP near size side) winding }
+    requires guarded { is_any_past_guard v0.now v1.now v2.now near ≡ false }
+    ensures { result ≡ kept_of (snapped_part v0.now v1.now v2.now GRADE_TOP near size side) winding }
 {
-    let polygon = clip_near(tri, near);
+    let polygon = clip_near(&[*v0, *v1, *v2], near);
     if polygon.len() == 0 {
         return Pieces::none();
     }
@@ -95,48 +136,6 @@ fn clipped_triangle(
     Pieces::of(first, second)
 }
 
-#[inline(always)]
-fn is_all_in_front(tri: &[ClipVertex; 3], near: u16) -> bool
-    ensures { result ≡ is_all_in_front (corner tri.now 0) (corner tri.now 1) (corner tri.now 2) near }
-{
-    let [v0, v1, v2] = tri;
-    is_in_front(v0, near) && is_in_front(v1, near) && is_in_front(v2, near)
-}
-
-#[inline(always)]
-fn pieces_in_front(
-    tri: &[ClipVertex; 3],
-    near: u16,
-    size: Size,
-    winding: Winding,
-    side: Side,
-) -> Pieces
-    requires near_least { 1 ≤ near }
-    requires near_most { near ≤ 1024 }
-    requires guarded { All (λ v. is_past_guard v near ≡ false) tri.now }
-    ensures { result ≡ kept_of (part_of_triangle tri.now GRADE_TOP near size side) winding }
-{
-    // a triangle that no plane cuts is its own polygon
-    if is_all_in_front(tri, near) {
-        let [v0, v1, v2] = tri;
-        let p0 = snap(&whole(v0), near, size, side);
-        let p1 = snap(&whole(v1), near, size, side);
-        let p2 = snap(&whole(v2), near, size, side);
-        return Pieces::of(piece(&p0, &p1, &p2, winding), None);
-    }
-    clipped_triangle(tri, near, size, winding, side)
-}
-
-#[inline(always)]
-fn is_any_past_guard(tri: &[ClipVertex; 3], near: u16) -> bool
-    requires near_least { 1 ≤ near }
-    requires near_most { near ≤ 1024 }
-    ensures { result ≡ is_any_past_guard (corner tri.now 0) (corner tri.now 1) (corner tri.now 2) near }
-{
-    let [v0, v1, v2] = tri;
-    past_guard(v0, near) || past_guard(v1, near) || past_guard(v2, near)
-}
-
 /// The pieces of a triangle, each turned so that its doubled area is positive. There is none where a vertex is
 /// past the guard, and else none exactly where all of it is behind the near plane or each triangle of the clipped
 /// polygon has area 0 or a dropped winding. Condition: `near` is 1 to 1024.
@@ -148,8 +147,51 @@ pub fn set_up(tri: &[ClipVertex; 3], near: u16, size: Size, winding: Winding, si
     ensures most { length result ≤ 2 }
     ensures none { (result ≡ []) ↔ TriangleGivesNone tri.now GRADE_TOP near size winding side }
 {
-    if is_any_past_guard(tri, near) {
-        return Pieces::none();
+    let [v0, v1, v2] = tri;
+    if is_any_past_guard(v0, v1, v2, near) {
+        Pieces::none()
+    } else if is_all_in_front(v0, v1, v2, near) {
+        Pieces::of(whole_piece(v0, v1, v2, near, size, winding, side), None)
+    } else {
+        clipped_pieces(v0, v1, v2, near, size, winding, side)
     }
-    pieces_in_front(tri, near, size, winding, side)
+}
+
+#[inline(always)]
+fn push_if(piece: Option<ScreenTri>, list: &mut FrameList)
+    requires { length list.old.list.members + 2 ≤ list.old.room }
+    ensures { list.new ≡ with_pieces list.old (option_to_list piece) }
+{
+    if let Some(piece) = piece {
+        list.push(piece);
+    }
+}
+
+/// Appends the pieces of an occluder's triangle to a list, as `set_up` makes them. Most have one, which goes straight
+/// to its place. Condition: `near` is 1 to 1024, and there is room for two.
+#[inline(always)]
+pub(crate) fn push_pieces(
+    v0: &ClipVertex,
+    v1: &ClipVertex,
+    v2: &ClipVertex,
+    near: u16,
+    size: Size,
+    winding: Winding,
+    list: &mut FrameList,
+)
+    requires near_least { 1 ≤ near }
+    requires near_most { near ≤ 1024 }
+    requires room { length list.old.list.members + 2 ≤ list.old.room }
+    ensures value { list.new ≡ with_pieces list.old (pieces_of v0.now v1.now v2.now GRADE_TOP near size winding Occluder) }
+    ensures most { length (pieces_of v0.now v1.now v2.now GRADE_TOP near size winding Occluder) ≤ 2 }
+{
+    if is_any_past_guard(v0, v1, v2, near) {
+        return;
+    }
+    let side = Side::Occluder;
+    if is_all_in_front(v0, v1, v2, near) {
+        push_if(whole_piece(v0, v1, v2, near, size, winding, side), list);
+    } else {
+        clipped_pieces(v0, v1, v2, near, size, winding, side).push_onto(list);
+    }
 }

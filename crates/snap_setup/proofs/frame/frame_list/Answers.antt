@@ -16,13 +16,14 @@ loop-tri-init c =
 
 pub loop-tri-preserved : goal.loop-tri-preserved
 loop-tri-preserved c =
-    let e = c.push_onto.ensures in
+    let e = c.push_pieces.ensures.value in
     let i = c.loop-tri.invariant in
     let d : Tri = record { 0 = [] } in
-    let ps = by_corners c.args.clips.now c.corners-corners.result GRADE_TOP c.args.near c.args.size c.args.winding (get_or c.args.tris.now c.loop-tri.tri-index d) c.set_up.result c.set_up.ensures.value c.corners-corners.ensures.first c.corners-corners.ensures.second c.corners-corners.ensures.third in
+    let r = c.corner_references.result in
+    let ps = by_corners c.args.clips.now r.0.now r.1.now r.2.now GRADE_TOP c.args.near c.args.size c.args.winding (get_or c.args.tris.now c.loop-tri.tri-index d) c.corner_references.ensures.first c.corner_references.ensures.second c.corner_references.ensures.third in
     record {
       size = rw e i.size;
       room = rw e i.room;
-      members = rw e (list_more c.args.clips.now c.args.tris.now GRADE_TOP c.args.near c.args.size c.args.winding c.loop-tri.tri-index d c.loop-tri.list.list.members c.set_up.result c.loop-tri-test.true i.members ps);
-      short = rw e (rw length-append (omega (arith, i.short, c.set_up.ensures.most)));
+      members = rw e (list_more c.args.clips.now c.args.tris.now GRADE_TOP c.args.near c.args.size c.args.winding c.loop-tri.tri-index d c.loop-tri.list.list.members _ c.loop-tri-test.true i.members ps);
+      short = rw e (rw length-append (omega (arith, i.short, c.push_pieces.ensures.most)));
     }

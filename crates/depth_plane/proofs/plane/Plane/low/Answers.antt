@@ -1,6 +1,3 @@
-use Rattle.std.proofs.Common.{rules, FitsSigned}
-use Rattle.std.specs.Int.{w128}
-use Rattle.std.proofs.lemmas.Int.{to_z-of_z}
 use Rattle.cull_base.specs.Piece.{sample}
 use Rattle.depth_plane.proofs.Mean.{touches_covered}
 use Rattle.depth_plane.proofs.Depths.{low_of-below, low_of-computed}
@@ -8,11 +5,7 @@ use Rattle.depth_plane.proofs.plane.Plane.low.Goals as goal
 
 pub returns-clause-value : goal.returns-clause-value
 returns-clause-value c =
-    let fl : FitsSigned w128 c.least.result = search rules in
-    let ff : FitsSigned w128 c.floor_from.result = search rules in
-    low_of-computed c.args.tri.now c.args.sub c.args.self.now c.least_nearness.result c.cut_to_range.result c.least.result c.floor_from.result
-    c.requires.plane c.least_nearness.ensures.value c.least.ensures.value
-    (simp to_z-of_z at c.floor_from.ensures) (simp to_z-of_z at c.cut_to_range.ensures.value)
+    low_of-computed c.args.tri.now c.args.sub c.args.self.now c.least_nearness.result c.low_above.result c.requires.plane c.least_nearness.ensures.value c.low_above.ensures
 
 pub returns-clause-below : goal.returns-clause-below
 returns-clause-below c k lt e =

@@ -5,7 +5,7 @@ use Rattle.std.proofs.lemmas.Int.{ints, to_z-of_z}
 use Rattle.cull_base.specs.Bounds.{Bounded}
 use Rattle.cull_base.specs.Piece.{Piece, IsPiece}
 use Rattle.depth_plane.specs.Plane.{Coefficients, numerator_at}
-use Rattle.depth_plane.specs.Vertices.{IsVertex, area_of}
+use Rattle.depth_plane.specs.Vertices.{AreVertices, area_of}
 use Rattle.depth_plane.specs.declared.vertices.Vertices.{Vertices}
 use Rattle.depth_plane.proofs.Planes.{numerator_at-plane_of, area-plane_of, area_of-vertices, plane_of-computed}
 use Rattle.depth_plane.proofs.plane.Plane.of.Goals as goal
@@ -19,8 +19,8 @@ not_zero : (n : ℤ) (u : ℕ) → pos 0 <ℤ n → u ≡ unsigned_abs n → 0 <
 not_zero (pos k) u h e = omega (arith, ints, h, e)
 not_zero (negsuc k) u h e = absurd (omega (arith, ints, h))
 
-positive : (t : Piece) (v : Vertices) (n : ℤ) → IsPiece t → IsVertex v.a t 0 → IsVertex v.b t 1 → IsVertex v.c t 2 → n ≡ area_of v → pos 0 <ℤ n
-positive t v n h a b c e = let f = area_of-vertices t v a b c in let p = h.positive_area in rw (e, f) p
+positive : (t : Piece) (v : Vertices) (n : ℤ) → IsPiece t → AreVertices v t → n ≡ area_of v → pos 0 <ℤ n
+positive t v n h a e = let f = area_of-vertices t v a in let p = h.positive_area in rw (e, f) p
 
 within : (n : ℤ) (m : ℤ) → Bounded (2 ^ 61) n → m ≡ n → m ≤ℤ pos (2 ^ 61)
 within n m h e = omega (arith, ints, h, e)
@@ -30,40 +30,40 @@ same_area a d l m n v e h = rw e h
 
 pub of-requires : goal.of-requires
 of-requires c =
-    let fn : FitsSigned w64 c.area.result = search rules in
-    not_zero c.area.result c.unsigned_abs.result
-    (positive c.args.tri.now c.of-vertices.result c.area.result c.of-vertices.ensures.valid c.of-vertices.ensures.a c.of-vertices.ensures.b c.of-vertices.ensures.c c.area.ensures.value)
+    let fn : FitsSigned w64 c.area-area.result = search rules in
+    not_zero c.area-area.result c.unsigned_abs.result
+    (positive c.args.tri.now c.of-vertices.result c.area-area.result c.of-vertices.ensures.valid c.of-vertices.ensures.value c.area-area.ensures.value)
     (simp to_z-of_z at c.unsigned_abs.ensures.value)
 
 pub returns-clause-value : goal.returns-clause-value
 returns-clause-value c =
-    let fa : FitsSigned w64 c.across.result = search rules in
-    let fd : FitsSigned w64 c.down.result = search rules in
-    let fl : FitsSigned w128 c.level.result = search rules in
-    let fn : FitsSigned w64 c.area.result = search rules in
+    let fa : FitsSigned w64 c.across-across.result = search rules in
+    let fd : FitsSigned w64 c.down-down.result = search rules in
+    let fl : FitsSigned w128 c.level-level.result = search rules in
+    let fn : FitsSigned w64 c.area-area.result = search rules in
     let v = c.of-vertices.ensures in
-    let p = positive c.args.tri.now c.of-vertices.result c.area.result v.valid v.a v.b v.c c.area.ensures.value in
-    simp to_z-of_z (same_area c.across.result c.down.result c.level.result (pos c.of.result) c.area.result _
-    (area_is c.area.result c.unsigned_abs.result c.of.result p (simp to_z-of_z at c.unsigned_abs.ensures.value) c.of.ensures)
-    (plane_of-computed c.args.tri.now c.of-vertices.result c.across.result c.down.result c.level.result c.area.result v.a v.b v.c
-    c.across.ensures.value c.down.ensures.value c.level.ensures.value c.area.ensures.value))
+    let p = positive c.args.tri.now c.of-vertices.result c.area-area.result v.valid v.value c.area-area.ensures.value in
+    simp to_z-of_z (same_area c.across-across.result c.down-down.result c.level-level.result (pos c.of.result) c.area-area.result _
+    (area_is c.area-area.result c.unsigned_abs.result c.of.result p (simp to_z-of_z at c.unsigned_abs.ensures.value) c.of.ensures)
+    (plane_of-computed c.args.tri.now c.of-vertices.result c.across-across.result c.down-down.result c.level-level.result c.area-area.result v.value
+    c.across-across.ensures.value c.down-down.ensures.value c.area-area.ensures.value (simp to_z-of_z at c.level-level.ensures.value)))
 
 pub invariant_of-result : goal.invariant_of-result
 invariant_of-result c =
-    let fa : FitsSigned w64 c.across.result = search rules in
-    let fd : FitsSigned w64 c.down.result = search rules in
-    let fl : FitsSigned w128 c.level.result = search rules in
-    let fn : FitsSigned w64 c.area.result = search rules in
+    let fa : FitsSigned w64 c.across-across.result = search rules in
+    let fd : FitsSigned w64 c.down-down.result = search rules in
+    let fl : FitsSigned w128 c.level-level.result = search rules in
+    let fn : FitsSigned w64 c.area-area.result = search rules in
     let v = c.of-vertices.ensures in
-    let p = positive c.args.tri.now c.of-vertices.result c.area.result v.valid v.a v.b v.c c.area.ensures.value in
-    let is = area_is c.area.result c.unsigned_abs.result c.of.result p (simp to_z-of_z at c.unsigned_abs.ensures.value) c.of.ensures in
-    simp to_z-of_z (record {
-      across = c.across.ensures.bounded;
-      down = c.down.ensures.bounded;
-      level = c.level.ensures.bounded;
+    let p = positive c.args.tri.now c.of-vertices.result c.area-area.result v.valid v.value c.area-area.ensures.value in
+    let is = area_is c.area-area.result c.unsigned_abs.result c.of.result p (simp to_z-of_z at c.unsigned_abs.ensures.value) c.of.ensures in
+    (simp to_z-of_z (record {
+      across = c.across-across.ensures.bounded;
+      down = c.down-down.ensures.bounded;
+      level = c.level-level.ensures.bounded;
       positive_area = rw is p;
-      area_within = within c.area.result _ c.area.ensures.bounded is;
-    })
+      area_within = within c.area-area.result _ c.area-area.ensures.bounded is;
+    }), simp to_z-of_z (simp to_z-of_z at (c.narrow_first.ensures (pos c.of.result))))
 
 pub returns-clause-numerator : goal.returns-clause-numerator
 returns-clause-numerator c p = ap (λ v. numerator_at v p) (returns-clause-value c) ∙ numerator_at-plane_of c.args.tri.now p
@@ -72,4 +72,4 @@ pub returns-clause-denominator : goal.returns-clause-denominator
 returns-clause-denominator c = ap (λ (v : Coefficients). v.area) (returns-clause-value c) ∙ area-plane_of c.args.tri.now
 
 pub returns-clause-positive : goal.returns-clause-positive
-returns-clause-positive c = (invariant_of-result c).positive_area
+returns-clause-positive c = (invariant_of-result c).0.positive_area

@@ -1,12 +1,19 @@
-use Rattle.edge_lanes.proofs.Sides.{inside_of-covered, inside_of-touched}
+use Rattle.edge_lanes.specs.Inside.{inside_of, narrow_lines, wide_lines}
+use Rattle.edge_lanes.proofs.Sides.{inside_lines-covered, inside_lines-touched}
 use Rattle.edge_lanes.proofs.edges.Edges.of.Goals as goal
 
-pub returns-clause-covered : goal.returns-clause-covered
-returns-clause-covered c =
-    inside_of-covered (record { first = c.edge_between.result; second = c.edge_between-2.result; third = c.edge_between-3.result }) c.args.side c.args.tri.now
-    (record { first = c.edge_between.ensures; second = c.edge_between-2.ensures; third = c.edge_between-3.ensures })
+pub returns-then-is_narrow-clause-covered : goal.returns-then-is_narrow-clause-covered
+unfolding inside_of
+returns-then-is_narrow-clause-covered c = inside_lines-covered (narrow_lines c.of.result) c.args.side c.args.tri.now c.of.ensures
 
-pub returns-clause-touched : goal.returns-clause-touched
-returns-clause-touched c =
-    inside_of-touched (record { first = c.edge_between.result; second = c.edge_between-2.result; third = c.edge_between-3.result }) c.args.side c.args.tri.now
-    (record { first = c.edge_between.ensures; second = c.edge_between-2.ensures; third = c.edge_between-3.ensures })
+pub returns-then-is_narrow-clause-touched : goal.returns-then-is_narrow-clause-touched
+unfolding inside_of
+returns-then-is_narrow-clause-touched c = inside_lines-touched (narrow_lines c.of.result) c.args.side c.args.tri.now c.of.ensures
+
+pub returns-else-is_narrow-clause-covered : goal.returns-else-is_narrow-clause-covered
+unfolding inside_of
+returns-else-is_narrow-clause-covered c = inside_lines-covered (wide_lines c.of-else-is_narrow.result) c.args.side c.args.tri.now c.of-else-is_narrow.ensures
+
+pub returns-else-is_narrow-clause-touched : goal.returns-else-is_narrow-clause-touched
+unfolding inside_of
+returns-else-is_narrow-clause-touched c = inside_lines-touched (wide_lines c.of-else-is_narrow.result) c.args.side c.args.tri.now c.of-else-is_narrow.ensures

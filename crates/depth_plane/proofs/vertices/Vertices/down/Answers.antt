@@ -1,0 +1,21 @@
+use Rattle.std.proofs.Common.{◌^◌, FitsSigned, w64, arith, rules}
+use Rattle.std.proofs.lemmas.Int.{ints, to_z-of_z}
+use Rattle.depth_plane.proofs.vertices.Vertices.down.Goals as goal
+
+pub minus-requires-clause-a_bounded : goal.minus-requires-clause-a_bounded
+minus-requires-clause-a_bounded c =
+    let f : FitsSigned w64 c.slope.result = search rules in
+    simp to_z-of_z (omega (arith, ints, c.slope.ensures.bounded), omega (arith, ints, c.slope.ensures.bounded))
+
+pub minus-requires-clause-b_bounded : goal.minus-requires-clause-b_bounded
+minus-requires-clause-b_bounded c =
+    let f : FitsSigned w64 c.slope-2.result = search rules in
+    simp to_z-of_z (omega (arith, ints, c.slope-2.ensures.bounded), omega (arith, ints, c.slope-2.ensures.bounded))
+
+pub returns-clause-bounded : goal.returns-clause-bounded
+returns-clause-bounded c =
+    let f : FitsSigned w64 c.slope.result = search rules in let g : FitsSigned w64 c.slope-2.result = search rules in
+    let fm : FitsSigned w64 c.minus.result = search rules in
+    let within = simp to_z-of_z at (c.minus.ensures.bounded (2 ^ 54)) in
+    let b = within c.slope.ensures.bounded c.slope-2.ensures.bounded in
+    simp to_z-of_z (omega (arith, ints, b), omega (arith, ints, b))

@@ -1,0 +1,35 @@
+use Rattle.std.proofs.Common.{[], sym, ◌∙◌, arith, option_to_list}
+use Rattle.cull_base.specs.declared.nearness.TheConstants.{GRADE_TOP}
+use Rattle.cull_base.specs.declared.triangle.Side.TheVariants.{Occluder}
+use Rattle.snap_setup.proofs.KeptPieces.{grown, grown_by_none, few, few_by_option, past, held}
+use Rattle.snap_setup.proofs.triangle.push_pieces.Goals as goal
+
+pub returns-then-is_any_past_guard-clause-value : goal.returns-then-is_any_past_guard-clause-value
+returns-then-is_any_past_guard-clause-value c =
+    grown_by_none c.args.v0.now c.args.v1.now c.args.v2.now GRADE_TOP c.args.near c.args.size c.args.winding Occluder c.args.list.now (sym c.is_any_past_guard.ensures ∙ c.if-is_any_past_guard.true)
+
+pub returns-then-is_any_past_guard-clause-most : goal.returns-then-is_any_past_guard-clause-most
+returns-then-is_any_past_guard-clause-most c =
+    few [] _ (past c.args.v0.now c.args.v1.now c.args.v2.now GRADE_TOP c.args.near c.args.size c.args.winding Occluder (sym c.is_any_past_guard.ensures ∙ c.if-is_any_past_guard.true)) (omega arith)
+
+pub returns-then-is_all_in_front-clause-value : goal.returns-then-is_all_in_front-clause-value
+returns-then-is_all_in_front-clause-value c =
+    grown c.args.list.now c.push_if.new.list _ _ c.push_if.ensures
+    (held c.args.v0.now c.args.v1.now c.args.v2.now GRADE_TOP c.args.near c.args.size c.args.winding Occluder (option_to_list c.whole_piece.result) (sym c.is_any_past_guard.ensures ∙ c.if-is_any_past_guard.false) c.whole_piece.ensures)
+
+pub returns-then-is_all_in_front-clause-most : goal.returns-then-is_all_in_front-clause-most
+returns-then-is_all_in_front-clause-most c =
+    few (option_to_list c.whole_piece.result) _
+    (held c.args.v0.now c.args.v1.now c.args.v2.now GRADE_TOP c.args.near c.args.size c.args.winding Occluder (option_to_list c.whole_piece.result) (sym c.is_any_past_guard.ensures ∙ c.if-is_any_past_guard.false) c.whole_piece.ensures)
+    (few_by_option c.whole_piece.result)
+
+pub returns-else-is_all_in_front-clause-value : goal.returns-else-is_all_in_front-clause-value
+returns-else-is_all_in_front-clause-value c =
+    grown c.args.list.now c.push_onto.new.list _ _ c.push_onto.ensures.value
+    (held c.args.v0.now c.args.v1.now c.args.v2.now GRADE_TOP c.args.near c.args.size c.args.winding Occluder c.clipped_pieces.result (sym c.is_any_past_guard.ensures ∙ c.if-is_any_past_guard.false) c.clipped_pieces.ensures)
+
+pub returns-else-is_all_in_front-clause-most : goal.returns-else-is_all_in_front-clause-most
+returns-else-is_all_in_front-clause-most c =
+    few c.clipped_pieces.result _
+    (held c.args.v0.now c.args.v1.now c.args.v2.now GRADE_TOP c.args.near c.args.size c.args.winding Occluder c.clipped_pieces.result (sym c.is_any_past_guard.ensures ∙ c.if-is_any_past_guard.false) c.clipped_pieces.ensures)
+    c.push_onto.ensures.most
