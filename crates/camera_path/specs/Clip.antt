@@ -1,4 +1,6 @@
 -- Clip coordinates: where a vertex lies as a camera sees it, before the division by w.
+use Rattle.std.specs.List.{All}
+use Rattle.cull_base.specs.Bounds.{Bounded}
 use Rattle.std.specs.Prelude.{ℕ, ℤ, pos, ◌+◌, ◌+ℤ◌, ◌*ℤ◌, List, [], ◌∷◌, slice_index_or}
 use Rattle.cull_base.specs.Depth.{floor_of}
 use Rattle.cull_base.specs.declared.clip.ClipVertex.{ClipVertex}
@@ -6,6 +8,10 @@ use Rattle.cull_base.specs.declared.clip.ClipVertex.{ClipVertex}
 -- A camera is three rows of four numbers, for x, y and w; a vertex has three numbers.
 abbrev pub number : List ℤ → ℕ → ℤ
 number row k = slice_index_or row k (pos 0)
+
+-- the numbers lie at most so far away from 0
+abbrev pub AreWithin : ℕ → List ℤ → Type 0
+AreWithin n numbers = All (Bounded n) numbers
 
 -- The row from number r of the camera: three factors in parts of 65536, and then an offset.
 abbrev pub factors_sum : List ℤ → ℕ → List ℤ → ℤ

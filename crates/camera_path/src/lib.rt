@@ -2,9 +2,13 @@
 //! in whole numbers.
 #![tactic(auto)]
 
+mod camera;
+mod clips;
 mod guard;
 mod identity;
 
+pub use camera::Camera;
+pub use clips::{clip_all, clip_into};
 pub use guard::past_guard;
 pub use identity::identity_keeps;
 

@@ -1,6 +1,9 @@
-//! Vertices at the guard.
+//! Vertices through a camera, and at the guard.
 use super::*;
 use cull_base::ClipVertex;
+
+/// Halves x and moves it by 5.
+const HALF_AND_FIVE: Camera = Camera([32768, 0, 0, 5, 0, 65536, 0, 0, 0, 0, 65536, 0]);
 
 #[test]
 fn the_guard_is_past_16384_near_distances(rt: HostRuntime) {
@@ -20,4 +23,39 @@ fn the_guard_is_past_16384_near_distances(rt: HostRuntime) {
 #[test]
 fn the_law_on_the_identity_is_called(rt: HostRuntime) {
     identity_keeps();
+}
+
+#[test]
+fn halves_are_rounded_down_in_order(rt: HostRuntime) {
+    let vertices = [[3, 7, 9], [-3, 7, 9]];
+    let clips = clip_all(&rt, rt.alloc(), &HALF_AND_FIVE, &vertices).expect(&rt, "memory");
+    let first = ClipVertex { x: 6, y: 7, w: 9 };
+    let second = ClipVertex { x: 3, y: 7, w: 9 };
+    assert_eq!(rt; clips.as_slice(), [first, second].as_slice());
+    assert_eq!(rt; HALF_AND_FIVE.clip(&vertices[1]), second);
+}
+
+#[test]
+fn the_greatest_numbers_fit(rt: HostRuntime) {
+    let most = 16_777_216;
+    let clip = Camera([most; 12]).clip(&[most, most, most]);
+    // three times 2^48 over 2^16, and 2^24
+    assert_eq!(rt; clip.x, 12_901_679_104);
+    let clip = Camera([-most; 12]).clip(&[most, most, most]);
+    assert_eq!(rt; clip.w, -12_901_679_104);
+}
+
+#[test]
+fn many_vertices_keep_their_order(rt: HostRuntime) {
+    let vertices = vec![in rt.alloc(); [3, 7, 9]; 40_000].expect(&rt, "memory");
+    let mut vertices = vertices;
+    vertices[0] = [-3, 0, 0];
+    vertices[39_999] = [5, 1, 2];
+    let clips = clip_all(&rt, rt.alloc(), &HALF_AND_FIVE, vertices.as_slice()).expect(
+        &rt, "memory",
+    );
+    assert_eq!(rt; clips.len(), 40_000);
+    assert_eq!(rt; clips[0], ClipVertex { x: 3, y: 0, w: 0 });
+    assert_eq!(rt; clips[20_000], ClipVertex { x: 6, y: 7, w: 9 });
+    assert_eq!(rt; clips[39_999], ClipVertex { x: 7, y: 1, w: 2 });
 }

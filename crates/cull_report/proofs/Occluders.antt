@@ -1,30 +1,26 @@
 -- An occluded object has a piece strictly nearer at each of its samples.
-use Rattle.std.proofs.Common.{◌≡◌, ℕ, ℤ, pos, negsuc, zero, suc, ◌+◌, ◌*◌, ◌/◌, ◌%◌, ◌≤◌, ◌<◌, ◌*ℤ◌, ◌≤ℤ◌, ◌<ℤ◌, Bool, ◌&&◌, true, false, cond, arith, refl, List, [], ◌∷◌, map, length, int_lt, inl, inr, Some, nat_lt, subst}
+use Rattle.std.proofs.Common.{◌≡◌, ℕ, ℤ, pos, zero, suc, ◌<◌, Bool, ◌&&◌, true, false, cond, arith, List, [], ◌∷◌, map, length, int_lt, Some, nat_lt, subst}
 use Rattle.std.specs.Prelude.{slice_get}
 use Rattle.std.specs.List.{All}
 use Rattle.std.proofs.lemmas.Bool.{and_parts}
 use Rattle.std.proofs.lemmas.Bool.Decides.{nat_tests}
-use Rattle.std.proofs.lemmas.Int.{ints}
 use Rattle.std.proofs.lemmas.Option.{slice_get_within, get_or_from_slice_get}
-use Rattle.std.proofs.Math.Nat.{mul-le-mul_right}
 use Rattle.cull_base.specs.declared.nearness.TheConstants.{GRADE_TOP}
 use Rattle.cull_base.specs.declared.rect.Rect.{Rect}
 use Rattle.cull_base.specs.declared.place.Sub.{Sub}
 use Rattle.cull_base.specs.declared.scene_types.Object.{Object}
 use Rattle.cull_base.specs.declared.scene_types.Object.TheVariants.{Area, Block, Mesh}
 use Rattle.cull_base.specs.declared.scene_types.Verdict.{Verdict}
-use Rattle.cull_base.specs.declared.scene_types.Verdict.TheVariants.{Visible, Occluded}
+use Rattle.cull_base.specs.declared.scene_types.Verdict.TheVariants.{Occluded}
 use Rattle.cull_base.specs.Screen.{Dimensions, screen_of}
 use Rattle.cull_base.specs.Rectangle.{meets}
-use Rattle.cull_base.specs.Piece.{Piece, Point, middle, sample}
-use Rattle.cull_base.specs.Depth.{numerator, denominator}
-use Rattle.cull_base.specs.Fraction.{whole_number}
-use Rattle.cull_base.specs.State.{State, bound_at, hides}
+use Rattle.cull_base.specs.Piece.{Piece, middle}
+use Rattle.cull_base.specs.State.{State}
 use Rattle.cull_base.specs.Fold.{after, IsSound}
 use Rattle.cull_base.specs.Tiles.{ArePieces}
 use Rattle.scene_reader.specs.Layout.{Parts}
 use Rattle.cull_base.specs.Pixels.{sub_of_pixel, sample_of_pixel}
-use Rattle.cull_base.specs.Shape.{Shape, AlwaysOutside, AlwaysVisible, Flat, Pieces, has_sample, near_at, is_hidden, verdict_of}
+use Rattle.cull_base.specs.Shape.{Shape, AlwaysOutside, AlwaysVisible, Flat, Pieces, has_sample, near_at, verdict_of}
 use Rattle.rect_query.specs.Rectangles.{nearness_at, rectangle_shape}
 use Rattle.cull_report.specs.Scene.{IsBuilt, IsBuiltObject, frame_pieces, frame_verdicts, size_of, object_shape, object_verdict}
 use Rattle.cull_report.specs.Hiding.{HidesTruly}

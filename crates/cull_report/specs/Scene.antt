@@ -1,5 +1,5 @@
 -- The report of a scene: that of one thread that merges all drawn triangles in submission order, frame by frame.
-use Rattle.std.specs.Prelude.{ℕ, ℤ, pos, ◌≡◌, ◌≤ℤ◌, List, [], ◌∷◌, ◌++◌, ◌<◌, Bool, true, false, ◌&&◌, nat_lt, length, map, take, drop, slice_index_or}
+use Rattle.std.specs.Prelude.{ℕ, ℤ, pos, ◌≡◌, ◌≤ℤ◌, List, [], ◌++◌, ◌<◌, Bool, true, false, ◌&&◌, nat_lt, length, map, take, drop, slice_index_or}
 use Rattle.std.specs.List.{All, flat_map, range_with_len}
 use Rattle.cull_base.specs.declared.clip.ClipVertex.{ClipVertex}
 use Rattle.cull_base.specs.declared.nearness.TheConstants.{GRADE_TOP}
@@ -17,7 +17,7 @@ use Rattle.cull_base.specs.Fold.{after}
 use Rattle.cull_base.specs.Shape.{Shape, has_sample, near_at, area_of, verdict_of}
 use Rattle.cull_base.specs.Tiles.{PieceList}
 use Rattle.scene_reader.specs.Layout.{Parts}
-use Rattle.camera_path.specs.Clip.{clip_of, identity_camera}
+use Rattle.camera_path.specs.Clip.{clip_of}
 use Rattle.snap_setup.specs.Pieces.{list_of_clips}
 use Rattle.masked_update.specs.TileOf.{TileOf}
 use Rattle.masked_update.specs.Views.{state_in}
@@ -32,9 +32,8 @@ IsBuiltObject near (Area rect w) = pos near ≤ℤ w
 IsBuiltObject near (Block low high) = ⊥
 IsBuiltObject near (Mesh first count) = ⊥
 
--- what the program can draw so far: one frame through the identity camera, with rectangles as objects
+-- what the program can draw so far: scenes with rectangles as objects
 pub record IsBuilt (s : Parts) : Type 0 where
-  pub one_camera : s.cameras ≡ identity_camera ∷ []
   pub no_meshes : s.object_tris ≡ []
   pub objects : All (IsBuiltObject s.near) s.objects
 
@@ -91,9 +90,13 @@ scene_header s = header_text s.width s.height (length s.cameras) (length s.objec
 abbrev pub frame_report : Parts → ℕ → List ℕ
 frame_report s frame = frame_text frame (length (frame_pieces s frame)) (frame_verdicts s frame)
 
+-- the lines of the first so many frames
+unfoldable pub frames_text : Parts → ℕ → List ℕ
+frames_text s count = flat_map (frame_report s) (range_with_len 0 count)
+
 -- the header, and then the frames' lines
 unfoldable pub report_text : Parts → List ℕ
-report_text s = scene_header s ++ flat_map (frame_report s) (range_with_len 0 (length s.cameras))
+report_text s = scene_header s ++ frames_text s (length s.cameras)
 
 -- the objects that are marked have the verdict occluded
 abbrev pub IsMarkedRight : (Object → Verdict) → List Object → List Bool → Type 0

@@ -6,7 +6,7 @@ mod objects;
 mod report;
 mod text;
 
-pub use built::{identity_clips, is_built};
+pub use built::is_built;
 pub use objects::verdicts;
 pub use report::{write_frame, write_header};
 pub use text::Line;

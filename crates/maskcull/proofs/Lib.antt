@@ -1,2 +1,2 @@
 pub mod Drawn
-pub mod OneFrame
+pub mod Frames

@@ -1,5 +1,5 @@
 -- What a run owes over the bytes that were left in its source.
-use Rattle.std.specs.Prelude.{ℕ, ◌≡◌, ◌<◌, List, [], Result, Err, ◌⊎◌, Some, None, IfSome}
+use Rattle.std.specs.Prelude.{ℕ, ◌≡◌, ◌<◌, ◌≤◌, List, [], length, Result, Err, OnOk, OnErr, IfErr, ◌⊎◌, Some, None, IfSome}
 use Rattle.cull_base.specs.Stream.{SourceSays, SinkSays, Rose, Appends, AppendsPrefix, IsNoted}
 use Rattle.scene_reader.specs.Fault.{first_fault, IsRefusal}
 use Rattle.maskcull.specs.Notes.{refusal_text}
@@ -7,7 +7,7 @@ use Rattle.cull_report.specs.Hiding.{HidesTruly}
 use Rattle.scene_reader.specs.Layout.{Parts, IsScene, layout}
 use Rattle.scene_reader.specs.declared.error.SceneError.{SceneError}
 use Rattle.cull_base.specs.Screen.{tile_count_of}
-use Rattle.cull_base.specs.Tiles.{tile_after}
+use Rattle.cull_base.specs.Tiles.{ArePieces, tile_after}
 use Rattle.masked_update.specs.TileOf.{TileOf, tile_at}
 use Rattle.cull_report.specs.Scene.{IsBuilt, size_of, frame_pieces, report_text}
 use Rattle.maskcull.specs.declared.failure.Failure.{Failure}
@@ -53,6 +53,13 @@ StatusIs status wanted = (status ≡ wanted) ⊎ (status ≡ statuses.ReadFault)
 abbrev pub IsReportFailure : Failure → SinkSays → SinkSays → Type 0
 IsReportFailure f before after = (f ≡ Memory) ⊎ ((f ≡ ReportFault) × Rose before.faults after.faults)
 
+-- The text was appended, or after a failure a front of it; memory was wanted, or the count of faults rose.
+pub record Reports (before after : SinkSays) (result : Result (Unit {0}) Failure) (text : List ℕ) : Type 0 where
+  pub ok : OnOk result (Appends before after text)
+  pub err : OnErr result (AppendsPrefix before after text)
+  pub cause : IfErr result (λ f. IsReportFailure f before after)
+  pub faults_stay : before.faults ≤ after.faults
+
 -- the failure is none after which part of the report may stand
 abbrev pub IsBeforeReport : Failure → Type 0
 IsBeforeReport f = (f ≡ Memory → ⊥) × (f ≡ ReportFault → ⊥)
@@ -70,9 +77,13 @@ abbrev pub IsCulled : SourceSays → SourceSays → SinkSays → SinkSays → Ty
 IsCulled before after report_before report_after =
     IfBytes before (λ bytes. (s : Parts) × IsDrawable bytes s × (after.left ≡ Some []) × Appends report_before report_after (report_text s) × HidesTruly s)
 
--- the tiles of the only frame took its whole list
-abbrev pub TookFrame : Parts → List TileOf → Type 0
-TookFrame s tiles = (t : ℕ) → t < tile_count_of (size_of s) → (tile_at tiles t).subs ≡ tile_after (size_of s) t (frame_pieces s 0)
+-- the tiles took the whole list of a frame
+abbrev pub TookFrame : Parts → ℕ → List TileOf → Type 0
+TookFrame s frame tiles = (t : ℕ) → t < tile_count_of (size_of s) → (tile_at tiles t).subs ≡ tile_after (size_of s) t (frame_pieces s frame)
+
+-- each member of each frame's list is a piece
+abbrev pub AllArePieces : Parts → Type 0
+AllArePieces s = (frame : ℕ) → frame < length s.cameras → ArePieces (frame_pieces s frame)
 
 -- the bytes have this first fault
 abbrev pub HasFault : SourceSays → SceneError → Type 0

@@ -2,21 +2,24 @@
 ghost use Rattle.std.specs.Prelude.{◌≡◌, ℕ, [], ◌<◌, ◌≤◌, length, Some, IfOk, IfErr, OnOk, OnErr, IsErrOf, None, ◌⊎◌, replicate, false};
 ghost use Rattle.cull_base.specs.Screen.{tile_count_of};
 ghost use Rattle.cull_base.specs.Stream.{Rose, Appends, AppendsPrefix, Writes};
-ghost use Rattle.cull_base.specs.Tiles.{tile_after};
+ghost use Rattle.cull_base.specs.Tiles.{ArePieces, tile_after};
 ghost use Rattle.masked_update.specs.TileOf.{tile_at};
 ghost use Rattle.scene_reader.specs.Fault.{IsRefusal};
 ghost use Rattle.scene_reader.specs.Layout.{Parts};
 ghost use Rattle.cull_report.specs.Hiding.{HidesTruly};
-ghost use Rattle.cull_report.specs.Scene.{IsBuilt, size_of, frame_clips, frame_list, frame_pieces, frame_verdicts, report_text};
-ghost use Rattle.maskcull.specs.Culling.{IfBytes, IfScene, EndsAs, CanDraw, IsCulled, HasFault, IsNoScene, IsUnbuilt, IsUndrawn, EachFault, EachDrawable, EachUndrawn, GainsFront, WithoutScene, TookFrame, IsReportFailure, IsBeforeReport};
+ghost use Rattle.cull_report.specs.Scene.{IsBuilt, size_of, frame_clips, frame_list, frame_pieces, frame_report, frame_verdicts, frames_text, report_text};
+ghost use Rattle.maskcull.specs.Culling.{IfBytes, IfScene, EndsAs, CanDraw, IsCulled, HasFault, IsNoScene, IsUnbuilt, IsUndrawn, EachFault, EachDrawable, EachUndrawn, GainsFront, WithoutScene, TookFrame, Reports, AllArePieces, IsReportFailure, IsBeforeReport};
 
 use crate::failure::Failure;
+use camera_path::{Camera, clip_into};
 use cull_base::{ClipVertex, FrameList, Memory, Sink, SinkError, Source, Verdict};
-use cull_report::{identity_clips, is_built, verdicts, write_frame, write_header};
+use cull_report::{is_built, verdicts, write_frame, write_header};
 use masked_update::{PlainView, TileState, draw_plain};
 use scene_reader::{Scene, read_scene};
 use snap_setup::frame_list;
 use std::alloc::Global;
+use std::sync::Wait;
+use std::thread::Threads;
 
 /// What a frame's lines tell.
 #[derive(Drop)]
@@ -55,27 +58,45 @@ fn unset_marks(alloc: Global, count: usize) -> Result<Vec<bool>, Memory>
     }
 }
 
+// The scene's vertices through a frame's camera.
+fn clip_frame<R: Threads + Wait + Sync>(rt: &R, scene: &Scene, frame: u32, clips: &mut [ClipVertex])
+    requires frame { frame < length scene.now.cameras }
+    requires places { length clips.old ≡ length scene.now.vertices }
+    ensures clips { clips.new ≡ frame_clips scene.now frame }
+    ensures places { length clips.new ≡ length clips.old }
+{
+    let camera = Camera(scene.cameras()[frame as usize]);
+    clip_into(rt, &camera, scene.vertices(), clips);
+}
+
 // The verdicts over tiles that have taken the whole frame.
 fn verdicts_over(
     alloc: Global,
     scene: &Scene,
+    frame: u32,
     clips: &[ClipVertex],
     states: &[TileState],
 ) -> Result<Vec<Verdict>, Memory>
     requires built { IsBuilt scene.now }
-    requires clips { clips.now ≡ frame_clips scene.now 0 }
+    requires frame { frame < length scene.now.cameras }
+    requires clips { clips.now ≡ frame_clips scene.now frame }
     requires tiles { length states.now ≡ tile_count_of (size_of scene.now) }
-    requires drawn { TookFrame scene.now states.now }
-    ensures { IfOk result (λ v. v.items ≡ frame_verdicts scene.now 0) }
+    requires drawn { TookFrame scene.now frame states.now }
+    ensures { IfOk result (λ v. v.items ≡ frame_verdicts scene.now frame) }
 {
     let settled = unset_marks(alloc, scene.objects().len())?;
-    verdicts(alloc, scene, 0, clips, &PlainView::new(states), &settled)
+    verdicts(alloc, scene, frame, clips, &PlainView::new(states), &settled)
 }
 
-// The pieces of a scene's frame, in submission order.
-fn pieces_of(alloc: Global, scene: &Scene, clips: &[ClipVertex]) -> Result<FrameList, Memory>
-    requires { clips.now ≡ frame_clips scene.now 0 }
-    ensures { IfOk result (λ f. f.list ≡ frame_list scene.now 0) }
+// The pieces of a frame, in submission order.
+fn pieces_of(
+    alloc: Global,
+    scene: &Scene,
+    _frame: u32,
+    clips: &[ClipVertex],
+) -> Result<FrameList, Memory>
+    requires { clips.now ≡ frame_clips scene.now _frame }
+    ensures { IfOk result (λ f. f.list ≡ frame_list scene.now _frame) }
 {
     frame_list(
         alloc,
@@ -87,48 +108,87 @@ fn pieces_of(alloc: Global, scene: &Scene, clips: &[ClipVertex]) -> Result<Frame
     )
 }
 
-// Draws a scene's frame by one thread that merges all its pieces in order, and tests its objects.
-fn draw(alloc: Global, scene: &Scene) -> Result<Frame, Memory>
-    requires { IsBuilt scene.now }
-    ensures pieces { IfOk result (λ f. f.pieces ≡ length (frame_pieces scene.now 0)) }
-    ensures verdicts { IfOk result (λ f. f.verdicts.items ≡ frame_verdicts scene.now 0) }
-    ensures hidden { OnOk result (HidesTruly scene.now) }
+// Draws a frame by one thread that merges all its pieces in order, and tests the objects.
+fn draw(alloc: Global, scene: &Scene, frame: u32, clips: &[ClipVertex]) -> Result<Frame, Memory>
+    requires built { IsBuilt scene.now }
+    requires frame { frame < length scene.now.cameras }
+    requires clips { clips.now ≡ frame_clips scene.now frame }
+    ensures pieces { IfOk result (λ f. f.pieces ≡ length (frame_pieces scene.now frame)) }
+    ensures verdicts { IfOk result (λ f. f.verdicts.items ≡ frame_verdicts scene.now frame) }
+    ensures valid { OnOk result (ArePieces (frame_pieces scene.now frame)) }
 {
-    let clips = identity_clips(alloc, scene)?;
-    let list = pieces_of(alloc, scene, &clips)?;
+    let list = pieces_of(alloc, scene, frame, clips)?;
     let states = draw_plain(alloc, &list)?;
-    let verdicts = verdicts_over(alloc, scene, &clips, &states)?;
+    let verdicts = verdicts_over(alloc, scene, frame, clips, &states)?;
     Ok(Frame {
         pieces: list.len(),
         verdicts,
     })
 }
 
-fn write_report<W: Sink>(report: &mut W, scene: &Scene, frame: &Frame) -> Result<(), SinkError>
+// Draws a frame and writes its lines.
+fn report_frame<R: Threads + Wait + Sync, W: Sink>(
+    rt: &R,
+    alloc: Global,
+    scene: &Scene,
+    frame: u32,
+    clips: &mut [ClipVertex],
+    report: &mut W,
+) -> Result<(), Failure>
     requires built { IsBuilt scene.now }
-    requires pieces { frame.now.pieces ≡ length (frame_pieces scene.now 0) }
-    requires verdicts { frame.now.verdicts.items ≡ frame_verdicts scene.now 0 }
-    ensures { Writes (W.says report.old) (W.says report.new) result (report_text scene.now) }
+    requires frame { frame < length scene.now.cameras }
+    requires places { length clips.old ≡ length scene.now.vertices }
+    ensures reported { Reports (W.says report.old) (W.says report.new) result (frame_report scene.now frame) }
+    ensures valid { OnOk result (ArePieces (frame_pieces scene.now frame)) }
+    ensures places { length clips.new ≡ length clips.old }
 {
-    write_header(report, scene)?;
-    write_frame(report, 0, frame.pieces, &frame.verdicts)
-}
-
-// Draws a scene and writes its report.
-fn report_scene<W: Sink>(alloc: Global, scene: &Scene, report: &mut W) -> Result<(), Failure>
-    requires { IsBuilt scene.now }
-    ensures ok { OnOk result (Appends (W.says report.old) (W.says report.new) (report_text scene.now)) }
-    ensures err { OnErr result (AppendsPrefix (W.says report.old) (W.says report.new) (report_text scene.now)) }
-    ensures hidden { OnOk result (HidesTruly scene.now) }
-    ensures causes { IfErr result (λ f. IsReportFailure f (W.says report.old) (W.says report.new)) }
-{
-    let frame = draw(alloc, scene)?;
-    write_report(report, scene, &frame)?;
+    clip_frame(rt, scene, frame, clips);
+    let drawn = draw(alloc, scene, frame, clips)?;
+    write_frame(report, frame, drawn.pieces, &drawn.verdicts)?;
     Ok(())
 }
 
+// Draws frame after frame, and writes the lines of each before the next begins.
+fn report_frames<R: Threads + Wait + Sync, W: Sink>(
+    rt: &R,
+    alloc: Global,
+    scene: &Scene,
+    report: &mut W,
+) -> Result<(), Failure>
+    requires { IsBuilt scene.now }
+    ensures reported { Reports (W.says report.old) (W.says report.new) result (frames_text scene.now (length scene.now.cameras)) }
+    ensures valid { OnOk result (AllArePieces scene.now) }
+{
+    let nowhere = ClipVertex { x: 0, y: 0, w: 0 };
+    let mut clips = vec![in alloc; nowhere; scene.vertices().len()].map_err(|_| Failure::Memory)?;
+    for frame in 0..scene.cameras().len() as u32 {
+        report_frame(rt, alloc, scene, frame, &mut clips, report)?;
+    }
+    Ok(())
+}
+
+// Draws a scene and writes its report.
+fn report_scene<R: Threads + Wait + Sync, W: Sink>(
+    rt: &R,
+    alloc: Global,
+    scene: &Scene,
+    report: &mut W,
+) -> Result<(), Failure>
+    requires { IsBuilt scene.now }
+    ensures reported { Reports (W.says report.old) (W.says report.new) result (report_text scene.now) }
+    ensures hidden { OnOk result (HidesTruly scene.now) }
+{
+    write_header(report, scene)?;
+    report_frames(rt, alloc, scene, report)
+}
+
 /// Reads a scene, draws it and writes its report.
-pub fn cull<S: Source, W: Sink>(alloc: Global, input: &mut S, report: &mut W) -> Result<(), Failure>
+pub fn cull<R: Threads + Wait + Sync, S: Source, W: Sink>(
+    rt: &R,
+    alloc: Global,
+    input: &mut S,
+    report: &mut W,
+) -> Result<(), Failure>
     ensures done { OnOk result (
         IsCulled (S.says input.old) (S.says input.new) (W.says report.old) (W.says report.new)) }
     ensures refusal { IfErr result (λ f. IfScene f IsRefusal) }
@@ -149,5 +209,5 @@ pub fn cull<S: Source, W: Sink>(alloc: Global, input: &mut S, report: &mut W) ->
     ensures nothing { WithoutScene (S.says input.old) (report.new ≡ report.old) }
 {
     let scene = read_built(alloc, input)?;
-    report_scene(alloc, &scene, report)
+    report_scene(rt, alloc, &scene, report)
 }

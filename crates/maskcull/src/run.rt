@@ -16,7 +16,7 @@ use std::thread::Threads;
 /// Runs a command: `cull` reads a scene from the input and writes its report. What is said of bytes holds where the
 /// input tells its bytes; a sink's claim where the sink tells its own.
 pub fn run<R: Threads + Wait + Sync, S: Source, W: Sink, E: Sink>(
-    _rt: &R,
+    rt: &R,
     alloc: Global,
     words: &[String],
     input: &mut S,
@@ -56,7 +56,7 @@ pub fn run<R: Threads + Wait + Sync, S: Source, W: Sink, E: Sink>(
     if !is_accepted(words) {
         return Failure::Usage.end(notes);
     }
-    match cull(alloc, input, report) {
+    match cull(rt, alloc, input, report) {
         Ok(()) => Status::Done,
         Err(failure) => failure.end(notes),
     }

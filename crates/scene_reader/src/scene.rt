@@ -100,7 +100,8 @@ impl Scene {
 
     /// The camera of each frame: twelve numbers, the rows of x, y and w.
     pub fn cameras(&self) -> &[[i32; 12]]
-        ensures { result.now ≡ self.now.cameras }
+        ensures value { result.now ≡ self.now.cameras }
+        ensures valid { IsScene self.now }
     {
         &self.parts.cameras
     }

@@ -13,7 +13,7 @@ returns c =
     (c.to_le_bytes-height.ensures ∙ ap short_bytes (c.height.ensures.value ∙ ap (λ (d : Dimensions). d.height) c.size-2.ensures))
     (c.to_le_bytes-near.ensures ∙ ap short_bytes c.near.ensures.value)
     (c.code_of-winding.ensures ∙ ap winding_code c.winding.ensures)
-    (c.to_le_bytes-frames.ensures ∙ ap (λ (xs : List (List ℤ)). short_bytes (length xs)) c.cameras.ensures)
+    (c.to_le_bytes-frames.ensures ∙ ap (λ (xs : List (List ℤ)). short_bytes (length xs)) c.cameras.ensures.value)
     (c.to_le_bytes-vertices.ensures ∙ ap (λ (xs : List (List ℤ)). word_bytes (length xs)) c.vertices.ensures)
     (c.to_le_bytes-occluders.ensures ∙ ap (λ (xs : List Tri). word_bytes (length xs)) c.occluders.ensures)
     (c.to_le_bytes-object_tris.ensures ∙ ap (λ (xs : List Tri). word_bytes (length xs)) c.object_tris.ensures)

@@ -70,4 +70,4 @@ returns g c =
     let occluders = rw c.occluders.ensures at c.in_ok-write_tris.ensures in
     let object_tris = rw c.object_tris.ensures at c.in_ok-write_tris-2.ensures in
     let objects = rw c.objects.ensures at c.in_ok-write_objects.ensures in
-    writes_on header (writes_on vertices (writes_on occluders (writes_on object_tris (writes_on objects (rw c.cameras.ensures at c.write_rows-2.ensures)))))
+    writes_on header (writes_on vertices (writes_on occluders (writes_on object_tris (writes_on objects (rw c.cameras.ensures.value at c.write_rows-2.ensures)))))

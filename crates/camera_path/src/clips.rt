@@ -1,0 +1,69 @@
+//! All vertices of a scene as a camera sees them.
+ghost use Rattle.std.specs.Prelude.{◌≡◌, ◌^◌, ◌<◌, [], map, length, slice_index_or, IfOk};
+ghost use Rattle.std.specs.List.{All};
+ghost use Rattle.camera_path.specs.Clip.{clip_of, AreWithin};
+
+use crate::camera::Camera;
+use cull_base::{ClipVertex, Memory};
+use std::alloc::Global;
+use std::sync::Wait;
+use std::thread::{Threads, available_parallelism, for_each_mut};
+
+/// A thread is worth its start for so many vertices.
+const SHARE: usize = 16384;
+
+// One for each share of the work, and no more than there are processors.
+fn thread_count<R: Threads>(rt: &R, vertices: usize) -> usize
+    ensures { 0 < result }
+{
+    let processors = match available_parallelism(rt) {
+        Ok(count) => count.get(),
+        Err(_) => 1,
+    };
+    processors.min(vertices / SHARE).max(1)
+}
+
+/// Puts each vertex in its place, as a camera sees it, by threads where there are many. Conditions: there are as many
+/// places as vertices, and the camera's numbers and the vertices' are at most 2^24 away from 0.
+pub fn clip_into<R: Threads + Wait + Sync>(
+    rt: &R,
+    camera: &Camera,
+    vertices: &[[i32; 3]],
+    clips: &mut [ClipVertex],
+)
+    requires places { length clips.old ≡ length vertices.now }
+    requires camera { AreWithin (2 ^ 24) camera.now.0 }
+    requires vertices { All (AreWithin (2 ^ 24)) vertices.now }
+    ensures { clips.new ≡ map (clip_of camera.now.0) vertices.now }
+{
+    let threads = thread_count(rt, vertices.len());
+    for_each_mut(
+        rt,
+        clips,
+        threads,
+        &|i: usize, clip: &mut ClipVertex|
+            requires place { i < length vertices.now }
+            requires camera { AreWithin (2 ^ 24) camera.now.0 }
+            requires vertices { All (AreWithin (2 ^ 24)) vertices.now }
+            ensures { clip.new ≡ clip_of camera.entry.now.0 (slice_index_or vertices.entry.now i []) }
+        { *clip = camera.clip(&vertices[i]) },
+    );
+}
+
+/// Each vertex as a camera sees it, in order. Err where memory gave out. Condition: the camera's numbers and the
+/// vertices' are at most 2^24 away from 0.
+pub fn clip_all<R: Threads + Wait + Sync>(
+    rt: &R,
+    alloc: Global,
+    camera: &Camera,
+    vertices: &[[i32; 3]],
+) -> Result<Vec<ClipVertex>, Memory>
+    requires camera { AreWithin (2 ^ 24) camera.now.0 }
+    requires vertices { All (AreWithin (2 ^ 24)) vertices.now }
+    ensures { IfOk result (λ v. v.items ≡ map (clip_of camera.now.0) vertices.now) }
+{
+    let nowhere = ClipVertex { x: 0, y: 0, w: 0 };
+    let mut clips = vec![in alloc; nowhere; vertices.len()].map_err(|_| Memory)?;
+    clip_into(rt, camera, vertices, clips.as_mut_slice());
+    Ok(clips)
+}
