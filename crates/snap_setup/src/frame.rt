@@ -28,7 +28,13 @@ pub fn frame_list(
 {
     let mut list = FrameList::with_room(alloc, size, 2 * tris.len() as u32)?;
     for tri in tris {
-        push_pieces(&corner_references(clips, tri), near, size, winding, &mut list);
+        push_pieces(
+            &corner_references(clips, tri),
+            near,
+            size,
+            winding,
+            &mut list,
+        );
     }
     Ok(list)
 }
