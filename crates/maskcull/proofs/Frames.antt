@@ -12,7 +12,7 @@ use Rattle.cull_base.specs.Stream.{SinkSays, Appends, AppendsPrefix, Rose, Write
 use Rattle.cull_base.proofs.Streams.{appends_then}
 use Rattle.scene_reader.specs.Layout.{Parts}
 use Rattle.masked_update.proofs.Drawing.{after_is_sound}
-use Rattle.cull_report.specs.Scene.{IsBuilt, frame_pieces, frame_report, frames_text}
+use Rattle.cull_report.specs.Scene.{frame_pieces, frame_report, frames_text}
 use Rattle.cull_report.specs.Hiding.{HidesTruly}
 use Rattle.cull_report.proofs.Occluders.{hides_truly}
 use Rattle.maskcull.specs.declared.failure.Failure.{Failure}
@@ -60,8 +60,8 @@ next_valid s k before last f lt = elim (cases_lt f k) [
   | inr not_less ↦ let is : k ≡ f = omega arith in subst (λ f. ArePieces (frame_pieces s f)) is last
 ]
 
-pub all_hide : (s : Parts) → IsBuilt s → AllArePieces s → HidesTruly s
-all_hide s built all = hides_truly s built all (λ frame lt u. after_is_sound u (frame_pieces s frame) (all frame lt))
+pub all_hide : (s : Parts) → AllArePieces s → HidesTruly s
+all_hide s all = hides_truly s all (λ frame lt u. after_is_sound u (frame_pieces s frame) (all frame lt))
 
 failed_later : (f : Failure) (s0 s1 s2 : SinkSays) → s0.faults ≤ s1.faults → IsReportFailure f s1 s2 → IsReportFailure f s0 s2
 failed_later f s0 s1 s2 le h = elim h [

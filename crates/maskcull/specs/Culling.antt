@@ -9,7 +9,7 @@ use Rattle.scene_reader.specs.declared.error.SceneError.{SceneError}
 use Rattle.cull_base.specs.Screen.{tile_count_of}
 use Rattle.cull_base.specs.Tiles.{ArePieces, tile_after}
 use Rattle.masked_update.specs.TileOf.{TileOf, tile_at}
-use Rattle.cull_report.specs.Scene.{IsBuilt, size_of, frame_pieces, report_text}
+use Rattle.cull_report.specs.Scene.{size_of, frame_pieces, report_text}
 use Rattle.maskcull.specs.declared.failure.Failure.{Failure}
 use Rattle.maskcull.specs.declared.failure.Status.{Status}
 use Rattle.maskcull.specs.declared.failure.Status.TheVariants as statuses
@@ -20,21 +20,11 @@ pub record IsSceneOf (bytes : List ℕ) (s : Parts) : Type 0 where
   pub scene : IsScene s
   pub spelled : bytes ≡ layout s
 
--- the bytes are the layout of the scene s, which can be drawn
-pub record IsDrawable (bytes : List ℕ) (s : Parts) : Type 0 where
-  pub layout : IsSceneOf bytes s
-  pub built : IsBuilt s
-
 -- the bytes are the layout of s and of no other scene
 pub record IsOnlyScene (bytes : List ℕ) (s : Parts) : Type 0 where
   pub layout : IsSceneOf bytes s
   pub only : (t : Parts) → IsSceneOf bytes t → t ≡ s
   pub fault_free : first_fault bytes ≡ None
-
--- and it can be drawn
-pub record CanDraw (bytes : List ℕ) (s : Parts) : Type 0 where
-  pub scene : IsOnlyScene bytes s
-  pub built : IsBuilt s
 
 -- a fact of the refusal, if the failure is one
 abbrev pub IfScene : Failure → (SceneError → Type 0) → Type 0
@@ -72,10 +62,10 @@ MayHaveWritten status = (status ≡ statuses.ReportFault) ⊎ (status ≡ status
 abbrev pub IfBytes : SourceSays → (List ℕ → Type 0) → Type 0
 IfBytes source P = IfSome source.left P
 
--- the bytes were the layout of a scene that can be drawn, none are left, its whole report was written, and what it calls occluded is hidden
+-- the bytes were the layout of a scene, none are left, its whole report was written, and what it calls occluded is hidden
 abbrev pub IsCulled : SourceSays → SourceSays → SinkSays → SinkSays → Type 0
 IsCulled before after report_before report_after =
-    IfBytes before (λ bytes. (s : Parts) × IsDrawable bytes s × (after.left ≡ Some []) × Appends report_before report_after (report_text s) × HidesTruly s)
+    IfBytes before (λ bytes. (s : Parts) × IsSceneOf bytes s × (after.left ≡ Some []) × Appends report_before report_after (report_text s) × HidesTruly s)
 
 -- the tiles took the whole list of a frame
 abbrev pub TookFrame : Parts → ℕ → List TileOf → Type 0
@@ -93,20 +83,9 @@ HasFault source e = IfBytes source (λ bytes. first_fault bytes ≡ Some e)
 abbrev pub IsNoScene : SourceSays → Type 0
 IsNoScene source = IfBytes source (λ bytes. (s : Parts) → IsSceneOf bytes s → ⊥)
 
--- the bytes are the layout of one scene, which can't be drawn yet
-abbrev pub IsUnbuilt : SourceSays → Type 0
-IsUnbuilt source = IfBytes source (λ bytes. (s : Parts) × IsOnlyScene bytes s × (IsBuilt s → ⊥))
-
--- the bytes are the layout of a scene that can't be drawn yet
-abbrev pub IsUndrawn : SourceSays → Type 0
-IsUndrawn source = IfBytes source (λ bytes. (s : Parts) × IsSceneOf bytes s × (IsBuilt s → ⊥))
-
--- a fact of each scene that can be drawn, and of each other one, whose layout the bytes are
-abbrev pub EachDrawable : SourceSays → (Parts → Type 0) → Type 0
-EachDrawable source P = IfBytes source (λ bytes. (s : Parts) → IsDrawable bytes s → P s)
-
-abbrev pub EachUndrawn : SourceSays → Type 0 → Type 0
-EachUndrawn source P = IfBytes source (λ bytes. (s : Parts) → IsSceneOf bytes s → (IsBuilt s → ⊥) → P)
+-- a fact of each scene whose layout the bytes are
+abbrev pub EachScene : SourceSays → (Parts → Type 0) → Type 0
+EachScene source P = IfBytes source (λ bytes. (s : Parts) → IsSceneOf bytes s → P s)
 
 -- a fact of each fault that is the first of the bytes
 abbrev pub EachFault : SourceSays → (SceneError → Type 0) → Type 0
@@ -114,11 +93,11 @@ EachFault source P = IfBytes source (λ bytes. (e : SceneError) → first_fault 
 
 -- the report gained a front of the text of the scene that the bytes are the layout of
 abbrev pub GainsFront : SourceSays → SinkSays → SinkSays → Type 0
-GainsFront source before after = EachDrawable source (λ s. AppendsPrefix before after (report_text s))
+GainsFront source before after = EachScene source (λ s. AppendsPrefix before after (report_text s))
 
--- a fact that holds where the bytes aren't the layout of a scene that can be drawn
+-- a fact that holds where the bytes aren't the layout of a scene
 abbrev pub WithoutScene : SourceSays → Type 0 → Type 0
-WithoutScene source P = IfBytes source (λ bytes. ((s : Parts) → IsDrawable bytes s → ⊥) → P)
+WithoutScene source P = IfBytes source (λ bytes. ((s : Parts) → IsSceneOf bytes s → ⊥) → P)
 
 -- no count of faults rose, neither of the source nor of the sink
 abbrev pub WithoutFault : SourceSays → SourceSays → SinkSays → SinkSays → Type 0

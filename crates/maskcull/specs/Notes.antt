@@ -8,7 +8,7 @@ use Rattle.cull_report.specs.Lines.{line}
 use Rattle.maskcull.specs.declared.failure.Failure.{Failure}
 use Rattle.maskcull.specs.declared.failure.Status.{Status}
 use Rattle.maskcull.specs.declared.failure.Status.TheVariants as statuses
-use Rattle.maskcull.specs.declared.failure.Failure.TheVariants.{Usage, Scene, NotBuilt, ReadFault, ReportFault, Memory}
+use Rattle.maskcull.specs.declared.failure.Failure.TheVariants.{Usage, Scene, ReadFault, ReportFault, Memory}
 
 -- a refusal's number, and the numbers that tell where the fault is
 abbrev pub refusal_numbers : SceneError → List ℕ
@@ -35,7 +35,6 @@ refusal_text e = line (codes "scene" ∷ codes "refused" ∷ map decimal (refusa
 abbrev pub note_text : Failure → List ℕ
 note_text Usage = codes "usage refused" ++ 10 ∷ []
 note_text (Scene e) = refusal_text e
-note_text NotBuilt = codes "not built" ++ 10 ∷ []
 note_text ReadFault = codes "read fault" ++ 10 ∷ []
 note_text ReportFault = codes "report fault" ++ 10 ∷ []
 note_text Memory = codes "out of memory" ++ 10 ∷ []
@@ -48,4 +47,3 @@ status_text statuses.Scene = []
 status_text statuses.ReadFault = note_text ReadFault
 status_text statuses.ReportFault = note_text ReportFault
 status_text statuses.Memory = note_text Memory
-status_text statuses.NotBuilt = note_text NotBuilt

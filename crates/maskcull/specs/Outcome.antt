@@ -23,7 +23,6 @@ sink_failure sink.Memory = failures.Memory
 abbrev pub status_of : Failure → Status
 status_of failures.Usage = statuses.Usage
 status_of (failures.Scene e) = statuses.Scene
-status_of failures.NotBuilt = statuses.NotBuilt
 status_of failures.ReadFault = statuses.ReadFault
 status_of failures.ReportFault = statuses.ReportFault
 status_of failures.Memory = statuses.Memory
@@ -36,4 +35,3 @@ code_of statuses.Scene = 3
 code_of statuses.ReadFault = 4
 code_of statuses.ReportFault = 5
 code_of statuses.Memory = 7
-code_of statuses.NotBuilt = 8

@@ -7,13 +7,13 @@ ghost use Rattle.masked_update.specs.TileOf.{tile_at};
 ghost use Rattle.scene_reader.specs.Fault.{IsRefusal};
 ghost use Rattle.scene_reader.specs.Layout.{Parts};
 ghost use Rattle.cull_report.specs.Hiding.{HidesTruly};
-ghost use Rattle.cull_report.specs.Scene.{IsBuilt, size_of, frame_clips, frame_list, frame_pieces, frame_report, frame_verdicts, frames_text, report_text};
-ghost use Rattle.maskcull.specs.Culling.{IfBytes, IfScene, EndsAs, CanDraw, IsCulled, HasFault, IsNoScene, IsUnbuilt, IsUndrawn, EachFault, EachDrawable, EachUndrawn, GainsFront, WithoutScene, TookFrame, Reports, AllArePieces, IsReportFailure, IsBeforeReport};
+ghost use Rattle.cull_report.specs.Scene.{size_of, frame_clips, frame_list, frame_pieces, frame_report, frame_verdicts, frames_text, report_text};
+ghost use Rattle.maskcull.specs.Culling.{IfScene, EndsAs, IsCulled, HasFault, EachFault, EachScene, GainsFront, WithoutScene, TookFrame, Reports, AllArePieces, IsReportFailure, IsBeforeReport};
 
 use crate::failure::Failure;
 use camera_path::{Camera, clip_into};
 use cull_base::{ClipVertex, FrameList, Memory, Sink, SinkError, Source, Verdict};
-use cull_report::{is_built, verdicts, write_frame, write_header};
+use cull_report::{verdicts, write_frame, write_header};
 use masked_update::{PlainView, TileState, draw_plain};
 use scene_reader::{Scene, read_scene};
 use snap_setup::frame_list;
@@ -26,26 +26,6 @@ use std::thread::Threads;
 struct Frame {
     pieces: u32,
     verdicts: Vec<Verdict>,
-}
-
-// Reads a scene that can be drawn.
-fn read_built<S: Source>(alloc: Global, input: &mut S) -> Result<Scene, Failure>
-    ensures drawable { IfOk result (λ s. IfBytes (S.says input.old) (λ bytes. CanDraw bytes s)) }
-    ensures whole { OnOk result (IfBytes (S.says input.old) (λ _. (S.says input.new).left ≡ Some [])) }
-    ensures built { IfOk result (λ s. IsBuilt s) }
-    ensures refusal { IfErr result (λ f. IfScene f IsRefusal) }
-    ensures scene { IfErr result (λ f. IfScene f (HasFault (S.says input.old))) }
-    ensures no_scene { IfErr result (λ f. IfScene f (λ _. IsNoScene (S.says input.old))) }
-    ensures not_built { IsErrOf result Failure.NotBuilt → IsUnbuilt (S.says input.old) }
-    ensures read { IsErrOf result Failure.ReadFault → Rose (S.says input.old).faults (S.says input.new).faults }
-    ensures never { (IsErrOf result Failure.Usage → ⊥) × (IsErrOf result Failure.ReportFault → ⊥) }
-{
-    let scene = read_scene(alloc, input)?;
-    if is_built(&scene) {
-        Ok(scene)
-    } else {
-        Err(Failure::NotBuilt)
-    }
 }
 
 // So many marks, none of them set.
@@ -77,7 +57,6 @@ fn verdicts_over(
     clips: &[ClipVertex],
     states: &[TileState],
 ) -> Result<Vec<Verdict>, Memory>
-    requires built { IsBuilt scene.now }
     requires frame { frame < length scene.now.cameras }
     requires clips { clips.now ≡ frame_clips scene.now frame }
     requires tiles { length states.now ≡ tile_count_of (size_of scene.now) }
@@ -110,7 +89,6 @@ fn pieces_of(
 
 // Draws a frame by one thread that merges all its pieces in order, and tests the objects.
 fn draw(alloc: Global, scene: &Scene, frame: u32, clips: &[ClipVertex]) -> Result<Frame, Memory>
-    requires built { IsBuilt scene.now }
     requires frame { frame < length scene.now.cameras }
     requires clips { clips.now ≡ frame_clips scene.now frame }
     ensures pieces { IfOk result (λ f. f.pieces ≡ length (frame_pieces scene.now frame)) }
@@ -135,7 +113,6 @@ fn report_frame<R: Threads + Wait + Sync, W: Sink>(
     clips: &mut [ClipVertex],
     report: &mut W,
 ) -> Result<(), Failure>
-    requires built { IsBuilt scene.now }
     requires frame { frame < length scene.now.cameras }
     requires places { length clips.old ≡ length scene.now.vertices }
     ensures reported { Reports (W.says report.old) (W.says report.new) result (frame_report scene.now frame) }
@@ -155,7 +132,6 @@ fn report_frames<R: Threads + Wait + Sync, W: Sink>(
     scene: &Scene,
     report: &mut W,
 ) -> Result<(), Failure>
-    requires { IsBuilt scene.now }
     ensures reported { Reports (W.says report.old) (W.says report.new) result (frames_text scene.now (length scene.now.cameras)) }
     ensures valid { OnOk result (AllArePieces scene.now) }
 {
@@ -174,7 +150,6 @@ fn report_scene<R: Threads + Wait + Sync, W: Sink>(
     scene: &Scene,
     report: &mut W,
 ) -> Result<(), Failure>
-    requires { IsBuilt scene.now }
     ensures reported { Reports (W.says report.old) (W.says report.new) result (report_text scene.now) }
     ensures hidden { OnOk result (HidesTruly scene.now) }
 {
@@ -193,21 +168,19 @@ pub fn cull<R: Threads + Wait + Sync, S: Source, W: Sink>(
         IsCulled (S.says input.old) (S.says input.new) (W.says report.old) (W.says report.new)) }
     ensures refusal { IfErr result (λ f. IfScene f IsRefusal) }
     ensures scene { IfErr result (λ f. IfScene f (HasFault (S.says input.old))) }
-    ensures not_built { IsErrOf result Failure.NotBuilt → IsUndrawn (S.says input.old) }
     ensures read { IsErrOf result Failure.ReadFault → Rose (S.says input.old).faults (S.says input.new).faults }
     ensures report { IsErrOf result Failure.ReportFault → Rose (W.says report.old).faults (W.says report.new).faults }
     ensures never { IsErrOf result Failure.Usage → ⊥ }
 
-    // What comes of bytes that are refused, that can't be drawn yet and that can.
+    // What comes of bytes that are refused, and of a scene's.
     ensures refused { EachFault (S.says input.old) (λ e. EndsAs result (Failure.Scene e)) }
-    ensures undrawn { EachUndrawn (S.says input.old) (EndsAs result Failure.NotBuilt) }
-    ensures drawn { EachDrawable (S.says input.old) (λ _. OnErr result (EndsAs result Failure.ReportFault)) }
+    ensures drawn { EachScene (S.says input.old) (λ _. OnErr result (EndsAs result Failure.ReportFault)) }
 
     // What stands on the report.
     ensures untouched { IfErr result (λ f. IsBeforeReport f → report.new ≡ report.old) }
     ensures prefix { OnErr result (GainsFront (S.says input.old) (W.says report.old) (W.says report.new)) }
     ensures nothing { WithoutScene (S.says input.old) (report.new ≡ report.old) }
 {
-    let scene = read_built(alloc, input)?;
+    let scene = read_scene(alloc, input)?;
     report_scene(rt, alloc, &scene, report)
 }

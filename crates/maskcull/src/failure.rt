@@ -20,8 +20,6 @@ pub enum Status {
     ReportFault,
     /// Memory was wanted.
     Memory,
-    /// The scene has what the program can't draw yet.
-    NotBuilt,
 }
 
 /// Why a run isn't done.
@@ -29,7 +27,6 @@ pub enum Status {
 pub enum Failure {
     Usage,
     Scene(SceneError),
-    NotBuilt,
     ReadFault,
     ReportFault,
     Memory,
@@ -86,7 +83,6 @@ impl Status {
             Status::ReadFault => 4,
             Status::ReportFault => 5,
             Status::Memory => 7,
-            Status::NotBuilt => 8,
         }
     }
 }
@@ -112,7 +108,6 @@ impl Failure {
         match self {
             Failure::Usage => Status::Usage,
             Failure::Scene(_) => Status::Scene,
-            Failure::NotBuilt => Status::NotBuilt,
             Failure::ReadFault => Status::ReadFault,
             Failure::ReportFault => Status::ReportFault,
             Failure::Memory => Status::Memory,
@@ -125,7 +120,6 @@ impl Failure {
         match self {
             Failure::Usage => line_of(b"usage refused"),
             Failure::Scene(error) => refusal_line(error),
-            Failure::NotBuilt => line_of(b"not built"),
             Failure::ReadFault => line_of(b"read fault"),
             Failure::ReportFault => line_of(b"report fault"),
             Failure::Memory => line_of(b"out of memory"),

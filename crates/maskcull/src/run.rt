@@ -1,7 +1,7 @@
 //! The top call: from command words and the bytes of a scene to the report.
 ghost use Rattle.std.specs.Prelude.{◌≡◌, ℕ, ◌⊎◌, ◌↔◌, map, string_bytes};
 ghost use Rattle.cull_base.specs.Stream.{Rose, IsNoted};
-ghost use Rattle.maskcull.specs.Culling.{IsCulled, WithoutFault, NotesFault, IsUndrawn, EachFault, EachDrawable, EachUndrawn, GainsFront, WithoutScene, StatusIs, MayHaveWritten};
+ghost use Rattle.maskcull.specs.Culling.{IsCulled, WithoutFault, NotesFault, EachFault, EachScene, GainsFront, WithoutScene, StatusIs, MayHaveWritten};
 ghost use Rattle.maskcull.specs.Notes.{status_text};
 ghost use Rattle.maskcull.specs.Words.{IsAccepted};
 
@@ -32,18 +32,15 @@ pub fn run<R: Threads + Wait + Sync, S: Source, W: Sink, E: Sink>(
     // The causes.
     ensures usage { (result ≡ Status.Usage) ↔ (IsAccepted (map string_bytes words.now) → ⊥) }
     ensures scene { result ≡ Status.Scene → NotesFault (S.says input.old) (E.says notes.old) (E.says notes.new) }
-    ensures not_built { result ≡ Status.NotBuilt → IsUndrawn (S.says input.old) }
     ensures read { result ≡ Status.ReadFault → Rose (S.says input.old).faults (S.says input.new).faults }
     ensures report { result ≡ Status.ReportFault → Rose (W.says report.old).faults (W.says report.new).faults }
 
-    // What comes of accepted words with bytes that are refused, that can't be drawn yet and that can.
+    // What comes of accepted words with bytes that are refused, and with a scene.
     ensures refused { IsAccepted (map string_bytes words.now)
         → EachFault (S.says input.old) (λ _. StatusIs result Status.Scene) }
-    ensures undrawn { IsAccepted (map string_bytes words.now)
-        → EachUndrawn (S.says input.old) (StatusIs result Status.NotBuilt) }
     ensures complete { IsAccepted (map string_bytes words.now)
         → WithoutFault (S.says input.old) (S.says input.new) (W.says report.old) (W.says report.new)
-        → EachDrawable (S.says input.old) (λ _. (result ≡ Status.Done) ⊎ (result ≡ Status.Memory)) }
+        → EachScene (S.says input.old) (λ _. (result ≡ Status.Done) ⊎ (result ≡ Status.Memory)) }
 
     // What stands on the sinks.
     ensures unread { result ≡ Status.Usage → input.new ≡ input.old }

@@ -144,18 +144,6 @@ fn assert_refused<R: Threads + Wait + Sync + Abort>(
     Ok(())
 }
 
-fn assert_not_built<R: Threads + Wait + Sync + Abort>(
-    rt: &R,
-    alloc: Global,
-    bytes: Vec<u8>,
-) -> Result<(), Fail> {
-    let ended = culled(rt, alloc, bytes)?;
-    assert_eq!(rt; ended.notes.as_slice(), b"not built\n".as_slice());
-    assert_eq!(rt; ended.status.code(), 8);
-    assert_eq!(rt; ended.report.len(), 0);
-    Ok(())
-}
-
 #[test]
 fn quad_hides_rectangle_behind_it(rt: HostRuntime) -> Result<(), Fail> {
     let alloc = rt.alloc();
@@ -373,24 +361,50 @@ fn words_that_are_no_command_are_refused(rt: HostRuntime) -> Result<(), Fail> {
     Ok(())
 }
 
+const TWO_FRAMES: &str =
+    "msoc-report 1 32 8 2 2\nframe 0 pieces 2\n0 occluded\n1 occluded\nend 0 visible 0 occluded 2 outside 0\nframe 1 pieces 2\n0 visible\n1 occluded\nend 1 visible 1 occluded 1 outside 0\n";
+
+// The quad with two rectangles behind it, and a second camera that stands two further away.
+fn two_frames(alloc: Global) -> Result<Vec<u8>, AllocError> {
+    let mut bytes = scene(alloc, 0, &QUAD, &TWO, &[WHOLE, [8, 2, 24, 6, 5]])?;
+    bytes.extend_from_slice(&FIRST[129..])?;
+    let last = bytes.len() - 4;
+    bytes[14] = 2;
+    bytes[last] = 2;
+    Ok(bytes)
+}
+
 #[test]
-fn a_scene_that_cannot_be_drawn_yet_is_not_built(rt: HostRuntime) -> Result<(), Fail> {
+fn each_frame_is_seen_through_its_own_camera(rt: HostRuntime) -> Result<(), Fail> {
     let alloc = rt.alloc();
-    let a_box = [(104, 1), (113, 0)].as_slice();
-    let another_camera = [(129, 1)].as_slice();
-    let before_the_near_distance = [(121, 0)].as_slice();
-    for changes in [a_box, another_camera, before_the_near_distance] {
-        assert_not_built(&rt, alloc, changed(alloc, changes)?)?;
+    assert_reports(&rt, alloc, two_frames(alloc)?, TWO_FRAMES)
+}
+
+#[test]
+fn a_camera_past_the_guard_draws_nothing(rt: HostRuntime) -> Result<(), Fail> {
+    let alloc = rt.alloc();
+    let mut bytes = Vec::from_slice(alloc, &FIRST[..129])?;
+    for _ in 0..12 {
+        bytes.extend_from_slice(&[0, 0, 0, 1])?;
     }
-    let mut two_frames = changed(alloc, &[(14, 2)])?;
-    two_frames.extend_from_slice(&FIRST[129..])?;
-    assert_not_built(&rt, alloc, two_frames)?;
-    let mut object_triangles = Vec::from_slice(alloc, &FIRST[..24])?;
-    object_triangles.extend_from_slice(&[1])?;
-    object_triangles.extend_from_slice(&FIRST[25..104])?;
-    object_triangles.extend_from_slice(&[0; 12])?;
-    object_triangles.extend_from_slice(&FIRST[104..])?;
-    assert_not_built(&rt, alloc, object_triangles)
+    assert_reports(&rt, alloc, bytes, UNDRAWN)
+}
+
+#[test]
+fn frames_before_a_report_fault_stand_whole(rt: HostRuntime) -> Result<(), Fail> {
+    let alloc = rt.alloc();
+    let mut input = BytesSource::new(two_frames(alloc)?, 4096, Vec::new(alloc));
+    // the header, three pieces of frame 0, the line of frame 1, and then its verdicts
+    let mut report = BytesSink::new(alloc, 4096, vec![in alloc; 6u64]?);
+    let mut notes = SureSink::new(alloc);
+    let words = words(alloc, &["maskcull", "cull"])?;
+    let status = run(&rt, alloc, &words, &mut input, &mut report, &mut notes);
+    assert_eq!(rt; status, Status::ReportFault);
+    let front =
+        "msoc-report 1 32 8 2 2\nframe 0 pieces 2\n0 occluded\n1 occluded\nend 0 visible 0 occluded 2 outside 0\nframe 1 pieces 2\n";
+    assert_eq!(rt; report.held(), front.as_bytes());
+    assert_eq!(rt; notes.held(), b"report fault\n".as_slice());
+    Ok(())
 }
 
 // The screen's right column of tiles is 8 pixels wide, its lower row 4 pixels high.

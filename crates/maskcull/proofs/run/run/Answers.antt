@@ -3,7 +3,7 @@ use Rattle.scene_reader.specs.Fault.{IsRefusal}
 use Rattle.scene_reader.specs.declared.error.SceneError.{SceneError}
 use Rattle.cull_base.specs.Stream.{IsNoted}
 use Rattle.maskcull.specs.declared.failure.Failure.{Failure}
-use Rattle.maskcull.specs.declared.failure.Failure.TheVariants.{Usage, Scene, NotBuilt, ReadFault, ReportFault, Memory}
+use Rattle.maskcull.specs.declared.failure.Failure.TheVariants.{Usage, Scene, ReadFault, ReportFault, Memory}
 use Rattle.maskcull.specs.declared.failure.Status.{Status}
 use Rattle.maskcull.specs.declared.failure.Status.TheVariants as statuses
 use Rattle.maskcull.specs.Culling.{IfScene, HasFault}
@@ -16,7 +16,6 @@ refusal_of : (f : Failure) (status : Status) (Q : SceneError → Type 0) (N : Li
     → status ≡ statuses.Scene → (e : SceneError) × IsRefusal e × Q e × N (refusal_text e)
 refusal_of Usage status Q N is r q n e = absurd cc
 refusal_of (Scene x) status Q N is r q n e = (x, r, q, n)
-refusal_of NotBuilt status Q N is r q n e = absurd cc
 refusal_of ReadFault status Q N is r q n e = absurd cc
 refusal_of ReportFault status Q N is r q n e = absurd cc
 refusal_of Memory status Q N is r q n e = absurd cc
