@@ -5,7 +5,7 @@ ghost use Rattle.cull_base.specs.Stream.{Rose, Appends, AppendsPrefix, Writes};
 ghost use Rattle.cull_base.specs.Tiles.{ArePieces, tile_after};
 ghost use Rattle.masked_update.specs.TileOf.{tile_at};
 ghost use Rattle.scene_reader.specs.Fault.{IsRefusal};
-ghost use Rattle.scene_reader.specs.Layout.{Parts};
+ghost use Rattle.scene_reader.specs.Layout.{Parts, IsScene};
 ghost use Rattle.cull_report.specs.Hiding.{HidesTruly};
 ghost use Rattle.cull_report.specs.Scene.{size_of, frame_clips, frame_list, frame_pieces, frame_report, frame_verdicts, frames_text, report_text};
 ghost use Rattle.maskcull.specs.Culling.{IfScene, EndsAs, IsCulled, HasFault, EachFault, EachScene, GainsFront, WithoutScene, TookFrame, Reports, AllArePieces, IsReportFailure, IsBeforeReport};
@@ -75,7 +75,8 @@ fn pieces_of(
     clips: &[ClipVertex],
 ) -> Result<FrameList, Memory>
     requires { clips.now ≡ frame_clips scene.now _frame }
-    ensures { IfOk result (λ f. f.list ≡ frame_list scene.now _frame) }
+    ensures list { IfOk result (λ f. f.list ≡ frame_list scene.now _frame) }
+    ensures scene { IsScene scene.now }
 {
     frame_list(
         alloc,

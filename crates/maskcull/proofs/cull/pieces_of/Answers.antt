@@ -10,12 +10,9 @@ use Rattle.cull_base.specs.declared.scene_types.Tri.{Tri}
 use Rattle.snap_setup.specs.Pieces.{HasClips, list_of_clips}
 use Rattle.cull_base.specs.declared.nearness.TheConstants.{GRADE_TOP}
 use Rattle.scene_reader.specs.Layout.{Parts}
-use Rattle.cull_report.specs.Scene.{frame_clips, frame_list}
+use Rattle.cull_report.specs.Scene.{frame_clips, frame_list, size_of, camera_at}
+use Rattle.cull_report.proofs.Forms.{clip_count}
 use Rattle.maskcull.proofs.cull.pieces_of.Goals as goal
-
-clip_count : (s : Parts) (frame : ℕ) → length (frame_clips s frame) ≡ length s.vertices
-unfolding frame_clips
-clip_count s frame = simp length-map
 
 has_clips : (n m : ℕ) (t : Tri) → n ≡ m → All (λ v. v < m) t.0 → HasClips n t
 has_clips n m t e h = rw e h
@@ -31,9 +28,9 @@ listed : (r : Result FrameListOf Memory) (l : PieceList) → IfOk r (λ f. f.lis
 listed (Ok f) l m d = rw (← m, ← d) refl
 listed (Err e) l m d = tt
 
-pub returns : goal.returns
+pub returns-clause-list : goal.returns-clause-list
 unfolding frame_list
-returns c =
+returns-clause-list c =
     let s = c.args.scene.now in
     let is : list_of_clips c.args.clips.now c.occluders.result.now GRADE_TOP c.near.result c.size.result c.winding.result ≡ (frame_list s c.args._frame).members =
     rw (c.requires, c.occluders.ensures, c.near.ensures.value, c.size.ensures, c.winding.ensures) refl in
