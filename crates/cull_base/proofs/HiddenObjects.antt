@@ -1,5 +1,5 @@
 -- What it means that an object is hidden.
-use Rattle.std.proofs.Common.{◌≡◌, ℕ, zero, suc, ◌+◌, ◌≤◌, ◌<◌, List, [], ◌∷◌, Bool, true, false, ◌||◌, not, cond, nat_lt, arith, refl, ap, sym, ◌∙◌, inl, inr}
+use Rattle.std.proofs.Common.{◌≡◌, ℕ, zero, suc, ◌+◌, ◌≤◌, ◌<◌, List, [], ◌∷◌, Bool, true, false, ◌||◌, not, cond, ◌⊎◌, nat_lt, arith, refl, ap, sym, ◌∙◌, inl, inr}
 use Rattle.std.specs.List.{list_all, list_any, range_with_len}
 use Rattle.std.proofs.lemmas.Bool.{cases_lt, and_parts}
 use Rattle.std.proofs.lemmas.Bool.Decides.{nat_tests}
@@ -82,6 +82,26 @@ hidden_if size f shape px py x y has h =
     let some = some_pixel size (has_sample shape) px py x y has in
     let each = each_from size (λ i j. not (has_sample shape i j) || is_hidden_at f shape i j) (λ i j p q. implies (has_sample shape i j) (is_hidden_at f shape i j) (h i j p q)) in
     rw (some, each) refl
+
+or_cases : (a b : Bool) → (a || b) ≡ true → (a ≡ true) ⊎ (b ≡ true)
+or_cases true b e = inl refl
+or_cases false b e = inr e
+
+any_to : (p : ℕ → Bool) (a n : ℕ) → list_any p (range_with_len a n) ≡ true → (k : ℕ) × (a ≤ k) × (k < a + n) × (p k ≡ true)
+any_to p a zero e = absurd cc
+any_to p a (suc n) e = elim (or_cases (p a) (list_any p (range_with_len (a + 1) n)) e) [
+  | inl here ↦ (a, omega arith, omega arith, here)
+  | inr later ↦ let (k, le, lt, found) = any_to p (a + 1) n later in (k, omega (arith, le), omega (arith, lt), found)
+]
+
+-- a hidden object has a sample in the screen
+pub hidden_some : (size : Dimensions) (f : Sub → State) (shape : Shape) → is_hidden size f shape ≡ true → (px : ℕ) × (py : ℕ) × (px < size.width) × (py < size.height) × (has_sample shape px py ≡ true)
+unfolding is_hidden at_some_pixel
+hidden_some size f shape e =
+    let both = and_parts (at_some_pixel size (has_sample shape)) (at_each_pixel size (λ i j. not (has_sample shape i j) || is_hidden_at f shape i j)) e in
+    let (py, r, y, row) = any_to (λ j. list_any (λ i. has_sample shape i j) (range_with_len 0 size.width)) 0 size.height both.0 in
+    let (px, c, x, has) = any_to (λ i. has_sample shape i py) 0 size.width row in
+    (px, py, omega (arith, x), omega (arith, y), has)
 
 -- what is occluded is hidden
 pub occluded_is_hidden : (size : Dimensions) (f : Sub → State) (shape : Shape) → verdict_of size f shape ≡ Occluded → is_hidden size f shape ≡ true

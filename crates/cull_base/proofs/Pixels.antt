@@ -1,8 +1,13 @@
 -- Pixels by tile, subtile and sample.
-use Rattle.std.proofs.Common.{◌≡◌, ℕ, ◌+◌, ◌*◌, ◌/◌, ◌%◌, ◌<◌, ◌≤◌, suc, refl, arith}
-use Rattle.std.proofs.Math.Nat.{mul-le-mul_right}
+use Rattle.std.proofs.Common.{◌≡◌, ℕ, pos, ◌+◌, ◌*◌, ◌/◌, ◌%◌, ◌<◌, ◌≤◌, suc, refl, arith, ◌∙◌}
+use Rattle.std.specs.Int.{div_ceil}
+use Rattle.std.proofs.lemmas.Int.{ints}
+use Rattle.std.proofs.lemmas.Nat.{div-mul-add}
+use Rattle.std.proofs.Math.Nat.{mul-le-mul_right, mul-add-mod_self_right, mod-eq_of_lt}
 use Rattle.cull_base.specs.Piece.{middle, sample}
-use Rattle.cull_base.specs.Pixels.{sub_of_pixel, sample_of_pixel}
+use Rattle.cull_base.specs.Pixels.{sub_of_pixel, sample_of_pixel, tile_of_pixel}
+use Rattle.cull_base.specs.Rectangle.{HasPixel}
+use Rattle.cull_base.specs.Screen.{Dimensions, tile_columns_of, tile_rows_of, tile_count_of, tile_place, tile_rect_of}
 
 -- a tile of a row that lies in the screen
 pub tile_below : (row rows column columns : ℕ) → row < rows → column < columns → row * columns + column < columns * rows
@@ -34,3 +39,27 @@ sample_is_middle px py =
     let x : 8 * (px / 8) + (8 * (py % 4) + px % 8) % 8 ≡ px = omega arith in
     let y : 4 * (py / 4) + (8 * (py % 4) + px % 8) / 8 ≡ py = omega arith in
     rw (x, y) refl
+
+-- the tile of a pixel of the screen: its number, its place and its pixels
+pub record IsTileOf (size : Dimensions) (px py : ℕ) : Type 0 where
+  pub within : tile_of_pixel size px py < tile_count_of size
+  pub place : tile_place size (tile_of_pixel size px py) ≡ record { column = px / 32; row = py / 8 }
+  pub pixel : HasPixel (tile_rect_of size (tile_of_pixel size px py)) (pos px) (pos py)
+
+pub tile_of_pixel-is : (size : Dimensions) (px py : ℕ) → px < size.width → py < size.height → IsTileOf size px py
+tile_of_pixel-is size px py x y =
+    let columns = tile_columns_of size in
+    let column = column_below size.width px x in
+    let at_row = div-mul-add (py / 8) columns (px / 32) column in
+    let at_column : (py / 8 * columns + px / 32) % columns ≡ px / 32 = mul-add-mod_self_right (py / 8) columns (px / 32) ∙ mod-eq_of_lt column in
+    record {
+      within = tile_below (py / 8) (tile_rows_of size) (px / 32) columns (row_below size.height py y) column;
+      place = rw (at_row, at_column) refl;
+      pixel = rw (at_row, at_column) (omega (arith, ints), omega (arith, ints, x), omega (arith, ints), omega (arith, ints, y));
+    }
+  where
+    column_below : (w px : ℕ) → px < w → px / 32 < div_ceil w 32
+    column_below w px lt = omega arith
+
+    row_below : (h py : ℕ) → py < h → py / 8 < div_ceil h 8
+    row_below h py lt = omega arith

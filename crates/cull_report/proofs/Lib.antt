@@ -1,3 +1,5 @@
 pub mod ReportLines
 pub mod Agreement
+pub mod TileStates
 pub mod Occluders
+pub mod Forms

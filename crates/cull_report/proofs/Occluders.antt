@@ -1,37 +1,46 @@
 -- An occluded object has a piece strictly nearer at each of its samples.
-use Rattle.std.proofs.Common.{◌≡◌, ℕ, ℤ, pos, negsuc, zero, suc, ◌+◌, ◌*◌, ◌/◌, ◌%◌, ◌≤◌, ◌<◌, ◌*ℤ◌, ◌≤ℤ◌, ◌<ℤ◌, Bool, ◌&&◌, true, false, cond, arith, refl, List, [], ◌∷◌, map, length, int_lt, inl, inr, Some, nat_lt, subst}
+use Rattle.std.proofs.Common.{◌≡◌, ℕ, ℤ, pos, zero, suc, ◌≤◌, ◌<◌, ◌≤ℤ◌, ◌<ℤ◌, Bool, ◌&&◌, ◌||◌, true, false, cond, arith, refl, sym, ap, ◌∙◌, List, [], ◌∷◌, map, length, take, drop, int_lt, int_le, Some, nat_lt, subst}
 use Rattle.std.specs.Prelude.{slice_get}
-use Rattle.std.specs.List.{All}
+use Rattle.std.specs.List.{All, Contains, list_all, list_any}
 use Rattle.std.proofs.lemmas.Bool.{and_parts}
 use Rattle.std.proofs.lemmas.Bool.Decides.{nat_tests}
 use Rattle.std.proofs.lemmas.Int.{ints}
-use Rattle.std.proofs.lemmas.Option.{slice_get_within, get_or_from_slice_get}
-use Rattle.std.proofs.Math.Nat.{mul-le-mul_right}
+use Rattle.cull_base.specs.declared.clip.ClipVertex.{ClipVertex}
 use Rattle.cull_base.specs.declared.nearness.TheConstants.{GRADE_TOP}
 use Rattle.cull_base.specs.declared.rect.Rect.{Rect}
 use Rattle.cull_base.specs.declared.place.Sub.{Sub}
 use Rattle.cull_base.specs.declared.scene_types.Object.{Object}
 use Rattle.cull_base.specs.declared.scene_types.Object.TheVariants.{Area, Block, Mesh}
 use Rattle.cull_base.specs.declared.scene_types.Verdict.{Verdict}
-use Rattle.cull_base.specs.declared.scene_types.Verdict.TheVariants.{Visible, Occluded}
-use Rattle.cull_base.specs.Screen.{Dimensions, screen_of}
-use Rattle.cull_base.specs.Rectangle.{meets}
-use Rattle.cull_base.specs.Piece.{Piece, Point, middle, sample}
-use Rattle.cull_base.specs.Depth.{numerator, denominator}
-use Rattle.cull_base.specs.Fraction.{whole_number}
-use Rattle.cull_base.specs.State.{State, bound_at, hides}
+use Rattle.cull_base.specs.declared.scene_types.Verdict.TheVariants.{Occluded}
+use Rattle.cull_base.specs.Screen.{Dimensions, IsSize, screen_of, tile_rect_of}
+use Rattle.cull_base.specs.Rectangle.{HasPixel, meets}
+use Rattle.cull_base.specs.Piece.{Piece, middle, touches}
+use Rattle.cull_base.specs.State.{State}
 use Rattle.cull_base.specs.Fold.{after, IsSound}
 use Rattle.cull_base.specs.Tiles.{ArePieces}
-use Rattle.scene_reader.specs.Layout.{Parts}
-use Rattle.cull_base.specs.Pixels.{sub_of_pixel, sample_of_pixel}
-use Rattle.cull_base.specs.Shape.{Shape, AlwaysOutside, AlwaysVisible, Flat, Pieces, has_sample, near_at, is_hidden, verdict_of}
-use Rattle.rect_query.specs.Rectangles.{nearness_at, rectangle_shape}
-use Rattle.cull_report.specs.Scene.{IsBuilt, IsBuiltObject, frame_pieces, frame_verdicts, size_of, object_shape, object_verdict}
-use Rattle.cull_report.specs.Hiding.{HidesTruly}
 use Rattle.cull_base.specs.Nearer.{HasNearerPiece}
+use Rattle.cull_base.specs.Pixels.{sub_of_pixel, sample_of_pixel, tile_of_pixel}
+use Rattle.cull_base.specs.Shape.{Shape, AlwaysOutside, AlwaysVisible, Flat, Pieces, flat_shape, has_sample, near_at, area_of, is_hidden, verdict_of}
 use Rattle.cull_base.proofs.HiddenObjects.{hidden_each, occluded_is_hidden}
 use Rattle.cull_base.proofs.Nearer.{nearer_piece}
-use Rattle.cull_base.proofs.Pixels.{sample_below, sample_is_middle}
+use Rattle.cull_base.proofs.Pixels.{sample_below, sample_is_middle, tile_of_pixel-is}
+use Rattle.cull_base.proofs.Rectangles.{meets_pixel, cut_pixels}
+use Rattle.masked_update.proofs.Drawing.{after_is_sound}
+use Rattle.masked_update.specs.TileOf.{TileOf}
+use Rattle.masked_update.specs.Views.{state_in}
+use Rattle.snap_setup.proofs.PieceBoxes.{within_pixel}
+use Rattle.scene_reader.specs.Layout.{Parts, IsScene}
+use Rattle.rect_query.specs.declared.boxes.BoxAnswer.{BoxAnswer}
+use Rattle.rect_query.specs.declared.boxes.BoxAnswer.TheVariants.{Outside, Straddles, At}
+use Rattle.rect_query.specs.Boxes.{box_answer, shape_of_answer}
+use Rattle.rect_query.specs.Rectangles.{nearness_at, rectangle_shape}
+use Rattle.mesh_query.proofs.Members.{one_that_holds}
+use Rattle.mesh_query.proofs.Boxes.{on_screen, touched_pixel}
+use Rattle.mesh_query.proofs.Occluders.{HasPieces, mesh_has_pieces, pieces_nearer}
+use Rattle.cull_report.specs.Scene.{frame_pieces, frame_verdicts, frame_clips, size_of, object_shape, object_area, object_verdict, verdict_in}
+use Rattle.cull_report.specs.Hiding.{AreAfter, HidesObject, HidesTruly}
+use Rattle.cull_report.proofs.TileStates.{state_after}
 
 below : (m n : ℕ) → nat_lt m n ≡ true → m < n
 below m n e = grind (arith, nat_tests)
@@ -42,49 +51,85 @@ verdict_there f [] o x v e g = absurd cc
 verdict_there f (y ∷ ys) zero x v e g = let is : y ≡ x = cc in rw (← is) (cc)
 verdict_there f (y ∷ ys) (suc o) x v e g = verdict_there f ys o x v e g
 
--- an object of one nearness, or one that is decided
-abbrev pub IsFlat : Shape → Type 0
-IsFlat AlwaysOutside = Unit {0}
-IsFlat AlwaysVisible = Unit {0}
-IsFlat (Flat r q) = Unit {0}
-IsFlat (Pieces ps hull) = ⊥
-
-flat_hides : (size : Dimensions) (pieces : List Piece) (shape : Shape) (px py : ℕ) → IsFlat shape → ArePieces pieces → ((u : Sub) → IsSound u pieces (after u pieces))
-    → verdict_of size (λ u. after u pieces) shape ≡ Occluded → px < size.width → py < size.height → has_sample shape px py ≡ true → HasNearerPiece pieces (middle px py) (near_at shape px py)
-flat_hides size pieces AlwaysOutside px py flat all sound occluded x y has = absurd cc
-flat_hides size pieces AlwaysVisible px py flat all sound occluded x y has = absurd cc
-flat_hides size pieces (Flat r q) px py flat all sound occluded x y has =
-    let f : Sub → State = λ u. after u pieces in
+-- a shape that is occluded where a subtile has the state after a list has a piece of it strictly nearer at each sample there
+pub shape_hides : (size : Dimensions) (f : Sub → State) (pieces : List Piece) (shape : Shape) (px py : ℕ) → HasPieces shape → ArePieces pieces → f (sub_of_pixel px py) ≡ after (sub_of_pixel px py) pieces
+    → verdict_of size f shape ≡ Occluded → px < size.width → py < size.height → has_sample shape px py ≡ true → HasNearerPiece pieces (middle px py) (near_at shape px py)
+shape_hides size f pieces AlwaysOutside px py good all is occluded x y has = absurd cc
+shape_hides size f pieces AlwaysVisible px py good all is occluded x y has = absurd cc
+shape_hides size f pieces (Flat r q) px py good all is occluded x y has =
+    let u = sub_of_pixel px py in
     let h = hidden_each size f (Flat r q) (occluded_is_hidden size f (Flat r q) occluded) px py x y has in
-    nearer_piece pieces (sub_of_pixel px py) (after (sub_of_pixel px py) pieces) (sample_of_pixel px py) q (middle px py) all (sound (sub_of_pixel px py)) (sample_below px py) (sample_is_middle px py) h
-flat_hides size pieces (Pieces ps hull) px py flat all sound occluded x y has = absurd flat
+    let sound = subst (IsSound u pieces) (sym is) (after_is_sound u pieces all) in
+    nearer_piece pieces u (f u) (sample_of_pixel px py) q (middle px py) all sound (sample_below px py) (sample_is_middle px py) h
+shape_hides size f pieces (Pieces ts hull) px py good all is occluded x y has =
+    let u = sub_of_pixel px py in
+    let sound = subst (IsSound u pieces) (sym is) (after_is_sound u pieces all) in
+    pieces_nearer size f pieces ts hull px py (λ t m. (good t m).0) all sound (occluded_is_hidden size f (Pieces ts hull) occluded) x y has
 
-rectangle_is_flat : (top near : ℕ) (size : Dimensions) (r : Rect) (w : ℤ) → IsFlat (rectangle_shape top near size r w)
-rectangle_is_flat top near size r w = by (int_lt w (pos near)) (meets r (screen_of size))
+rectangle_has_pieces : (top near : ℕ) (size : Dimensions) (r : Rect) (w : ℤ) → HasPieces (rectangle_shape top near size r w)
+rectangle_has_pieces top near size r w = by (int_lt w (pos near)) (meets r (screen_of size))
   where
-    by : (b m : Bool) → IsFlat (cond m (cond b AlwaysVisible (Flat r (nearness_at top near w))) AlwaysOutside)
+    by : (b m : Bool) → HasPieces (cond m (cond b AlwaysVisible (Flat r (nearness_at top near w))) AlwaysOutside)
     by true true = tt
     by true false = tt
     by false true = tt
     by false false = tt
 
-built_there : (near : ℕ) (os : List Object) (o : ℕ) (x : Object) → All (IsBuiltObject near) os → slice_get os o ≡ Some x → IsBuiltObject near x
-built_there near os o x h e = subst (IsBuiltObject near) (get_or_from_slice_get os o x x e) (h o x (slice_get_within os o x e))
+answer_has_pieces : (size : Dimensions) (answer : BoxAnswer) → HasPieces (shape_of_answer size answer)
+answer_has_pieces size Outside = tt
+answer_has_pieces size Straddles = tt
+answer_has_pieces size (At r q) = by (meets r (screen_of size))
+  where
+    by : (m : Bool) → HasPieces (cond m (Flat r q) AlwaysOutside)
+    by true = tt
+    by false = tt
 
-built_is_flat : (s : Parts) (frame : ℕ) (x : Object) → IsBuiltObject s.near x → IsFlat (object_shape s frame x)
+object_has_pieces : (s : Parts) (frame : ℕ) (x : Object) → IsScene s → HasPieces (object_shape s frame x)
 unfolding object_shape
-built_is_flat s frame (Area r w) h = rectangle_is_flat GRADE_TOP s.near (size_of s) r w
-built_is_flat s frame (Block low high) h = absurd h
-built_is_flat s frame (Mesh first count) h = absurd h
+object_has_pieces s frame (Area r w) scene = rectangle_has_pieces GRADE_TOP s.near (size_of s) r w
+object_has_pieces s frame (Block low high) scene = answer_has_pieces (size_of s) (box_answer GRADE_TOP s.near (size_of s) _)
+object_has_pieces s frame (Mesh first count) scene = mesh_has_pieces s.near (size_of s) (frame_clips s frame) (take count (drop first s.object_tris)) scene.size scene.near_some scene.near_within
 
-pub hides_truly : (s : Parts) → IsBuilt s → ((frame : ℕ) → frame < length s.cameras → ArePieces (frame_pieces s frame))
-    → ((frame : ℕ) → frame < length s.cameras → (u : Sub) → IsSound u (frame_pieces s frame) (after u (frame_pieces s frame))) → HidesTruly s
+pub hides_truly : (s : Parts) → IsScene s → ((frame : ℕ) → frame < length s.cameras → ArePieces (frame_pieces s frame)) → HidesTruly s
 unfolding frame_verdicts
-hides_truly s built all sound = record {
+hides_truly s scene all = record {
   at_each_sample = λ frame o x px py lt at is has.
       let sampled = and_parts (nat_lt px s.width && nat_lt py s.height) (has_sample (object_shape s frame x) px py) has in
       let on = and_parts (nat_lt px s.width) (nat_lt py s.height) sampled.0 in
       let pieces = frame_pieces s frame in
       let occluded = verdict_there (object_verdict s frame (λ u. after u pieces)) s.objects o x Occluded at is in
-      flat_hides (size_of s) pieces (object_shape s frame x) px py (built_is_flat s frame x (built_there s.near s.objects o x built.objects at)) (all frame lt) (sound frame lt) occluded (below px s.width on.0) (below py s.height on.1) sampled.1;
+      shape_hides (size_of s) (λ u. after u pieces) pieces (object_shape s frame x) px py (object_has_pieces s frame x scene) (all frame lt) refl occluded (below px s.width on.0) (below py s.height on.1) sampled.1;
 }
+
+-- each sample of a shape in the screen is one of its area
+sample_in_area : (size : Dimensions) (shape : Shape) (px py : ℕ) → HasPieces shape → px < size.width → py < size.height → has_sample shape px py ≡ true → HasPixel (area_of size shape) (pos px) (pos py)
+sample_in_area size AlwaysOutside px py good x y has = absurd cc
+sample_in_area size AlwaysVisible px py good x y has = absurd cc
+sample_in_area size (Flat r q) px py good x y has = (cut_pixels r (screen_of size) (pos px) (pos py)).1 (held r px py has, on_screen size px py x y)
+  where
+    axis : (a0 a1 : ℤ) (p : ℕ) → (int_le a0 (pos p) && int_lt (pos p) a1) ≡ true → (a0 ≤ℤ pos p) × (pos p <ℤ a1)
+    axis a0 a1 p t = (grind (arith, ints), grind (arith, ints))
+
+    held : (r : Rect) (px py : ℕ) → ((int_le r.x0 (pos px) && int_lt (pos px) r.x1) && (int_le r.y0 (pos py) && int_lt (pos py) r.y1)) ≡ true → HasPixel r (pos px) (pos py)
+    held r px py t =
+        let both = and_parts (int_le r.x0 (pos px) && int_lt (pos px) r.x1) (int_le r.y0 (pos py) && int_lt (pos py) r.y1) t in
+        let h = axis r.x0 r.x1 px both.0 in let v = axis r.y0 r.y1 py both.1 in (h.0, h.1, v.0, v.1)
+sample_in_area size (Pieces ts hull) px py good x y has =
+    let (t, m, touch) = one_that_holds (λ u. touches u (middle px py)) ts has in
+    let (piece, within) = good t m in
+    (cut_pixels hull (screen_of size) (pos px) (pos py)).1 (touched_pixel t hull px py piece within touch, on_screen size px py x y)
+
+-- the same where each tile of the area has the states after a list of its own
+pub hides_object : (s : Parts) (frame : ℕ) (tile_of : ℕ → TileOf) (x : Object) (verdict : Verdict) → IsScene s → verdict ≡ verdict_in s frame tile_of x → HidesObject s frame tile_of x verdict
+hides_object s frame tile_of x verdict scene is lists taken occluded px py has =
+    let size = size_of s in let shape = object_shape s frame x in
+    let sampled = and_parts (nat_lt px s.width && nat_lt py s.height) (has_sample shape px py) has in
+    let on = and_parts (nat_lt px s.width) (nat_lt py s.height) sampled.0 in
+    let across = below px s.width on.0 in let down = below py s.height on.1 in
+    let good = object_has_pieces s frame x scene in
+    let tile = tile_of_pixel-is size px py across down in
+    let n = tile_of_pixel size px py in
+    let pixel = sample_in_area size shape px py good across down sampled.1 in
+    let met = (meets_pixel (object_area s frame x) (tile_rect_of size n)).1 (pos px, pos py, pixel, tile.pixel) in
+    let took = taken n tile.within met in
+    shape_hides size (state_in size tile_of) (lists n) shape px py good took.0 (state_after size tile_of (lists n) px py across down took.1) (sym is ∙ occluded) across down sampled.1

@@ -1,5 +1,5 @@
 pub mod Lines
 pub mod Text
-pub mod Shapes
 pub mod Scene
+pub mod Forms
 pub mod Hiding

@@ -1,6 +1,6 @@
 -- The report of a scene: that of one thread that merges all drawn triangles in submission order, frame by frame.
-use Rattle.std.specs.Prelude.{ℕ, ℤ, pos, ◌≡◌, ◌≤ℤ◌, List, [], ◌∷◌, ◌++◌, ◌<◌, Bool, true, false, ◌&&◌, nat_lt, length, map, take, drop, slice_index_or}
-use Rattle.std.specs.List.{All, flat_map, range_with_len}
+use Rattle.std.specs.Prelude.{ℕ, ℤ, pos, ◌≡◌, List, [], ◌∷◌, ◌++◌, ◌<◌, Bool, true, false, ◌&&◌, nat_lt, length, map, take, drop, slice_index_or}
+use Rattle.std.specs.List.{flat_map, range_with_len}
 use Rattle.cull_base.specs.declared.clip.ClipVertex.{ClipVertex}
 use Rattle.cull_base.specs.declared.nearness.TheConstants.{GRADE_TOP}
 use Rattle.cull_base.specs.declared.place.Sub.{Sub}
@@ -23,20 +23,12 @@ use Rattle.masked_update.specs.TileOf.{TileOf}
 use Rattle.masked_update.specs.Views.{state_in}
 use Rattle.rect_query.specs.Rectangles.{rectangle_shape}
 use Rattle.rect_query.specs.Boxes.{box_shape}
-use Rattle.cull_report.specs.Shapes.{mesh_shape, corners_of}
+use Rattle.mesh_query.specs.Meshes.{mesh_shape}
 use Rattle.cull_report.specs.Text.{header_text, frame_text}
 
--- a rectangle that doesn't stand before the near distance
-abbrev pub IsBuiltObject : ℕ → Object → Type 0
-IsBuiltObject near (Area rect w) = pos near ≤ℤ w
-IsBuiltObject near (Block low high) = ⊥
-IsBuiltObject near (Mesh first count) = ⊥
-
--- what the program can draw so far: one frame through the identity camera, with rectangles as objects
+-- what the program can draw so far: one frame through the identity camera
 pub record IsBuilt (s : Parts) : Type 0 where
   pub one_camera : s.cameras ≡ identity_camera ∷ []
-  pub no_meshes : s.object_tris ≡ []
-  pub objects : All (IsBuiltObject s.near) s.objects
 
 abbrev pub size_of : Parts → Dimensions
 size_of s = record { width = s.width; height = s.height }
@@ -54,6 +46,14 @@ frame_list s frame = record { size = size_of s; members = list_of_clips (frame_c
 
 abbrev pub frame_pieces : Parts → ℕ → List Piece
 frame_pieces s frame = (frame_list s frame).members
+
+-- the eight corners of a box between its least and its greatest
+abbrev pub corners_of : List ℤ → List ℤ → List (List ℤ)
+corners_of low high =
+    let x0 = slice_index_or low 0 (pos 0) in let y0 = slice_index_or low 1 (pos 0) in let z0 = slice_index_or low 2 (pos 0) in
+    let x1 = slice_index_or high 0 (pos 0) in let y1 = slice_index_or high 1 (pos 0) in let z1 = slice_index_or high 2 (pos 0) in
+    (x0 ∷ y0 ∷ z0 ∷ []) ∷ (x1 ∷ y0 ∷ z0 ∷ []) ∷ (x0 ∷ y1 ∷ z0 ∷ []) ∷ (x1 ∷ y1 ∷ z0 ∷ [])
+    ∷ (x0 ∷ y0 ∷ z1 ∷ []) ∷ (x1 ∷ y0 ∷ z1 ∷ []) ∷ (x0 ∷ y1 ∷ z1 ∷ []) ∷ (x1 ∷ y1 ∷ z1 ∷ []) ∷ []
 
 -- the shape of an object in a frame: a rectangle doesn't move with the camera
 unfoldable pub object_shape : Parts → ℕ → Object → Shape

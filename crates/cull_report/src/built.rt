@@ -1,11 +1,10 @@
 //! What of a scene the program can draw so far.
-ghost use Rattle.std.specs.Prelude.{◌≡◌, ℤ, List, [], ◌∷◌, IsTrue, ◌↔◌, map, IfOk, pos, ◌≤ℤ◌};
-ghost use Rattle.std.specs.List.{All};
-ghost use Rattle.cull_report.specs.Scene.{IsBuilt, IsBuiltObject, frame_clips};
+ghost use Rattle.std.specs.Prelude.{◌≡◌, [], ◌∷◌, IsTrue, ◌↔◌, map, IfOk};
+ghost use Rattle.cull_report.specs.Scene.{IsBuilt, frame_clips};
 ghost use Rattle.camera_path.specs.Clip.{as_clip, identity_camera};
 
 use camera_path::identity_keeps;
-use cull_base::{ClipVertex, Memory, Object};
+use cull_base::{ClipVertex, Memory};
 use scene_reader::Scene;
 use std::alloc::{AllocError, Global};
 
@@ -18,21 +17,6 @@ fn is_identity(camera: &[i32; 12]) -> bool
     *camera == IDENTITY
 }
 
-fn is_built_object(near: u16, object: &Object) -> bool
-    ensures { IsTrue result ↔ IsBuiltObject near object.now }
-{
-    match object {
-        Object::Area { w, .. } => i32::from(near) <= *w,
-        Object::Block { .. } | Object::Mesh { .. } => false,
-    }
-}
-
-fn are_built_objects(near: u16, objects: &[Object]) -> bool
-    ensures { IsTrue result ↔ All (IsBuiltObject near) objects.now }
-{
-    objects.iter().all(|object| is_built_object(near, object))
-}
-
 fn is_one_identity(cameras: &[[i32; 12]]) -> bool
     ensures { IsTrue result ↔ (cameras.now ≡ identity_camera ∷ []) }
 {
@@ -42,17 +26,15 @@ fn is_one_identity(cameras: &[[i32; 12]]) -> bool
     }
 }
 
-/// Whether the scene can be drawn: one frame through the identity camera, with rectangles as objects, none in front
-/// of the near distance.
+/// Whether the scene can be drawn: one frame through the identity camera.
 pub fn is_built(scene: &Scene) -> bool
     ensures { IsTrue result ↔ IsBuilt scene.now }
 {
     is_one_identity(scene.cameras())
-        && scene.object_tris().is_empty()
-        && are_built_objects(scene.near(), scene.objects())
 }
 
-fn as_clip(vertex: &[i32; 3]) -> ClipVertex
+/// A vertex as the identity camera sees it.
+pub(crate) fn as_clip(vertex: &[i32; 3]) -> ClipVertex
     ensures { result ≡ as_clip vertex.now }
 {
     let [x, y, w] = *vertex;

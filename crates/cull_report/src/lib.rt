@@ -2,6 +2,7 @@
 #![tactic(auto)]
 
 mod built;
+mod form;
 mod line;
 mod lines;
 mod objects;
@@ -9,5 +10,5 @@ mod report;
 
 pub use built::{identity_clips, is_built};
 pub use line::Line;
-pub use objects::verdicts;
+pub use objects::{object_area, object_verdict, verdicts};
 pub use report::{write_frame, write_header};

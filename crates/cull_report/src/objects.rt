@@ -1,75 +1,161 @@
 //! The verdicts of a frame's objects.
-ghost use Rattle.std.specs.Prelude.{◌≡◌, ℕ, ◌<◌, ◌≤◌, true, map, length, IfOk};
-ghost use Rattle.std.specs.List.{All};
+ghost use Rattle.std.specs.Prelude.{◌≡◌, ℕ, ◌+◌, ◌<◌, ◌≤◌, true, map, length, IfOk, IfSome, slice_get, slice_index_or};
 ghost use Rattle.cull_base.specs.Screen.{tile_count_of};
-ghost use Rattle.cull_base.specs.declared.nearness.TheConstants.{GRADE_TOP};
-ghost use Rattle.cull_base.specs.Shape.{verdict_of};
+ghost use Rattle.cull_base.specs.Shape.{area_of, verdict_of};
+ghost use Rattle.camera_path.specs.Clip.{identity_camera};
 ghost use Rattle.masked_update.specs.Views.{HoldsMet, state_in};
-ghost use Rattle.rect_query.specs.Rectangles.{rectangle_shape};
-ghost use Rattle.cull_report.specs.Scene.{IsBuiltObject, IsMarkedRight, size_of, frame_clips, object_verdict, verdict_in};
+ghost use Rattle.scene_reader.specs.Layout.{IsObject, IsScene};
+ghost use Rattle.cull_report.specs.Forms.{shape_of_form, range_of, HasTriangles};
+ghost use Rattle.cull_report.specs.Hiding.{HidesObject};
+ghost use Rattle.cull_report.specs.Scene.{IsMarkedRight, size_of, camera_at, frame_clips, object_area, verdict_in};
 
-use cull_base::{ClipVertex, Memory, Object, Rect, Size, Verdict};
+use crate::form::{Form, form_of};
+use cull_base::{ClipVertex, Memory, Object, Rect, Tri, Verdict};
 use masked_update::TileView;
-use rect_query::{rect_near, rect_test};
+use mesh_query::{mesh_area, mesh_test};
+use rect_query::rect_test;
 use scene_reader::Scene;
 use std::alloc::Global;
 
-// The verdict of a rectangle at distance w: visible before the near distance where it has a pixel in the screen.
-fn rectangle_verdict<V: TileView>(view: &V, size: Size, near: u16, rect: &Rect, w: i32) -> Verdict
-    requires least { 1 ≤ near }
-    requires most { near ≤ 1024 }
-    requires holds { HoldsMet (V.held view.now) size rect.now }
-    ensures { result ≡ verdict_of size (state_in size (V.tile_of view.now)) (rectangle_shape GRADE_TOP near size rect.now w) }
+const NO_PIXELS: Rect = Rect {
+    x0: 0,
+    y0: 0,
+    x1: 0,
+    y1: 0,
+};
+
+fn object_count(scene: &Scene) -> u32
+    ensures { result ≡ length scene.now.objects }
 {
-    match rect_near(w, near) {
-        Some(q) => rect_test(view, size, *rect, q),
-        None => if rect.meets(&size.screen()) {
-            Verdict::Visible
-        } else {
-            Verdict::Outside
-        },
+    let _near = scene.near();
+    scene.objects().len() as u32
+}
+
+// An object of the scene.
+fn object_at(scene: &Scene, object: u32) -> &Object
+    requires { object < length scene.now.objects }
+    ensures place { result.now ≡ slice_index_or scene.now.objects object result.now }
+    ensures valid { IsObject (length scene.now.object_tris) result.now }
+    ensures scene { IsScene scene.now }
+{
+    let _near = scene.near();
+    &scene.objects()[object as usize]
+}
+
+// A range of the scene's object triangles.
+fn triangles(scene: &Scene, first: u32, count: u32) -> &[Tri]
+    requires { first + count ≤ length scene.now.object_tris }
+    ensures { result.now ≡ range_of scene.now.object_tris first count }
+{
+    let first = first as usize;
+    &scene.object_tris()[first..first + count as usize]
+}
+
+// The pixels of the screen that are looked at for a form.
+fn form_area(scene: &Scene, _frame: u32, clips: &[ClipVertex], form: Form) -> Rect
+    requires clips { clips.now ≡ frame_clips scene.now _frame }
+    requires triangles { HasTriangles (length scene.now.object_tris) form }
+    ensures { result ≡ area_of (size_of scene.now) (shape_of_form scene.now _frame form) }
+{
+    match form {
+        Form::Outside | Form::Visible => NO_PIXELS,
+        Form::Flat { rect, .. } => rect.cut(&scene.size().screen()),
+        Form::Mesh { first, count } => {
+            mesh_area(scene.size(), scene.near(), clips, triangles(scene, first, count))
+        }
     }
 }
 
-// The verdict of one object. Condition: it is a rectangle.
-fn verdict_of<V: TileView>(scene: &Scene, _frame: u32, object: &Object, view: &V) -> Verdict
-    requires holds { (t : ℕ) → t < tile_count_of (size_of scene.now) → V.held view.now t ≡ true }
-    requires built { IsBuiltObject scene.now.near object.now }
-    ensures { result ≡ object_verdict scene.now _frame (state_in (size_of scene.now) (V.tile_of view.now)) object.now }
+// The verdict of a form over a view that holds the tiles of its area.
+fn form_verdict<V: TileView>(
+    scene: &Scene,
+    _frame: u32,
+    clips: &[ClipVertex],
+    form: Form,
+    view: &V,
+) -> Verdict
+    requires clips { clips.now ≡ frame_clips scene.now _frame }
+    requires triangles { HasTriangles (length scene.now.object_tris) form }
+    requires holds { HoldsMet (V.held view.now) (size_of scene.now) (area_of (size_of scene.now) (shape_of_form scene.now _frame form)) }
+    ensures { result ≡ verdict_of (size_of scene.now) (state_in (size_of scene.now) (V.tile_of view.now))
+        (shape_of_form scene.now _frame form) }
 {
-    match object {
-        Object::Area { rect, w } => rectangle_verdict(view, scene.size(), scene.near(), rect, *w),
-        Object::Block { .. } | Object::Mesh { .. } => unreachable!(),
+    match form {
+        Form::Outside => Verdict::Outside,
+        Form::Visible => Verdict::Visible,
+        Form::Flat { rect, q } => rect_test(view, scene.size(), rect, q),
+        Form::Mesh { first, count } => {
+            let tris = triangles(scene, first, count);
+            mesh_test(view, scene.size(), scene.near(), clips, tris)
+        }
     }
+}
+
+/// The pixels of the screen that are looked at for an object in a frame; none where it is outside or visible whatever
+/// the tiles hold. Conditions: the frame's camera is the identity camera, the clip vertices are the frame's, and the
+/// object is below the number of objects.
+pub fn object_area(scene: &Scene, frame: u32, clips: &[ClipVertex], object: u32) -> Rect
+    requires camera { camera_at scene.now frame ≡ identity_camera }
+    requires clips { clips.now ≡ frame_clips scene.now frame }
+    requires object { object < length scene.now.objects }
+    ensures { IfSome (slice_get scene.now.objects object) (λ o. result ≡ object_area scene.now frame o) }
+{
+    let form = form_of(scene, frame, object_at(scene, object));
+    form_area(scene, frame, clips, form)
+}
+
+/// The verdict of an object in a frame over a view. Conditions as for `object_area`, and the view holds the tiles that
+/// the area meets. Where these have the states after lists of pieces, as after a front of each tile's own list, an object
+/// that is occluded has at each of its samples a piece of its tile's list that is strictly nearer.
+pub fn object_verdict<V: TileView>(
+    scene: &Scene,
+    frame: u32,
+    clips: &[ClipVertex],
+    object: u32,
+    view: &V,
+) -> Verdict
+    requires camera { camera_at scene.now frame ≡ identity_camera }
+    requires clips { clips.now ≡ frame_clips scene.now frame }
+    requires object { object < length scene.now.objects }
+    requires holds { IfSome (slice_get scene.now.objects object)
+        (λ o. HoldsMet (V.held view.now) (size_of scene.now) (object_area scene.now frame o)) }
+    ensures verdict { IfSome (slice_get scene.now.objects object)
+        (λ o. result ≡ verdict_in scene.now frame (V.tile_of view.now) o) }
+    ensures hidden { IfSome (slice_get scene.now.objects object)
+        (λ o. HidesObject scene.now frame (V.tile_of view.now) o result) }
+{
+    let form = form_of(scene, frame, object_at(scene, object));
+    form_verdict(scene, frame, clips, form, view)
 }
 
 /// Each object's verdict in a frame over the view. An object that is marked as settled isn't tested. Conditions: the
-/// clip vertices are the frame's, each object is a rectangle that doesn't stand before the near distance, the view holds
-/// every tile, there is one mark per object, and each marked object's verdict is occluded.
+/// frame's camera is the identity camera, the clip vertices are the frame's, the view holds every tile, there is one mark
+/// per object, and each marked object's verdict is occluded.
 pub fn verdicts<V: TileView>(
     alloc: Global,
     scene: &Scene,
     frame: u32,
-    _clips: &[ClipVertex],
+    clips: &[ClipVertex],
     view: &V,
     settled: &[bool],
 ) -> Result<Vec<Verdict>, Memory>
     requires frame { frame < length scene.now.cameras }
-    requires clips { _clips.now ≡ frame_clips scene.now frame }
-    requires built { All (IsBuiltObject scene.now.near) scene.now.objects }
+    requires camera { camera_at scene.now frame ≡ identity_camera }
+    requires clips { clips.now ≡ frame_clips scene.now frame }
     requires holds { (t : ℕ) → t < tile_count_of (size_of scene.now) → V.held view.now t ≡ true }
     requires marks { length settled.now ≡ length scene.now.objects }
     requires right { IsMarkedRight (verdict_in scene.now frame (V.tile_of view.now)) scene.now.objects settled.now }
     ensures { IfOk result (λ v. v.items ≡ map (verdict_in scene.now frame (V.tile_of view.now)) scene.now.objects) }
 {
-    let Ok(mut verdicts) = Vec::with_capacity(alloc, scene.objects().len()) else {
+    let count = object_count(scene);
+    let Ok(mut verdicts) = Vec::with_capacity(alloc, count as usize) else {
         return Err(Memory);
     };
-    for (i, object) in scene.objects().iter().enumerate() {
-        let verdict = if settled[i] {
+    for object in 0..count {
+        let verdict = if settled[object as usize] {
             Verdict::Occluded
         } else {
-            verdict_of(scene, frame, object, view)
+            object_verdict(scene, frame, clips, object, view)
         };
         verdicts.push_reserved(verdict);
     }

@@ -1,13 +1,10 @@
 -- A built scene has one frame, and its report is the header and that frame's lines.
 use Rattle.std.proofs.Common.{◌≡◌, ℕ, ◌<◌, ◌++◌, List, [], ◌∷◌, length, arith, refl, ap, ◌∙◌, subst, sym}
 use Rattle.std.proofs.lemmas.List.{append-nil}
-use Rattle.scene_reader.specs.Layout.{Parts}
-use Rattle.cull_base.specs.Fold.{after, IsSound}
+use Rattle.scene_reader.specs.Layout.{Parts, IsScene}
 use Rattle.cull_base.specs.Tiles.{ArePieces}
-use Rattle.cull_base.specs.declared.place.Sub.{Sub}
 use Rattle.cull_report.specs.Text.{header_text}
 use Rattle.cull_report.specs.Scene.{IsBuilt, frame_pieces, frame_report, report_text}
-use Rattle.masked_update.proofs.Drawing.{after_is_sound}
 use Rattle.cull_report.specs.Hiding.{HidesTruly}
 use Rattle.cull_report.proofs.Occluders.{hides_truly}
 
@@ -21,7 +18,6 @@ pub one_report : (s : Parts) → IsBuilt s → report_text s ≡ header_text s.w
 unfolding report_text
 one_report s built = rw (one_camera s built) (ap (λ (t : List ℕ). header_text s.width s.height 1 (length s.objects) ++ t) (append-nil (frame_report s 0)))
 
-pub one_hides : (s : Parts) → IsBuilt s → ArePieces (frame_pieces s 0) → HidesTruly s
-one_hides s built all =
-    let each : (frame : ℕ) → frame < length s.cameras → ArePieces (frame_pieces s frame) = λ frame lt. let zero = only_frame s frame built lt in subst (λ (f : ℕ). ArePieces (frame_pieces s f)) (sym zero) all in
-    hides_truly s built each (λ frame lt u. after_is_sound u (frame_pieces s frame) (each frame lt))
+pub one_hides : (s : Parts) → IsBuilt s → IsScene s → ArePieces (frame_pieces s 0) → HidesTruly s
+one_hides s built scene all =
+    hides_truly s scene (λ frame lt. let zero = only_frame s frame built lt in subst (λ (f : ℕ). ArePieces (frame_pieces s f)) (sym zero) all)

@@ -5,7 +5,7 @@ ghost use Rattle.cull_base.specs.Stream.{Rose, Appends, AppendsPrefix, Writes};
 ghost use Rattle.cull_base.specs.Tiles.{tile_after};
 ghost use Rattle.masked_update.specs.TileOf.{tile_at};
 ghost use Rattle.scene_reader.specs.Fault.{IsRefusal};
-ghost use Rattle.scene_reader.specs.Layout.{Parts};
+ghost use Rattle.scene_reader.specs.Layout.{Parts, IsScene};
 ghost use Rattle.cull_report.specs.Hiding.{HidesTruly};
 ghost use Rattle.cull_report.specs.Scene.{IsBuilt, size_of, frame_clips, frame_list, frame_pieces, frame_verdicts, report_text};
 ghost use Rattle.maskcull.specs.Culling.{IfBytes, IfScene, EndsAs, CanDraw, IsCulled, HasFault, IsNoScene, IsUnbuilt, IsUndrawn, EachFault, EachDrawable, EachUndrawn, GainsFront, WithoutScene, TookFrame, IsReportFailure, IsBeforeReport};
@@ -75,7 +75,8 @@ fn verdicts_over(
 // The pieces of a scene's frame, in submission order.
 fn pieces_of(alloc: Global, scene: &Scene, clips: &[ClipVertex]) -> Result<FrameList, Memory>
     requires { clips.now ≡ frame_clips scene.now 0 }
-    ensures { IfOk result (λ f. f.list ≡ frame_list scene.now 0) }
+    ensures list { IfOk result (λ f. f.list ≡ frame_list scene.now 0) }
+    ensures scene { IsScene scene.now }
 {
     frame_list(
         alloc,

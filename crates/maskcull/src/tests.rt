@@ -47,17 +47,20 @@ struct Ended {
     notes: Vec<u8>,
 }
 
-// The bytes of a scene of one frame through the identity camera, on a screen of 32 by 8.
-fn scene(
+// The bytes of a scene of one frame through the identity camera, on a screen of 32 by 8. An object is its kind and six
+// numbers.
+fn scene_of(
     alloc: Global,
     winding: u8,
     vertices: &[[i32; 3]],
     triangles: &[[u32; 3]],
-    rectangles: &[[i32; 5]],
+    object_triangles: &[[u32; 3]],
+    objects: &[(u8, [i32; 6])],
 ) -> Result<Vec<u8>, AllocError> {
     let mut bytes = Vec::from_slice(alloc, b"MSOC")?;
     bytes.extend_from_slice(&[1, 0, 32, 0, 8, 0, 1, 0, winding, 0, 1, 0])?;
-    for count in [vertices.len(), triangles.len(), 0, rectangles.len()] {
+    let meshes = object_triangles.len();
+    for count in [vertices.len(), triangles.len(), meshes, objects.len()] {
         bytes.extend_from_slice(&[(count % 256) as u8, 0, 0, 0])?;
     }
     for vertex in vertices {
@@ -65,20 +68,36 @@ fn scene(
             bytes.extend_from_slice(&number.to_le_bytes())?;
         }
     }
-    for triangle in triangles {
-        for number in triangle {
-            bytes.extend_from_slice(&number.to_le_bytes())?;
+    for table in [triangles, object_triangles] {
+        for triangle in table {
+            for number in triangle {
+                bytes.extend_from_slice(&number.to_le_bytes())?;
+            }
         }
     }
-    for rectangle in rectangles {
-        bytes.push(0)?;
-        for number in rectangle {
+    for (kind, numbers) in objects {
+        bytes.push(*kind)?;
+        for number in numbers {
             bytes.extend_from_slice(&number.to_le_bytes())?;
         }
-        bytes.extend_from_slice(&[0, 0, 0, 0])?;
     }
     bytes.extend_from_slice(&FIRST[129..])?;
     Ok(bytes)
+}
+
+// The same with rectangles as objects.
+fn scene(
+    alloc: Global,
+    winding: u8,
+    vertices: &[[i32; 3]],
+    triangles: &[[u32; 3]],
+    rectangles: &[[i32; 5]],
+) -> Result<Vec<u8>, AllocError> {
+    let mut objects = Vec::new(alloc);
+    for [x0, y0, x1, y1, w] in rectangles {
+        objects.push((0, [*x0, *y0, *x1, *y1, *w, 0]))?;
+    }
+    scene_of(alloc, winding, vertices, triangles, &[], &objects)
 }
 
 fn words(alloc: Global, words: &[&str]) -> Result<Vec<String>, AllocError> {
@@ -376,21 +395,97 @@ fn words_that_are_no_command_are_refused(rt: HostRuntime) -> Result<(), Fail> {
 #[test]
 fn a_scene_that_cannot_be_drawn_yet_is_not_built(rt: HostRuntime) -> Result<(), Fail> {
     let alloc = rt.alloc();
-    let a_box = [(104, 1), (113, 0)].as_slice();
-    let another_camera = [(129, 1)].as_slice();
-    let before_the_near_distance = [(121, 0)].as_slice();
-    for changes in [a_box, another_camera, before_the_near_distance] {
-        assert_not_built(&rt, alloc, changed(alloc, changes)?)?;
-    }
+    assert_not_built(&rt, alloc, changed(alloc, &[(129, 1)])?)?;
     let mut two_frames = changed(alloc, &[(14, 2)])?;
     two_frames.extend_from_slice(&FIRST[129..])?;
-    assert_not_built(&rt, alloc, two_frames)?;
-    let mut object_triangles = Vec::from_slice(alloc, &FIRST[..24])?;
-    object_triangles.extend_from_slice(&[1])?;
-    object_triangles.extend_from_slice(&FIRST[25..104])?;
-    object_triangles.extend_from_slice(&[0; 12])?;
-    object_triangles.extend_from_slice(&FIRST[104..])?;
-    assert_not_built(&rt, alloc, object_triangles)
+    assert_not_built(&rt, alloc, two_frames)
+}
+
+// The first box stands at the rectangle (10, 2, 22, 6) with the nearness 21845. The second is before the near distance in
+// part, the third whole; so is the fourth, though past the guard too. The fifth is past it, the sixth beside the screen.
+#[test]
+fn boxes_are_hidden_by_their_rectangles(rt: HostRuntime) -> Result<(), Fail> {
+    let alloc = rt.alloc();
+    let far = 0x100_0000;
+    let boxes = [
+        (1, [-1, -1, 3, 1, 1, 6]),
+        (1, [0, 0, 0, 1, 1, 5]),
+        (1, [0, 0, -5, 1, 1, 0]),
+        (1, [-far, 0, -far, far, 1, 0]),
+        (1, [16385, 0, 5, 16385, 1, 6]),
+        (1, [40, 0, 5, 41, 1, 6]),
+    ];
+    let text =
+        "msoc-report 1 32 8 1 6\nframe 0 pieces 2\n0 occluded\n1 visible\n2 outside\n3 outside\n4 visible\n5 outside\nend 0 visible 2 occluded 1 outside 3\n";
+    assert_reports(
+        &rt,
+        alloc,
+        scene_of(alloc, 0, &QUAD, &TWO, &[], &boxes)?,
+        text,
+    )
+}
+
+#[test]
+fn rectangles_before_the_near_distance_are_visible(rt: HostRuntime) -> Result<(), Fail> {
+    let rectangles = [[40, 0, 48, 8, -1], [0, 0, 8, 8, -1], [4, 4, 4, 4, 0]];
+    let text =
+        "msoc-report 1 32 8 1 3\nframe 0 pieces 2\n0 outside\n1 visible\n2 outside\nend 0 visible 1 occluded 0 outside 2\n";
+    assert_reports(
+        &rt,
+        rt.alloc(),
+        scene(rt.alloc(), 0, &QUAD, &TWO, &rectangles)?,
+        text,
+    )
+}
+
+// The first mesh is behind the quad, the second past the guard, the third between all samples, the fourth beside the
+// screen; the fifth has parts on both sides of it, and the last two have no triangles.
+#[test]
+fn meshes_are_hidden_by_their_pieces(rt: HostRuntime) -> Result<(), Fail> {
+    let alloc = rt.alloc();
+    let mut vertices = Vec::from_slice(alloc, &QUAD)?;
+    vertices.extend_from_slice(&[[-3, 3, 3], [3, 3, 3], [3, -3, 3]])?;
+    vertices.extend_from_slice(&[[16385, 2, 2], [-2, -16384, 2]])?;
+    vertices.extend_from_slice(&[[-246, 216, 256], [-242, 216, 256], [-242, 200, 256]])?;
+    vertices.extend_from_slice(&[[300, 216, 256], [304, 216, 256], [304, 200, 256]])?;
+    vertices.extend_from_slice(&[[-600, 216, 256], [-596, 216, 256], [-596, 200, 256]])?;
+    let triangles = [
+        [4, 5, 6],
+        [0, 7, 8],
+        [9, 10, 11],
+        [12, 13, 14],
+        [15, 16, 17],
+    ];
+    let meshes = [
+        (2, [0, 1, 0, 0, 0, 0]),
+        (2, [1, 1, 0, 0, 0, 0]),
+        (2, [2, 1, 0, 0, 0, 0]),
+        (2, [3, 1, 0, 0, 0, 0]),
+        (2, [3, 2, 0, 0, 0, 0]),
+        (2, [0, 0, 0, 0, 0, 0]),
+        (2, [5, 0, 0, 0, 0, 0]),
+    ];
+    let text =
+        "msoc-report 1 32 8 1 7\nframe 0 pieces 2\n0 occluded\n1 visible\n2 visible\n3 outside\n4 outside\n5 outside\n6 outside\nend 0 visible 2 occluded 1 outside 4\n";
+    assert_reports(
+        &rt,
+        alloc,
+        scene_of(alloc, 0, &vertices, &TWO, &triangles, &meshes)?,
+        text,
+    )
+}
+
+#[test]
+fn a_mesh_at_the_quad_is_visible(rt: HostRuntime) -> Result<(), Fail> {
+    let alloc = rt.alloc();
+    let quad = [[-3, 3, 3], [3, 3, 3], [3, -3, 3], [-3, -3, 3]];
+    let mesh = [(2, [0, 1, 0, 0, 0, 0])];
+    assert_reports(
+        &rt,
+        alloc,
+        scene_of(alloc, 0, &quad, &TWO, &[[0, 1, 2]], &mesh)?,
+        VISIBLE,
+    )
 }
 
 // The screen's right column of tiles is 8 pixels wide, its lower row 4 pixels high.

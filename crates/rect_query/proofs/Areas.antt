@@ -6,7 +6,8 @@ use Rattle.std.proofs.lemmas.Int.{ints}
 use Rattle.std.proofs.lemmas.Nat.{div-mul-add}
 use Rattle.std.proofs.Math.Nat.{mul-add-mod_self_right, mod-eq_of_lt}
 use Rattle.cull_base.proofs.Rectangles.{meets_pixel}
-use Rattle.cull_base.proofs.Pixels.{tile_below}
+use Rattle.cull_base.proofs.Pixels.{tile_of_pixel-is}
+use Rattle.cull_base.specs.Pixels.{tile_of_pixel}
 use Rattle.cull_base.specs.declared.rect.Rect.{Rect}
 use Rattle.cull_base.specs.Screen.{Dimensions, IsSize, screen_of, tile_columns_of, tile_rows_of, tile_rect_of}
 use Rattle.cull_base.specs.Rectangle.{HasPixel, meets, cut_of, common, no_pixels}
@@ -68,27 +69,9 @@ held_axis : (a0 a1 : ℤ) (p : ℕ) → (int_le a0 (pos p) && int_lt (pos p) a1)
 held_axis a0 a1 p t = (grind (arith, ints), grind (arith, ints))
 
 -- a view that holds the tiles that a rectangle meets holds the tile of each pixel of its area
-pub holds_area : (held : ℕ → Bool) (size : Dimensions) (a : Area) (r : Rect) → IsSize size.width size.height → IsAreaOf a r size → HoldsMet held size r → HoldsArea held size a
-holds_area held size a r valid is holds px py inside =
-    let x : px < size.width = omega (arith, inside.right, is.area.width_within) in let y : py < size.height = omega (arith, inside.below, is.area.height_within) in
-    let columns = tile_columns_of size in
-    let column : px / 32 < columns = column_below size.width px x in
-    let row : py / 8 < tile_rows_of size = row_below size.height py y in
-    let t = py / 8 * columns + px / 32 in
-    let at_row = div-mul-add (py / 8) columns (px / 32) column in
-    let at_column : t % columns ≡ px / 32 = mul-add-mod_self_right (py / 8) columns (px / 32) ∙ mod-eq_of_lt column in
+pub holds_area : (held : ℕ → Bool) (size : Dimensions) (a : Area) (r : Rect) → IsAreaOf a r size → HoldsMet held size r → HoldsArea held size a
+holds_area held size a r is holds px py inside =
+    let tile = tile_of_pixel-is size px py (omega (arith, inside.right, is.area.width_within)) (omega (arith, inside.below, is.area.height_within)) in
     let both = and_parts (int_le r.x0 (pos px) && int_lt (pos px) r.x1) (int_le r.y0 (pos py) && int_lt (pos py) r.y1) (is.has px py inside) in
     let h = held_axis r.x0 r.x1 px both.0 in let v = held_axis r.y0 r.y1 py both.1 in
-    let here : HasPixel (tile_rect_of size t) (pos px) (pos py) = rw (at_row, at_column) (
-      omega (arith, ints),
-      omega (arith, ints, x),
-      omega (arith, ints),
-      omega (arith, ints, y),
-    ) in
-    holds t (tile_below (py / 8) (tile_rows_of size) (px / 32) columns row column) ((meets_pixel r (tile_rect_of size t)).1 (pos px, pos py, (h.0, h.1, v.0, v.1), here))
-  where
-    column_below : (w px : ℕ) → px < w → px / 32 < div_ceil w 32
-    column_below w px lt = omega arith
-
-    row_below : (h py : ℕ) → py < h → py / 8 < div_ceil h 8
-    row_below h py lt = omega arith
+    holds (tile_of_pixel size px py) tile.within ((meets_pixel r (tile_rect_of size (tile_of_pixel size px py))).1 (pos px, pos py, (h.0, h.1, v.0, v.1), tile.pixel))

@@ -1,21 +1,24 @@
 -- The box of a piece lies in the near box of its triangle, and is that box where nothing is cut and nothing left out.
-use Rattle.std.proofs.Common.{◌≡◌, ℕ, ℤ, pos, negsuc, ◌≤ℤ◌, ◌<ℤ◌, List, [], ◌∷◌, ◌++◌, map, option_to_list, Bool, true, false, cond, Option, Some, None, arith, refl, sym, ap, ◌∙◌, int_lt}
+use Rattle.std.proofs.Common.{◌≡◌, ℕ, ℤ, pos, negsuc, ◌≤ℤ◌, ◌<ℤ◌, List, [], ◌∷◌, ◌++◌, map, option_to_list, length, not, ◌&&◌, Bool, true, false, cond, Option, Some, None, arith, refl, sym, ap, ◌∙◌, int_lt}
 use Rattle.std.specs.Int.{int_min, int_max}
-use Rattle.std.specs.List.{All, Contains}
+use Rattle.std.specs.List.{All, Contains, list_all}
+use Rattle.std.proofs.lemmas.Bool.{and_parts, and_from}
 use Rattle.std.proofs.lemmas.Int.{ints, clamps}
 use Rattle.std.proofs.lemmas.List.Elements.{All-nil}
 use Rattle.cull_base.specs.declared.clip.ClipVertex.{ClipVertex}
 use Rattle.cull_base.specs.declared.rect.Rect.{Rect}
 use Rattle.cull_base.specs.declared.triangle.Side.{Side}
 use Rattle.cull_base.specs.declared.triangle.Winding.{Winding}
+use Rattle.cull_base.specs.NearPlane.{is_behind}
 use Rattle.cull_base.specs.Piece.{Piece, doubled_area, least_of, greatest_of, first_pixel, end_pixel, box_around, box_of}
 use Rattle.cull_base.specs.Rectangle.{HasPixel}
 use Rattle.cull_base.specs.Screen.{Dimensions}
 use Rattle.near_clip.specs.declared.hom_point.HomPoint.{HomPoint}
-use Rattle.near_clip.specs.NearPart.{near_part, whole}
+use Rattle.near_clip.specs.NearPart.{near_part, whole, corner, is_in_front}
 use Rattle.snap_setup.specs.declared.snapping.Snapped.{Snapped}
 use Rattle.snap_setup.specs.Snapping.{snapped, screen_x, screen_y}
 use Rattle.snap_setup.specs.Pieces.{triangle, triangles_of, is_left_out, exchanged, turned, kept_of, snapped_part, is_any_past_guard, is_all_in_front, pieces_of, polygon_box, near_box_of}
+use Rattle.snap_setup.specs.Triangles.{pieces_of_triangle, near_box_of_triangle}
 use Rattle.snap_setup.proofs.KeptPieces.{kept_from, kept_cons, fronts}
 use Rattle.snap_setup.proofs.ValidPieces.{kept_more, held_by_member}
 
@@ -174,3 +177,25 @@ whole_box v0 v1 v2 top near size winding side t front e =
     by : (b : Bool) → cond b [] (kept_from winding (triangles_of (map (λ p. snapped p top near size side) (near_part v0 v1 v2 near)))) ≡ t ∷ [] → kept_from winding (triangles_of (map (λ p. snapped p top near size side) (near_part v0 v1 v2 near))) ≡ t ∷ []
     by true e = absurd cc
     by false e = e
+
+-- the same of a triangle that is given as a list of its vertices
+pub piece_in_box_of_triangle : (v : List ClipVertex) (top near : ℕ) (size : Dimensions) (winding : Winding) (side : Side) (t : Piece) → Contains (pieces_of_triangle v top near size winding side) t → BoxHolds (near_box_of_triangle v near size) t
+piece_in_box_of_triangle v top near size winding side t m = piece_in_near_box (corner v 0) (corner v 1) (corner v 2) top near size winding side t m
+
+pub whole_box_of_triangle : (v : List ClipVertex) (top near : ℕ) (size : Dimensions) (winding : Winding) (side : Side) (t : Piece) → length v ≡ 3 → list_all (λ u. not (is_behind near u)) v ≡ true
+    → pieces_of_triangle v top near size winding side ≡ t ∷ [] → near_box_of_triangle v near size ≡ Some (box_of t)
+whole_box_of_triangle [] top near size winding side t l front e = absurd (omega arith)
+whole_box_of_triangle (a ∷ []) top near size winding side t l front e = absurd (omega arith)
+whole_box_of_triangle (a ∷ b ∷ []) top near size winding side t l front e = absurd (omega arith)
+whole_box_of_triangle (a ∷ b ∷ c ∷ []) top near size winding side t l front e =
+    let (fa, rest) = and_parts (not (is_behind near a)) (not (is_behind near b) && (not (is_behind near c) && true)) front in
+    let (fb, more) = and_parts (not (is_behind near b)) (not (is_behind near c) && true) rest in
+    let (fc, end) = and_parts (not (is_behind near c)) true more in
+    whole_box a b c top near size winding side t (in_front a b c near fa fb fc) e
+  where
+    front_of : (v : ClipVertex) (near : ℕ) → not (is_behind near v) ≡ true → is_in_front v near ≡ true
+    front_of v near e = grind (arith, ints)
+
+    in_front : (a b c : ClipVertex) (near : ℕ) → not (is_behind near a) ≡ true → not (is_behind near b) ≡ true → not (is_behind near c) ≡ true → is_all_in_front a b c near ≡ true
+    in_front a b c near ea eb ec = and_from _ _ (front_of a near ea) (and_from _ _ (front_of b near eb) (front_of c near ec))
+whole_box_of_triangle (a ∷ b ∷ c ∷ d ∷ v) top near size winding side t l front e = absurd (omega arith)

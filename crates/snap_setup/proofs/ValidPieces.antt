@@ -17,13 +17,14 @@ use Rattle.cull_base.specs.Piece.{Piece, IsPiece, IsCoordinate, doubled_area, le
 use Rattle.cull_base.specs.Rectangle.{HasPixel}
 use Rattle.cull_base.specs.Screen.{Dimensions, IsSize}
 use Rattle.near_clip.specs.declared.hom_point.HomPoint.{HomPoint}
-use Rattle.near_clip.specs.NearPart.{near_part, is_in_front, whole}
+use Rattle.near_clip.specs.NearPart.{near_part, corner}
 use Rattle.near_clip.specs.Reach.{IsInReach}
 use Rattle.near_clip.proofs.Guarded.{guarded}
 use Rattle.near_clip.proofs.Reaches.{near_part_reaches}
 use Rattle.snap_setup.specs.declared.snapping.Snapped.{Snapped}
 use Rattle.snap_setup.specs.Snapping.{snapped, screen_x, screen_y, nearness_of, IsSnapped}
 use Rattle.snap_setup.specs.Pieces.{triangle, triangles_of, is_left_out, is_dropped, exchanged, turned, piece_if, kept_of, snapped_part, is_any_past_guard, is_all_in_front, pieces_of, polygon_box, near_box_of}
+use Rattle.snap_setup.specs.Triangles.{pieces_of_triangle}
 use Rattle.snap_setup.proofs.Areas.{turned_area}
 use Rattle.snap_setup.proofs.Floors.{rounded_near}
 use Rattle.snap_setup.proofs.KeptPieces.{kept_from, kept_cons, fronts}
@@ -117,3 +118,6 @@ pieces_are v0 v1 v2 near size winding side valid hn le = by (is_any_past_guard v
         let (g0, rest) = or_parts _ _ e in let (g1, g2) = or_parts _ _ rest in
         let reach = near_part_reaches v0 v1 v2 near le (guarded v0 near g0) (guarded v1 near g1) (guarded v2 near g2) in
         kept_are_pieces winding _ (map_all (λ p. snapped p GRADE_TOP near size side) (IsInReach near) IsSnapped (near_part v0 v1 v2 near) (λ p r. snapped_is p near size side valid hn le r) reach)
+
+pub pieces_of_triangle_are : (v : List ClipVertex) (near : ℕ) (size : Dimensions) (winding : Winding) (side : Side) → IsSize size.width size.height → 1 ≤ near → near ≤ 1024 → All IsPiece (pieces_of_triangle v GRADE_TOP near size winding side)
+pieces_of_triangle_are v near size winding side valid hn le = pieces_are (corner v 0) (corner v 1) (corner v 2) near size winding side valid hn le

@@ -1,5 +1,5 @@
 //! The pieces of a frame.
-ghost use Rattle.std.specs.Prelude.{◌≡◌, ◌≤◌, length, IfOk};
+ghost use Rattle.std.specs.Prelude.{◌≡◌, ◌≤◌, [], ◌∷◌, length, IfOk};
 ghost use Rattle.std.specs.List.{All};
 ghost use Rattle.cull_base.specs.declared.nearness.TheConstants.{GRADE_TOP};
 ghost use Rattle.near_clip.specs.NearPart.{corner};
@@ -41,6 +41,7 @@ pub fn corners(clips: &[ClipVertex], tri: &Tri) -> [ClipVertex; 3]
     ensures first { corner result 0 ≡ clip_at clips.now tri.now 0 }
     ensures second { corner result 1 ≡ clip_at clips.now tri.now 1 }
     ensures third { corner result 2 ≡ clip_at clips.now tri.now 2 }
+    ensures whole { result ≡ clip_at clips.now tri.now 0 ∷ clip_at clips.now tri.now 1 ∷ clip_at clips.now tri.now 2 ∷ [] }
 {
     let [a, b, c] = tri.0;
     [clips[a as usize], clips[b as usize], clips[c as usize]]

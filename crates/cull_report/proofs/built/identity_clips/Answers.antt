@@ -4,11 +4,8 @@ use Rattle.cull_base.specs.declared.clip.ClipVertex.{ClipVertex}
 use Rattle.camera_path.specs.Clip.{clip_of, as_clip, identity_camera}
 use Rattle.scene_reader.specs.Layout.{Parts}
 use Rattle.cull_report.specs.Scene.{IsBuilt, frame_clips}
+use Rattle.cull_report.proofs.Forms.{all_alike}
 use Rattle.cull_report.proofs.built.identity_clips.Goals as goal
-
-all_alike : (f g : List ℤ → ClipVertex) → ((v : List ℤ) → g v ≡ f v) → (vs : List (List ℤ)) → map f vs ≡ map g vs
-all_alike f g same [] = refl
-all_alike f g same (v ∷ vs) = rw (same v, all_alike f g same vs) refl
 
 clips_are : (s : Parts) → IsBuilt s → ((v : List ℤ) → clip_of identity_camera v ≡ as_clip v) → map as_clip s.vertices ≡ frame_clips s 0
 unfolding frame_clips

@@ -10,18 +10,18 @@ use Rattle.maskcull.proofs.cull.draw.Goals as goal
 pub verdicts_over-requires-clause-tiles : goal.verdicts_over-requires-clause-tiles
 unfolding frame_list
 verdicts_over-requires-clause-tiles c =
-    rw c.deref-3.ensures.value (subst (λ (l : PieceList). length c.in_ok-states.states.items ≡ tile_count_of l.size) c.in_ok-list.ensures c.in_ok-states.ensures.tiles)
+    rw c.deref-3.ensures.value (subst (λ (l : PieceList). length c.in_ok-states.states.items ≡ tile_count_of l.size) c.in_ok-list.ensures.list c.in_ok-states.ensures.tiles)
 
 pub verdicts_over-requires-clause-drawn : goal.verdicts_over-requires-clause-drawn
 unfolding frame_list
 verdicts_over-requires-clause-drawn c =
     let drawn : AreDrawn (frame_list c.args.scene.now 0) c.deref-3.result.now =
-    rw c.deref-3.ensures.value (subst (λ (l : PieceList). AreDrawn l c.in_ok-states.states.items) c.in_ok-list.ensures c.in_ok-states.ensures.drawn) in
+    rw c.deref-3.ensures.value (subst (λ (l : PieceList). AreDrawn l c.in_ok-states.states.items) c.in_ok-list.ensures.list c.in_ok-states.ensures.drawn) in
     λ t lt. (drawn t lt).states
 
 pub returns-clause-pieces : goal.returns-clause-pieces
-returns-clause-pieces c = c.len.ensures.value ∙ ap (λ (l : PieceList). length l.members) c.in_ok-list.ensures
+returns-clause-pieces c = c.len.ensures.value ∙ ap (λ (l : PieceList). length l.members) c.in_ok-list.ensures.list
 
 pub returns-clause-hidden : goal.returns-clause-hidden
 returns-clause-hidden c =
-    one_hides c.args.scene.now c.requires (subst (λ (l : PieceList). ArePieces l.members) c.in_ok-list.ensures c.in_ok-states.ensures.pieces)
+    one_hides c.args.scene.now c.requires c.pieces_of.ensures.scene (subst (λ (l : PieceList). ArePieces l.members) c.in_ok-list.ensures.list c.in_ok-states.ensures.pieces)

@@ -12,11 +12,8 @@ use Rattle.cull_base.specs.declared.nearness.TheConstants.{GRADE_TOP}
 use Rattle.camera_path.specs.Clip.{clip_of}
 use Rattle.scene_reader.specs.Layout.{Parts}
 use Rattle.cull_report.specs.Scene.{frame_clips, frame_list, size_of, camera_at}
+use Rattle.cull_report.proofs.Forms.{clip_count}
 use Rattle.maskcull.proofs.cull.pieces_of.Goals as goal
-
-clip_count : (s : Parts) → length (frame_clips s 0) ≡ length s.vertices
-unfolding frame_clips
-clip_count s = simp length-map
 
 has_clips : (n m : ℕ) (t : Tri) → n ≡ m → All (λ v. v < m) t.0 → HasClips n t
 has_clips n m t e h = rw e h
@@ -24,7 +21,7 @@ has_clips n m t e h = rw e h
 pub frame_list-requires-clause-indices : goal.frame_list-requires-clause-indices
 frame_list-requires-clause-indices c =
     let s = c.args.scene.now in
-    let n : length c.args.clips.now ≡ length s.vertices = ap length c.requires ∙ clip_count s in
+    let n : length c.args.clips.now ≡ length s.vertices = ap length c.requires ∙ clip_count s 0 in
     let all : All (HasClips (length c.args.clips.now)) s.occluders = λ k d lt. has_clips (length c.args.clips.now) (length s.vertices) _ n ((c.near.ensures.valid).occluders k d lt).1 in
     subst (All (HasClips (length c.args.clips.now))) (sym c.occluders.ensures) all
 
@@ -32,9 +29,9 @@ listed : (r : Result FrameListOf Memory) (l : PieceList) → IfOk r (λ f. f.lis
 listed (Ok f) l m d = rw (← m, ← d) refl
 listed (Err e) l m d = tt
 
-pub returns : goal.returns
+pub returns-clause-list : goal.returns-clause-list
 unfolding frame_list
-returns c =
+returns-clause-list c =
     let s = c.args.scene.now in
     let is : list_of_clips c.args.clips.now c.occluders.result.now GRADE_TOP c.near.result c.size.result c.winding.result ≡ (frame_list s 0).members =
     rw (c.requires, c.occluders.ensures, c.near.ensures.value, c.size.ensures, c.winding.ensures) refl in

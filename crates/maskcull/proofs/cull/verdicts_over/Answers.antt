@@ -10,7 +10,7 @@ use Rattle.masked_update.specs.TileOf.{tile_at}
 use Rattle.masked_update.specs.Views.{state_in}
 use Rattle.cull_report.specs.Scene.{frame_verdicts, frame_pieces, size_of, object_verdict, verdict_in}
 use Rattle.cull_report.proofs.Agreement.{objects_alike}
-use Rattle.maskcull.proofs.Drawn.{drawn_agrees}
+use Rattle.cull_report.proofs.TileStates.{drawn_agrees}
 use Rattle.maskcull.proofs.cull.verdicts_over.Goals as goal
 
 pub returns : goal.returns

@@ -6,7 +6,7 @@ use Rattle.rect_query.proofs.Areas.{holds_area}
 use Rattle.rect_query.proofs.rectangle.rect_test.Goals as goal
 
 pub is_area_hiding-requires-clause-holds : goal.is_area_hiding-requires-clause-holds
-is_area_hiding-requires-clause-holds g c = holds_area (g.V.TileView.held c.args.view.now) c.args.size c.of.result c.args.rect c.of.ensures.sized c.of.ensures.pixels c.requires
+is_area_hiding-requires-clause-holds g c = holds_area (g.V.TileView.held c.args.view.now) c.args.size c.of.result c.args.rect c.of.ensures.pixels c.requires
 
 pub returns-then-is_area_hiding : goal.returns-then-is_area_hiding
 returns-then-is_area_hiding g c =

@@ -1,0 +1,51 @@
+-- The state of a pixel's subtile among those of tiles that took pieces.
+use Rattle.std.proofs.Common.{◌≡◌, ℕ, ◌+◌, ◌*◌, ◌/◌, ◌%◌, ◌<◌, true, cond, nat_lt, arith, refl, ap, ◌∙◌, List, get_or}
+use Rattle.std.proofs.lemmas.Bool.Decides.{nat_tests}
+use Rattle.std.proofs.lemmas.List.FromFn.{get_or-map-range_with_len}
+use Rattle.cull_base.specs.declared.place.Sub.{Sub}
+use Rattle.cull_base.specs.declared.place.Tile.{Tile}
+use Rattle.cull_base.specs.Screen.{Dimensions, tile_columns_of, tile_count_of, tile_sub, is_on_screen}
+use Rattle.cull_base.specs.Piece.{Piece}
+use Rattle.cull_base.specs.State.{State, empty_state}
+use Rattle.cull_base.specs.Fold.{after}
+use Rattle.cull_base.specs.Tiles.{tile_after}
+use Rattle.cull_base.specs.Pixels.{sub_of_pixel, tile_of_pixel}
+use Rattle.cull_base.proofs.Pixels.{tile_is, tile_of_pixel-is}
+use Rattle.masked_update.specs.TileOf.{TileOf, sub_at, tile_at}
+use Rattle.masked_update.specs.Views.{state_in}
+use Rattle.cull_report.proofs.Agreement.{Agrees}
+
+-- the number of a pixel's subtile in its tile
+abbrev place_in_tile : ℕ → ℕ → ℕ
+place_in_tile px py = 4 * (py / 4 % 2) + px / 8 % 4
+
+-- the subtile of a pixel, as that of its tile
+sub_is : (size : Dimensions) (px py : ℕ) → px < size.width → py < size.height → tile_sub size (tile_of_pixel size px py) (place_in_tile px py) ≡ sub_of_pixel px py
+sub_is size px py x y =
+    let tile = tile_of_pixel-is size px py x y in
+    let c : 4 * (px / 32) + (4 * (py / 4 % 2) + px / 8 % 4) % 4 ≡ px / 8 = omega arith in
+    let r : 2 * (py / 8) + (4 * (py / 4 % 2) + px / 8 % 4) / 4 ≡ py / 4 = omega arith in
+    ap (λ (p : Tile). of_place p) tile.place ∙ rw (c, r) refl
+  where
+    of_place : Tile → Sub
+    of_place p = record { column = 4 * p.column + place_in_tile px py % 4; row = 2 * p.row + place_in_tile px py / 4 }
+
+on_screen : (size : Dimensions) (px py : ℕ) → px < size.width → py < size.height → is_on_screen size (sub_of_pixel px py) ≡ true
+on_screen size px py x y =
+    let a : nat_lt (8 * (px / 8)) size.width ≡ true = grind (arith, nat_tests) in
+    let b : nat_lt (4 * (py / 4)) size.height ≡ true = grind (arith, nat_tests) in
+    rw (a, b) refl
+
+pub state_after : (size : Dimensions) (tile_of : ℕ → TileOf) (pieces : List Piece) (px py : ℕ) → px < size.width → py < size.height
+    → (tile_of (tile_of_pixel size px py)).subs ≡ tile_after size (tile_of_pixel size px py) pieces → state_in size tile_of (sub_of_pixel px py) ≡ after (sub_of_pixel px py) pieces
+state_after size tile_of pieces px py x y drawn =
+    let t = tile_of_pixel size px py in let j = place_in_tile px py in
+    let number = tile_is px py (py / 8) (px / 32) (tile_columns_of size) (tile_columns_of size) refl refl refl in
+    let one = get_or-map-range_with_len (λ k. let u = tile_sub size t k in cond (is_on_screen size u) (after u pieces) empty_state) 0 8 j j empty_state (omega arith) (omega arith) in
+    let sub = sub_is size px py x y in let on = on_screen size px py x y in
+    ap (λ (n : ℕ). sub_at (tile_of n) j) number ∙ ap (λ (subs : List State). get_or subs j empty_state) drawn ∙ one
+    ∙ ap (λ (u : Sub). cond (is_on_screen size u) (after u pieces) empty_state) sub ∙ ap (λ b. cond b (after (sub_of_pixel px py) pieces) empty_state) on
+
+-- tiles that took a list hold at each pixel of the screen the state after it
+pub drawn_agrees : (size : Dimensions) (pieces : List Piece) (tiles : List TileOf) → ((t : ℕ) → t < tile_count_of size → (tile_at tiles t).subs ≡ tile_after size t pieces) → Agrees size (state_in size (tile_at tiles)) (λ u. after u pieces)
+drawn_agrees size pieces tiles drawn px py x y = state_after size (tile_at tiles) pieces px py x y (drawn (tile_of_pixel size px py) (tile_of_pixel-is size px py x y).within)

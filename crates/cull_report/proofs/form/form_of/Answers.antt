@@ -1,0 +1,39 @@
+use Rattle.std.proofs.Common.{◌≡◌, ℕ, List, ℤ, map, FitsSigned, w32, rules, refl, sym, ap, ◌∙◌, subst}
+use Rattle.std.proofs.lemmas.Int.{to_z-of_z}
+use Rattle.cull_base.specs.declared.clip.ClipVertex.{ClipVertex}
+use Rattle.cull_base.specs.declared.nearness.TheConstants.{GRADE_TOP}
+use Rattle.cull_base.specs.Screen.{Dimensions}
+use Rattle.camera_path.specs.Clip.{clip_of, as_clip, identity_camera}
+use Rattle.rect_query.specs.Boxes.{box_shape}
+use Rattle.rect_query.specs.Rectangles.{rectangle_shape}
+use Rattle.cull_report.specs.Forms.{IsFlatForm}
+use Rattle.cull_report.specs.Scene.{size_of, camera_at, corners_of, object_shape}
+use Rattle.cull_report.proofs.Forms.{flat_form, flat_has_triangles, all_alike}
+use Rattle.cull_report.proofs.form.form_of.Goals as goal
+
+pub returns-in-Area-clause-shape : goal.returns-in-Area-clause-shape
+unfolding object_shape
+returns-in-Area-clause-shape c =
+    let s = c.args.scene.now in
+    let w : FitsSigned w32 c.in-Area.w = search rules in
+    let P : Dimensions → ℕ → Type 0 = λ size near. IsFlatForm size c.rectangle_form.result (rectangle_shape GRADE_TOP near size c.in-Area.rect c.in-Area.w) in
+    let told : P c.size.result c.near.result = simp to_z-of_z at c.rectangle_form.ensures in
+    let is = subst (P (size_of s)) c.near.ensures.value (subst (λ (size : Dimensions). P size c.near.result) c.size.ensures told) in
+    rw c.in-Area.is (flat_form s c.args._frame c.rectangle_form.result (rectangle_shape GRADE_TOP s.near (size_of s) c.in-Area.rect c.in-Area.w) is)
+
+pub returns-in-Block-clause-shape : goal.returns-in-Block-clause-shape
+unfolding object_shape
+returns-in-Block-clause-shape c =
+    let s = c.args.scene.now in
+    let corners = corners_of c.in-Block.low c.in-Block.high in
+    let P : Dimensions → ℕ → Type 0 = λ size near. IsFlatForm size c.box_form.result (box_shape GRADE_TOP near size c.corners.result) in
+    let is = subst (P (size_of s)) c.near-in-Block.ensures.value (subst (λ (size : Dimensions). P size c.near-in-Block.result) c.size-in-Block.ensures c.box_form.ensures) in
+    let seen : map as_clip corners ≡ map (clip_of (camera_at s c.args._frame)) corners =
+    all_alike as_clip (clip_of identity_camera) c.identity_keeps.ensures corners ∙ ap (λ (camera : List ℤ). map (clip_of camera) corners) (sym c.requires.camera) in
+    let alike : c.corners.result ≡ map (clip_of (camera_at s c.args._frame)) corners = c.corners.ensures ∙ seen in
+    rw c.in-Block.is
+    (flat_form s c.args._frame c.box_form.result (box_shape GRADE_TOP s.near (size_of s) c.corners.result) is ∙ ap (box_shape GRADE_TOP s.near (size_of s)) alike)
+
+pub returns-in-Mesh-clause-shape : goal.returns-in-Mesh-clause-shape
+unfolding object_shape
+returns-in-Mesh-clause-shape c = rw c.in-Mesh.is refl

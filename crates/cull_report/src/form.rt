@@ -1,0 +1,92 @@
+//! What is asked of the tiles for an object.
+ghost use Rattle.std.specs.Prelude.{◌≡◌, ◌≤◌, map, length};
+ghost use Rattle.cull_base.specs.declared.nearness.TheConstants.{GRADE_TOP};
+ghost use Rattle.camera_path.specs.Clip.{as_clip, identity_camera};
+ghost use Rattle.rect_query.specs.Boxes.{box_shape};
+ghost use Rattle.rect_query.specs.Rectangles.{rectangle_shape};
+ghost use Rattle.cull_report.specs.Scene.{camera_at, corners_of, object_shape};
+ghost use Rattle.cull_report.specs.Forms.{shape_of_form, IsFlatForm, HasTriangles};
+ghost use Rattle.scene_reader.specs.Layout.{IsObject};
+
+use crate::built::as_clip;
+use camera_path::identity_keeps;
+use cull_base::{ClipVertex, Object, Rect, Size};
+use rect_query::{BoxAnswer, box_rect, rect_near};
+use scene_reader::Scene;
+
+/// An object is outside or visible whatever the tiles hold; or it has one nearness over a rectangle; or it is a range of
+/// the scene's object triangles.
+#[derive(Clone, Copy)]
+pub enum Form {
+    Outside,
+    Visible,
+    Flat { rect: Rect, q: u32 },
+    Mesh { first: u32, count: u32 },
+}
+
+// A rectangle at distance w: visible before the near distance where it has a pixel in the screen.
+fn rectangle_form(size: Size, near: u16, rect: Rect, w: i32) -> Form
+    requires least { 1 ≤ near }
+    requires most { near ≤ 1024 }
+    ensures { IsFlatForm size result (rectangle_shape GRADE_TOP near size rect w) }
+{
+    match rect_near(w, near) {
+        Some(q) => Form::Flat { rect, q },
+        None => if rect.meets(&size.screen()) {
+            Form::Visible
+        } else {
+            Form::Outside
+        },
+    }
+}
+
+// A box, by its eight corners.
+fn box_form(size: Size, near: u16, corners: &[ClipVertex; 8]) -> Form
+    requires least { 1 ≤ near }
+    requires most { near ≤ 1024 }
+    ensures { IsFlatForm size result (box_shape GRADE_TOP near size corners.now) }
+{
+    match box_rect(corners, near, size) {
+        BoxAnswer::Outside => Form::Outside,
+        BoxAnswer::Straddles => Form::Visible,
+        BoxAnswer::At { rect, q } => Form::Flat { rect, q },
+    }
+}
+
+// The corners of a box as the identity camera sees them.
+fn corners(low: &[i32; 3], high: &[i32; 3]) -> [ClipVertex; 8]
+    ensures { result ≡ map as_clip (corners_of low.now high.now) }
+{
+    let [x0, y0, z0] = *low;
+    let [x1, y1, z1] = *high;
+    [
+        as_clip(&[x0, y0, z0]),
+        as_clip(&[x1, y0, z0]),
+        as_clip(&[x0, y1, z0]),
+        as_clip(&[x1, y1, z0]),
+        as_clip(&[x0, y0, z1]),
+        as_clip(&[x1, y0, z1]),
+        as_clip(&[x0, y1, z1]),
+        as_clip(&[x1, y1, z1]),
+    ]
+}
+
+/// The form of an object in a frame. Condition: the frame's camera is the identity camera.
+pub fn form_of(scene: &Scene, _frame: u32, object: &Object) -> Form
+    requires camera { camera_at scene.now _frame ≡ identity_camera }
+    requires object { IsObject (length scene.now.object_tris) object.now }
+    ensures shape { shape_of_form scene.now _frame result ≡ object_shape scene.now _frame object.now }
+    ensures triangles { HasTriangles (length scene.now.object_tris) result }
+{
+    match object {
+        Object::Area { rect, w } => rectangle_form(scene.size(), scene.near(), *rect, *w),
+        Object::Block { low, high } => {
+            identity_keeps();
+            box_form(scene.size(), scene.near(), &corners(low, high))
+        }
+        Object::Mesh { first, count } => Form::Mesh {
+            first: *first,
+            count: *count,
+        },
+    }
+}

@@ -1,0 +1,9 @@
+pub mod Asking
+pub mod Subtiles
+pub mod TileParts
+pub mod Members
+pub mod Boxes
+pub mod Progresses
+pub mod Verdicts
+pub mod Hulls
+pub mod Occluders

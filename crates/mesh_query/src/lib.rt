@@ -1,0 +1,12 @@
+//! Meshes, asked of the tiles: whether each sample that a piece touches is hidden.
+#![tactic(auto)]
+
+mod area;
+mod mesh;
+mod piece;
+#[cfg(test)]
+mod tests;
+mod vertices;
+
+pub use area::mesh_area;
+pub use mesh::mesh_test;
