@@ -47,13 +47,26 @@ impl Offset {
 
 // A difference of nearness times one of coordinates.
 #[inline(always)]
-fn slope(q: i64, v: i64) -> i64
+fn rise(q: i64, v: i64) -> i64
     requires q { Bounded (2 ^ 24) q }
     requires v { Bounded (2 ^ 30) v }
     ensures value { result ≡ q *ℤ v }
     ensures bounded { Bounded (2 ^ 54) result }
 {
     q * v
+}
+
+// What one rise is above another.
+#[inline(always)]
+fn slope(q: i64, v: i64, other_q: i64, other_v: i64) -> i64
+    requires q { Bounded (2 ^ 24) q }
+    requires v { Bounded (2 ^ 30) v }
+    requires other_q { Bounded (2 ^ 24) other_q }
+    requires other_v { Bounded (2 ^ 30) other_v }
+    ensures value { result ≡ (q *ℤ v) -ℤ (other_q *ℤ other_v) }
+    ensures bounded { Bounded (2 ^ 56) result }
+{
+    minus(rise(q, v), rise(other_q, other_v))
 }
 
 #[inline(always)]
@@ -112,10 +125,8 @@ impl Vertices {
         ensures value { result ≡ across_of self.now }
         ensures bounded { Bounded (2 ^ 56) result }
     {
-        minus(
-            slope(self.second.q, self.third.y),
-            slope(self.third.q, self.second.y),
-        )
+        let Vertices { second, third, .. } = self;
+        slope(second.q, third.y, third.q, second.y)
     }
 
     /// What it rises by for each sixteenth of a pixel down.
@@ -124,10 +135,8 @@ impl Vertices {
         ensures value { result ≡ down_of self.now }
         ensures bounded { Bounded (2 ^ 56) result }
     {
-        minus(
-            slope(self.third.q, self.second.x),
-            slope(self.second.q, self.third.x),
-        )
+        let Vertices { second, third, .. } = self;
+        slope(third.q, second.x, second.q, third.x)
     }
 
     /// The doubled area.

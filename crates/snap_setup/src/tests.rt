@@ -1,6 +1,7 @@
 //! Points, triangles and frames worked by hand.
 ghost use Rattle.std.specs.Prelude.{◌≡◌, false};
 ghost use Rattle.cull_base.specs.Guard.{is_past_guard};
+ghost use Rattle.near_clip.specs.Reach.{IsInReach};
 
 use super::*;
 use camera_path::past_guard;
@@ -77,55 +78,48 @@ fn cut_points_are_snapped_by_their_scale(rt: HostRuntime) -> Result<(), Fail> {
     Ok(())
 }
 
+// Snapped for an object on the greatest screen, from the greatest near distance.
+fn farthest(rt: &impl Abort, point: &HomPoint) -> (i32, i32, u32)
+    requires { IsInReach 1024 point.now }
+{
+    let size = Size::new(2048, 2048).expect(rt, "size");
+    let snapped = snap(point, 1024, size, Side::Object);
+    (snapped.x, snapped.y, snapped.q)
+}
+
 #[test]
-fn the_farthest_points_are_exact(rt: HostRuntime) -> Result<(), Fail> {
-    let size = Size::new(2048, 2048).ok_or("size")?;
+fn the_farthest_cut_points_are_exact(rt: HostRuntime) {
     let right_below = HomPoint {
         x: 0x2_0000_0000_0000,
         y: -0x2_0000_0000_0000,
         w: 0x8_0000_0000,
         scale: 0x200_0000,
     };
-    let point = snap(&right_below, 1024, size, Side::Object);
-    assert_eq!(rt; (point.x, point.y, point.q), (268451840, 268451840, 65535));
+    assert_eq!(rt; farthest(&rt, &right_below), (268451840, 268451840, 65535));
     let left_above = HomPoint {
-        x: -0x2_0000_0000_0000,
-        y: 0x2_0000_0000_0000,
-        w: 0x8_0000_0000,
-        scale: 0x200_0000,
+        x: -right_below.x,
+        y: -right_below.y,
+        ..right_below
     };
-    let point = snap(&left_above, 1024, size, Side::Object);
-    assert_eq!(rt;
-        (point.x, point.y, point.q),
-        (-268419072, -268419072, 65535)
-    );
-    Ok(())
+    assert_eq!(rt; farthest(&rt, &left_above), (-268419072, -268419072, 65535));
 }
 
-// The same places as of the farthest cut points, by 64 bits.
+// They have the same places, by 64 bits.
 #[test]
-fn the_farthest_vertices_are_exact(rt: HostRuntime) -> Result<(), Fail> {
-    let size = Size::new(2048, 2048).ok_or("size")?;
+fn the_farthest_vertices_are_exact(rt: HostRuntime) {
     let right_below = HomPoint {
         x: 0x100_0000,
         y: -0x100_0000,
         w: 0x400,
         scale: 1,
     };
-    let point = snap(&right_below, 1024, size, Side::Object);
-    assert_eq!(rt; (point.x, point.y, point.q), (268451840, 268451840, 65535));
+    assert_eq!(rt; farthest(&rt, &right_below), (268451840, 268451840, 65535));
     let left_above = HomPoint {
-        x: -0x100_0000,
-        y: 0x100_0000,
-        w: 0x400,
-        scale: 1,
+        x: -right_below.x,
+        y: -right_below.y,
+        ..right_below
     };
-    let point = snap(&left_above, 1024, size, Side::Object);
-    assert_eq!(rt;
-        (point.x, point.y, point.q),
-        (-268419072, -268419072, 65535)
-    );
-    Ok(())
+    assert_eq!(rt; farthest(&rt, &left_above), (-268419072, -268419072, 65535));
 }
 
 #[test]

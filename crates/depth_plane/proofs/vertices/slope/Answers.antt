@@ -1,18 +1,21 @@
-use Rattle.std.proofs.Common.{◌*ℤ◌, ◌^◌, FitsSigned, w64, arith}
+use Rattle.std.proofs.Common.{◌^◌, FitsSigned, w64, arith, rules}
 use Rattle.std.proofs.lemmas.Int.{ints, to_z-of_z}
-use Rattle.cull_base.proofs.Bounds.{bounded-mul}
 use Rattle.depth_plane.proofs.vertices.slope.Goals as goal
 
-pub returns-clause-value : goal.returns-clause-value
-returns-clause-value c =
-    let a : FitsSigned w64 c.args.q = c.ranges.q in let b : FitsSigned w64 c.args.v = c.ranges.v in
-    let n = bounded-mul (2 ^ 24) (2 ^ 30) c.args.q c.args.v c.requires.q c.requires.v in
-    let p : FitsSigned w64 (c.args.q *ℤ c.args.v) = omega (arith, ints, n) in
-    simp to_z-of_z
+pub minus-requires-clause-a_bounded : goal.minus-requires-clause-a_bounded
+minus-requires-clause-a_bounded c =
+    let f : FitsSigned w64 c.rise.result = search rules in
+    simp to_z-of_z (omega (arith, ints, c.rise.ensures.bounded), omega (arith, ints, c.rise.ensures.bounded))
+
+pub minus-requires-clause-b_bounded : goal.minus-requires-clause-b_bounded
+minus-requires-clause-b_bounded c =
+    let f : FitsSigned w64 c.rise-2.result = search rules in
+    simp to_z-of_z (omega (arith, ints, c.rise-2.ensures.bounded), omega (arith, ints, c.rise-2.ensures.bounded))
 
 pub returns-clause-bounded : goal.returns-clause-bounded
 returns-clause-bounded c =
-    let a : FitsSigned w64 c.args.q = c.ranges.q in let b : FitsSigned w64 c.args.v = c.ranges.v in
-    let n = bounded-mul (2 ^ 24) (2 ^ 30) c.args.q c.args.v c.requires.q c.requires.v in
-    let p : FitsSigned w64 (c.args.q *ℤ c.args.v) = omega (arith, ints, n) in
-    simp to_z-of_z n
+    let f : FitsSigned w64 c.rise.result = search rules in let g : FitsSigned w64 c.rise-2.result = search rules in
+    let fm : FitsSigned w64 c.minus.result = search rules in
+    let within = simp to_z-of_z at (c.minus.ensures.bounded (2 ^ 54)) in
+    let b = within c.rise.ensures.bounded c.rise-2.ensures.bounded in
+    simp to_z-of_z (omega (arith, ints, b), omega (arith, ints, b))

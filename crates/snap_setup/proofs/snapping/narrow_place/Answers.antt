@@ -30,30 +30,19 @@ overflow_add-from c =
     let fs = k.sixteenths in let fp = k.product in
     simp to_z-of_z k.sum
 
-pub overflow_cast-result : goal.overflow_cast-result
-overflow_cast-result c =
+found : (c : goal.After-floor) → IsPlace c.args.pixels c.args.offset c.args.w c.floor.result
+found c =
     let fo : FitsSigned w64 c.args.offset = c.ranges.offset in let fw : FitsSigned w64 c.args.w = c.ranges.w in
     let fr : FitsSigned w64 c.from.result = search rules in let fq : FitsSigned w64 c.floor.result = search rules in
     let k = are_narrow c.args.pixels c.from.result c.args.offset c.args.w c.from.ensures c.requires.within c.requires.low c.requires.high c.requires.w_least c.requires.w_most in
     let fs = k.sixteenths in let fp = k.product in let fn = k.sum in
-    simp to_z-of_z (placed c.args.pixels c.from.result c.args.offset c.args.w _ c.floor.result c.from.ensures c.requires.twice (simp to_z-of_z at c.floor.ensures) c.requires.within c.requires.w_least c.requires.low c.requires.high).fits
+    placed c.args.pixels c.from.result c.args.offset c.args.w _ c.floor.result c.from.ensures c.requires.twice (simp to_z-of_z at c.floor.ensures) c.requires.within c.requires.w_least c.requires.low c.requires.high
+
+pub overflow_cast-result : goal.overflow_cast-result
+overflow_cast-result c = let fq : FitsSigned w64 c.floor.result = search rules in simp to_z-of_z (found c).fits
 
 pub returns-clause-value : goal.returns-clause-value
-returns-clause-value c =
-    let fo : FitsSigned w64 c.args.offset = c.ranges.offset in let fw : FitsSigned w64 c.args.w = c.ranges.w in
-    let fr : FitsSigned w64 c.from.result = search rules in let fq : FitsSigned w64 c.floor.result = search rules in
-    let k = are_narrow c.args.pixels c.from.result c.args.offset c.args.w c.from.ensures c.requires.within c.requires.low c.requires.high c.requires.w_least c.requires.w_most in
-    let fs = k.sixteenths in let fp = k.product in let fn = k.sum in
-    let m = placed c.args.pixels c.from.result c.args.offset c.args.w _ c.floor.result c.from.ensures c.requires.twice (simp to_z-of_z at c.floor.ensures) c.requires.within c.requires.w_least c.requires.low c.requires.high in
-    let ff = m.fits in
-    simp to_z-of_z m.value
+returns-clause-value c = let fq : FitsSigned w64 c.floor.result = search rules in let ff = (found c).fits in simp to_z-of_z (found c).value
 
 pub returns-clause-within : goal.returns-clause-within
-returns-clause-within c =
-    let fo : FitsSigned w64 c.args.offset = c.ranges.offset in let fw : FitsSigned w64 c.args.w = c.ranges.w in
-    let fr : FitsSigned w64 c.from.result = search rules in let fq : FitsSigned w64 c.floor.result = search rules in
-    let k = are_narrow c.args.pixels c.from.result c.args.offset c.args.w c.from.ensures c.requires.within c.requires.low c.requires.high c.requires.w_least c.requires.w_most in
-    let fs = k.sixteenths in let fp = k.product in let fn = k.sum in
-    let m = placed c.args.pixels c.from.result c.args.offset c.args.w _ c.floor.result c.from.ensures c.requires.twice (simp to_z-of_z at c.floor.ensures) c.requires.within c.requires.w_least c.requires.low c.requires.high in
-    let ff = m.fits in
-    simp to_z-of_z m.within
+returns-clause-within c = let fq : FitsSigned w64 c.floor.result = search rules in let ff = (found c).fits in simp to_z-of_z (found c).within
