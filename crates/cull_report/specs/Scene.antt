@@ -26,7 +26,6 @@ use Rattle.rect_query.specs.Boxes.{box_shape}
 use Rattle.mesh_query.specs.Meshes.{mesh_shape}
 use Rattle.cull_report.specs.Text.{header_text, frame_text}
 
-
 abbrev pub size_of : Parts → Dimensions
 size_of s = record { width = s.width; height = s.height }
 

@@ -1,8 +1,7 @@
 //! What is asked of the tiles for an object.
 ghost use Rattle.std.specs.Prelude.{◌≡◌, ◌≤◌, ◌<◌, ◌^◌, [], ◌∷◌, map, length};
 ghost use Rattle.cull_base.specs.declared.nearness.TheConstants.{GRADE_TOP};
-ghost use Rattle.cull_base.specs.Bounds.{Bounded};
-ghost use Rattle.camera_path.specs.Clip.{clip_of, AreWithin};
+ghost use Rattle.camera_path.specs.Clip.{number, clip_of, AreWithin};
 ghost use Rattle.rect_query.specs.Boxes.{box_shape};
 ghost use Rattle.rect_query.specs.Rectangles.{rectangle_shape};
 ghost use Rattle.cull_report.specs.Scene.{camera_at, corners_of, object_shape};
@@ -14,8 +13,8 @@ use cull_base::{ClipVertex, Object, Rect, Size};
 use rect_query::{BoxAnswer, box_rect, rect_near};
 use scene_reader::Scene;
 
-/// An object is outside or visible whatever the tiles hold; or it has one nearness over a rectangle; or it is a range of
-/// the scene's object triangles.
+/// An object is outside or visible whatever the tiles hold; or it has one nearness over a rectangle; or it is a range
+/// of the scene's object triangles.
 #[derive(Clone, Copy)]
 pub enum Form {
     Outside,
@@ -53,15 +52,16 @@ fn box_form(size: Size, near: u16, corners: &[ClipVertex; 8]) -> Form
     }
 }
 
-// A corner of a box as a camera sees it.
-fn corner(camera: &Camera, x: i32, y: i32, z: i32) -> ClipVertex
+// A corner of a box as a camera sees it, with its x, its y and its z from one corner each.
+#[inline(always)]
+fn corner(camera: &Camera, x_of: &[i32; 3], y_of: &[i32; 3], z_of: &[i32; 3]) -> ClipVertex
     requires camera { AreWithin (2 ^ 24) camera.now.0 }
-    requires x { Bounded (2 ^ 24) x }
-    requires y { Bounded (2 ^ 24) y }
-    requires z { Bounded (2 ^ 24) z }
-    ensures { result ≡ clip_of camera.now.0 (x ∷ y ∷ z ∷ []) }
+    requires x { AreWithin (2 ^ 24) x_of.now }
+    requires y { AreWithin (2 ^ 24) y_of.now }
+    requires z { AreWithin (2 ^ 24) z_of.now }
+    ensures { result ≡ clip_of camera.now.0 (number x_of.now 0 ∷ number y_of.now 1 ∷ number z_of.now 2 ∷ []) }
 {
-    camera.clip(&[x, y, z])
+    camera.clip(&[x_of[0], y_of[1], z_of[2]])
 }
 
 // The corners of a box as a camera sees them.
@@ -71,17 +71,15 @@ fn corners(camera: &Camera, low: &[i32; 3], high: &[i32; 3]) -> [ClipVertex; 8]
     requires high { AreWithin (2 ^ 24) high.now }
     ensures { result ≡ map (clip_of camera.now.0) (corners_of low.now high.now) }
 {
-    let [x0, y0, z0] = *low;
-    let [x1, y1, z1] = *high;
     [
-        corner(camera, x0, y0, z0),
-        corner(camera, x1, y0, z0),
-        corner(camera, x0, y1, z0),
-        corner(camera, x1, y1, z0),
-        corner(camera, x0, y0, z1),
-        corner(camera, x1, y0, z1),
-        corner(camera, x0, y1, z1),
-        corner(camera, x1, y1, z1),
+        corner(camera, low, low, low),
+        corner(camera, high, low, low),
+        corner(camera, low, high, low),
+        corner(camera, high, high, low),
+        corner(camera, low, low, high),
+        corner(camera, high, low, high),
+        corner(camera, low, high, high),
+        corner(camera, high, high, high),
     ]
 }
 

@@ -60,7 +60,12 @@ fn form_area(scene: &Scene, _frame: u32, clips: &[ClipVertex], form: Form) -> Re
         Form::Outside | Form::Visible => NO_PIXELS,
         Form::Flat { rect, .. } => rect.cut(&scene.size().screen()),
         Form::Mesh { first, count } => {
-            mesh_area(scene.size(), scene.near(), clips, triangles(scene, first, count))
+            mesh_area(
+                scene.size(),
+                scene.near(),
+                clips,
+                triangles(scene, first, count),
+            )
         }
     }
 }
@@ -75,7 +80,8 @@ fn form_verdict<V: TileView>(
 ) -> Verdict
     requires clips { clips.now ≡ frame_clips scene.now _frame }
     requires triangles { HasTriangles (length scene.now.object_tris) form }
-    requires holds { HoldsMet (V.held view.now) (size_of scene.now) (area_of (size_of scene.now) (shape_of_form scene.now _frame form)) }
+    requires holds { HoldsMet (V.held view.now) (size_of scene.now)
+        (area_of (size_of scene.now) (shape_of_form scene.now _frame form)) }
     ensures { result ≡ verdict_of (size_of scene.now) (state_in (size_of scene.now) (V.tile_of view.now))
         (shape_of_form scene.now _frame form) }
 {
@@ -104,8 +110,8 @@ pub fn object_area(scene: &Scene, frame: u32, clips: &[ClipVertex], object: u32)
 }
 
 /// The verdict of an object in a frame over a view. Conditions as for `object_area`, and the view holds the tiles that
-/// the area meets. Where these have the states after lists of pieces, as after a front of each tile's own list, an object
-/// that is occluded has at each of its samples a piece of its tile's list that is strictly nearer.
+/// the area meets. Where these have the states after lists of pieces, as after a front of each tile's own list, an
+/// object that is occluded has at each of its samples a piece of its tile's list that is strictly nearer.
 pub fn object_verdict<V: TileView>(
     scene: &Scene,
     frame: u32,
@@ -127,9 +133,9 @@ pub fn object_verdict<V: TileView>(
     form_verdict(scene, frame, clips, form, view)
 }
 
-/// Each object's verdict in a frame over the view. An object that is marked as settled isn't tested. Conditions: there is
-/// such a frame, the clip vertices are the frame's, the view holds every tile, there is one mark per object, and each
-/// marked object's verdict is occluded.
+/// Each object's verdict in a frame over the view. An object that is marked as settled isn't tested. Conditions: there
+/// is such a frame, the clip vertices are the frame's, the view holds every tile, there is one mark per object, and
+/// each marked object's verdict is occluded.
 pub fn verdicts<V: TileView>(
     alloc: Global,
     scene: &Scene,

@@ -64,7 +64,14 @@ fn verdicts_over(
     ensures { IfOk result (λ v. v.items ≡ frame_verdicts scene.now frame) }
 {
     let settled = unset_marks(alloc, scene.objects().len())?;
-    verdicts(alloc, scene, frame, clips, &PlainView::new(states), &settled)
+    verdicts(
+        alloc,
+        scene,
+        frame,
+        clips,
+        &PlainView::new(states),
+        &settled,
+    )
 }
 
 // The pieces of a frame, in submission order.
@@ -133,7 +140,8 @@ fn report_frames<R: Threads + Wait + Sync, W: Sink>(
     scene: &Scene,
     report: &mut W,
 ) -> Result<(), Failure>
-    ensures reported { Reports (W.says report.old) (W.says report.new) result (frames_text scene.now (length scene.now.cameras)) }
+    ensures reported { Reports (W.says report.old) (W.says report.new) result
+        (frames_text scene.now (length scene.now.cameras)) }
     ensures valid { OnOk result (AllArePieces scene.now) }
 {
     let nowhere = ClipVertex { x: 0, y: 0, w: 0 };

@@ -426,8 +426,9 @@ fn frames_before_a_report_fault_stand_whole(rt: HostRuntime) -> Result<(), Fail>
     Ok(())
 }
 
-// The first box stands at the rectangle (10, 2, 22, 6) with the nearness 21845. The second is before the near distance in
-// part, the third whole; so is the fourth, though past the guard too. The fifth is past it, the sixth beside the screen.
+// The first box stands at the rectangle (10, 2, 22, 6) with the nearness 21845. The second is before the near distance
+// in part, the third whole; so is the fourth, though past the guard too. The fifth is past it, the sixth beside the
+// screen.
 #[test]
 fn boxes_are_hidden_by_their_rectangles(rt: HostRuntime) -> Result<(), Fail> {
     let alloc = rt.alloc();

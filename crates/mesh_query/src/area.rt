@@ -54,9 +54,9 @@ fn hull(size: Size, near: u16, clips: &[ClipVertex], tris: &[Tri]) -> Option<Rec
     if met { hull } else { None }
 }
 
-/// The pixels of the screen that a mesh is asked over, by its triangles among clip vertices: the smallest rectangle that
-/// holds their near boxes, cut to the screen; none where the mesh is outside or visible before any sample is looked at.
-/// Conditions: `near` is 1 to 1024, and each index is below the number of clips.
+/// The pixels of the screen that a mesh is asked over, by its triangles among clip vertices: the smallest rectangle
+/// that holds their near boxes, cut to the screen; none where the mesh is outside or visible before any sample is
+/// looked at. Conditions: `near` is 1 to 1024, and each index is below the number of clips.
 pub fn mesh_area(size: Size, near: u16, clips: &[ClipVertex], tris: &[Tri]) -> Rect
     requires least { 1 ≤ near }
     requires most { near ≤ 1024 }

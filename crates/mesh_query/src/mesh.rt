@@ -119,7 +119,8 @@ fn ask_triangles<V: TileView>(
     requires holds { All (λ t. IfSome (near_box_at near size clips.now t)
         (λ r. HoldsMet (V.held view.now) size r)) tris.now }
     ensures { Tells (state_in size (V.tile_of view.now)) size
-        (object_pieces GRADE_TOP near size clips.now tris.now) (near_boxes near size clips.now tris.now) at_first result }
+        (object_pieces GRADE_TOP near size clips.now tris.now) (near_boxes near size clips.now tris.now)
+        at_first result }
 {
     let mut now = Progress {
         met: false,
@@ -131,11 +132,11 @@ fn ask_triangles<V: TileView>(
     Some(now)
 }
 
-/// The verdict of a mesh, by its triangles among clip vertices: outside where all vertices are before the near distance,
-/// or where there are none; else visible where one is past the guard; else outside where no near box meets the screen;
-/// else occluded where a sample in the screen is touched, and each hides the high bounds of the pieces that touch it;
-/// else visible. Conditions: `near` is 1 to 1024, each index is below the number of clips, and the view holds each tile
-/// that the mesh's area meets.
+/// The verdict of a mesh, by its triangles among clip vertices: outside where all vertices are before the near
+/// distance, or where there are none; else visible where one is past the guard; else outside where no near box meets
+/// the screen; else occluded where a sample in the screen is touched, and each hides the high bounds of the pieces
+/// that touch it; else visible. Conditions: `near` is 1 to 1024, each index is below the number of clips, and the view
+/// holds each tile that the mesh's area meets.
 pub fn mesh_test<V: TileView>(
     view: &V,
     size: Size,
@@ -146,8 +147,10 @@ pub fn mesh_test<V: TileView>(
     requires least { 1 ≤ near }
     requires most { near ≤ 1024 }
     requires indices { All (HasClips (length clips.now)) tris.now }
-    requires holds { HoldsMet (V.held view.now) size (area_of size (mesh_shape GRADE_TOP near size clips.now tris.now)) }
-    ensures { result ≡ verdict_of size (state_in size (V.tile_of view.now)) (mesh_shape GRADE_TOP near size clips.now tris.now) }
+    requires holds { HoldsMet (V.held view.now) size
+        (area_of size (mesh_shape GRADE_TOP near size clips.now tris.now)) }
+    ensures { result ≡ verdict_of size (state_in size (V.tile_of view.now))
+        (mesh_shape GRADE_TOP near size clips.now tris.now) }
 {
     let _width = size.width();
     if let Some(verdict) = early_verdict(clips, tris, near) {

@@ -165,7 +165,8 @@ impl MeshPiece {
         requires valid { IsPiece self.now }
         requires reached { reached.now ≡ box_of self.now }
         requires holds { HoldsMet (V.held view.now) size (box_of self.now) }
-        ensures { Answers (state_in size (V.tile_of view.now)) (TouchedIn size self.now (λ px py. Unit {0})) known result }
+        ensures { Answers (state_in size (V.tile_of view.now)) (TouchedIn size self.now (λ px py. Unit {0}))
+            known result }
     {
         let span = TileSpan::of(reached, size);
         let mut touched = known;

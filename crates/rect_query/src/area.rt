@@ -86,7 +86,8 @@ impl Area {
     }
 }
 
-// Whether the area's samples in the subtile of a column and a row hide q. No mask is asked for where the reference does.
+// Whether the area's samples in the subtile of a column and a row hide q. No mask is asked for where the reference
+// does.
 #[inline(always)]
 fn is_subtile_hiding(sub: &SubTile, column: u32, row: u32, area: &Area, q: u32) -> bool
     requires area { area.now.x0 ≤ area.now.x1 }

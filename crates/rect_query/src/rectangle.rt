@@ -36,8 +36,9 @@ pub fn rect_near(w: i32, near: u16) -> Option<u32>
     Some(nearness(w, near))
 }
 
-/// The verdict of a rectangle with nearness q: outside without a pixel in the screen, else occluded where the sample of
-/// each of its pixels in the screen hides q, else visible. Condition: the view holds each tile that the rectangle meets.
+/// The verdict of a rectangle with nearness q: outside without a pixel in the screen, else occluded where the sample
+/// of each of its pixels in the screen hides q, else visible. Condition: the view holds each tile that the rectangle
+/// meets.
 pub fn rect_test<V: TileView>(view: &V, size: Size, rect: Rect, q: u32) -> Verdict
     requires { HoldsMet (V.held view.now) size rect }
     ensures { result ≡ verdict_of size (state_in size (V.tile_of view.now)) (flat_shape size rect q) }

@@ -62,7 +62,8 @@ pub fn corners(clips: &[ClipVertex], tri: &Tri) -> [ClipVertex; 3]
     ensures first { corner result 0 ≡ clip_at clips.now tri.now 0 }
     ensures second { corner result 1 ≡ clip_at clips.now tri.now 1 }
     ensures third { corner result 2 ≡ clip_at clips.now tri.now 2 }
-    ensures whole { result ≡ clip_at clips.now tri.now 0 ∷ clip_at clips.now tri.now 1 ∷ clip_at clips.now tri.now 2 ∷ [] }
+    ensures whole { result
+        ≡ clip_at clips.now tri.now 0 ∷ clip_at clips.now tri.now 1 ∷ clip_at clips.now tri.now 2 ∷ [] }
 {
     let Corners { v0, v1, v2 } = corner_references(clips, tri);
     [*v0, *v1, *v2]

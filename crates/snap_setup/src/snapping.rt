@@ -44,8 +44,8 @@ fn doubled_w(point: &HomPoint) -> Divisor
     Divisor::of(2 * point.w.unsigned_abs())
 }
 
-/// Up to this w the numerators of places fit 64 bits: an offset lies at most 16,385 times w away from 0, and is taken at
-/// most 2^15 times.
+/// Up to this w the numerators of places fit 64 bits: an offset lies at most 16,385 times w away from 0, and is taken
+/// at most 2^15 times.
 const NARROW_W: i64 = 0x1_0000_0000;
 
 #[inline(always)]

@@ -1,4 +1,4 @@
-use Rattle.std.proofs.Common.{◌≡◌, ℕ, List, length, sym, subst}
+use Rattle.std.proofs.Common.{length, sym, subst}
 use Rattle.std.specs.List.{All}
 use Rattle.cull_base.specs.Screen.{Dimensions}
 use Rattle.cull_base.specs.Shape.{flat_shape, area_of}

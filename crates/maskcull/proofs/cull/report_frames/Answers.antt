@@ -31,7 +31,7 @@ returns-in_err-report_frame-clause-reported g c =
     let p = err_from_is_err_and c.from_residual-in_err-report_frame.result c.from_residual-in_err-report_frame.ensures.1 in
     let (rest, split) = frames_text-more s k (length s.cameras) (let n = ap length c.cameras.ensures.value in omega (arith, n, c.loop-frame-test.true)) in
     let here : Reports s0 s2 (Err e) (frames_text s (k + 1)) =
-        subst (λ (t : List ℕ). Reports s0 s2 (Err e) t) (sym (frames_text-suc s k)) (reports_then s0 s1 s2 (Err e) (frames_text s k) (frame_report s k) so_far.written so_far.faults c.in_err-report_frame.ensures.reported) in
+    subst (λ (t : List ℕ). Reports s0 s2 (Err e) t) (sym (frames_text-suc s k)) (reports_then s0 s1 s2 (Err e) (frames_text s k) (frame_report s k) so_far.written so_far.faults c.in_err-report_frame.ensures.reported) in
     rw (p.1, p.2) (subst (λ (t : List ℕ). Reports s0 s2 (Err e) t) (sym split) (reports_no_more s0 s2 e (frames_text s (k + 1)) rest here))
 
 pub loop-frame-preserved : goal.loop-frame-preserved
