@@ -20,12 +20,6 @@ pub record IsSceneOf (bytes : List ℕ) (s : Parts) : Type 0 where
   pub scene : IsScene s
   pub spelled : bytes ≡ layout s
 
--- the bytes are the layout of s and of no other scene
-pub record IsOnlyScene (bytes : List ℕ) (s : Parts) : Type 0 where
-  pub layout : IsSceneOf bytes s
-  pub only : (t : Parts) → IsSceneOf bytes t → t ≡ s
-  pub fault_free : first_fault bytes ≡ None
-
 -- a fact of the refusal, if the failure is one
 abbrev pub IfScene : Failure → (SceneError → Type 0) → Type 0
 IfScene (Scene e) P = P e
@@ -78,10 +72,6 @@ AllArePieces s = (frame : ℕ) → frame < length s.cameras → ArePieces (frame
 -- the bytes have this first fault
 abbrev pub HasFault : SourceSays → SceneError → Type 0
 HasFault source e = IfBytes source (λ bytes. first_fault bytes ≡ Some e)
-
--- the bytes are no scene's layout
-abbrev pub IsNoScene : SourceSays → Type 0
-IsNoScene source = IfBytes source (λ bytes. (s : Parts) → IsSceneOf bytes s → ⊥)
 
 -- a fact of each scene whose layout the bytes are
 abbrev pub EachScene : SourceSays → (Parts → Type 0) → Type 0

@@ -1,7 +1,6 @@
 use Rattle.std.proofs.Common.{◌≡◌, ◌<◌, ℕ, List, length, subst, sym, ap, ◌∙◌, refl, Result, Ok, Err}
 use Rattle.std.specs.Prelude.{IfOk}
 use Rattle.std.specs.List.{All}
-use Rattle.std.proofs.lemmas.List.{length-map}
 use Rattle.cull_base.specs.Piece.{Piece}
 use Rattle.cull_base.specs.Screen.{Dimensions}
 use Rattle.cull_base.specs.Tiles.{PieceList, FrameListOf}
@@ -9,8 +8,7 @@ use Rattle.cull_base.specs.declared.memory.Memory.{Memory}
 use Rattle.cull_base.specs.declared.scene_types.Tri.{Tri}
 use Rattle.snap_setup.specs.Pieces.{HasClips, list_of_clips}
 use Rattle.cull_base.specs.declared.nearness.TheConstants.{GRADE_TOP}
-use Rattle.scene_reader.specs.Layout.{Parts}
-use Rattle.cull_report.specs.Scene.{frame_clips, frame_list, size_of, camera_at}
+use Rattle.cull_report.specs.Scene.{frame_list}
 use Rattle.cull_report.proofs.Forms.{clip_count}
 use Rattle.maskcull.proofs.cull.pieces_of.Goals as goal
 
