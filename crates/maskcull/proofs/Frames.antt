@@ -10,8 +10,7 @@ use Rattle.cull_base.specs.declared.memory.SinkError.{SinkError}
 use Rattle.cull_base.specs.declared.memory.SinkError.TheVariants as sink
 use Rattle.cull_base.specs.Stream.{SinkSays, Appends, AppendsPrefix, Rose, Writes}
 use Rattle.cull_base.proofs.Streams.{appends_then}
-use Rattle.scene_reader.specs.Layout.{Parts}
-use Rattle.masked_update.proofs.Drawing.{after_is_sound}
+use Rattle.scene_reader.specs.Layout.{Parts, IsScene}
 use Rattle.cull_report.specs.Scene.{frame_pieces, frame_report, frames_text}
 use Rattle.cull_report.specs.Hiding.{HidesTruly}
 use Rattle.cull_report.proofs.Occluders.{hides_truly}
@@ -60,8 +59,8 @@ next_valid s k before last f lt = elim (cases_lt f k) [
   | inr not_less ↦ let is : k ≡ f = omega arith in subst (λ f. ArePieces (frame_pieces s f)) is last
 ]
 
-pub all_hide : (s : Parts) → AllArePieces s → HidesTruly s
-all_hide s all = hides_truly s all (λ frame lt u. after_is_sound u (frame_pieces s frame) (all frame lt))
+pub all_hide : (s : Parts) → IsScene s → AllArePieces s → HidesTruly s
+all_hide s scene all = hides_truly s scene all
 
 failed_later : (f : Failure) (s0 s1 s2 : SinkSays) → s0.faults ≤ s1.faults → IsReportFailure f s1 s2 → IsReportFailure f s0 s2
 failed_later f s0 s1 s2 le h = elim h [

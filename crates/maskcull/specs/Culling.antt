@@ -1,5 +1,5 @@
 -- What a run owes over the bytes that were left in its source.
-use Rattle.std.specs.Prelude.{ℕ, ◌≡◌, ◌<◌, ◌≤◌, List, [], length, Result, Err, OnOk, OnErr, IfErr, ◌⊎◌, Some, None, IfSome}
+use Rattle.std.specs.Prelude.{ℕ, ◌≡◌, ◌<◌, ◌≤◌, List, [], length, Result, Err, OnOk, OnErr, IfErr, ◌⊎◌, Some, IfSome}
 use Rattle.cull_base.specs.Stream.{SourceSays, SinkSays, Rose, Appends, AppendsPrefix, IsNoted}
 use Rattle.scene_reader.specs.Fault.{first_fault, IsRefusal}
 use Rattle.maskcull.specs.Notes.{refusal_text}

@@ -143,6 +143,7 @@ fn report_frames<R: Threads + Wait + Sync, W: Sink>(
     ensures reported { Reports (W.says report.old) (W.says report.new) result
         (frames_text scene.now (length scene.now.cameras)) }
     ensures valid { OnOk result (AllArePieces scene.now) }
+    ensures scene { OnOk result (IsScene scene.now) }
 {
     let nowhere = ClipVertex { x: 0, y: 0, w: 0 };
     let mut clips = vec![in alloc; nowhere; scene.vertices().len()].map_err(|_| Failure::Memory)?;

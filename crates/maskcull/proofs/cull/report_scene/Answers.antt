@@ -2,7 +2,7 @@ use Rattle.std.proofs.Common.{length, Result, Ok, Err}
 use Rattle.std.specs.Prelude.{OnOk}
 use Rattle.std.proofs.lemmas.Result.{err_from_is_err_and}
 use Rattle.cull_report.specs.Scene.{scene_header, frames_text, report_text}
-use Rattle.scene_reader.specs.Layout.{Parts}
+use Rattle.scene_reader.specs.Layout.{Parts, IsScene}
 use Rattle.cull_report.specs.Hiding.{HidesTruly}
 use Rattle.maskcull.specs.declared.failure.Failure.{Failure}
 use Rattle.maskcull.specs.Culling.{AllArePieces}
@@ -10,9 +10,9 @@ use Rattle.maskcull.specs.Outcome.{sink_failure}
 use Rattle.maskcull.proofs.Frames.{all_hide, reports_then, reports_no_more, reports_written}
 use Rattle.maskcull.proofs.cull.report_scene.Goals as goal
 
-hidden_then : (r : Result (Unit {0}) Failure) (s : Parts) → OnOk r (AllArePieces s) → OnOk r (HidesTruly s)
-hidden_then (Ok x) s all = all_hide s all
-hidden_then (Err e) s all = all
+hidden_then : (r : Result (Unit {0}) Failure) (s : Parts) → OnOk r (IsScene s) → OnOk r (AllArePieces s) → OnOk r (HidesTruly s)
+hidden_then (Ok x) s scene all = all_hide s scene all
+hidden_then (Err e) s scene all = all
 
 pub returns-in_err-write_header-clause-reported : goal.returns-in_err-write_header-clause-reported
 unfolding report_text
@@ -31,4 +31,4 @@ returns-clause-reported g c =
     reports_then s0 s1 s2 c.report_frames.result (scene_header s) (frames_text s (length s.cameras)) c.in_ok-write_header.ensures.ok c.write_header.ensures.faults_stay c.report_frames.ensures.reported
 
 pub returns-clause-hidden : goal.returns-clause-hidden
-returns-clause-hidden g c = hidden_then c.report_frames.result c.args.scene.now c.report_frames.ensures.valid
+returns-clause-hidden g c = hidden_then c.report_frames.result c.args.scene.now c.report_frames.ensures.scene c.report_frames.ensures.valid
