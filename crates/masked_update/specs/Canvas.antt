@@ -1,9 +1,9 @@
 -- The tiles of a window of the screen, row by row, that are drawn into.
-use Rattle.std.specs.Prelude.{ℕ, ◌≡◌, ◌+◌, ◌<◌, ◌≤◌, ◌&&◌, nat_eq, Bool, true, false, cond, List, length, take, replicate, slice_set, slice_index_or}
+use Rattle.std.specs.Prelude.{ℕ, ◌≡◌, ◌<◌, ◌≤◌, true, false, List, length, take, replicate, slice_set, slice_index_or}
 use Rattle.cull_base.specs.Piece.{Piece, box_of}
 use Rattle.cull_base.specs.Rectangle.{meets}
 use Rattle.cull_base.specs.Screen.{Dimensions, tile_count_of, tile_place, tile_rect_of}
-use Rattle.cull_base.specs.Span.{has_tile, has_column, number_in, tiles_in}
+use Rattle.cull_base.specs.Span.{has_tile, number_in, tiles_in}
 use Rattle.cull_base.specs.Tiles.{PieceList, tile_list}
 use Rattle.cull_base.specs.declared.place.Tile.{Tile}
 use Rattle.cull_base.specs.declared.tile_span.TileSpan.{TileSpan}

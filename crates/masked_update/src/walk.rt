@@ -48,7 +48,7 @@ fn merge_in_row(canvas: &mut Canvas, piece: &PieceSetup, size: Size, span: TileS
     requires span { IsSpan size span }
     requires row { (span.first_row ≤ row) × (row < span.end_row) }
     requires small { row < 256 }
-    ensures merged { MergedWhere (is_in_row span row) size piece.now canvas.old canvas.new }
+    ensures { MergedWhere (is_in_row span row) size piece.now canvas.old canvas.new }
 {
     let window = canvas.window();
     let start = window.row_start(row);
@@ -72,7 +72,7 @@ fn merge_in_span(canvas: &mut Canvas, piece: &PieceSetup, size: Size, span: Tile
     requires part { IsPartOf canvas.old.window span }
     requires span { IsSpan size span }
     requires sized { IsSize size.width size.height }
-    ensures merged { MergedWhere (has_tile span) size piece.now canvas.old canvas.new }
+    ensures { MergedWhere (has_tile span) size piece.now canvas.old canvas.new }
 {
     let _window = canvas.window();
     for row in span.first_row..span.end_row {
@@ -85,7 +85,7 @@ fn merge_in_span(canvas: &mut Canvas, piece: &PieceSetup, size: Size, span: Tile
 pub fn draw_piece(canvas: &mut Canvas, tri: &ScreenTri, size: Size)
     requires window { IsSpan size canvas.old.window }
     requires counts { (t : ℕ) → IsInWindow size canvas.old.window t → (tile_in size canvas.old t).count < 131072 }
-    ensures taken { TookMet size tri.now canvas.old canvas.new }
+    ensures { TookMet size tri.now canvas.old canvas.new }
 {
     let span = TileSpan::of(&tri.boxed(), size).cut(&canvas.window());
     if !count_in_span(canvas, span, tri.greatest_nearness()) {

@@ -1,4 +1,4 @@
-use Rattle.std.proofs.Common.{rules, ◌≡◌, ◌∷◌, [], ◌++◌, inl, inr, subst, sym, arith, List}
+use Rattle.std.proofs.Common.{rules, ◌∷◌, [], ◌++◌, inl, inr, subst, sym, List}
 use Rattle.std.proofs.lemmas.List.Elements.{Contains-push_cases}
 use Rattle.cull_base.specs.Piece.{Piece, IsPiece}
 use Rattle.cull_base.specs.Tiles.{ArePieces}
