@@ -1,0 +1,170 @@
+-- Parts that get an index, bin by bin and row by row.
+use Rattle.std.proofs.Common.{◌≡◌, ◌⊎◌, inl, inr, ℕ, suc, ◌+◌, ◌*◌, ◌/◌, ◌%◌, ◌<◌, ◌≤◌, List, [], ◌∷◌, ◌++◌, length, set, map, Bool, true, false, ◌&&◌, cond, slice_index_or, nat_eq, arith, refl, ap, ◌∙◌, sym, subst}
+use Rattle.std.specs.List.{range_with_len}
+use Rattle.std.specs.Cmp.{both_ways}
+use Rattle.std.proofs.lemmas.Bool.{eqb-true}
+use Rattle.std.proofs.lemmas.Bool.Decides.{nat_tests, eqb_tells}
+use Rattle.std.proofs.lemmas.Nat.{div-mul-add, mod-mul-add, div-add-mod', mul-add-lt}
+use Rattle.std.proofs.lemmas.List.{append-nil, get_or-set_same, get_or-set_other}
+use Rattle.std.proofs.lemmas.List.FromFn.{get_or-map-range_with_len, length-map-range_with_len, fill_by_all}
+use Rattle.cull_base.specs.declared.rect.Rect.{Rect}
+use Rattle.cull_base.specs.Piece.{Piece, box_of}
+use Rattle.cull_base.specs.Rectangle.{meets}
+use Rattle.cull_base.specs.Span.{is_between}
+use Rattle.cull_base.specs.Tiles.{PieceList}
+use Rattle.binning.specs.Cut.{CutOf, bin_count_of}
+use Rattle.binning.specs.Bins.{bin_rect_of, bin_span_of, has_tiles}
+use Rattle.binning.specs.Grid.{CutScreen}
+use Rattle.binning.specs.Places.{meets_at}
+use Rattle.binning.specs.Parts.{PartOf, part, indices_in, parts_in}
+use Rattle.binning.specs.Pushed.{PushedWhere, with_index, part_at, is_bin_in_row, is_bin_in_rows}
+use Rattle.binning.proofs.Places.{places_in-nil, places_in-next, meets_at-is}
+
+-- of a test that grows by one number
+grows_elsewhere : (first n k : ℕ) → (k ≡ n → ⊥) → is_between first (n + 1) k ≡ is_between first n k
+grows_elsewhere first n k ne = both_ways _ _ (λ h. grind (arith, nat_tests)) (λ h. grind (arith, nat_tests))
+
+pub none_between : (first k : ℕ) → is_between first first k ≡ false
+none_between first k = grind (arith, nat_tests)
+
+before : (first n : ℕ) → is_between first n n ≡ false
+before first n = grind (arith, nat_tests)
+
+last : (first n : ℕ) → first ≤ n → is_between first (n + 1) n ≡ true
+last first n le = grind (arith, nat_tests)
+
+-- the same where the tests agree
+pub same_pushed : (p q : ℕ → Bool) (index : ℕ) (old new : List PartOf) → ((b : ℕ) → b < length old → p b ≡ q b) → PushedWhere p index old new → PushedWhere q index old new
+same_pushed p q index old new same h b lt = h b lt ∙ ap (λ d. cond d (with_index index (part_at old b)) (part_at old b)) (same b lt)
+
+-- none yet
+pub none_pushed : (p : ℕ → Bool) (index : ℕ) (parts : List PartOf) → ((b : ℕ) → b < length parts → p b ≡ false) → PushedWhere p index parts parts
+none_pushed p index parts off b lt = sym (ap (λ d. cond d (with_index index (part_at parts b)) (part_at parts b)) (off b lt))
+
+-- one more
+pub one_pushed : (p q : ℕ → Bool) (index at : ℕ) (old now : List PartOf) → at < length now → p at ≡ false → q at ≡ true → ((b : ℕ) → (b ≡ at → ⊥) → p b ≡ q b)
+    → PushedWhere p index old now → PushedWhere q index old (set now at (with_index index (part_at now at)))
+one_pushed p q index at old now within off on same h b lt =
+    elim (eqb_tells b at) [
+      | inl here ↦
+          let was : part_at now at ≡ part_at old at = ap (part_at now) (sym here.1) ∙ h b lt ∙ ap (λ d. cond d (with_index index (part_at old b)) (part_at old b)) (ap p here.1 ∙ off) ∙ ap (part_at old) here.1 in
+          ap (part_at (set now at (with_index index (part_at now at)))) here.1 ∙ get_or-set_same now at (with_index index (part_at now at)) (part 0 0 []) within
+          ∙ ap (with_index index) was ∙ sym (ap (λ d. cond d (with_index index (part_at old at)) (part_at old at)) on)
+          ∙ ap (λ k. cond (q k) (with_index index (part_at old k)) (part_at old k)) (sym here.1)
+      | inr away ↦ get_or-set_other now at b (with_index index (part_at now at)) (part 0 0 []) away.1 ∙ h b lt
+          ∙ ap (λ d. cond d (with_index index (part_at old b)) (part_at old b)) (same b away.1)
+    ]
+
+-- one after the other, where no bin is in both
+pub both_pushed : (p q r : ℕ → Bool) (index : ℕ) (old now new : List PartOf) → length now ≡ length old → ((b : ℕ) → (p b ≡ false) × (q b ≡ r b) ⊎ (q b ≡ false) × (p b ≡ r b)) 
+    → PushedWhere p index old now → PushedWhere q index now new → PushedWhere r index old new
+both_pushed p q r index old now new len apart h k b lt =
+    let lt' : b < length now = omega arith in
+    elim (apart b) [
+      | inl (off, is) ↦
+          let was : part_at now b ≡ part_at old b = h b lt ∙ ap (λ d. cond d (with_index index (part_at old b)) (part_at old b)) off in
+          k b lt' ∙ ap (λ (s : PartOf). cond (q b) (with_index index s) s) was ∙ ap (λ d. cond d (with_index index (part_at old b)) (part_at old b)) is
+      | inr (off, is) ↦ k b lt' ∙ ap (λ d. cond d (with_index index (part_at now b)) (part_at now b)) off ∙ h b lt ∙ ap (λ d. cond d (with_index index (part_at old b)) (part_at old b)) is
+    ]
+
+and_off : (a d : Bool) → d ≡ false → (a && d) ≡ false
+and_off true d e = e
+and_off false d e = refl
+
+module _ (screen : CutScreen) where
+  columns : ℕ
+  columns = screen.cut.columns
+
+  -- a row's next column
+  pub row_next : (row first column b : ℕ) → column < columns → (b ≡ row * columns + column → ⊥) → is_bin_in_row screen row first column b ≡ is_bin_in_row screen row first (column + 1) b
+  unfolding columns
+  row_next row first column b lt ne = elim (eqb_tells (b / screen.cut.columns) row) [
+    | inr off ↦ rw (off.0, off.0) refl
+    | inl on ↦
+        let away : b % screen.cut.columns ≡ column → ⊥ = λ e. ne (sym (div-add-mod' b screen.cut.columns) ∙ ap (λ n. n * screen.cut.columns + b % screen.cut.columns) on.1 ∙ ap (λ n. row * screen.cut.columns + n) e) in
+        ap (λ d. nat_eq (b / screen.cut.columns) row && (d && has_tiles (bin_span_of screen.size screen.cut b))) (sym (grows_elsewhere first column (b % screen.cut.columns) away))
+  ]
+
+  pub row_before : (row first column : ℕ) → column < columns → is_bin_in_row screen row first column (row * columns + column) ≡ false
+  unfolding columns
+  row_before row first column lt =
+      let n = row * screen.cut.columns + column in
+      let m = mod-mul-add row screen.cut.columns column lt in
+      and_off (nat_eq (n / screen.cut.columns) row) _ (ap (λ d. d && has_tiles (bin_span_of screen.size screen.cut n)) (ap (is_between first column) m ∙ before first column))
+
+  pub row_last : (row first column : ℕ) → column < columns → first ≤ column → is_bin_in_row screen row first (column + 1) (row * columns + column) ≡ has_tiles (bin_span_of screen.size screen.cut (row * columns + column))
+  unfolding columns
+  row_last row first column lt le =
+      let n = row * screen.cut.columns + column in
+      let m = mod-mul-add row screen.cut.columns column lt in
+      let d = div-mul-add row screen.cut.columns column lt in
+      ap (λ k. nat_eq k row && (is_between first (column + 1) (n % screen.cut.columns) && has_tiles (bin_span_of screen.size screen.cut n))) d
+      ∙ ap (λ k. nat_eq row row && (is_between first (column + 1) k && has_tiles (bin_span_of screen.size screen.cut n))) m
+      ∙ ap (λ k. k && (is_between first (column + 1) column && has_tiles (bin_span_of screen.size screen.cut n))) (equal row)
+      ∙ ap (λ k. true && (k && has_tiles (bin_span_of screen.size screen.cut n))) (last first column le)
+    where
+      equal : (k : ℕ) → nat_eq k k ≡ true
+      equal k = grind (arith, nat_tests)
+
+  -- a bin without tiles in the next column changes nothing
+  pub row_skipped : (row first column b : ℕ) → column < columns → has_tiles (bin_span_of screen.size screen.cut (row * columns + column)) ≡ false → first ≤ column → is_bin_in_row screen row first column b ≡ is_bin_in_row screen row first (column + 1) b
+  unfolding columns
+  row_skipped row first column b lt none le = elim (eqb_tells b (row * screen.cut.columns + column)) [
+    | inr away ↦ row_next row first column b lt away.1
+    | inl here ↦ ap (is_bin_in_row screen row first column) here.1 ∙ row_before row first column lt ∙ sym none ∙ sym (row_last row first column lt le) ∙ ap (is_bin_in_row screen row first (column + 1)) (sym here.1)
+  ]
+
+  -- no column, and no row
+  pub row_none : (row first b : ℕ) → is_bin_in_row screen row first first b ≡ false
+  row_none row first b = and_off (nat_eq (b / screen.cut.columns) row) _ (ap (λ d. d && has_tiles (bin_span_of screen.size screen.cut b)) (none_between first (b % screen.cut.columns)))
+
+  pub rows_none : (row first end b : ℕ) → is_bin_in_rows screen row row first end b ≡ false
+  rows_none row first end b = ap (λ d. d && (is_between first end (b % screen.cut.columns) && has_tiles (bin_span_of screen.size screen.cut b))) (none_between row (b / screen.cut.columns))
+
+  -- one row more
+  pub row_more : (first_row row first end b : ℕ) → first_row ≤ row
+      → ((is_bin_in_rows screen first_row row first end b ≡ false) × (is_bin_in_row screen row first end b ≡ is_bin_in_rows screen first_row (row + 1) first end b))
+      ⊎ ((is_bin_in_row screen row first end b ≡ false) × (is_bin_in_rows screen first_row row first end b ≡ is_bin_in_rows screen first_row (row + 1) first end b))
+  row_more first_row row first end b le =
+      let r = b / screen.cut.columns in
+      let inside = is_between first end (b % screen.cut.columns) && has_tiles (bin_span_of screen.size screen.cut b) in
+      elim (eqb_tells r row) [
+        | inl on ↦ inl (
+          ap (λ d. d && inside) (ap (is_between first_row row) on.1 ∙ before first_row row),
+          ap (λ d. d && inside) (on.0 ∙ sym (last first_row row le) ∙ ap (is_between first_row (row + 1)) (sym on.1)),
+        )
+        | inr off ↦ inr (
+          ap (λ d. d && inside) off.0,
+          ap (λ d. d && inside) (sym (grows_elsewhere first_row row r off.1)),
+        )
+      ]
+
+-- the parts of a batch with one member more
+pub next_parts : (list : PieceList) (cut : CutOf) (batch from index : ℕ) (x : Piece) (old new : List PartOf) → old ≡ parts_in list cut batch from index → length new ≡ length old
+    → from ≤ index → index < length list.members → slice_index_or list.members index x ≡ x → PushedWhere (λ b. meets (box_of x) (bin_rect_of list.size cut b)) index old new
+    → new ≡ parts_in list cut batch from (index + 1)
+next_parts list cut batch from index x old new e len le lt is h =
+    let n = bin_count_of cut in
+    let f : ℕ → PartOf = λ bin. part bin batch (indices_in list cut from index bin) in
+    let g : ℕ → PartOf = λ bin. part bin batch (indices_in list cut from (index + 1) bin) in
+    let count : length old ≡ n = ap length e ∙ length-map-range_with_len f 0 n in
+    fill_by_all g new n (part 0 0 []) (len ∙ count) (λ k kn.
+        let was : part_at old k ≡ f k = ap (λ ps. part_at ps k) e ∙ get_or-map-range_with_len f 0 n k k (part 0 0 []) kn (let z : 0 + k ≡ k = omega arith in z) in
+        let test : meets (box_of x) (bin_rect_of list.size cut k) ≡ meets_at (bin_rect_of list.size cut k) list.members index = sym (meets_at-is (bin_rect_of list.size cut k) list.members index x lt is) in
+        h k (let b : k < length old = omega (arith, count, kn) in b)
+        ∙ ap (λ (s : PartOf). cond (meets (box_of x) (bin_rect_of list.size cut k)) (with_index index s) s) was
+        ∙ ap (λ d. cond d (with_index index (f k)) (f k)) test
+        ∙ joined (meets_at (bin_rect_of list.size cut k) list.members index) k batch index (indices_in list cut from index k)
+        ∙ ap (part k batch) (sym (places_in-next (bin_rect_of list.size cut k) list.members from index le)))
+  where
+    joined : (b : Bool) (k batch index : ℕ) (indices : List ℕ) → cond b (with_index index (part k batch indices)) (part k batch indices) ≡ part k batch (indices ++ cond b (index ∷ []) [])
+    joined true k batch index indices = refl
+    joined false k batch index indices = ap (part k batch) (sym (append-nil indices))
+
+-- the parts of no member
+pub no_parts : (list : PieceList) (cut : CutOf) (batch from : ℕ) → parts_in list cut batch from from ≡ map (λ bin. part bin batch []) (range_with_len 0 (bin_count_of cut))
+no_parts list cut batch from = by (range_with_len 0 (bin_count_of cut))
+  where
+    by : (bins : List ℕ) → map (λ bin. part bin batch (indices_in list cut from from bin)) bins ≡ map (λ bin. part bin batch []) bins
+    by [] = refl
+    by (b ∷ bins) = (λ i. part b batch (places_in-nil (bin_rect_of list.size cut b) list.members from i) ∷ by bins i)
