@@ -1,5 +1,5 @@
 -- Bins along one axis: which tile stands in which bin.
-use Rattle.std.proofs.Common.{◌≡◌, inl, inr, ℕ, suc, ◌+◌, ◌-◌, ◌*◌, ◌/◌, ◌%◌, ◌^◌, ◌<◌, ◌≤◌, min, max, Bool, true, ◌&&◌, nat_lt, nat_eq, arith, refl, sym, ◌∙◌}
+use Rattle.std.proofs.Common.{◌≡◌, inl, inr, ℕ, suc, ◌+◌, ◌-◌, ◌*◌, ◌/◌, ◌^◌, ◌<◌, ◌≤◌, min, max, true, ◌&&◌, nat_lt, nat_eq, arith, ap, ◌∙◌}
 use Rattle.std.specs.Int.{div_ceil}
 use Rattle.std.specs.Cmp.{both_ways}
 use Rattle.std.proofs.lemmas.Bool.{cases_lt, lt-ltb}
@@ -8,7 +8,7 @@ use Rattle.std.proofs.lemmas.Grind.{div_ceil_times}
 use Rattle.std.proofs.lemmas.Nat.{le-div, div_below}
 use Rattle.std.proofs.Math.Nat.{div-mul-le_self, mul-le-mul_left, mul-le-mul_right, div-add-mod, mod-lt}
 use Rattle.cull_base.specs.Span.{is_between}
-use Rattle.binning.specs.Axis.{IsCutAxis, IsStepOf, ReachesAlong, bin_along, first_along, has_tile_along, shares_tile_along}
+use Rattle.binning.specs.Axis.{IsCutAxis, IsStepOf, ReachesAlong, bin_along, first_along, has_tile_along}
 
 -- a quotient rounded up is the least number that is enough
 ceil_enough : (x d n : ℕ) → 0 < d → div_ceil x d ≤ n → x ≤ n * d
@@ -83,8 +83,12 @@ by_step bins tiles step n s lt =
     let low = div-mul-le_self (n * bins) tiles in
     let high = below_next (n * bins) tiles any in
     let t = div_ceil_times (2 ^ 20) tiles any in
-    rw s.is_step (whole (n * bins) (div_ceil (2 ^ 20) tiles) q tiles (omega (arith, wide)) (omega (arith, t.0)) (omega (arith, t.1, s.sizes.few_tiles)) low high)
+    ap (λ k. k / 2 ^ 20) (ap (λ k. n * k) s.is_step ∙ product n bins (div_ceil (2 ^ 20) tiles))
+    ∙ whole (n * bins) (div_ceil (2 ^ 20) tiles) q tiles (omega (arith, wide)) (omega (arith, t.0)) (omega (arith, t.1, s.sizes.few_tiles)) low high
   where
+    product : (a b c : ℕ) → a * (b * c) ≡ a * b * c
+    product a b c = omega arith
+
     mul-le-mul_both : (a b m n : ℕ) → a ≤ m → b ≤ n → a * b ≤ m * n
     mul-le-mul_both a b m n p q = let x : a * b ≤ m * b = mul-le-mul_right b p in let y : m * b ≤ m * n = mul-le-mul_left m q in omega (arith, x, y)
 
@@ -104,6 +108,12 @@ by_step bins tiles step n s lt =
               absurd (omega (arith, u, v, high, few))
         ] in
         omega (arith, lower, upper)
+
+pub bins_rise : (bins tiles m n : ℕ) → 0 < bins → 0 < tiles → m ≤ n → bin_along bins tiles m ≤ bin_along bins tiles n
+bins_rise bins tiles m n some any le =
+    let h : bin_along bins tiles m ≤ bin_along bins tiles m = omega arith in
+    let f = from_first bins tiles (bin_along bins tiles m) m some h in
+    to_first bins tiles (bin_along bins tiles m) n some any (omega (arith, f, le))
 
 -- the bins from that of a first tile to that of the last
 pub reached_is : (bins tiles first end : ℕ) → IsCutAxis bins tiles → first < end → ReachesAlong bins tiles first end (bin_along bins tiles first) (bin_along bins tiles (end - 1) + 1)

@@ -1,10 +1,9 @@
 -- The tiles of a bin, and their pixels.
-use Rattle.std.proofs.Common.{◌≡◌, inl, inr, ℕ, suc, ℤ, pos, negsuc, ◌+◌, ◌*◌, ◌/◌, ◌%◌, ◌<◌, ◌≤◌, ◌<ℤ◌, ◌≤ℤ◌, min, Bool, true, false, ◌&&◌, cond, nat_lt, nat_eq, arith, refl, ap, ◌∙◌, sym, subst, IsTrue}
+use Rattle.std.proofs.Common.{◌≡◌, ℕ, ℤ, pos, negsuc, ◌+◌, ◌-◌, ◌*◌, ◌/◌, ◌%◌, ◌<◌, ◌≤◌, ◌<ℤ◌, ◌≤ℤ◌, min, Bool, true, false, ◌&&◌, cond, nat_lt, nat_eq, arith, refl, ap, ◌∙◌, sym, subst}
 use Rattle.std.specs.Prelude.{◌↔◌}
 use Rattle.std.specs.Cmp.{both_ways}
 use Rattle.std.specs.Int.{div_ceil}
 use Rattle.std.proofs.lemmas.Bool.{and_parts, and_from, eq-eqb, eqb-true, lt-ltb, ltb-true, le-leb, leb-true}
-use Rattle.std.proofs.lemmas.Bool.Decides.{nat_tests}
 use Rattle.std.proofs.lemmas.Int.{ints}
 use Rattle.std.proofs.lemmas.Nat.{div-mul-add, mod-mul-add, div-add-mod', mul-add-lt, mod_below}
 use Rattle.cull_base.proofs.Places.{row_below}
@@ -15,9 +14,9 @@ use Rattle.cull_base.specs.Screen.{Dimensions, IsSize, tile_columns_of, tile_row
 use Rattle.cull_base.specs.Span.{is_between, has_tile, IsSpan}
 use Rattle.cull_base.proofs.Rectangles.{meets_pixel}
 use Rattle.binning.specs.Cut.{CutOf, IsCut}
-use Rattle.binning.specs.Axis.{bin_along, first_along}
-use Rattle.binning.specs.Bins.{bin_of, bin_span_of, bin_rect_of, span_rect_of, has_tiles, HasTilesOfBin, HasNoTile, IsInTileOfBin}
-use Rattle.binning.proofs.Axes.{between_firsts, bin_below, firsts_rise, first_below}
+use Rattle.binning.specs.Axis.{bin_along, first_along, has_tile_along}
+use Rattle.binning.specs.Bins.{bin_of, bin_span_of, bin_rect_of, span_rect_of, pixels_of, spread_of, has_tiles, HasTilesOfBin, HasNoTile, IsInTileOfBin}
+use Rattle.binning.proofs.Axes.{between_firsts, bin_below, firsts_rise, first_below, each_has_tile}
 
 -- the tiles along each axis
 pub some_tile_columns : (size : Dimensions) → IsSize size.width size.height → 0 < tile_columns_of size
@@ -113,21 +112,18 @@ row_of first end w (pos m) h k = (m / 8, record { from = omega (arith, ints, h);
 row_of first end w (negsuc m) h k = absurd (omega (arith, ints, h))
 
 some_tiles : (span : TileSpan) (column row : ℕ) → Holds span column row → has_tiles span ≡ true
-some_tiles span column row h = and_from _ _ (lt-ltb _ _ (omega (arith, h.from_column, h.to_column))) (lt-ltb _ _ (omega (arith, h.from_row, h.to_row)))
+some_tiles span column row h =
+    and_from (nat_lt span.first_column span.end_column) (nat_lt span.first_row span.end_row) (lt-ltb span.first_column span.end_column (omega (arith, h.from_column, h.to_column))) (lt-ltb span.first_row span.end_row (omega (arith, h.from_row, h.to_row)))
 
 -- a pixel of a bin's rectangle lies in a tile of the bin
 pub pixel_in_tile : (size : Dimensions) (cut : CutOf) (b : ℕ) (x y : ℤ) → IsSize size.width size.height → IsCut cut.columns cut.rows → HasPixel (bin_rect_of size cut b) x y → IsInTileOfBin size cut b x y
 unfolding bin_rect_of
 pixel_in_tile size cut b x y valid is h = by (has_tiles (bin_span_of size cut b)) h
   where
-    abbrev span : TileSpan
-    span = bin_span_of size cut b
-
-    abbrev columns : ℕ
-    columns = tile_columns_of size
-
-    by : (on : Bool) → HasPixel (cond on (span_rect_of size span) no_pixels) x y → IsInTileOfBin size cut b x y
+    by : (on : Bool) → HasPixel (cond on (pixels_of size (bin_span_of size cut b)) no_pixels) x y → IsInTileOfBin size cut b x y
     by true p =
+        let span = bin_span_of size cut b in
+        let columns = tile_columns_of size in
         let (c, across) = column_of span.first_column span.end_column size.width x p.0 p.1 in
         let (r, down) = row_of span.first_row span.end_row size.height y p.2 p.3 in
         let at = tile_at_place size c r across.within down.within in
@@ -144,7 +140,7 @@ tile_in_pixel size cut b t x y valid is lt e p =
     let h = holds span (t % tile_columns_of size) (t / tile_columns_of size) (in_span size cut b t valid is lt e) in
     let across = columns_of (t % tile_columns_of size) span.first_column span.end_column size.width x h.from_column h.to_column p.0 p.1 in
     let down = rows_of (t / tile_columns_of size) span.first_row span.end_row size.height y h.from_row h.to_row p.2 p.3 in
-    subst (λ d. HasPixel (cond d (span_rect_of size span) no_pixels) x y) (sym (some_tiles span _ _ h)) (across.0, across.1, down.0, down.1)
+    subst (λ d. HasPixel (cond d (pixels_of size span) no_pixels) x y) (sym (some_tiles span _ _ h)) (across.0, across.1, down.0, down.1)
 
 pub bin_pixels : (size : Dimensions) (cut : CutOf) (b : ℕ) (x y : ℤ) → IsSize size.width size.height → IsCut cut.columns cut.rows → HasPixel (bin_rect_of size cut b) x y ↔ IsInTileOfBin size cut b x y
 bin_pixels size cut b x y valid is = (
@@ -157,11 +153,11 @@ pub bin_of_none : (size : Dimensions) (cut : CutOf) (b : ℕ) → IsSize size.wi
 unfolding bin_rect_of
 bin_of_none size cut b valid is lt none = by (has_tiles (bin_span_of size cut b)) refl
   where
-    by : (on : Bool) → has_tiles (bin_span_of size cut b) ≡ on → cond on (span_rect_of size (bin_span_of size cut b)) no_pixels ≡ no_pixels
+    by : (on : Bool) → has_tiles (bin_span_of size cut b) ≡ on → cond on (pixels_of size (bin_span_of size cut b)) no_pixels ≡ no_pixels
     by true e =
         let span = bin_span_of size cut b in
-        let (c, r) = and_parts _ _ e in
-        let column = ltb-true _ _ c in let row = ltb-true _ _ r in
+        let (c, r) = and_parts (nat_lt span.first_column span.end_column) (nat_lt span.first_row span.end_row) e in
+        let column = ltb-true span.first_column span.end_column c in let row = ltb-true span.first_row span.end_row r in
         let within = bin_is_span size cut b is lt in
         let at = tile_at_place size span.first_column span.first_row (omega (arith, column, within.columns_within)) (omega (arith, row, within.rows_within)) in
         let on = held span span.first_column span.first_row (record { from_column = omega arith; to_column = column; from_row = omega arith; to_row = row }) in
@@ -192,3 +188,40 @@ none_meets_bin size cut box b t valid is lt e off = by (meets box (tile_rect_of 
     by : (m : Bool) → meets box (tile_rect_of size t) ≡ m → m ≡ false
     by true on = sym (tile_meets_bin size cut box b t valid is lt e on) ∙ off
     by false on = refl
+
+-- whether the bin at a column and a row has tiles
+pub has_tiles_at : (size : Dimensions) (cut : CutOf) (column row : ℕ) → column < cut.columns
+    → has_tiles (bin_span_of size cut (row * cut.columns + column)) ≡ (has_tile_along cut.columns (tile_columns_of size) column && has_tile_along cut.rows (tile_rows_of size) row)
+unfolding bin_span_of
+has_tiles_at size cut column row lt = rw (mod-mul-add row cut.columns column lt, div-mul-add row cut.columns column lt) refl
+
+-- of a grid with at least as many tiles as bins along each axis every bin does
+pub full_has_tiles : (size : Dimensions) (cut : CutOf) (column row : ℕ) → column < cut.columns → IsCut cut.columns cut.rows → cut.columns ≤ tile_columns_of size → cut.rows ≤ tile_rows_of size
+    → has_tiles (bin_span_of size cut (row * cut.columns + column)) ≡ true
+full_has_tiles size cut column row lt is across down =
+    has_tiles_at size cut column row lt ∙ and_from _ _ (each_has_tile cut.columns (tile_columns_of size) column (omega (arith, is.some_columns)) across) (each_has_tile cut.rows (tile_rows_of size) row (omega (arith, is.some_rows)) down)
+
+-- the pixels of a span of tiles go from those of its first tile to those of its last
+pub spread_is : (size : Dimensions) (span : TileSpan) (columns : ℕ) (first last : Rect) → columns ≡ tile_columns_of size → IsSpan size span → has_tiles span ≡ true
+    → first ≡ tile_rect_of size (span.first_row * columns + span.first_column) → last ≡ tile_rect_of size ((span.end_row - 1) * columns + (span.end_column - 1)) → spread_of first last ≡ span_rect_of size span
+spread_is size span columns first last e within on f l =
+    let (c, r) = and_parts (nat_lt span.first_column span.end_column) (nat_lt span.first_row span.end_row) on in
+    let column = ltb-true span.first_column span.end_column c in let row = ltb-true span.first_row span.end_row r in
+    let at = tile_at_place size span.first_column span.first_row (omega (arith, column, within.columns_within)) (omega (arith, row, within.rows_within)) in
+    let to = tile_at_place size (span.end_column - 1) (span.end_row - 1) (omega (arith, column, within.columns_within)) (omega (arith, row, within.rows_within)) in
+    let x1 : 32 * (span.end_column - 1) + 32 ≡ 32 * span.end_column = omega (arith, column) in
+    let y1 : 8 * (span.end_row - 1) + 8 ≡ 8 * span.end_row = omega (arith, row) in
+    rw (f, l, e, on, at.1, at.2, to.1, to.2, x1, y1) refl
+
+-- the tile in which a span with tiles begins, and the one with which it ends
+pub first_within : (size : Dimensions) (span : TileSpan) (columns : ℕ) → columns ≡ tile_columns_of size → IsSpan size span → has_tiles span ≡ true → span.first_row * columns + span.first_column < tile_count_of size
+first_within size span columns e within on =
+    let (c, r) = and_parts (nat_lt span.first_column span.end_column) (nat_lt span.first_row span.end_row) on in
+    let column = ltb-true span.first_column span.end_column c in let row = ltb-true span.first_row span.end_row r in
+    rw e (tile_at_place size span.first_column span.first_row (omega (arith, column, within.columns_within)) (omega (arith, row, within.rows_within))).0
+
+pub last_within : (size : Dimensions) (span : TileSpan) (columns : ℕ) → columns ≡ tile_columns_of size → IsSpan size span → has_tiles span ≡ true → (span.end_row - 1) * columns + (span.end_column - 1) < tile_count_of size
+last_within size span columns e within on =
+    let (c, r) = and_parts (nat_lt span.first_column span.end_column) (nat_lt span.first_row span.end_row) on in
+    let column = ltb-true span.first_column span.end_column c in let row = ltb-true span.first_row span.end_row r in
+    rw e (tile_at_place size (span.end_column - 1) (span.end_row - 1) (omega (arith, column, within.columns_within)) (omega (arith, row, within.rows_within))).0

@@ -1,5 +1,5 @@
 -- The law of parts: all parts of a bin together, filtered to a tile of the bin.
-use Rattle.std.proofs.Common.{◌≡◌, ◌⊎◌, inl, inr, ℕ, zero, suc, ◌+◌, ◌*◌, ◌<◌, ◌≤◌, min, List, [], ◌∷◌, ◌++◌, length, take, Bool, true, false, arith, refl, ap, ◌∙◌, sym, subst}
+use Rattle.std.proofs.Common.{◌≡◌, inl, inr, ℕ, zero, suc, ◌+◌, ◌*◌, ◌<◌, ◌≤◌, min, List, [], ◌∷◌, ◌++◌, length, Bool, true, false, arith, refl, ap, ◌∙◌, sym, subst}
 use Rattle.std.specs.List.{filter, flat_map, range_with_len}
 use Rattle.std.specs.Int.{div_ceil}
 use Rattle.std.proofs.lemmas.Bool.{cases_lt}
@@ -13,7 +13,7 @@ use Rattle.cull_base.specs.Tiles.{PieceList, tile_list}
 use Rattle.binning.specs.Cut.{CutOf, IsCut}
 use Rattle.binning.specs.Bins.{bin_of, bin_rect_of}
 use Rattle.binning.specs.Places.{member_at, places_in, members_at}
-use Rattle.binning.specs.Parts.{batch_count_of, indices_in, part_of, members_in, meeting_tile, PartsMakeTileList}
+use Rattle.binning.specs.Parts.{batch_count_of, indices_in, part_of, members_in, PartsMakeTileList}
 use Rattle.binning.proofs.BinSpans.{none_meets_bin}
 use Rattle.binning.proofs.Places.{places_in-nil, places_in-append, members_at-places_in, range_more}
 
@@ -45,11 +45,13 @@ members_in-is list cut size bin (suc n) some le =
     let rest = members_in-is list cut size bin n some (omega arith) ∙ ap (λ k. members_at list.members (indices_in list cut 0 k bin)) before in
     let f : ℕ → List Piece = λ i. members_at list.members (part_of list cut size i bin) in
     let e : suc n ≡ n + 1 = omega arith in
-    rw e (ap (flat_map f) (range_more 0 n) ∙ flat_map-append f (range_with_len 0 n) ((0 + n) ∷ []) ∙ ap (λ ts. ts ++ flat_map f ((0 + n) ∷ [])) rest
+    let more : members_in list cut size bin (n + 1) ≡ members_at list.members (indices_in list cut 0 to bin) =
+    ap (flat_map f) (range_more 0 n) ∙ flat_map-append f (range_with_len 0 n) ((0 + n) ∷ []) ∙ ap (λ ts. ts ++ flat_map f ((0 + n) ∷ [])) rest
     ∙ ap (λ k. members_at list.members (indices_in list cut 0 (n * size) bin) ++ flat_map f (k ∷ [])) (let z : 0 + n ≡ n = omega arith in z)
     ∙ ap (λ ts. members_at list.members (indices_in list cut 0 (n * size) bin) ++ ts) (append-nil (f n))
     ∙ sym (map-append (member_at list.members) (places_in rect list.members 0 (n * size)) (places_in rect list.members (n * size) to))
-    ∙ ap (members_at list.members) (sym (places_in-append rect list.members 0 (n * size) to (omega arith) (omega (arith, from)))))
+    ∙ ap (members_at list.members) (sym (places_in-append rect list.members 0 (n * size) to (omega arith) (omega (arith, from)))) in
+    subst (λ k. members_in list cut size bin k ≡ members_at list.members (indices_in list cut 0 (min (k * size) len) bin)) (sym e) more
 
 -- a filter after a weaker one
 filter-filter : (p q : Piece → Bool) → ((t : Piece) → q t ≡ false → p t ≡ false) → (xs : List Piece) → filter p (filter q xs) ≡ filter p xs
@@ -57,8 +59,8 @@ filter-filter p q weaker [] = refl
 filter-filter p q weaker (x ∷ xs) = by (q x) (p x) refl refl (filter-filter p q weaker xs)
   where
     by : (b d : Bool) → q x ≡ b → p x ≡ d → filter p (filter q xs) ≡ filter p xs → filter p (filter q (x ∷ xs)) ≡ filter p (x ∷ xs)
-    by true true e f rest = rw (e, f, f) (ap (λ ts. x ∷ ts) rest)
-    by true false e f rest = rw (e, f, f) rest
+    by true true e f rest = rw (e, f) (ap (λ ts. x ∷ ts) rest)
+    by true false e f rest = rw (e, f) rest
     by false true e f rest = let no : true ≡ false = sym f ∙ weaker x e in absurd cc
     by false false e f rest = rw (e, f) rest
 
@@ -72,8 +74,8 @@ parts_make_tile_list list cut size tile valid is some lt =
     let tile_has : Piece → Bool = λ t. meets (box_of t) (tile_rect_of list.size tile) in
     let bin_has : Piece → Bool = λ t. meets (box_of t) rect in
     ap (filter tile_has) (
-      members_in-is list cut size bin (batch_count_of len size) some (omega arith)
-      ∙ ap (λ k. members_at list.members (indices_in list cut 0 k bin)) (batches_end len size some)
-      ∙ members_at-places_in rect list.members len (omega arith)
-      ∙ ap (filter bin_has) (take_all len list.members (omega arith)))
+    members_in-is list cut size bin (batch_count_of len size) some (omega arith)
+    ∙ ap (λ k. members_at list.members (indices_in list cut 0 k bin)) (batches_end len size some)
+    ∙ members_at-places_in rect list.members len (omega arith)
+    ∙ ap (filter bin_has) (take_all len list.members (omega arith)))
     ∙ filter-filter tile_has bin_has (λ t off. none_meets_bin list.size cut (box_of t) bin tile valid is lt refl off) list.members

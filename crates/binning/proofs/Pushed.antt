@@ -1,13 +1,11 @@
 -- Parts that get an index, bin by bin and row by row.
-use Rattle.std.proofs.Common.{◌≡◌, ◌⊎◌, inl, inr, ℕ, suc, ◌+◌, ◌*◌, ◌/◌, ◌%◌, ◌<◌, ◌≤◌, List, [], ◌∷◌, ◌++◌, length, set, map, Bool, true, false, ◌&&◌, cond, slice_index_or, nat_eq, arith, refl, ap, ◌∙◌, sym, subst}
+use Rattle.std.proofs.Common.{◌≡◌, ◌⊎◌, inl, inr, ℕ, ◌+◌, ◌*◌, ◌/◌, ◌%◌, ◌<◌, ◌≤◌, List, [], ◌∷◌, ◌++◌, length, set, map, Bool, true, false, ◌&&◌, cond, slice_index_or, nat_eq, arith, refl, ap, ◌∙◌, sym}
 use Rattle.std.specs.List.{range_with_len}
 use Rattle.std.specs.Cmp.{both_ways}
-use Rattle.std.proofs.lemmas.Bool.{eqb-true}
 use Rattle.std.proofs.lemmas.Bool.Decides.{nat_tests, eqb_tells}
-use Rattle.std.proofs.lemmas.Nat.{div-mul-add, mod-mul-add, div-add-mod', mul-add-lt}
+use Rattle.std.proofs.lemmas.Nat.{div-mul-add, mod-mul-add, div-add-mod'}
 use Rattle.std.proofs.lemmas.List.{append-nil, get_or-set_same, get_or-set_other}
 use Rattle.std.proofs.lemmas.List.FromFn.{get_or-map-range_with_len, length-map-range_with_len, fill_by_all}
-use Rattle.cull_base.specs.declared.rect.Rect.{Rect}
 use Rattle.cull_base.specs.Piece.{Piece, box_of}
 use Rattle.cull_base.specs.Rectangle.{meets}
 use Rattle.cull_base.specs.Span.{is_between}
@@ -56,7 +54,7 @@ one_pushed p q index at old now within off on same h b lt =
     ]
 
 -- one after the other, where no bin is in both
-pub both_pushed : (p q r : ℕ → Bool) (index : ℕ) (old now new : List PartOf) → length now ≡ length old → ((b : ℕ) → (p b ≡ false) × (q b ≡ r b) ⊎ (q b ≡ false) × (p b ≡ r b)) 
+pub both_pushed : (p q r : ℕ → Bool) (index : ℕ) (old now new : List PartOf) → length now ≡ length old → ((b : ℕ) → (p b ≡ false) × (q b ≡ r b) ⊎ (q b ≡ false) × (p b ≡ r b))
     → PushedWhere p index old now → PushedWhere q index now new → PushedWhere r index old new
 both_pushed p q r index old now new len apart h k b lt =
     let lt' : b < length now = omega arith in
@@ -72,28 +70,24 @@ and_off true d e = e
 and_off false d e = refl
 
 module _ (screen : CutScreen) where
-  columns : ℕ
-  columns = screen.cut.columns
-
   -- a row's next column
-  pub row_next : (row first column b : ℕ) → column < columns → (b ≡ row * columns + column → ⊥) → is_bin_in_row screen row first column b ≡ is_bin_in_row screen row first (column + 1) b
-  unfolding columns
+  pub row_next : (row first column b : ℕ) → column < screen.cut.columns → (b ≡ row * screen.cut.columns + column → ⊥) → is_bin_in_row screen row first column b ≡ is_bin_in_row screen row first (column + 1) b
   row_next row first column b lt ne = elim (eqb_tells (b / screen.cut.columns) row) [
-    | inr off ↦ rw (off.0, off.0) refl
+    | inr off ↦
+        ap (λ d. d && (is_between first column (b % screen.cut.columns) && has_tiles (bin_span_of screen.size screen.cut b))) off.0
+        ∙ sym (ap (λ d. d && (is_between first (column + 1) (b % screen.cut.columns) && has_tiles (bin_span_of screen.size screen.cut b))) off.0)
     | inl on ↦
         let away : b % screen.cut.columns ≡ column → ⊥ = λ e. ne (sym (div-add-mod' b screen.cut.columns) ∙ ap (λ n. n * screen.cut.columns + b % screen.cut.columns) on.1 ∙ ap (λ n. row * screen.cut.columns + n) e) in
         ap (λ d. nat_eq (b / screen.cut.columns) row && (d && has_tiles (bin_span_of screen.size screen.cut b))) (sym (grows_elsewhere first column (b % screen.cut.columns) away))
   ]
 
-  pub row_before : (row first column : ℕ) → column < columns → is_bin_in_row screen row first column (row * columns + column) ≡ false
-  unfolding columns
+  pub row_before : (row first column : ℕ) → column < screen.cut.columns → is_bin_in_row screen row first column (row * screen.cut.columns + column) ≡ false
   row_before row first column lt =
       let n = row * screen.cut.columns + column in
       let m = mod-mul-add row screen.cut.columns column lt in
       and_off (nat_eq (n / screen.cut.columns) row) _ (ap (λ d. d && has_tiles (bin_span_of screen.size screen.cut n)) (ap (is_between first column) m ∙ before first column))
 
-  pub row_last : (row first column : ℕ) → column < columns → first ≤ column → is_bin_in_row screen row first (column + 1) (row * columns + column) ≡ has_tiles (bin_span_of screen.size screen.cut (row * columns + column))
-  unfolding columns
+  pub row_last : (row first column : ℕ) → column < screen.cut.columns → first ≤ column → is_bin_in_row screen row first (column + 1) (row * screen.cut.columns + column) ≡ has_tiles (bin_span_of screen.size screen.cut (row * screen.cut.columns + column))
   row_last row first column lt le =
       let n = row * screen.cut.columns + column in
       let m = mod-mul-add row screen.cut.columns column lt in
@@ -107,8 +101,7 @@ module _ (screen : CutScreen) where
       equal k = grind (arith, nat_tests)
 
   -- a bin without tiles in the next column changes nothing
-  pub row_skipped : (row first column b : ℕ) → column < columns → has_tiles (bin_span_of screen.size screen.cut (row * columns + column)) ≡ false → first ≤ column → is_bin_in_row screen row first column b ≡ is_bin_in_row screen row first (column + 1) b
-  unfolding columns
+  pub row_skipped : (row first column b : ℕ) → column < screen.cut.columns → has_tiles (bin_span_of screen.size screen.cut (row * screen.cut.columns + column)) ≡ false → first ≤ column → is_bin_in_row screen row first column b ≡ is_bin_in_row screen row first (column + 1) b
   row_skipped row first column b lt none le = elim (eqb_tells b (row * screen.cut.columns + column)) [
     | inr away ↦ row_next row first column b lt away.1
     | inl here ↦ ap (is_bin_in_row screen row first column) here.1 ∙ row_before row first column lt ∙ sym none ∙ sym (row_last row first column lt le) ∙ ap (is_bin_in_row screen row first (column + 1)) (sym here.1)
@@ -149,13 +142,13 @@ next_parts list cut batch from index x old new e len le lt is h =
     let g : ℕ → PartOf = λ bin. part bin batch (indices_in list cut from (index + 1) bin) in
     let count : length old ≡ n = ap length e ∙ length-map-range_with_len f 0 n in
     fill_by_all g new n (part 0 0 []) (len ∙ count) (λ k kn.
-        let was : part_at old k ≡ f k = ap (λ ps. part_at ps k) e ∙ get_or-map-range_with_len f 0 n k k (part 0 0 []) kn (let z : 0 + k ≡ k = omega arith in z) in
-        let test : meets (box_of x) (bin_rect_of list.size cut k) ≡ meets_at (bin_rect_of list.size cut k) list.members index = sym (meets_at-is (bin_rect_of list.size cut k) list.members index x lt is) in
-        h k (let b : k < length old = omega (arith, count, kn) in b)
-        ∙ ap (λ (s : PartOf). cond (meets (box_of x) (bin_rect_of list.size cut k)) (with_index index s) s) was
-        ∙ ap (λ d. cond d (with_index index (f k)) (f k)) test
-        ∙ joined (meets_at (bin_rect_of list.size cut k) list.members index) k batch index (indices_in list cut from index k)
-        ∙ ap (part k batch) (sym (places_in-next (bin_rect_of list.size cut k) list.members from index le)))
+    let was : part_at old k ≡ f k = ap (λ ps. part_at ps k) e ∙ get_or-map-range_with_len f 0 n k k (part 0 0 []) kn (let z : 0 + k ≡ k = omega arith in z) in
+    let test : meets (box_of x) (bin_rect_of list.size cut k) ≡ meets_at (bin_rect_of list.size cut k) list.members index = sym (meets_at-is (bin_rect_of list.size cut k) list.members index x lt is) in
+    h k (let b : k < length old = omega (arith, count, kn) in b)
+    ∙ ap (λ (s : PartOf). cond (meets (box_of x) (bin_rect_of list.size cut k)) (with_index index s) s) was
+    ∙ ap (λ d. cond d (with_index index (f k)) (f k)) test
+    ∙ joined (meets_at (bin_rect_of list.size cut k) list.members index) k batch index (indices_in list cut from index k)
+    ∙ ap (part k batch) (sym (places_in-next (bin_rect_of list.size cut k) list.members from index le)))
   where
     joined : (b : Bool) (k batch index : ℕ) (indices : List ℕ) → cond b (with_index index (part k batch indices)) (part k batch indices) ≡ part k batch (indices ++ cond b (index ∷ []) [])
     joined true k batch index indices = refl
@@ -168,3 +161,7 @@ no_parts list cut batch from = by (range_with_len 0 (bin_count_of cut))
     by : (bins : List ℕ) → map (λ bin. part bin batch (indices_in list cut from from bin)) bins ≡ map (λ bin. part bin batch []) bins
     by [] = refl
     by (b ∷ bins) = (λ i. part b batch (places_in-nil (bin_rect_of list.size cut b) list.members from i) ∷ by bins i)
+
+-- how many parts there are
+pub length-parts_in : (list : PieceList) (cut : CutOf) (batch from to : ℕ) → length (parts_in list cut batch from to) ≡ bin_count_of cut
+length-parts_in list cut batch from to = length-map-range_with_len (λ bin. part bin batch (indices_in list cut from to bin)) 0 (bin_count_of cut)

@@ -35,20 +35,26 @@ HasTilesOfBin span size cut bin =
 abbrev pub has_tiles : TileSpan → Bool
 has_tiles span = nat_lt span.first_column span.end_column && nat_lt span.first_row span.end_row
 
--- the pixels on the screen of the tiles of a span that has some
-abbrev pub span_rect_of : Dimensions → TileSpan → Rect
-span_rect_of size span = record {
+-- from the first corner of one rectangle to the second of another
+abbrev pub spread_of : Rect → Rect → Rect
+spread_of first last = record { x0 = first.x0; y0 = first.y0; x1 = last.x1; y1 = last.y1 }
+
+-- the pixels on the screen of some columns and rows of tiles
+abbrev pub pixels_of : Dimensions → TileSpan → Rect
+pixels_of size span = record {
   x0 = pos (32 * span.first_column);
   y0 = pos (8 * span.first_row);
   x1 = pos (min (32 * span.end_column) size.width);
   y1 = pos (min (8 * span.end_row) size.height);
 }
 
--- the pixels of a bin's tiles, and one fixed rectangle where it has none
+-- the pixels of the tiles of a span, and one fixed rectangle where it has none
+abbrev pub span_rect_of : Dimensions → TileSpan → Rect
+span_rect_of size span = cond (has_tiles span) (pixels_of size span) no_pixels
+
+-- the pixels of a bin's tiles
 unfoldable pub bin_rect_of : Dimensions → CutOf → ℕ → Rect
-bin_rect_of size cut bin =
-    let span = bin_span_of size cut bin in
-    cond (has_tiles span) (span_rect_of size span) no_pixels
+bin_rect_of size cut bin = span_rect_of size (bin_span_of size cut bin)
 
 -- a pixel lies in a tile of the bin
 abbrev pub IsInTileOfBin : Dimensions → CutOf → ℕ → ℤ → ℤ → Type 0

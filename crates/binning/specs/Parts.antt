@@ -1,12 +1,12 @@
 -- Batches of a list, and the part of each for a bin.
-use Rattle.std.specs.Prelude.{ℕ, ◌≡◌, ◌+◌, ◌*◌, ◌<◌, ◌≤◌, min, max, List, map, filter, length}
+use Rattle.std.specs.Prelude.{ℕ, ◌≡◌, ◌+◌, ◌*◌, min, max, List, map, filter, length}
 use Rattle.std.specs.List.{range_with_len, flat_map}
 use Rattle.std.specs.Int.{div_ceil}
 use Rattle.cull_base.specs.Piece.{Piece, box_of}
 use Rattle.cull_base.specs.Rectangle.{meets}
-use Rattle.cull_base.specs.Screen.{IsSize, tile_count_of, tile_rect_of}
+use Rattle.cull_base.specs.Screen.{tile_rect_of}
 use Rattle.cull_base.specs.Tiles.{PieceList, tile_list}
-use Rattle.binning.specs.Cut.{CutOf, IsCut, bin_count_of}
+use Rattle.binning.specs.Cut.{CutOf, bin_count_of}
 use Rattle.binning.specs.Bins.{bin_of, bin_rect_of}
 use Rattle.binning.specs.Places.{places_in, members_at}
 

@@ -72,7 +72,7 @@ impl Axis {
     pub(crate) fn reached(self, first: u32, end: u32) -> BinRange
         requires { end ≤ self.tiles }
         ensures reached { ReachesAlong self.bins self.tiles first end result.first result.end }
-        ensures within { result.end ≤ self.bins }
+        ensures range { (result.first ≤ result.end) × (result.end ≤ self.bins) }
     {
         if first < end {
             BinRange {

@@ -3,7 +3,7 @@ ghost use Rattle.std.specs.Prelude.{◌≡◌, ℤ, ◌<◌, ◌↔◌};
 ghost use Rattle.cull_base.specs.Rectangle.{HasPixel, no_pixels};
 ghost use Rattle.cull_base.specs.Screen.{tile_columns_of, tile_rows_of, tile_count_of};
 ghost use Rattle.cull_base.specs.Span.{IsSpan};
-ghost use Rattle.binning.specs.Bins.{bin_of, bin_span_of, bin_rect_of, HasTilesOfBin, HasNoTile, IsInTileOfBin};
+ghost use Rattle.binning.specs.Bins.{bin_of, bin_span_of, bin_rect_of, HasTilesOfBin, HasNoTile, IsInTileOfBin, has_tiles, span_rect_of, spread_of};
 ghost use Rattle.binning.specs.Cut.{bin_count_of};
 
 use crate::axis::Axis;
@@ -43,6 +43,8 @@ pub fn bin_span(size: Size, cut: &Cut, bin: u32) -> TileSpan
     ensures tiles { HasTilesOfBin result size cut.now bin }
     ensures span { IsSpan size result }
 {
+    // an accessor tells what is held of a size
+    let _width = size.width();
     let across = across(size, cut);
     let down = down(size, cut);
     let column = bin % cut.columns();
@@ -55,24 +57,36 @@ pub fn bin_span(size: Size, cut: &Cut, bin: u32) -> TileSpan
     }
 }
 
-/// The pixels of a bin's tiles; (0, 0, 0, 0) for a bin without tiles. Condition: the bin is below the bins.
-pub fn bin_rect(size: Size, cut: &Cut, bin: u32) -> Rect
-    requires { bin < bin_count_of cut.now }
-    ensures value { result ≡ bin_rect_of size cut.now bin }
-    ensures pixels { (x y : ℤ) → HasPixel result x y ↔ IsInTileOfBin size cut.now bin x y }
-    ensures none { HasNoTile size cut.now bin → result ≡ no_pixels }
+#[inline(always)]
+fn has_tiles(span: &TileSpan) -> bool
+    ensures { result ≡ has_tiles span.now }
 {
-    let span = bin_span(size, cut, bin);
-    if span.first_column < span.end_column && span.first_row < span.end_row {
+    span.first_column < span.end_column && span.first_row < span.end_row
+}
+
+// From the first corner of one rectangle to the second of another.
+fn spread(first: &Rect, last: &Rect) -> Rect
+    ensures { result ≡ spread_of first.now last.now }
+{
+    Rect {
+        x0: first.x0,
+        y0: first.y0,
+        x1: last.x1,
+        y1: last.y1,
+    }
+}
+
+// The pixels of the tiles of a span; (0, 0, 0, 0) where it has none.
+fn span_rect(size: Size, span: &TileSpan) -> Rect
+    requires { IsSpan size span.now }
+    ensures { result ≡ span_rect_of size span.now }
+{
+    if has_tiles(span) {
         let columns = size.tile_columns();
-        let first = size.tile_rect(span.first_row * columns + span.first_column);
-        let last = size.tile_rect((span.end_row - 1) * columns + (span.end_column - 1));
-        Rect {
-            x0: first.x0,
-            y0: first.y0,
-            x1: last.x1,
-            y1: last.y1,
-        }
+        spread(
+            &size.tile_rect(span.first_row * columns + span.first_column),
+            &size.tile_rect((span.end_row - 1) * columns + (span.end_column - 1)),
+        )
     } else {
         Rect {
             x0: 0,
@@ -81,4 +95,17 @@ pub fn bin_rect(size: Size, cut: &Cut, bin: u32) -> Rect
             y1: 0,
         }
     }
+}
+
+/// The pixels of a bin's tiles; (0, 0, 0, 0) for a bin without tiles. Condition: the bin is below the bins.
+pub fn bin_rect(size: Size, cut: &Cut, bin: u32) -> Rect
+    requires { bin < bin_count_of cut.now }
+    ensures value { result ≡ bin_rect_of size cut.now bin }
+    ensures pixels { (x y : ℤ) → HasPixel result x y ↔ IsInTileOfBin size cut.now bin x y }
+    ensures none { HasNoTile size cut.now bin → result ≡ no_pixels }
+{
+    // accessors tell what is held of a size and of a cut
+    let _width = size.width();
+    let _columns = cut.columns();
+    span_rect(size, &bin_span(size, cut, bin))
 }

@@ -14,9 +14,15 @@ use cull_base::{FrameList, Memory, ScreenTri, TileSpan};
 
 // Adds an index to the parts of the bins in one row and some columns that have tiles.
 #[inline(always)]
-fn push_in_row(parts: &mut [BinPart], grid: &Grid, columns: BinRange, row: u32, index: u32) -> Result<(), Memory>
+fn push_in_row(
+    parts: &mut [BinPart],
+    grid: &Grid,
+    columns: BinRange,
+    row: u32,
+    index: u32,
+) -> Result<(), Memory>
     requires parts { length parts.old ≡ bin_count_of grid.now.cut }
-    requires columns { columns.end ≤ grid.now.cut.columns }
+    requires columns { (columns.first ≤ columns.end) × (columns.end ≤ grid.now.cut.columns) }
     requires row { row < grid.now.cut.rows }
     ensures { OnOk result (PushedWhere (is_bin_in_row grid.now row columns.first columns.end) index parts.old parts.new) }
 {
@@ -33,8 +39,8 @@ fn push_in_row(parts: &mut [BinPart], grid: &Grid, columns: BinRange, row: u32, 
 #[inline(always)]
 fn push_in_rows(parts: &mut [BinPart], grid: &Grid, reach: Reach, index: u32) -> Result<(), Memory>
     requires parts { length parts.old ≡ bin_count_of grid.now.cut }
-    requires columns { reach.columns.end ≤ grid.now.cut.columns }
-    requires rows { reach.rows.end ≤ grid.now.cut.rows }
+    requires columns { (reach.columns.first ≤ reach.columns.end) × (reach.columns.end ≤ grid.now.cut.columns) }
+    requires rows { (reach.rows.first ≤ reach.rows.end) × (reach.rows.end ≤ grid.now.cut.rows) }
     ensures { OnOk result (PushedWhere (is_bin_in_rows grid.now reach.rows.first reach.rows.end reach.columns.first reach.columns.end) index parts.old parts.new) }
 {
     for row in reach.rows.first..reach.rows.end {
@@ -55,7 +61,14 @@ fn push_piece(parts: &mut [BinPart], grid: &Grid, tri: &ScreenTri, index: u32) -
 
 /// Fills the empty parts of a batch with the pieces of a list from one index to before another. Conditions: there is
 /// one part for each bin, in order, and the indices are the list's.
-pub(crate) fn fill(parts: &mut [BinPart], grid: &Grid, list: &FrameList, batch: u32, from: u32, to: u32) -> Result<(), Memory>
+pub(crate) fn fill(
+    parts: &mut [BinPart],
+    grid: &Grid,
+    list: &FrameList,
+    batch: u32,
+    from: u32,
+    to: u32,
+) -> Result<(), Memory>
     requires parts { parts.old ≡ parts_in list.now.list grid.now.cut batch from from }
     requires size { grid.now.size ≡ list.now.list.size }
     requires order { from ≤ to }

@@ -57,8 +57,7 @@ impl Grid {
 
     #[inline(always)]
     pub(crate) fn size(&self) -> Size
-        ensures value { result ≡ self.now.size }
-        ensures valid { IsCut self.now.cut.columns self.now.cut.rows }
+        ensures { result ≡ self.now.size }
     {
         self.size
     }
@@ -66,7 +65,8 @@ impl Grid {
     /// How many bins stand in a row.
     #[inline(always)]
     pub(crate) fn columns(&self) -> u32
-        ensures { result ≡ self.now.cut.columns }
+        ensures value { result ≡ self.now.cut.columns }
+        ensures valid { IsCut self.now.cut.columns self.now.cut.rows }
     {
         self.across.bins
     }
@@ -85,9 +85,11 @@ impl Grid {
     #[inline(always)]
     pub(crate) fn reached(&self, span: &TileSpan) -> Reach
         requires { IsSpan self.now.size span.now }
+        ensures valid { IsCut self.now.cut.columns self.now.cut.rows }
         ensures columns { ReachesAlong self.now.cut.columns (tile_columns_of self.now.size) span.now.first_column span.now.end_column result.columns.first result.columns.end }
         ensures rows { ReachesAlong self.now.cut.rows (tile_rows_of self.now.size) span.now.first_row span.now.end_row result.rows.first result.rows.end }
-        ensures within { (result.columns.end ≤ self.now.cut.columns) × (result.rows.end ≤ self.now.cut.rows) }
+        ensures column_range { (result.columns.first ≤ result.columns.end) × (result.columns.end ≤ self.now.cut.columns) }
+        ensures row_range { (result.rows.first ≤ result.rows.end) × (result.rows.end ≤ self.now.cut.rows) }
     {
         Reach {
             columns: self.across.reached(span.first_column, span.end_column),

@@ -17,23 +17,37 @@ use std::alloc::Global;
 fn empty_parts(alloc: Global, batch: u32, bins: u32) -> Result<Vec<BinPart>, Memory>
     ensures { IfOk result (λ v. v.items ≡ map (λ bin. part bin batch []) (range_with_len 0 bins)) }
 {
-    let mut parts = Vec::with_capacity(alloc, bins as usize).map_err(|_| Memory)?;
-    for bin in 0..bins {
-        parts.push(BinPart::empty(alloc, bin, batch)).map_err(|_| Memory)?;
+    let parts = (0..bins).map(|bin| BinPart::empty(alloc, bin, batch));
+    match parts.collect(alloc) {
+        Ok(parts) => Ok(parts),
+        Err(_) => Err(Memory),
     }
-    Ok(parts)
 }
 
 /// One part for each bin, in order, empty ones too: the indices from one to before another whose piece's box meets the
 /// bin's rectangle, rising. Condition: from is at most to, and to at most the length. Err where memory gave out.
-pub fn bin_batch(alloc: Global, list: &FrameList, batch: u32, from: u32, to: u32, cut: &Cut) -> Result<Vec<BinPart>, Memory>
+pub fn bin_batch(
+    alloc: Global,
+    list: &FrameList,
+    batch: u32,
+    from: u32,
+    to: u32,
+    cut: &Cut,
+) -> Result<Vec<BinPart>, Memory>
     requires order { from ≤ to }
     requires within { to ≤ length list.now.list.members }
     ensures parts { IfOk result (λ v. v.items ≡ parts_in list.now.list cut.now batch from to) }
     ensures defined { IfOk result (λ v. (size : ℕ) → from ≡ batch * size → to ≡ min ((batch + 1) * size) (length list.now.list.members) → v.items ≡ parts_of list.now.list cut.now size batch) }
 {
     let mut parts = empty_parts(alloc, batch, cut.bins())?;
-    fill(parts.as_mut_slice(), &Grid::of(list.size(), cut), list, batch, from, to)?;
+    fill(
+        parts.as_mut_slice(),
+        &Grid::of(list.size(), cut),
+        list,
+        batch,
+        from,
+        to,
+    )?;
     Ok(parts)
 }
 

@@ -1,6 +1,10 @@
 //! Worked values of bins, batches and parts, from outside.
+ghost use Rattle.std.specs.Prelude.{◌≡◌, length, IfOk};
 
-use crate::{BinPart, Cut, batch_count, batch_size, bin_batch, bin_of_tile, bin_rect, bin_span, parts_make_tile_lists};
+use crate::{
+    BinPart, Cut, batch_count, batch_size, bin_batch, bin_of_tile, bin_rect, bin_span,
+    parts_make_tile_lists,
+};
 use cull_base::{FrameList, Rect, ScreenTri, Size};
 use std::test::Fail;
 
@@ -53,7 +57,11 @@ fn one_tile_is_in_the_first_of_64_bins(rt: HostRuntime) -> Result<(), Fail> {
     assert_eq!(rt; bin_of_tile(size, &cut, 0), 0);
     assert_eq!(rt; corners(bin_rect(size, &cut, 0)), (0, 0, 32, 8));
     for bin in 1..64 {
-        assert_eq!(rt; corners(bin_rect(size, &cut, bin)), (0, 0, 0, 0), "bin {bin}");
+        assert_eq!(rt;
+            corners(bin_rect(size, &cut, bin)),
+            (0, 0, 0, 0),
+            "bin {bin}"
+        );
     }
     Ok(())
 }
@@ -73,7 +81,9 @@ fn bins_of_a_large_screen_share_its_tiles(rt: HostRuntime) -> Result<(), Fail> {
 }
 
 // Boxes in x from 0 to 10, from 20 to 40 and from 33 to 50.
-fn three(rt: &HostRuntime) -> Result<FrameList, Fail> {
+fn three(rt: &HostRuntime) -> Result<FrameList, Fail>
+    ensures { IfOk result (λ f. length f.list.members ≡ 3) }
+{
     let size = Size::new(64, 8).ok_or("a size")?;
     let mut list = FrameList::with_room(rt.alloc(), size, 3)?;
     list.push(ScreenTri::new([0, 159, 159], [0, 0, 127], [9; 3]).ok_or("a piece")?);
