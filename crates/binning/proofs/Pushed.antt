@@ -4,7 +4,7 @@ use Rattle.std.specs.List.{range_with_len}
 use Rattle.std.specs.Cmp.{both_ways}
 use Rattle.std.proofs.lemmas.Bool.Decides.{nat_tests, eqb_tells}
 use Rattle.std.proofs.lemmas.Nat.{div-mul-add, mod-mul-add, div-add-mod'}
-use Rattle.std.proofs.lemmas.List.{append-nil, get_or-set_same, get_or-set_other}
+use Rattle.std.proofs.lemmas.List.{append-nil, append_assoc, get_or-set_same, get_or-set_other}
 use Rattle.std.proofs.lemmas.List.FromFn.{get_or-map-range_with_len, length-map-range_with_len, fill_by_all}
 use Rattle.cull_base.specs.Piece.{Piece, box_of}
 use Rattle.cull_base.specs.Rectangle.{meets}
@@ -15,7 +15,7 @@ use Rattle.binning.specs.Bins.{bin_rect_of, bin_span_of, has_tiles}
 use Rattle.binning.specs.Grid.{CutScreen}
 use Rattle.binning.specs.Places.{meets_at}
 use Rattle.binning.specs.Parts.{PartOf, part, indices_in, parts_in}
-use Rattle.binning.specs.Pushed.{PushedWhere, with_index, part_at, is_bin_in_row, is_bin_in_rows}
+use Rattle.binning.specs.Pushed.{PushedWhere, GotIndices, with_index, with_indices, part_at, is_met, is_bin_in_row, is_bin_in_rows}
 use Rattle.binning.proofs.Places.{places_in-nil, places_in-next, meets_at-is}
 
 -- of a test that grows by one number
@@ -132,36 +132,36 @@ module _ (screen : CutScreen) where
         )
       ]
 
--- the parts of a batch with one member more
-pub next_parts : (list : PieceList) (cut : CutOf) (batch from index : ℕ) (x : Piece) (old new : List PartOf) → old ≡ parts_in list cut batch from index → length new ≡ length old
-    → from ≤ index → index < length list.members → slice_index_or list.members index x ≡ x → PushedWhere (λ b. meets (box_of x) (bin_rect_of list.size cut b)) index old new
-    → new ≡ parts_in list cut batch from (index + 1)
-next_parts list cut batch from index x old new e len le lt is h =
+-- no place, and one place more
+pub none_got : (list : PieceList) (cut : CutOf) (from : ℕ) (parts : List PartOf) → GotIndices list cut from from parts parts
+none_got list cut from parts b lt = sym (ap (λ is. with_indices is (part_at parts b)) (places_in-nil (bin_rect_of list.size cut b) list.members from) ∙ ap (part (part_at parts b).bin (part_at parts b).batch) (append-nil (part_at parts b).indices))
+
+pub one_got : (list : PieceList) (cut : CutOf) (from index : ℕ) (x : Piece) (old now new : List PartOf) → length now ≡ length old → from ≤ index → index < length list.members → slice_index_or list.members index x ≡ x
+    → GotIndices list cut from index old now → PushedWhere (is_met (record { size = list.size; cut = cut }) (box_of x)) index now new → GotIndices list cut from (index + 1) old new
+one_got list cut from index x old now new len le lt is got pushed b below =
+    let rect = bin_rect_of list.size cut b in
+    let indices = indices_in list cut from index b in
+    let s = part_at old b in
+    let was : part_at now b ≡ with_indices indices s = got b below in
+    let test : meets (box_of x) rect ≡ meets_at rect list.members index = sym (meets_at-is rect list.members index x lt is) in
+    pushed b (let inside : b < length now = omega (arith, len, below) in inside)
+    ∙ ap (λ (p : PartOf). cond (meets (box_of x) rect) (with_index index p) p) was
+    ∙ ap (λ d. cond d (with_index index (with_indices indices s)) (with_indices indices s)) test
+    ∙ joined (meets_at rect list.members index) indices s
+    ∙ ap (λ is. with_indices is s) (sym (places_in-next rect list.members from index le))
+  where
+    joined : (d : Bool) (indices : List ℕ) (s : PartOf) → cond d (with_index index (with_indices indices s)) (with_indices indices s) ≡ with_indices (indices ++ cond d (index ∷ []) []) s
+    joined true indices s = ap (part s.bin s.batch) (append_assoc s.indices indices (index ∷ []))
+    joined false indices s = ap (λ is. with_indices is s) (sym (append-nil indices))
+
+-- empty parts that got the indices of a batch are its parts
+pub got_all : (list : PieceList) (cut : CutOf) (batch from to : ℕ) (old new : List PartOf) → old ≡ map (λ bin. part bin batch []) (range_with_len 0 (bin_count_of cut)) → length new ≡ length old
+    → GotIndices list cut from to old new → new ≡ parts_in list cut batch from to
+got_all list cut batch from to old new e len got =
     let n = bin_count_of cut in
-    let f : ℕ → PartOf = λ bin. part bin batch (indices_in list cut from index bin) in
-    let g : ℕ → PartOf = λ bin. part bin batch (indices_in list cut from (index + 1) bin) in
+    let f : ℕ → PartOf = λ bin. part bin batch [] in
+    let g : ℕ → PartOf = λ bin. part bin batch (indices_in list cut from to bin) in
     let count : length old ≡ n = ap length e ∙ length-map-range_with_len f 0 n in
     fill_by_all g new n (part 0 0 []) (len ∙ count) (λ k kn.
     let was : part_at old k ≡ f k = ap (λ ps. part_at ps k) e ∙ get_or-map-range_with_len f 0 n k k (part 0 0 []) kn (let z : 0 + k ≡ k = omega arith in z) in
-    let test : meets (box_of x) (bin_rect_of list.size cut k) ≡ meets_at (bin_rect_of list.size cut k) list.members index = sym (meets_at-is (bin_rect_of list.size cut k) list.members index x lt is) in
-    h k (let b : k < length old = omega (arith, count, kn) in b)
-    ∙ ap (λ (s : PartOf). cond (meets (box_of x) (bin_rect_of list.size cut k)) (with_index index s) s) was
-    ∙ ap (λ d. cond d (with_index index (f k)) (f k)) test
-    ∙ joined (meets_at (bin_rect_of list.size cut k) list.members index) k batch index (indices_in list cut from index k)
-    ∙ ap (part k batch) (sym (places_in-next (bin_rect_of list.size cut k) list.members from index le)))
-  where
-    joined : (b : Bool) (k batch index : ℕ) (indices : List ℕ) → cond b (with_index index (part k batch indices)) (part k batch indices) ≡ part k batch (indices ++ cond b (index ∷ []) [])
-    joined true k batch index indices = refl
-    joined false k batch index indices = ap (part k batch) (sym (append-nil indices))
-
--- the parts of no member
-pub no_parts : (list : PieceList) (cut : CutOf) (batch from : ℕ) → parts_in list cut batch from from ≡ map (λ bin. part bin batch []) (range_with_len 0 (bin_count_of cut))
-no_parts list cut batch from = by (range_with_len 0 (bin_count_of cut))
-  where
-    by : (bins : List ℕ) → map (λ bin. part bin batch (indices_in list cut from from bin)) bins ≡ map (λ bin. part bin batch []) bins
-    by [] = refl
-    by (b ∷ bins) = (λ i. part b batch (places_in-nil (bin_rect_of list.size cut b) list.members from i) ∷ by bins i)
-
--- how many parts there are
-pub length-parts_in : (list : PieceList) (cut : CutOf) (batch from to : ℕ) → length (parts_in list cut batch from to) ≡ bin_count_of cut
-length-parts_in list cut batch from to = length-map-range_with_len (λ bin. part bin batch (indices_in list cut from to bin)) 0 (bin_count_of cut)
+    got k (let b : k < length old = omega (arith, count, kn) in b) ∙ ap (with_indices (indices_in list cut from to k)) was)

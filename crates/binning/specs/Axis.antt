@@ -33,4 +33,9 @@ pub record IsStepOf (bins tiles step : ℕ) : Type 0 where
 -- Of the bins that have a tile, exactly those from a first to before an end have one among some tiles.
 abbrev pub ReachesAlong : ℕ → ℕ → ℕ → ℕ → ℕ → ℕ → Type 0
 ReachesAlong bins tiles first end first_bin end_bin =
-    (b : ℕ) → b < bins → (is_between first_bin end_bin b && has_tile_along bins tiles b) ≡ shares_tile_along bins tiles first end b
+    (b : ℕ) → b < bins
+    → (is_between first_bin end_bin b && has_tile_along bins tiles b) ≡ shares_tile_along bins tiles first end b
+
+-- from a first to before an end, of so many
+abbrev pub IsRangeWithin : ℕ → ℕ → ℕ → Type 0
+IsRangeWithin count first end = (first ≤ end) × (end ≤ count)

@@ -12,7 +12,9 @@ use Rattle.binning.specs.Axis.{bin_along, first_along}
 unfoldable pub bin_of : Dimensions → CutOf → ℕ → ℕ
 bin_of size cut tile =
     let place = tile_place size tile in
-    bin_along cut.rows (tile_rows_of size) place.row * cut.columns + bin_along cut.columns (tile_columns_of size) place.column
+    let column = bin_along cut.columns (tile_columns_of size) place.column in
+    let row = bin_along cut.rows (tile_rows_of size) place.row in
+    row * cut.columns + column
 
 -- the tiles of a bin, of which there may be none
 unfoldable pub bin_span_of : Dimensions → CutOf → ℕ → TileSpan

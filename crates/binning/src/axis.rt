@@ -1,6 +1,6 @@
 //! One axis of the screen: its tiles, cut into bins.
 ghost use Rattle.std.specs.Prelude.{◌≡◌, ◌+◌, ◌<◌, ◌≤◌};
-ghost use Rattle.binning.specs.Axis.{IsCutAxis, IsStepOf, ReachesAlong, bin_along, first_along, has_tile_along};
+ghost use Rattle.binning.specs.Axis.{IsCutAxis, IsRangeWithin, IsStepOf, ReachesAlong, bin_along, first_along, has_tile_along};
 
 /// Steps are counted in parts of this: a power of two that keeps every bin exact.
 const WHOLE: u32 = 0x10_0000;
@@ -47,7 +47,7 @@ impl Axis {
         tile * self.step / WHOLE
     }
 
-    /// The first tile of a bin, and the number of tiles for the end of the last. Condition: the bin is at most that end.
+    /// The first tile of a bin, at which the bin before ends. Condition: the bin is at most their number.
     #[inline(always)]
     pub(crate) fn first_tile(self, bin: u32) -> u32
         requires { bin ≤ self.bins }
@@ -72,7 +72,7 @@ impl Axis {
     pub(crate) fn reached(self, first: u32, end: u32) -> BinRange
         requires { end ≤ self.tiles }
         ensures reached { ReachesAlong self.bins self.tiles first end result.first result.end }
-        ensures range { (result.first ≤ result.end) × (result.end ≤ self.bins) }
+        ensures range { IsRangeWithin self.bins result.first result.end }
     {
         if first < end {
             BinRange {

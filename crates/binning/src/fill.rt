@@ -1,11 +1,9 @@
 //! The parts of a batch, filled in one pass over its pieces.
 ghost use Rattle.std.specs.Prelude.{◌≡◌, ◌<◌, ◌≤◌, length, OnOk};
 ghost use Rattle.cull_base.specs.Piece.{box_of};
-ghost use Rattle.cull_base.specs.Rectangle.{meets};
-ghost use Rattle.binning.specs.Bins.{bin_rect_of};
+ghost use Rattle.binning.specs.Axis.{IsRangeWithin};
 ghost use Rattle.binning.specs.Cut.{bin_count_of};
-ghost use Rattle.binning.specs.Parts.{parts_in};
-ghost use Rattle.binning.specs.Pushed.{PushedWhere, is_bin_in_row, is_bin_in_rows};
+ghost use Rattle.binning.specs.Pushed.{PushedWhere, GotIndices, is_met, is_bin_in_row, is_bin_in_rows};
 
 use crate::axis::BinRange;
 use crate::grid::{Grid, Reach};
@@ -22,9 +20,10 @@ fn push_in_row(
     index: u32,
 ) -> Result<(), Memory>
     requires parts { length parts.old ≡ bin_count_of grid.now.cut }
-    requires columns { (columns.first ≤ columns.end) × (columns.end ≤ grid.now.cut.columns) }
+    requires columns { IsRangeWithin grid.now.cut.columns columns.first columns.end }
     requires row { row < grid.now.cut.rows }
-    ensures { OnOk result (PushedWhere (is_bin_in_row grid.now row columns.first columns.end) index parts.old parts.new) }
+    ensures { let reached = is_bin_in_row grid.now row columns.first columns.end in
+        OnOk result (PushedWhere reached index parts.old parts.new) }
 {
     let first = row * grid.columns();
     for column in columns.first..columns.end {
@@ -39,9 +38,11 @@ fn push_in_row(
 #[inline(always)]
 fn push_in_rows(parts: &mut [BinPart], grid: &Grid, reach: Reach, index: u32) -> Result<(), Memory>
     requires parts { length parts.old ≡ bin_count_of grid.now.cut }
-    requires columns { (reach.columns.first ≤ reach.columns.end) × (reach.columns.end ≤ grid.now.cut.columns) }
-    requires rows { (reach.rows.first ≤ reach.rows.end) × (reach.rows.end ≤ grid.now.cut.rows) }
-    ensures { OnOk result (PushedWhere (is_bin_in_rows grid.now reach.rows.first reach.rows.end reach.columns.first reach.columns.end) index parts.old parts.new) }
+    requires columns { IsRangeWithin grid.now.cut.columns reach.columns.first reach.columns.end }
+    requires rows { IsRangeWithin grid.now.cut.rows reach.rows.first reach.rows.end }
+    ensures { let rows = reach.rows in let columns = reach.columns in
+        let reached = is_bin_in_rows grid.now rows.first rows.end columns.first columns.end in
+        OnOk result (PushedWhere reached index parts.old parts.new) }
 {
     for row in reach.rows.first..reach.rows.end {
         push_in_row(parts, grid, reach.columns, row, index)?;
@@ -53,27 +54,26 @@ fn push_in_rows(parts: &mut [BinPart], grid: &Grid, reach: Reach, index: u32) ->
 #[inline(always)]
 fn push_piece(parts: &mut [BinPart], grid: &Grid, tri: &ScreenTri, index: u32) -> Result<(), Memory>
     requires parts { length parts.old ≡ bin_count_of grid.now.cut }
-    ensures { OnOk result (PushedWhere (λ b. meets (box_of tri.now) (bin_rect_of grid.now.size grid.now.cut b)) index parts.old parts.new) }
+    ensures { OnOk result (PushedWhere (is_met grid.now (box_of tri.now)) index parts.old parts.new) }
 {
     let span = TileSpan::of(&tri.boxed(), grid.size());
     push_in_rows(parts, grid, grid.reached(&span), index)
 }
 
-/// Fills the empty parts of a batch with the pieces of a list from one index to before another. Conditions: there is
-/// one part for each bin, in order, and the indices are the list's.
+/// Adds to the parts the pieces of a list from one index to before another. Conditions: there is one part for each bin,
+/// the grid is of the list's screen, and the indices are the list's.
 pub(crate) fn fill(
     parts: &mut [BinPart],
     grid: &Grid,
     list: &FrameList,
-    batch: u32,
     from: u32,
     to: u32,
 ) -> Result<(), Memory>
-    requires parts { parts.old ≡ parts_in list.now.list grid.now.cut batch from from }
+    requires parts { length parts.old ≡ bin_count_of grid.now.cut }
     requires size { grid.now.size ≡ list.now.list.size }
     requires order { from ≤ to }
     requires within { to ≤ length list.now.list.members }
-    ensures { OnOk result (parts.new ≡ parts_in list.now.list grid.now.cut batch from to) }
+    ensures { OnOk result (GotIndices list.now.list grid.now.cut from to parts.old parts.new) }
 {
     for index in from..to {
         push_piece(parts, grid, list.get(index), index)?;

@@ -1,10 +1,10 @@
 //! A screen's bins along both axes.
 ghost use Rattle.std.specs.Prelude.{◌≡◌, ◌+◌, ◌*◌, ◌<◌, ◌≤◌};
-ghost use Rattle.cull_base.specs.Screen.{IsSize, tile_columns_of, tile_rows_of};
 ghost use Rattle.cull_base.specs.Span.{IsSpan};
-ghost use Rattle.binning.specs.Axis.{ReachesAlong};
+ghost use Rattle.binning.specs.Axis.{IsRangeWithin};
 ghost use Rattle.binning.specs.Bins.{bin_span_of, has_tiles};
 ghost use Rattle.binning.specs.Cut.{IsCut};
+ghost use Rattle.binning.specs.Grid.{ReachesColumns, ReachesRows};
 
 use crate::axis::{Axis, BinRange};
 use crate::cut::Cut;
@@ -86,10 +86,10 @@ impl Grid {
     pub(crate) fn reached(&self, span: &TileSpan) -> Reach
         requires { IsSpan self.now.size span.now }
         ensures valid { IsCut self.now.cut.columns self.now.cut.rows }
-        ensures columns { ReachesAlong self.now.cut.columns (tile_columns_of self.now.size) span.now.first_column span.now.end_column result.columns.first result.columns.end }
-        ensures rows { ReachesAlong self.now.cut.rows (tile_rows_of self.now.size) span.now.first_row span.now.end_row result.rows.first result.rows.end }
-        ensures column_range { (result.columns.first ≤ result.columns.end) × (result.columns.end ≤ self.now.cut.columns) }
-        ensures row_range { (result.rows.first ≤ result.rows.end) × (result.rows.end ≤ self.now.cut.rows) }
+        ensures columns { ReachesColumns self.now span.now result.columns.first result.columns.end }
+        ensures rows { ReachesRows self.now span.now result.rows.first result.rows.end }
+        ensures column_range { IsRangeWithin self.now.cut.columns result.columns.first result.columns.end }
+        ensures row_range { IsRangeWithin self.now.cut.rows result.rows.first result.rows.end }
     {
         Reach {
             columns: self.across.reached(span.first_column, span.end_column),

@@ -5,6 +5,9 @@ use cull_base::Memory;
 use std::alloc::Global;
 use std::marker::Model;
 
+/// The room that a part takes with its first index: small batches then grow no part twice.
+const ROOM: usize = 16;
+
 /// Of a batch's pieces those that meet a bin, by their indices in the frame list, rising.
 #[derive(Drop)]
 pub struct BinPart {
@@ -40,6 +43,9 @@ impl BinPart {
     pub(crate) fn push(&mut self, index: u32) -> Result<(), Memory>
         ensures { OnOk result (self.new ≡ with_index index self.old) }
     {
+        if self.indices.is_empty() {
+            self.indices.reserve(ROOM).map_err(|_| Memory)?;
+        }
         self.indices.push(index).map_err(|_| Memory)
     }
 

@@ -4,7 +4,7 @@ ghost use Rattle.std.specs.List.{range_with_len};
 ghost use Rattle.cull_base.specs.Screen.{IsSize, tile_count_of};
 ghost use Rattle.cull_base.specs.Tiles.{PieceList};
 ghost use Rattle.binning.specs.Cut.{CutOf, IsCut};
-ghost use Rattle.binning.specs.Parts.{part, parts_in, parts_of, PartsMakeTileList};
+ghost use Rattle.binning.specs.Parts.{part, parts_in, ArePartsOfBatch, PartsMakeTileList};
 
 use crate::cut::Cut;
 use crate::fill::fill;
@@ -37,14 +37,13 @@ pub fn bin_batch(
     requires order { from ≤ to }
     requires within { to ≤ length list.now.list.members }
     ensures parts { IfOk result (λ v. v.items ≡ parts_in list.now.list cut.now batch from to) }
-    ensures defined { IfOk result (λ v. (size : ℕ) → from ≡ batch * size → to ≡ min ((batch + 1) * size) (length list.now.list.members) → v.items ≡ parts_of list.now.list cut.now size batch) }
+    ensures defined { IfOk result (λ v. ArePartsOfBatch list.now.list cut.now batch from to v.items) }
 {
     let mut parts = empty_parts(alloc, batch, cut.bins())?;
     fill(
         parts.as_mut_slice(),
         &Grid::of(list.size(), cut),
         list,
-        batch,
         from,
         to,
     )?;
@@ -54,5 +53,7 @@ pub fn bin_batch(
 /// The law of parts: for every cut and size of batches, the members of all parts of a bin, in order and filtered to a
 /// tile of the bin, are the tile's list.
 pub fn parts_make_tile_lists()
-    ensures { (list : PieceList) (cut : CutOf) (size tile : ℕ) → IsSize list.size.width list.size.height → IsCut cut.columns cut.rows → 1 ≤ size → tile < tile_count_of list.size → PartsMakeTileList list cut size tile }
+    ensures { (list : PieceList) (cut : CutOf) (size tile : ℕ) → IsSize list.size.width list.size.height
+        → IsCut cut.columns cut.rows → 1 ≤ size → tile < tile_count_of list.size
+        → PartsMakeTileList list cut size tile }
 {}
