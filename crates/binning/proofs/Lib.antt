@@ -1,0 +1,6 @@
+pub mod Axes
+pub mod BinSpans
+pub mod Reaches
+pub mod Places
+pub mod Laws
+pub mod Pushed

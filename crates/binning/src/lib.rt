@@ -1,0 +1,19 @@
+//! Bins: the tiles of a screen cut into columns and rows, and a frame list cut into batches, each with one part a bin.
+#![tactic(auto)]
+
+mod axis;
+mod batches;
+mod bins;
+mod cut;
+mod fill;
+mod grid;
+mod part;
+mod parts;
+#[cfg(test)]
+mod tests;
+
+pub use batches::{batch_count, batch_size};
+pub use bins::{bin_of_tile, bin_rect, bin_span};
+pub use cut::Cut;
+pub use part::BinPart;
+pub use parts::{bin_batch, parts_make_tile_lists};

@@ -1,0 +1,70 @@
+//! The part of a batch for one bin.
+ghost use Rattle.std.specs.Prelude.{◌≡◌, [], OnOk};
+
+use cull_base::Memory;
+use std::alloc::Global;
+use std::marker::Model;
+
+/// The room that a part takes with its first index: small batches then grow no part twice.
+const ROOM: usize = 16;
+
+/// Of a batch's pieces those that meet a bin, by their indices in the frame list, rising.
+#[derive(Drop)]
+pub struct BinPart {
+    bin: u32,
+    batch: u32,
+    indices: Vec<u32>,
+}
+
+impl Model for BinPart {
+    ghost use Rattle.binning.specs.Parts.{PartOf};
+
+    ghost Value = { PartOf };
+
+    ghost view = { λ p. record { bin = p.bin; batch = p.batch; indices = p.indices.items } };
+}
+
+impl BinPart {
+    ghost use Rattle.binning.specs.Parts.{part};
+    ghost use Rattle.binning.specs.Pushed.{with_index};
+
+    pub(crate) fn empty(alloc: Global, bin: u32, batch: u32) -> BinPart
+        ensures { result ≡ part bin batch [] }
+    {
+        BinPart {
+            bin,
+            batch,
+            indices: Vec::new(alloc),
+        }
+    }
+
+    /// Appends an index. Err where memory gave out.
+    #[inline(always)]
+    pub(crate) fn push(&mut self, index: u32) -> Result<(), Memory>
+        ensures { OnOk result (self.new ≡ with_index index self.old) }
+    {
+        if self.indices.is_empty() {
+            self.indices.reserve(ROOM).map_err(|_| Memory)?;
+        }
+        self.indices.push(index).map_err(|_| Memory)
+    }
+
+    pub fn bin(&self) -> u32
+        ensures { result ≡ self.now.bin }
+    {
+        self.bin
+    }
+
+    pub fn batch(&self) -> u32
+        ensures { result ≡ self.now.batch }
+    {
+        self.batch
+    }
+
+    /// The indices in the frame list, rising.
+    pub fn indices(&self) -> &[u32]
+        ensures { result.now ≡ self.now.indices }
+    {
+        self.indices.as_slice()
+    }
+}

@@ -1,0 +1,123 @@
+//! Worked values of bins, batches and parts, from outside.
+ghost use Rattle.std.specs.Prelude.{◌≡◌, length, IfOk};
+
+use crate::{
+    BinPart, Cut, batch_count, batch_size, bin_batch, bin_of_tile, bin_rect, bin_span,
+    parts_make_tile_lists,
+};
+use cull_base::{FrameList, Rect, ScreenTri, Size};
+use std::test::Fail;
+
+#[test]
+fn cut_is_of_one_to_eight(rt: HostRuntime) {
+    assert!(rt; Cut::new(0, 1).is_none());
+    assert!(rt; Cut::new(1, 0).is_none());
+    assert!(rt; Cut::new(9, 1).is_none());
+    assert!(rt; Cut::new(8, 9).is_none());
+    assert_eq!(rt; Cut::new(1, 1).map_or(0, |cut| cut.bins()), 1);
+    assert_eq!(rt; Cut::new(8, 8).map_or(0, |cut| cut.bins()), 64);
+    assert_eq!(rt; Cut::new(5, 3).map_or(0, |cut| cut.bins()), 15);
+}
+
+#[test]
+fn batches_are_at_most_2048(rt: HostRuntime) {
+    assert_eq!(rt; batch_size(131_072, 1), 64);
+    assert_eq!(rt; batch_count(131_072, 64), 2048);
+    assert_eq!(rt; batch_size(0, 64), 64);
+    assert_eq!(rt; batch_count(0, 64), 0);
+    assert_eq!(rt; batch_size(2049, 1), 2);
+    assert_eq!(rt; batch_count(2049, 2), 1025);
+    assert_eq!(rt; batch_count(3, 2), 2);
+}
+
+fn corners(rect: Rect) -> (i32, i32, i32, i32) {
+    (rect.x0, rect.y0, rect.x1, rect.y1)
+}
+
+// Two tiles side by side cut into eight columns stand in the first bin and the fifth; the others have none.
+#[test]
+fn two_tiles_cut_in_eight_leave_six_bins_without_tiles(rt: HostRuntime) -> Result<(), Fail> {
+    let size = Size::new(64, 8).ok_or("a size")?;
+    let cut = Cut::new(8, 1).ok_or("a cut")?;
+    assert_eq!(rt; bin_of_tile(size, &cut, 0), 0);
+    assert_eq!(rt; bin_of_tile(size, &cut, 1), 4);
+    assert_eq!(rt; corners(bin_rect(size, &cut, 0)), (0, 0, 32, 8));
+    assert_eq!(rt; corners(bin_rect(size, &cut, 1)), (0, 0, 0, 0));
+    assert_eq!(rt; corners(bin_rect(size, &cut, 3)), (0, 0, 0, 0));
+    assert_eq!(rt; corners(bin_rect(size, &cut, 4)), (32, 0, 64, 8));
+    assert_eq!(rt; corners(bin_rect(size, &cut, 7)), (0, 0, 0, 0));
+    Ok(())
+}
+
+// Of one tile cut 8 by 8 the first bin has it, and 63 have none.
+#[test]
+fn one_tile_is_in_the_first_of_64_bins(rt: HostRuntime) -> Result<(), Fail> {
+    let size = Size::new(32, 8).ok_or("a size")?;
+    let cut = Cut::new(8, 8).ok_or("a cut")?;
+    assert_eq!(rt; bin_of_tile(size, &cut, 0), 0);
+    assert_eq!(rt; corners(bin_rect(size, &cut, 0)), (0, 0, 32, 8));
+    for bin in 1..64 {
+        assert_eq!(rt;
+            corners(bin_rect(size, &cut, bin)),
+            (0, 0, 0, 0),
+            "bin {bin}"
+        );
+    }
+    Ok(())
+}
+
+// 1280 by 720 are 40 by 90 tiles; the screen cuts none of them.
+#[test]
+fn bins_of_a_large_screen_share_its_tiles(rt: HostRuntime) -> Result<(), Fail> {
+    let size = Size::new(1280, 720).ok_or("a size")?;
+    let cut = Cut::new(4, 4).ok_or("a cut")?;
+    let span = bin_span(size, &cut, 6);
+    assert_eq!(rt; (span.first_column, span.end_column), (20, 30));
+    assert_eq!(rt; (span.first_row, span.end_row), (23, 45));
+    assert_eq!(rt; corners(bin_rect(size, &cut, 6)), (640, 184, 960, 360));
+    assert_eq!(rt; bin_of_tile(size, &cut, 23 * 40 + 20), 6);
+    assert_eq!(rt; bin_of_tile(size, &cut, 22 * 40 + 29), 2);
+    Ok(())
+}
+
+// Boxes in x from 0 to 10, from 20 to 40 and from 33 to 50.
+fn three(rt: &HostRuntime) -> Result<FrameList, Fail>
+    ensures { IfOk result (λ f. length f.list.members ≡ 3) }
+{
+    let size = Size::new(64, 8).ok_or("a size")?;
+    let mut list = FrameList::with_room(rt.alloc(), size, 3)?;
+    list.push(ScreenTri::new([0, 159, 159], [0, 0, 127], [9; 3]).ok_or("a piece")?);
+    list.push(ScreenTri::new([320, 639, 639], [0, 0, 127], [9; 3]).ok_or("a piece")?);
+    list.push(ScreenTri::new([528, 799, 799], [0, 0, 127], [9; 3]).ok_or("a piece")?);
+    Ok(list)
+}
+
+fn is_part(part: &BinPart, bin: u32, batch: u32, indices: &[u32]) -> bool {
+    part.bin() == bin && part.batch() == batch && part.indices() == indices
+}
+
+#[test]
+fn piece_over_both_bins_is_in_both_parts(rt: HostRuntime) -> Result<(), Fail> {
+    let list = three(&rt)?;
+    let cut = Cut::new(2, 1).ok_or("a cut")?;
+    let parts = bin_batch(rt.alloc(), &list, 0, 0, 3, &cut)?;
+    assert_eq!(rt; parts.len(), 2);
+    assert!(rt; is_part(&parts[0], 0, 0, &[0, 1]));
+    assert!(rt; is_part(&parts[1], 1, 0, &[1, 2]));
+    parts_make_tile_lists();
+    Ok(())
+}
+
+#[test]
+fn second_batch_of_two_has_the_third_piece(rt: HostRuntime) -> Result<(), Fail> {
+    let list = three(&rt)?;
+    let cut = Cut::new(2, 1).ok_or("a cut")?;
+    let parts = bin_batch(rt.alloc(), &list, 1, 2, 3, &cut)?;
+    assert_eq!(rt; parts.len(), 2);
+    assert!(rt; is_part(&parts[0], 0, 1, &[]));
+    assert!(rt; is_part(&parts[1], 1, 1, &[2]));
+    let none = bin_batch(rt.alloc(), &list, 0, 0, 0, &cut)?;
+    assert_eq!(rt; none.len(), 2);
+    assert!(rt; none[0].indices().is_empty() && none[1].indices().is_empty());
+    Ok(())
+}
