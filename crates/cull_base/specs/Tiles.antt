@@ -17,9 +17,12 @@ pub record FrameListOf : Type 0 where
   pub list : PieceList
   pub room : ℕ
 
--- with one member more, at the end
+-- with some members more, at the end
+abbrev pub with_members : FrameListOf → List Piece → FrameListOf
+with_members f pieces = record { list = record { size = f.list.size; members = f.list.members ++ pieces }; room = f.room }
+
 abbrev pub with_member : FrameListOf → Piece → FrameListOf
-with_member f t = record { list = record { size = f.list.size; members = f.list.members ++ t ∷ [] }; room = f.room }
+with_member f t = with_members f (t ∷ [])
 
 -- each member is a piece
 abbrev pub ArePieces : List Piece → Type 0

@@ -1,5 +1,5 @@
 //! The pieces of a frame.
-ghost use Rattle.std.specs.Prelude.{◌≡◌, ℕ, [], ◌∷◌, ◌++◌, length, ◌<◌, ◌≤◌, IfOk, slice_index_or};
+ghost use Rattle.std.specs.Prelude.{◌≡◌, ℕ, [], ◌∷◌, ◌++◌, ◌+◌, length, ◌<◌, ◌≤◌, IfOk, slice_index_or};
 
 use crate::memory::Memory;
 use crate::screen_tri::ScreenTri;
@@ -27,7 +27,7 @@ impl Model for FrameList {
 }
 
 impl FrameList {
-    ghost use Rattle.cull_base.specs.Tiles.{ArePieces, with_member};
+    ghost use Rattle.cull_base.specs.Tiles.{ArePieces, with_member, with_members};
 
     /// An empty list. Condition: room is at most 131,072. Memory is taken here and nowhere later.
     pub fn with_room(alloc: Global, size: Size, room: u32) -> Result<FrameList, Memory>
@@ -48,6 +48,16 @@ impl FrameList {
         // an accessor tells what is held of a piece
         let _nearness = tri.q();
         self.pieces.push_reserved(tri);
+    }
+
+    /// Appends the pieces of another list. Condition: there is room for them.
+    pub fn append(&mut self, other: &FrameList)
+        requires { length self.old.list.members + length other.now.list.members ≤ self.old.room }
+        ensures { self.new ≡ with_members self.old other.now.list.members }
+    {
+        for tri in other.pieces.as_slice() {
+            self.push(*tri);
+        }
     }
 
     pub fn len(&self) -> u32

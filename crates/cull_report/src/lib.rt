@@ -1,11 +1,13 @@
 //! The verdicts of a frame, and the texts that are written of it.
 #![tactic(auto)]
 
+mod by_workers;
 mod form;
 mod objects;
 mod report;
 mod text;
 
+pub use by_workers::verdicts_by_workers;
 pub use objects::{object_area, object_verdict, verdicts};
 pub use report::{write_frame, write_header};
 pub use text::Line;

@@ -2,6 +2,7 @@
 ghost use Rattle.std.specs.Prelude.{◌≡◌, ℕ, ◌+◌, ◌<◌, ◌≤◌, true, map, length, IfOk, IfSome, slice_get, slice_index_or};
 ghost use Rattle.cull_base.specs.Screen.{tile_count_of};
 ghost use Rattle.cull_base.specs.Shape.{area_of, verdict_of};
+ghost use Rattle.cull_base.specs.declared.scene_types.Object.{Object};
 ghost use Rattle.masked_update.specs.Views.{HoldsMet, state_in};
 ghost use Rattle.scene_reader.specs.Layout.{IsObject, IsScene};
 ghost use Rattle.cull_report.specs.Forms.{shape_of_form, range_of, HasTriangles};
@@ -23,7 +24,7 @@ const NO_PIXELS: Rect = Rect {
     y1: 0,
 };
 
-fn object_count(scene: &Scene) -> u32
+pub(crate) fn object_count(scene: &Scene) -> u32
     ensures { result ≡ length scene.now.objects }
 {
     let _near = scene.near();
@@ -133,6 +134,30 @@ pub fn object_verdict<V: TileView>(
     form_verdict(scene, frame, clips, form, view)
 }
 
+// The verdict of an object. One that is marked as settled isn't tested. Conditions as for `verdicts`.
+pub(crate) fn verdict_at<V: TileView>(
+    scene: &Scene,
+    frame: u32,
+    clips: &[ClipVertex],
+    object: u32,
+    view: &V,
+    settled: &[bool],
+) -> Verdict
+    requires frame { frame < length scene.now.cameras }
+    requires clips { clips.now ≡ frame_clips scene.now frame }
+    requires object { object < length scene.now.objects }
+    requires holds { (t : ℕ) → t < tile_count_of (size_of scene.now) → V.held view.now t ≡ true }
+    requires marks { length settled.now ≡ length scene.now.objects }
+    requires right { IsMarkedRight (verdict_in scene.now frame (V.tile_of view.now)) scene.now.objects settled.now }
+    ensures { (o : Object) → result ≡ verdict_in scene.now frame (V.tile_of view.now) (slice_index_or scene.now.objects object o) }
+{
+    if settled[object as usize] {
+        Verdict::Occluded
+    } else {
+        object_verdict(scene, frame, clips, object, view)
+    }
+}
+
 /// Each object's verdict in a frame over the view. An object that is marked as settled isn't tested. Conditions: there
 /// is such a frame, the clip vertices are the frame's, the view holds every tile, there is one mark per object, and
 /// each marked object's verdict is occluded.
@@ -156,12 +181,7 @@ pub fn verdicts<V: TileView>(
         return Err(Memory);
     };
     for object in 0..count {
-        let verdict = if settled[object as usize] {
-            Verdict::Occluded
-        } else {
-            object_verdict(scene, frame, clips, object, view)
-        };
-        verdicts.push_reserved(verdict);
+        verdicts.push_reserved(verdict_at(scene, frame, clips, object, view, settled));
     }
     Ok(verdicts)
 }

@@ -5,6 +5,7 @@ mod adapters;
 mod cull;
 mod failure;
 mod run;
+mod settings;
 mod words;
 
 use adapters::{Input, Output};

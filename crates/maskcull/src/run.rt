@@ -7,13 +7,13 @@ ghost use Rattle.maskcull.specs.Words.{IsAccepted};
 
 use crate::cull::cull;
 use crate::failure::{Failure, Status};
-use crate::words::is_accepted;
+use crate::words::settings_of;
 use cull_base::{Sink, Source};
 use std::alloc::Global;
 use std::sync::Wait;
 use std::thread::Threads;
 
-/// Runs a command: `cull` reads a scene from the input and writes its report. What is said of bytes holds where the
+/// Runs a command: `cull` reads a scene from the input and writes its report, whatever its settings. What is said of bytes holds where the
 /// input tells its bytes; a sink's claim where the sink tells its own.
 pub fn run<R: Threads + Wait + Sync, S: Source, W: Sink, E: Sink>(
     rt: &R,
@@ -50,9 +50,9 @@ pub fn run<R: Threads + Wait + Sync, S: Source, W: Sink, E: Sink>(
     ensures noted { (result ≡ Status.Done → ⊥) → (result ≡ Status.Scene → ⊥)
         → IsNoted (E.says notes.old) (E.says notes.new) (status_text result) }
 {
-    if !is_accepted(words) {
+    let Some(_settings) = settings_of(words) else {
         return Failure::Usage.end(notes);
-    }
+    };
     match cull(rt, alloc, input, report) {
         Ok(()) => Status::Done,
         Err(failure) => failure.end(notes),

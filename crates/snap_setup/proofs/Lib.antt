@@ -7,3 +7,4 @@ pub mod BoxSteps
 pub mod Rows
 pub mod ValidPieces
 pub mod PieceBoxes
+mod Joining

@@ -1,13 +1,35 @@
 //! The pieces of a frame.
-ghost use Rattle.std.specs.Prelude.{◌≡◌, ◌≤◌, [], ◌∷◌, length, IfOk};
+ghost use Rattle.std.specs.Prelude.{◌≡◌, ◌≤◌, ◌+◌, ◌*◌, [], ◌∷◌, length, IfOk};
 ghost use Rattle.std.specs.List.{All};
 ghost use Rattle.cull_base.specs.declared.nearness.TheConstants.{GRADE_TOP};
+ghost use Rattle.cull_base.specs.Tiles.{with_members};
 ghost use Rattle.near_clip.specs.NearPart.{corner};
 ghost use Rattle.snap_setup.specs.Pieces.{list_of_clips, clip_at, HasClips};
 
 use crate::triangle::{Corners, push_pieces};
 use cull_base::{ClipVertex, FrameList, Memory, Size, Tri, Winding};
 use std::alloc::Global;
+
+/// The occluder pieces of the triangles, one triangle after another, behind those that a list has. Conditions: `near`
+/// is 1 to 1024, each index is below the number of clips, and the list has room for two pieces a triangle.
+pub(crate) fn push_all(
+    clips: &[ClipVertex],
+    tris: &[Tri],
+    near: u16,
+    size: Size,
+    winding: Winding,
+    list: &mut FrameList,
+)
+    requires near_least { 1 ≤ near }
+    requires near_most { near ≤ 1024 }
+    requires indices { All (HasClips (length clips.now)) tris.now }
+    requires room { length list.old.list.members + 2 * length tris.now ≤ list.old.room }
+    ensures { list.new ≡ with_members list.old (list_of_clips clips.now tris.now GRADE_TOP near size winding) }
+{
+    for tri in tris {
+        push_pieces(&corner_references(clips, tri), near, size, winding, list);
+    }
+}
 
 /// The occluder pieces of the triangles, one triangle after another. All memory is taken first. Condition: `near`
 /// is 1 to 1024, there are at most 65,536 triangles, and each index is below the number of clips.
@@ -27,15 +49,7 @@ pub fn frame_list(
     ensures size { IfOk result (λ f. f.list.size ≡ size) }
 {
     let mut list = FrameList::with_room(alloc, size, 2 * tris.len() as u32)?;
-    for tri in tris {
-        push_pieces(
-            &corner_references(clips, tri),
-            near,
-            size,
-            winding,
-            &mut list,
-        );
-    }
+    push_all(clips, tris, near, size, winding, &mut list);
     Ok(list)
 }
 

@@ -5,12 +5,14 @@
 mod boxes;
 mod frame;
 mod pieces;
+mod runs;
 mod snapping;
 mod triangle;
 
 pub use boxes::{near_box, rect_between};
 pub use frame::{corners, frame_list};
 pub use pieces::Pieces;
+pub use runs::frame_list_by_workers;
 pub use snapping::{Place, Snapped, place_of, snap};
 pub use triangle::set_up;
 

@@ -28,7 +28,7 @@ impl Model for Pieces {
 }
 
 impl Pieces {
-    ghost use Rattle.snap_setup.specs.Members.{with_pieces};
+    ghost use Rattle.cull_base.specs.Tiles.{with_members};
 
     #[inline(always)]
     pub(crate) fn none() -> Pieces
@@ -78,7 +78,7 @@ impl Pieces {
     #[inline(always)]
     pub(crate) fn push_onto(&self, list: &mut FrameList)
         requires { length list.old.list.members + 2 ≤ list.old.room }
-        ensures value { list.new ≡ with_pieces list.old self.now }
+        ensures value { list.new ≡ with_members list.old self.now }
         ensures most { length self.now ≤ 2 }
     {
         match &self.members {

@@ -3,7 +3,7 @@ ghost use Rattle.std.specs.Prelude.{◌≡◌, pos, [], false, true, ◌+◌, �
 ghost use Rattle.cull_base.specs.declared.nearness.TheConstants.{GRADE_TOP};
 ghost use Rattle.cull_base.specs.declared.triangle.Side.TheVariants.{Occluder};
 ghost use Rattle.cull_base.specs.Piece.{doubled_area};
-ghost use Rattle.snap_setup.specs.Members.{with_pieces};
+ghost use Rattle.cull_base.specs.Tiles.{with_members};
 ghost use Rattle.snap_setup.specs.Pieces.{triangle, is_dropped, piece_if, kept_of, is_any_past_guard, is_all_in_front};
 ghost use Rattle.snap_setup.specs.Corners.{part_of, pieces_of_corners};
 ghost use Rattle.snap_setup.specs.Triangles.{pieces_of_triangle, TriangleGivesNone};
@@ -160,7 +160,7 @@ pub fn set_up(tri: &[ClipVertex; 3], near: u16, size: Size, winding: Winding, si
 #[inline(always)]
 fn push_if(piece: Option<ScreenTri>, list: &mut FrameList)
     requires { length list.old.list.members + 2 ≤ list.old.room }
-    ensures { list.new ≡ with_pieces list.old (option_to_list piece) }
+    ensures { list.new ≡ with_members list.old (option_to_list piece) }
 {
     if let Some(piece) = piece {
         list.push(piece);
@@ -174,7 +174,7 @@ fn push_clipped(tri: &Corners, near: u16, size: Size, winding: Winding, list: &m
     requires near_most { near ≤ 1024 }
     requires guarded { is_any_past_guard tri.now.v0.now tri.now.v1.now tri.now.v2.now near ≡ false }
     requires room { length list.old.list.members + 2 ≤ list.old.room }
-    ensures value { list.new ≡ with_pieces list.old (kept_of (part_of tri.now near size Occluder) winding) }
+    ensures value { list.new ≡ with_members list.old (kept_of (part_of tri.now near size Occluder) winding) }
     ensures most { length (kept_of (part_of tri.now near size Occluder) winding) ≤ 2 }
 {
     clipped_pieces(tri, near, size, winding, Side::Occluder).push_onto(list);
@@ -193,7 +193,7 @@ pub(crate) fn push_pieces(
     requires near_least { 1 ≤ near }
     requires near_most { near ≤ 1024 }
     requires room { length list.old.list.members + 2 ≤ list.old.room }
-    ensures value { list.new ≡ with_pieces list.old (pieces_of_corners tri.now near size winding) }
+    ensures value { list.new ≡ with_members list.old (pieces_of_corners tri.now near size winding) }
     ensures most { length (pieces_of_corners tri.now near size winding) ≤ 2 }
 {
     if is_any_past_guard(tri, near) {

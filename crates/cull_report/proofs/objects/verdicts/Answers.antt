@@ -1,13 +1,10 @@
 use Rattle.std.proofs.Common.{◌≡◌, ℕ, ◌+◌, ◌<◌, ◌++◌, List, [], ◌∷◌, length, map, take, get_or, arith, sym, ap, ◌∙◌, pos}
 use Rattle.std.proofs.lemmas.List.{take_more, map_push}
-use Rattle.std.proofs.lemmas.Option.{slice_get-get_or}
-use Rattle.cull_report.proofs.Forms.{from_place}
 use Rattle.cull_base.specs.declared.scene_types.Object.{Object}
 use Rattle.cull_base.specs.declared.scene_types.Object.TheVariants.{Area}
 use Rattle.cull_base.specs.declared.scene_types.Verdict.{Verdict}
 use Rattle.cull_report.specs.Scene.{verdict_in}
 use Rattle.cull_report.proofs.objects.verdicts.Goals as goal
-use Rattle.cull_report.proofs.objects.verdicts.Goals.{then-settled-object, else-settled-object}
 
 pushed : (f : Object → Verdict) (objects : List Object) (i : ℕ) (items more : List Verdict) (v : Verdict) (d : Object) → items ≡ map f (take i objects) → i < length objects
     → v ≡ f (get_or objects i d) → more ≡ items ++ v ∷ [] → more ≡ map f (take (i + 1) objects)
@@ -18,28 +15,13 @@ pushed f objects i items more v d e lt is m =
 some_object : Object
 some_object = Area (record { x0 = pos 0; y0 = pos 0; x1 = pos 0; y1 = pos 0 }) (pos 0)
 
-pub object_verdict-verdict-requires-clause-holds : goal.object_verdict-verdict-requires-clause-holds
-unfolding some_object
-object_verdict-verdict-requires-clause-holds g c =
-    let s = c.args.scene.now in
-    let lt : c.loop-object.object < length s.objects = omega (arith, c.loop-object-test.true, c.object_count-count.ensures) in
-    let at = slice_get-get_or s.objects c.loop-object.object some_object lt in
-    rw at (λ t below met. c.requires.holds t below)
-
 pub loop-object-preserved : goal.loop-object-preserved
 unfolding some_object
 loop-object-preserved g c =
     let scene = c.args.scene.now in
-    let tile_of = g.V.TileView.tile_of c.args.view.now in
-    let verdict : Object → Verdict = verdict_in scene c.args.frame tile_of in
     let i = c.loop-object.object in
     let lt : i < length scene.objects = omega (arith, c.loop-object-test.true, c.object_count-count.ensures) in
-    let v = c.if-settled-object.verdict in
-    let is : v ≡ verdict (get_or scene.objects i some_object) = elim c.if-settled-object.branch [
-      | then-settled-object w ↦ w.verdict-is ∙ sym (c.requires.right i some_object lt w.if-settled-object.true)
-      | else-settled-object w ↦ w.verdict-is ∙ from_place (λ o. w.object_verdict-verdict.result ≡ verdict o) scene.objects i some_object lt w.object_verdict-verdict.ensures.verdict
-    ] in
     record {
-      tested = pushed verdict scene.objects i _ _ v some_object c.loop-object.invariant.tested lt is c.push_reserved.ensures.items;
+      tested = pushed (verdict_in scene c.args.frame (g.V.TileView.tile_of c.args.view.now)) scene.objects i _ _ _ some_object c.loop-object.invariant.tested lt (c.verdict_at.ensures some_object) c.push_reserved.ensures.items;
       room = omega (arith, c.loop-object.invariant.room, c.push_reserved.ensures.capacity);
     }

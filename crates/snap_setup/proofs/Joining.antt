@@ -1,0 +1,51 @@
+-- The pieces of runs of triangles, one run after another, are those of all triangles.
+use Rattle.std.proofs.Common.{◌≡◌, ℕ, zero, suc, ◌+◌, ◌*◌, ◌<◌, ◌≤◌, List, [], ◌∷◌, ◌++◌, length, take, get_or, append-nil, refl, sym, ap, ◌∙◌, arith}
+use Rattle.std.proofs.Math.Nat.{suc-mul, mul_comm}
+use Rattle.std.proofs.Math.Seq.{take-add}
+use Rattle.std.proofs.lemmas.List.{take_all, take_more}
+use Rattle.std.proofs.lemmas.Grind.{flat_map-append, div_ceil_times}
+use Rattle.std.specs.Int.{div_ceil}
+use Rattle.cull_base.specs.declared.clip.ClipVertex.{ClipVertex}
+use Rattle.cull_base.specs.declared.scene_types.Tri.{Tri}
+use Rattle.cull_base.specs.declared.triangle.Winding.{Winding}
+use Rattle.cull_base.specs.declared.nearness.TheConstants.{GRADE_TOP}
+use Rattle.cull_base.specs.Piece.{Piece}
+use Rattle.cull_base.specs.Screen.{Dimensions}
+use Rattle.cull_base.specs.Tiles.{FrameListOf}
+use Rattle.snap_setup.specs.Pieces.{list_of_clips}
+use Rattle.snap_setup.specs.Runs.{run_of, empty_list, AreMade, members_of}
+
+module _ (clips : List ClipVertex) (tris : List Tri) (near : ℕ) (size : Dimensions) (winding : Winding) (share : ℕ) where
+  abbrev pieces : List Tri → List Piece
+  pieces some = list_of_clips clips some GRADE_TOP near size winding
+
+  both : (some others : List Tri) → pieces (some ++ others) ≡ pieces some ++ pieces others
+  unfolding list_of_clips
+  both some others = flat_map-append _ some others
+
+  none : [] ≡ pieces (take 0 tris)
+  unfolding list_of_clips
+  none = refl
+
+  -- the runs before the k-th hold the pieces of the first k shares
+  first_runs : (rooms : List FrameListOf) → AreMade clips tris near size winding share rooms → (k : ℕ) → k ≤ length rooms
+      → members_of (take k rooms) ≡ pieces (take (k * share) tris)
+  first_runs rooms made zero h = none ∙ ap (λ (n : ℕ). pieces (take n tris)) (let e : zero ≡ zero * share = omega arith in e)
+  first_runs rooms made (suc k) h =
+      let d = empty_list size (2 * share) in
+      let lt : k < length rooms = omega (arith, h) in
+      let more = take_more rooms k d lt in
+      let old = first_runs rooms made k (omega (arith, h)) in
+      let here : (get_or rooms k d).list.members ≡ pieces (run_of tris share k) = ap (λ (f : FrameListOf). f.list.members) (made k d lt) in
+      ap (λ (n : ℕ). members_of (take n rooms)) (let e : suc k ≡ k + 1 = omega arith in e) ∙ ap members_of more ∙ flat_map-append (λ (f : FrameListOf). f.list.members) (take k rooms) (get_or rooms k d ∷ [])
+      ∙ (λ i. old i ++ (append-nil (get_or rooms k d).list.members ∙ here) i)
+      ∙ sym (both (take (k * share) tris) (run_of tris share k))
+      ∙ ap pieces (sym (take-add (k * share) share tris) ∙ ap (λ n. take n tris) (sym (suc-mul k share)))
+
+  all_runs : (rooms : List FrameListOf) → AreMade clips tris near size winding share rooms → length tris ≤ length rooms * share → members_of rooms ≡ list_of_clips clips tris GRADE_TOP near size winding
+  all_runs rooms made whole = ap members_of (sym (take_all (length rooms) rooms (omega arith))) ∙ first_runs rooms made (length rooms) (omega arith) ∙ ap pieces (take_all (length rooms * share) tris whole)
+
+  -- where the share is the triangles by the number of runs, rounded up
+  pub shared_out : (rooms : List FrameListOf) → AreMade clips tris near size winding share rooms → 0 < length rooms → share ≡ div_ceil (length tris) (length rooms)
+      → members_of rooms ≡ list_of_clips clips tris GRADE_TOP near size winding
+  shared_out rooms made some is = all_runs rooms made (rw (mul_comm (length rooms) share) (rw is (div_ceil_times (length tris) (length rooms) some).0))

@@ -1,0 +1,158 @@
+//! The pieces of a frame, made by workers side by side: each makes those of runs of triangles, and the runs are joined
+//! in submission order.
+ghost use Rattle.std.specs.Prelude.{◌≡◌, ◌<◌, ◌≤◌, ◌*◌, ◌+◌, length, replicate, take, IfOk};
+ghost use Rattle.std.specs.List.{All};
+ghost use Rattle.cull_base.specs.Screen.{Dimensions};
+ghost use Rattle.cull_base.specs.Tiles.{with_members};
+ghost use Rattle.cull_base.specs.declared.nearness.TheConstants.{GRADE_TOP};
+ghost use Rattle.snap_setup.specs.Pieces.{list_of_clips, HasClips};
+ghost use Rattle.snap_setup.specs.Runs.{empty_list, members_of, run_of, AreMade};
+
+use crate::frame::{frame_list, push_all};
+use cull_base::{ClipVertex, FrameList, Memory, Size, Tri, Winding};
+use std::alloc::Global;
+use std::thread::{Threads, for_each_mut};
+
+/// A thread is worth its start for so many triangles.
+const SHARE: usize = 1024;
+
+// Empty lists for the pieces of so many runs.
+fn rooms_for(alloc: Global, size: Size, share: usize, runs: usize) -> Result<Vec<FrameList>, Memory>
+    requires { share ≤ 65536 }
+    ensures { IfOk result (λ v. v.items ≡ replicate runs (empty_list size (2 * share))) }
+{
+    let mut rooms = Vec::with_capacity(alloc, runs).map_err(|_| Memory)?;
+    for _ in 0..runs {
+        rooms.push_reserved(FrameList::with_room(alloc, size, 2 * share as u32)?);
+    }
+    Ok(rooms)
+}
+
+// Run k of the triangles.
+fn run(tris: &[Tri], share: usize, k: usize) -> &[Tri]
+    requires triangles { length tris.now ≤ 65536 }
+    requires share { share ≤ 65536 }
+    requires run { k ≤ 65536 }
+    ensures { result.now ≡ run_of tris.now share k }
+{
+    let start = tris.len().min(k * share);
+    let end = tris.len().min(start + share);
+    &tris[start..end]
+}
+
+// Fills each room with the pieces of its run.
+fn fill<R: Threads + Sync>(
+    rt: &R,
+    rooms: &mut [FrameList],
+    clips: &[ClipVertex],
+    tris: &[Tri],
+    near: u16,
+    size: Size,
+    winding: Winding,
+    share: usize,
+)
+    requires near_least { 1 ≤ near }
+    requires near_most { near ≤ 1024 }
+    requires triangles { length tris.now ≤ 65536 }
+    requires indices { All (HasClips (length clips.now)) tris.now }
+    requires share { share ≤ 65536 }
+    requires runs { 0 < length rooms.old }
+    requires few { length rooms.old ≤ 65536 }
+    requires empty { All (λ l. l ≡ empty_list size (2 * share)) rooms.old }
+    ensures made { AreMade clips.now tris.now near size winding share rooms.new }
+    ensures runs { length rooms.new ≡ length rooms.old }
+{
+    let threads = rooms.len();
+    for_each_mut(
+        rt,
+        rooms,
+        threads,
+        &|k: usize, room: &mut FrameList|
+            requires near_least { 1 ≤ near }
+            requires near_most { near ≤ 1024 }
+            requires triangles { length tris.now ≤ 65536 }
+            requires indices { All (HasClips (length clips.now)) tris.now }
+            requires share { share ≤ 65536 }
+            requires run { k ≤ 65536 }
+            requires empty { room.old ≡ empty_list size (2 * share) }
+            ensures { room.new ≡ with_members (empty_list size (2 * share))
+                (list_of_clips clips.entry.now (run_of tris.entry.now share k) GRADE_TOP near size winding) }
+        { push_all(clips, run(tris, share, k), near, size, winding, room) },
+    );
+}
+
+// The pieces of each of so many runs, made side by side.
+fn make_runs<R: Threads + Sync>(
+    rt: &R,
+    alloc: Global,
+    clips: &[ClipVertex],
+    tris: &[Tri],
+    near: u16,
+    size: Size,
+    winding: Winding,
+    share: usize,
+    runs: usize,
+) -> Result<Vec<FrameList>, Memory>
+    requires near_least { 1 ≤ near }
+    requires near_most { near ≤ 1024 }
+    requires triangles { length tris.now ≤ 65536 }
+    requires indices { All (HasClips (length clips.now)) tris.now }
+    requires share { share ≤ 65536 }
+    requires runs { 0 < runs }
+    requires few { runs ≤ 65536 }
+    ensures made { IfOk result (λ v. AreMade clips.now tris.now near size winding share v.items) }
+    ensures runs { IfOk result (λ v. length v.items ≡ runs) }
+{
+    let mut rooms = rooms_for(alloc, size, share, runs)?;
+    fill(
+        rt,
+        rooms.as_mut_slice(),
+        clips,
+        tris,
+        near,
+        size,
+        winding,
+        share,
+    );
+    Ok(rooms)
+}
+
+// Appends the members of some lists, one list after another.
+fn join_all(list: &mut FrameList, rooms: &[FrameList])
+    requires { length list.old.list.members + length (members_of rooms.now) ≤ list.old.room }
+    ensures { list.new ≡ with_members list.old (members_of rooms.now) }
+{
+    for room in rooms {
+        list.append(room);
+    }
+}
+
+/// The pieces of the triangles as `frame_list` gives them, made by so many workers side by side where there are many
+/// triangles. Conditions as for `frame_list`, and there is a worker.
+pub fn frame_list_by_workers<R: Threads + Sync>(
+    rt: &R,
+    alloc: Global,
+    clips: &[ClipVertex],
+    tris: &[Tri],
+    near: u16,
+    size: Size,
+    winding: Winding,
+    workers: u32,
+) -> Result<FrameList, Memory>
+    requires near_least { 1 ≤ near }
+    requires near_most { near ≤ 1024 }
+    requires triangles { length tris.now ≤ 65536 }
+    requires indices { All (HasClips (length clips.now)) tris.now }
+    ensures members { IfOk result (λ f. f.list.members ≡ list_of_clips clips.now tris.now GRADE_TOP near size winding) }
+    ensures size { IfOk result (λ f. f.list.size ≡ size) }
+{
+    let runs = (tris.len() / SHARE).min(workers as usize);
+    if runs <= 1 {
+        return frame_list(alloc, clips, tris, near, size, winding);
+    }
+    let share = tris.len().div_ceil(runs);
+    let mut list = FrameList::with_room(alloc, size, 2 * tris.len() as u32)?;
+    let rooms = make_runs(rt, alloc, clips, tris, near, size, winding, share, runs)?;
+    join_all(&mut list, rooms.as_slice());
+    Ok(list)
+}
