@@ -50,10 +50,10 @@ pub fn run<R: Threads + Wait + Sync, S: Source, W: Sink, E: Sink>(
     ensures noted { (result ≡ Status.Done → ⊥) → (result ≡ Status.Scene → ⊥)
         → IsNoted (E.says notes.old) (E.says notes.new) (status_text result) }
 {
-    let Some(_settings) = settings_of(words) else {
+    let Some(settings) = settings_of(words) else {
         return Failure::Usage.end(notes);
     };
-    match cull(rt, alloc, input, report) {
+    match cull(rt, alloc, &settings, input, report) {
         Ok(()) => Status::Done,
         Err(failure) => failure.end(notes),
     }

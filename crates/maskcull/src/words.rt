@@ -1,9 +1,9 @@
 //! The command words.
 ghost use Rattle.std.specs.Prelude.{◌≡◌, ℕ, ◌≤◌, map, string_bytes, IfSome, None};
-ghost use Rattle.maskcull.specs.Words.{HaveSettings, IsAccepted, IsNumber, IsOption, AreOptions};
+ghost use Rattle.maskcull.specs.Words.{HaveSettings, IsAccepted, IsNumber, IsOption, AreOptions, AreInRange};
 
-use crate::settings;
 use crate::settings::Settings;
+use binning::Cut;
 use itoa::Buffer;
 
 // The number from 1 to a greatest one that a word spells in decimal without leading zeros.
@@ -35,18 +35,27 @@ fn option_of(word: &String, value: &String, name: &str, greatest: u32) -> Option
 }
 
 // The settings of the words behind the command.
-fn options_of(words: &[String]) -> Option<Settings>
-    ensures some { IfSome result (AreOptions (map string_bytes words.now)) }
-    ensures none { result ≡ None → (s : Settings) → AreOptions (map string_bytes words.now) s → ⊥ }
+fn options_of(options: &[String]) -> Option<Settings>
+    ensures some { IfSome result (AreOptions (map string_bytes options.now)) }
+    ensures range { IfSome result AreInRange }
+    ensures none { result ≡ None → (s : Settings) → AreOptions (map string_bytes options.now) s → ⊥ }
 {
-    match words {
-        [] => Some(settings::DEFAULT),
+    match options {
+        [] => Some(Settings {
+            workers: 1,
+            cut: Cut::new(1, 1)?,
+            batch: 64,
+        }),
         [workers, a, bins_x, b, bins_y, c, batch, d] => {
+            let workers = option_of(workers, a, "--workers", 64)?;
+            let columns = option_of(bins_x, b, "--bins-x", 8)?;
+            let rows = option_of(bins_y, c, "--bins-y", 8)?;
+            let batch = option_of(batch, d, "--batch", 4096)?;
+            let cut = Cut::new(columns as u8, rows as u8)?;
             Some(Settings {
-                workers: option_of(workers, a, "--workers", 64)?,
-                bins_x: option_of(bins_x, b, "--bins-x", 8)?,
-                bins_y: option_of(bins_y, c, "--bins-y", 8)?,
-                batch: option_of(batch, d, "--batch", 4096)?,
+                workers,
+                cut,
+                batch,
             })
         }
         _ => None,
@@ -57,6 +66,7 @@ fn options_of(words: &[String]) -> Option<Settings>
 /// options `--workers`, `--bins-x`, `--bins-y` and `--batch`, in this order.
 pub fn settings_of(words: &[String]) -> Option<Settings>
     ensures some { IfSome result (HaveSettings (map string_bytes words.now)) }
+    ensures range { IfSome result AreInRange }
     ensures none { result ≡ None → IsAccepted (map string_bytes words.now) → ⊥ }
 {
     match words {

@@ -15,8 +15,8 @@ use Rattle.maskcull.proofs.cull.pieces_of.Goals as goal
 has_clips : (n m : ℕ) (t : Tri) → n ≡ m → All (λ v. v < m) t.0 → HasClips n t
 has_clips n m t e h = rw e h
 
-pub frame_list-requires-clause-indices : goal.frame_list-requires-clause-indices
-frame_list-requires-clause-indices c =
+pub frame_list_by_workers-requires-clause-indices : goal.frame_list_by_workers-requires-clause-indices
+frame_list_by_workers-requires-clause-indices c =
     let s = c.args.scene.now in
     let n : length c.args.clips.now ≡ length s.vertices = ap length c.requires ∙ clip_count s c.args._frame in
     let all : All (HasClips (length c.args.clips.now)) s.occluders = λ k d lt. has_clips (length c.args.clips.now) (length s.vertices) _ n ((c.near.ensures.valid).occluders k d lt).1 in
@@ -32,5 +32,5 @@ returns-clause-list c =
     let s = c.args.scene.now in
     let is : list_of_clips c.args.clips.now c.occluders.result.now GRADE_TOP c.near.result c.size.result c.winding.result ≡ (frame_list s c.args._frame).members =
     rw (c.requires, c.occluders.ensures, c.near.ensures.value, c.size.ensures, c.winding.ensures) refl in
-    listed c.frame_list.result (frame_list s c.args._frame) (subst (λ (ps : List Piece). IfOk c.frame_list.result (λ f. f.list.members ≡ ps)) is c.frame_list.ensures.members)
-    (subst (λ (d : Dimensions). IfOk c.frame_list.result (λ f. f.list.size ≡ d)) c.size.ensures c.frame_list.ensures.size)
+    listed c.frame_list_by_workers.result (frame_list s c.args._frame) (subst (λ (ps : List Piece). IfOk c.frame_list_by_workers.result (λ f. f.list.members ≡ ps)) is c.frame_list_by_workers.ensures.members)
+    (subst (λ (d : Dimensions). IfOk c.frame_list_by_workers.result (λ f. f.list.size ≡ d)) c.size.ensures c.frame_list_by_workers.ensures.size)

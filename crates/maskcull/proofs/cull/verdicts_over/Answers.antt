@@ -22,4 +22,4 @@ returns c =
     let f : Sub → State = state_in (size_of s) (tile_at tiles) in
     let g : Sub → State = λ u. after u (frame_pieces s c.args.frame) in
     let is : map (object_verdict s c.args.frame f) s.objects ≡ frame_verdicts s c.args.frame = objects_alike s c.args.frame f g (drawn_agrees (size_of s) (frame_pieces s c.args.frame) tiles drawn) s.objects in
-    subst (λ (vs : List Verdict). IfOk c.verdicts.result (λ v. v.items ≡ vs)) is c.verdicts.ensures
+    subst (λ (vs : List Verdict). IfOk c.verdicts_by_workers.result (λ v. v.items ≡ vs)) is c.verdicts_by_workers.ensures

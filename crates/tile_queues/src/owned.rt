@@ -1,0 +1,145 @@
+//! A frame drawn by workers: each owns the tiles of its bins, draws them and hands them back.
+ghost use Rattle.std.specs.Prelude.{◌≡◌, ◌≤◌, ◌<◌, ◌+◌, ◌*◌, ℕ, length, IfOk, OnOk, All};
+ghost use Rattle.cull_base.specs.Screen.{IsSize, tile_count_of};
+ghost use Rattle.cull_base.specs.Tiles.{ArePieces};
+ghost use Rattle.masked_update.specs.Drawn.{AreDrawn, IsDrawn};
+ghost use Rattle.binning.specs.Parts.{batch_count_of};
+ghost use Rattle.tile_queues.specs.Batches.{AreBatches};
+ghost use Rattle.tile_queues.specs.Bins.{AreWorkersAt, IsWorkerAt};
+
+use crate::batch::{Batch, batches_of};
+use crate::worker::Worker;
+use binning::{Cut, bin_of_tile};
+use cull_base::{FrameList, Memory};
+use masked_update::{TileState, draw_plain};
+use std::alloc::Global;
+use std::thread::{Threads, for_each_mut};
+
+/// A thread is worth its start for so many pieces.
+const SHARE: u32 = 512;
+
+// So many workers with their bins, all tiles empty.
+fn make_workers(
+    alloc: Global,
+    list: &FrameList,
+    cut: &Cut,
+    workers: u32,
+) -> Result<Vec<Worker>, Memory>
+    requires { workers ≤ 64 }
+    ensures { IfOk result (λ v. AreWorkersAt list.now.list cut.now workers 0 v.items) }
+{
+    let mut all = Vec::with_capacity(alloc, workers as usize).map_err(|_| Memory)?;
+    for worker in 0..workers {
+        all.push_reserved(Worker::with_bins(alloc, list, cut, workers, worker)?);
+    }
+    Ok(all)
+}
+
+// Draws all batches, the workers side by side by at most so many threads.
+fn draw_all<R: Threads + Sync>(
+    rt: &R,
+    all: &mut [Worker],
+    list: &FrameList,
+    batches: &[Batch],
+    cut: &Cut,
+    size: u32,
+    workers: u32,
+    threads: usize,
+)
+    requires size { 1 ≤ size }
+    requires few { workers ≤ 64 }
+    requires threads { 0 < threads }
+    requires batches { AreBatches list.now.list cut.now size batches.now }
+    requires empty { AreWorkersAt list.now.list cut.now workers 0 all.old }
+    ensures { AreWorkersAt list.now.list cut.now workers (length list.now.list.members) all.new }
+{
+    for_each_mut(
+        rt,
+        all,
+        threads,
+        &|w: usize, worker: &mut Worker|
+            requires size { 1 ≤ size }
+            requires worker { w < workers }
+            requires few { workers ≤ 64 }
+            requires batches { AreBatches list.now.list cut.now size batches.now }
+            requires empty { IsWorkerAt list.now.list cut.now workers 0 w worker.old }
+            ensures { IsWorkerAt list.entry.now.list cut.entry.now workers (length list.entry.now.list.members) w worker.new }
+        { worker.draw(list, batches, cut, size, workers, w as u32) },
+    );
+}
+
+// A tile as its bin's worker hands it back.
+fn tile_of(all: &[Worker], list: &FrameList, cut: &Cut, workers: u32, tile: u32) -> TileState
+    requires some { 0 < workers }
+    requires tile { tile < tile_count_of list.now.list.size }
+    requires drawn { AreWorkersAt list.now.list cut.now workers (length list.now.list.members) all.now }
+    ensures { IsDrawn list.now.list tile result }
+{
+    let size = list.size();
+    let bin = bin_of_tile(size, cut, tile);
+    all[(bin % workers) as usize]
+        .bin(bin / workers)
+        .tile(size.tile_at(tile))
+}
+
+// All tiles, in order.
+fn gather(
+    alloc: Global,
+    all: &[Worker],
+    list: &FrameList,
+    cut: &Cut,
+    workers: u32,
+) -> Result<Vec<TileState>, Memory>
+    requires some { 0 < workers }
+    requires drawn { AreWorkersAt list.now.list cut.now workers (length list.now.list.members) all.now }
+    ensures tiles { IfOk result (λ v. length v.items ≡ tile_count_of list.now.list.size) }
+    ensures drawn { IfOk result (λ v. AreDrawn list.now.list v.items) }
+{
+    let count = list.size().tile_count();
+    let mut tiles = Vec::with_capacity(alloc, count as usize).map_err(|_| Memory)?;
+    for tile in 0..count {
+        tiles.push_reserved(tile_of(all, list, cut, workers, tile));
+    }
+    Ok(tiles)
+}
+
+/// Each tile of the screen after the whole list, whatever the cut, the number of workers and the size of batches: what
+/// `draw_plain` says of its tiles. All batches are binned first, each of so many pieces. Bin b belongs to worker b mod
+/// workers, which owns its tiles while it draws them. One worker or one bin needs no batches, and no thread is started
+/// for a list that isn't worth one. Err where memory gave out. Conditions: 1 to 64 workers, and a batch has at least one
+/// piece, so that there are at most 2048.
+pub fn draw_owned<R: Threads + Sync>(
+    rt: &R,
+    alloc: Global,
+    list: &FrameList,
+    cut: &Cut,
+    workers: u32,
+    batch: u32,
+) -> Result<Vec<TileState>, Memory>
+    requires some { 1 ≤ workers }
+    requires most { workers ≤ 64 }
+    requires batch { 1 ≤ batch }
+    requires few { batch_count_of (length list.now.list.members) batch ≤ 2048 }
+    ensures tiles { IfOk result (λ v. length v.items ≡ tile_count_of list.now.list.size) }
+    ensures drawn { IfOk result (λ v. AreDrawn list.now.list v.items) }
+    ensures pieces { OnOk result (ArePieces list.now.list.members) }
+{
+    let workers = workers.min(cut.bins());
+    if workers == 1 {
+        return draw_plain(alloc, list);
+    }
+    let threads = (list.len() / SHARE).min(workers).max(1) as usize;
+    let batches = batches_of(alloc, list, cut, batch)?;
+    let mut all = make_workers(alloc, list, cut, workers)?;
+    draw_all(
+        rt,
+        all.as_mut_slice(),
+        list,
+        batches.as_slice(),
+        cut,
+        batch,
+        workers,
+        threads,
+    );
+    gather(alloc, all.as_slice(), list, cut, workers)
+}
