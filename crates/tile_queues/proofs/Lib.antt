@@ -1,2 +1,5 @@
 pub mod Kept
 pub mod PlacesInTurn
+pub mod Lists
+pub mod Owning
+pub mod Parting

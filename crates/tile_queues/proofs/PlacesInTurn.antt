@@ -1,10 +1,11 @@
 -- A bin's tiles take the places of a part one after another, and what stands between them misses the bin.
-use Rattle.std.proofs.Common.{◌≡◌, ℕ, ◌+◌, ◌-◌, ◌<◌, ◌≤◌, List, [], ◌∷◌, false, arith, sym, ap, subst, ◌∙◌}
+use Rattle.std.proofs.Common.{◌≡◌, ℕ, suc, drop, get_or, length, ◌+◌, ◌-◌, ◌<◌, ◌≤◌, List, [], ◌∷◌, false, arith, sym, ap, subst, ◌∙◌}
+use Rattle.std.proofs.Math.Seq.{drop-cons}
 use Rattle.std.specs.List.{filter, range_with_len}
 use Rattle.cull_base.specs.Piece.{box_of}
 use Rattle.cull_base.specs.Screen.{IsSize}
 use Rattle.cull_base.specs.Tiles.{PieceList}
-use Rattle.masked_update.specs.Canvas.{CanvasOf, MissBetween, StandsAt}
+use Rattle.masked_update.specs.Canvas.{CanvasOf, MissBetween}
 use Rattle.masked_update.proofs.Canvases.{stands_on}
 use Rattle.binning.specs.Cut.{CutOf, IsCut}
 use Rattle.binning.specs.Bins.{bin_rect_of, bin_span_of}
@@ -57,3 +58,11 @@ module _ (list : PieceList) (cut : CutOf) (bin : ℕ) (sized : IsSize list.size.
   no_place to c (n, le, is, at) =
       let none = none_kept (meets_at (bin_rect_of list.size cut bin) list.members) (to - n) n (sym is) in
       moved n to c (missed n to le (λ m ge lt. none m ge (omega (arith, lt, le)))) at
+
+  -- the place that stands next among those that are left
+  pub turn : (to k : ℕ) (indices items : List ℕ) (c : CanvasOf) → items ≡ indices → k < length items → StandsBefore list cut bin to (drop k indices) c
+      → IsNext list cut bin to (get_or items k 0) (drop (k + 1) indices) c
+  turn to k indices items c same lt before =
+      let one : suc k ≡ k + 1 = omega arith in
+      let cut_off : drop k indices ≡ get_or items k 0 ∷ drop (k + 1) indices = ap (drop k) (sym same) ∙ drop-cons items k 0 lt ∙ (λ j. get_or items k 0 ∷ drop (one j) (same j)) in
+      next_place to (get_or items k 0) (drop (k + 1) indices) c (subst (λ (ps : List ℕ). StandsBefore list cut bin to ps c) cut_off before)

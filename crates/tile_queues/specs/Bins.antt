@@ -1,5 +1,5 @@
 -- Bins while a frame is drawn, and the workers that own them.
-use Rattle.std.specs.Prelude.{◌≡◌, ℕ, ◌+◌, ◌-◌, ◌*◌, ◌/◌, ◌%◌, ◌<◌, List, length, slice_index_or}
+use Rattle.std.specs.Prelude.{◌≡◌, ℕ, ◌+◌, ◌-◌, ◌*◌, ◌/◌, ◌<◌, List, length, slice_index_or}
 use Rattle.cull_base.specs.Tiles.{PieceList}
 use Rattle.masked_update.specs.Canvas.{CanvasOf, StandsAt}
 use Rattle.binning.specs.Cut.{CutOf, bin_count_of}

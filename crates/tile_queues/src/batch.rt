@@ -31,8 +31,9 @@ impl Batch {
         requires batch { i < batch_count_of (length list.now.list.members) size }
         ensures { IfOk result (λ b. b ≡ parts_of list.now.list cut.now size i) }
     {
+        let len = list.len();
         let from = i * size;
-        let to = list.len().min(from.saturating_add(size));
+        let to = len.min(from.saturating_add(size));
         let parts = bin_batch(alloc, list, i, from, to, cut)?;
         Ok(Batch { parts })
     }
@@ -59,7 +60,8 @@ pub(crate) fn batches_of(
     let count = batch_count(list.len(), size);
     let mut batches = Vec::with_capacity(alloc, count as usize).map_err(|_| Memory)?;
     for i in 0..count {
-        batches.push_reserved(Batch::of(alloc, list, cut, size, i)?);
+        let batch = Batch::of(alloc, list, cut, size, i)?;
+        batches.push_reserved(batch);
     }
     Ok(batches)
 }

@@ -76,6 +76,8 @@ fn tile_of(all: &[Worker], list: &FrameList, cut: &Cut, workers: u32, tile: u32)
     ensures { IsDrawn list.now.list tile result }
 {
     let size = list.size();
+    // accessors tell what is held of a size, of a cut and of a list
+    let (_width, _columns, _len) = (size.width(), cut.columns(), list.len());
     let bin = bin_of_tile(size, cut, tile);
     all[(bin % workers) as usize]
         .bin(bin / workers)
@@ -98,7 +100,8 @@ fn gather(
     let count = list.size().tile_count();
     let mut tiles = Vec::with_capacity(alloc, count as usize).map_err(|_| Memory)?;
     for tile in 0..count {
-        tiles.push_reserved(tile_of(all, list, cut, workers, tile));
+        let state = tile_of(all, list, cut, workers, tile);
+        tiles.push_reserved(state);
     }
     Ok(tiles)
 }

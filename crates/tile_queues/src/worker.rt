@@ -52,6 +52,30 @@ fn draw_bin(
     }
 }
 
+// Draws all batches into the tiles of each bin of a worker.
+fn draw_bins(
+    bins: &mut [Canvas],
+    list: &FrameList,
+    batches: &[Batch],
+    cut: &Cut,
+    size: u32,
+    workers: u32,
+    worker: u32,
+)
+    requires size { 1 ≤ size }
+    requires worker { worker < workers }
+    requires few { workers ≤ 64 }
+    requires batches { AreBatches list.now.list cut.now size batches.now }
+    requires empty { IsWorkerAt list.now.list cut.now workers 0 worker bins.old }
+    ensures { IsWorkerAt list.now.list cut.now workers (length list.now.list.members) worker bins.new }
+{
+    let _bins = cut.bins();
+    for j in 0..bins.len() {
+        let bin = j as u32 * workers + worker;
+        draw_bin(&mut bins[j], list, batches, cut, size, bin);
+    }
+}
+
 impl Worker {
     /// A worker with its bins, all tiles empty. Condition: it is below the number of workers.
     pub(crate) fn with_bins(
@@ -69,7 +93,8 @@ impl Worker {
         let mut bins = Vec::with_capacity(alloc, count as usize).map_err(|_| Memory)?;
         for j in 0..count {
             let window = bin_span(list.size(), cut, j * workers + worker);
-            bins.push_reserved(Canvas::empty(alloc, window)?);
+            let canvas = Canvas::empty(alloc, window)?;
+            bins.push_reserved(canvas);
         }
         Ok(Worker { bins })
     }
@@ -91,11 +116,8 @@ impl Worker {
         requires empty { IsWorkerAt list.now.list cut.now workers 0 worker self.old }
         ensures { IsWorkerAt list.now.list cut.now workers (length list.now.list.members) worker self.new }
     {
-        let _columns = cut.columns();
-        for j in 0..self.bins.len() {
-            let bin = j as u32 * workers + worker;
-            draw_bin(&mut self.bins[j], list, batches, cut, size, bin);
-        }
+        let bins = self.bins.as_mut_slice();
+        draw_bins(bins, list, batches, cut, size, workers, worker);
     }
 
     /// The tiles of one of its bins. Condition: it has so many.
