@@ -1,6 +1,10 @@
 //! One axis of the screen: its tiles, cut into bins.
 ghost use Rattle.std.specs.Prelude.{◌≡◌, ◌+◌, ◌<◌, ◌≤◌};
+ghost use Rattle.cull_base.specs.Screen.{tile_columns_of, tile_rows_of};
 ghost use Rattle.binning.specs.Axis.{IsCutAxis, IsRangeWithin, IsStepOf, ReachesAlong, bin_along, first_along, has_tile_along};
+
+use crate::cut::Cut;
+use cull_base::Size;
 
 /// Steps are counted in parts of this: a power of two that keeps every bin exact.
 const WHOLE: u32 = 0x10_0000;
@@ -23,9 +27,9 @@ pub(crate) struct BinRange {
 }
 
 impl Axis {
-    /// Condition: 1 to 8 bins, 1 to 256 tiles.
+    // Condition: 1 to 8 bins, 1 to 256 tiles.
     #[inline(always)]
-    pub(crate) fn new(bins: u32, tiles: u32) -> Axis
+    fn new(bins: u32, tiles: u32) -> Axis
         requires { IsCutAxis bins tiles }
         ensures bins { result.bins ≡ bins }
         ensures tiles { result.tiles ≡ tiles }
@@ -35,6 +39,24 @@ impl Axis {
             tiles,
             step: bins * WHOLE.div_ceil(tiles),
         }
+    }
+
+    /// The columns of a screen.
+    #[inline(always)]
+    pub(crate) fn across(size: Size, cut: &Cut) -> Axis
+        ensures bins { result.bins ≡ cut.now.columns }
+        ensures tiles { result.tiles ≡ tile_columns_of size }
+    {
+        Axis::new(cut.columns(), size.tile_columns())
+    }
+
+    /// The rows of a screen.
+    #[inline(always)]
+    pub(crate) fn down(size: Size, cut: &Cut) -> Axis
+        ensures bins { result.bins ≡ cut.now.rows }
+        ensures tiles { result.tiles ≡ tile_rows_of size }
+    {
+        Axis::new(cut.rows(), size.tile_rows())
     }
 
     /// The bin of a tile. Condition: the tile is below their number.

@@ -1,7 +1,7 @@
 //! The bins of a screen: which tiles stand in each, and their pixels.
 ghost use Rattle.std.specs.Prelude.{◌≡◌, ℤ, ◌<◌, ◌↔◌};
 ghost use Rattle.cull_base.specs.Rectangle.{HasPixel, no_pixels};
-ghost use Rattle.cull_base.specs.Screen.{tile_columns_of, tile_rows_of, tile_count_of};
+ghost use Rattle.cull_base.specs.Screen.{tile_count_of};
 ghost use Rattle.cull_base.specs.Span.{IsSpan};
 ghost use Rattle.binning.specs.Bins.{bin_of, bin_span_of, bin_rect_of, HasTilesOfBin, HasNoTile, IsInTileOfBin, has_tiles, span_rect_of, spread_of};
 ghost use Rattle.binning.specs.Cut.{bin_count_of};
@@ -10,20 +10,6 @@ use crate::axis::Axis;
 use crate::cut::Cut;
 use cull_base::{Rect, Size, TileSpan};
 
-fn across(size: Size, cut: &Cut) -> Axis
-    ensures bins { result.bins ≡ cut.now.columns }
-    ensures tiles { result.tiles ≡ tile_columns_of size }
-{
-    Axis::new(cut.columns(), size.tile_columns())
-}
-
-fn down(size: Size, cut: &Cut) -> Axis
-    ensures bins { result.bins ≡ cut.now.rows }
-    ensures tiles { result.tiles ≡ tile_rows_of size }
-{
-    Axis::new(cut.rows(), size.tile_rows())
-}
-
 /// The bin in which a tile stands. Condition: the tile is below the count.
 pub fn bin_of_tile(size: Size, cut: &Cut, tile: u32) -> u32
     requires { tile < tile_count_of size }
@@ -31,8 +17,8 @@ pub fn bin_of_tile(size: Size, cut: &Cut, tile: u32) -> u32
     ensures within { result < bin_count_of cut.now }
 {
     let place = size.tile_at(tile);
-    let column = across(size, cut).bin_of(u32::from(place.column));
-    let row = down(size, cut).bin_of(u32::from(place.row));
+    let column = Axis::across(size, cut).bin_of(u32::from(place.column));
+    let row = Axis::down(size, cut).bin_of(u32::from(place.row));
     row * cut.columns() + column
 }
 
@@ -45,8 +31,8 @@ pub fn bin_span(size: Size, cut: &Cut, bin: u32) -> TileSpan
 {
     // an accessor tells what is held of a size
     let _width = size.width();
-    let across = across(size, cut);
-    let down = down(size, cut);
+    let across = Axis::across(size, cut);
+    let down = Axis::down(size, cut);
     let column = bin % cut.columns();
     let row = bin / cut.columns();
     TileSpan {

@@ -44,14 +44,17 @@ impl Grid {
         ensures size { result.size ≡ size }
         ensures cut { result.cut ≡ cut.now }
     {
-        let across = Axis::new(cut.columns(), size.tile_columns());
-        let down = Axis::new(cut.rows(), size.tile_rows());
+        // accessors tell what is held of a size and of a cut
+        let _width = size.width();
+        let _columns = cut.columns();
+        let across = Axis::across(size, cut);
+        let down = Axis::down(size, cut);
         Grid {
             size,
             cut: *cut,
             across,
             down,
-            is_full: cut.columns() <= size.tile_columns() && cut.rows() <= size.tile_rows(),
+            is_full: across.bins <= across.tiles && down.bins <= down.tiles,
         }
     }
 
