@@ -17,17 +17,17 @@ pub struct FrameList {
 
 impl Model for FrameList {
     ghost use Rattle.std.specs.Prelude.{◌≤◌, length, vec_capacity};
-    ghost use Rattle.cull_base.specs.Tiles.{FrameListOf};
+    ghost use Rattle.cull_base.specs.Tiles.{FrameListOf, ArePieces};
 
     ghost Value = { FrameListOf };
 
     ghost view = { λ f. record { list = record { size = f.size; members = f.pieces.items }; room = f.room } };
 
-    ghost invariant = { λ f. (length f.pieces.items ≤ f.room) × (f.room ≤ vec_capacity f.pieces) × (f.room ≤ 131072) };
+    ghost invariant = { λ f. (length f.pieces.items ≤ f.room) × (f.room ≤ vec_capacity f.pieces) × (f.room ≤ 131072) × ArePieces f.pieces.items };
 }
 
 impl FrameList {
-    ghost use Rattle.cull_base.specs.Tiles.{with_member};
+    ghost use Rattle.cull_base.specs.Tiles.{ArePieces, with_member};
 
     /// An empty list. Condition: room is at most 131,072. Memory is taken here and nowhere later.
     pub fn with_room(alloc: Global, size: Size, room: u32) -> Result<FrameList, Memory>
@@ -45,6 +45,8 @@ impl FrameList {
         requires { length self.old.list.members < self.old.room }
         ensures { self.new ≡ with_member self.old tri }
     {
+        // an accessor tells what is held of a piece
+        let _nearness = tri.q();
         self.pieces.push_reserved(tri);
     }
 
@@ -52,6 +54,7 @@ impl FrameList {
         ensures value { result ≡ length self.now.list.members }
         ensures within { result ≤ self.now.room }
         ensures small { self.now.room ≤ 131072 }
+        ensures pieces { ArePieces self.now.list.members }
     {
         self.pieces.len() as u32
     }

@@ -1,5 +1,5 @@
 //! The tiles that a rectangle reaches, computed from it and not searched for.
-ghost use Rattle.std.specs.Prelude.{◌≡◌, pos, ◌≤ℤ◌};
+ghost use Rattle.std.specs.Prelude.{◌≡◌, ◌≤◌, ◌&&◌, pos, ◌≤ℤ◌};
 ghost use Rattle.cull_base.specs.Screen.{IsSize};
 
 use crate::rect::Rect;
@@ -27,7 +27,8 @@ fn pixel_of(place: i32) -> u32
 }
 
 impl TileSpan {
-    ghost use Rattle.cull_base.specs.Span.{IsSpan, HasTilesOf};
+    ghost use Rattle.cull_base.specs.Span.{IsSpan, IsPartOf, HasTilesOf, has_tile, whole_span, columns_in, rows_in, row_start_in};
+    ghost use Rattle.cull_base.specs.declared.place.Tile.{Tile};
 
     /// The tiles whose pixels on the screen meet a rectangle.
     pub fn of(rect: &Rect, size: Size) -> TileSpan
@@ -44,5 +45,61 @@ impl TileSpan {
             first_row: pixel_of(reached.y0) / TILE_HEIGHT,
             end_row: pixel_of(reached.y1).div_ceil(TILE_HEIGHT),
         }
+    }
+
+    /// All tiles of a screen.
+    pub fn whole(size: Size) -> TileSpan
+        ensures value { result ≡ whole_span size }
+        ensures span { IsSpan size result }
+        ensures sized { IsSize size.width size.height }
+    {
+        // an accessor tells what is held of a size
+        let _width = size.width();
+        TileSpan {
+            first_column: 0,
+            end_column: size.tile_columns(),
+            first_row: 0,
+            end_row: size.tile_rows(),
+        }
+    }
+
+    /// The tiles in both. Condition: the other's firsts aren't past its ends.
+    pub fn cut(&self, other: &TileSpan) -> TileSpan
+        requires columns { other.now.first_column ≤ other.now.end_column }
+        requires rows { other.now.first_row ≤ other.now.end_row }
+        ensures tiles { (place : Tile) → has_tile result place ≡ (has_tile self.now place && has_tile other.now place) }
+        ensures part { IsPartOf other.now result }
+    {
+        let first_column = self
+            .first_column
+            .clamp(other.first_column, other.end_column);
+        let first_row = self.first_row.clamp(other.first_row, other.end_row);
+        TileSpan {
+            first_column,
+            end_column: self.end_column.clamp(first_column, other.end_column),
+            first_row,
+            end_row: self.end_row.clamp(first_row, other.end_row),
+        }
+    }
+
+    /// How many tiles stand side by side.
+    pub fn columns(&self) -> u32
+        ensures { result ≡ columns_in self.now }
+    {
+        self.end_column.saturating_sub(self.first_column)
+    }
+
+    /// How many tiles stand below one another.
+    pub fn rows(&self) -> u32
+        ensures { result ≡ rows_in self.now }
+    {
+        self.end_row.saturating_sub(self.first_row)
+    }
+
+    /// The number of a row's first tile among the span's tiles, row by row from the top left.
+    pub fn row_start(&self, row: u32) -> usize
+        ensures { result ≡ row_start_in self.now row }
+    {
+        row.saturating_sub(self.first_row) as usize * self.columns() as usize
     }
 }

@@ -18,3 +18,5 @@ pub mod OwnList
 pub mod Tiles
 pub mod Drawing
 pub mod TileLists
+pub mod Walks
+pub mod Canvases

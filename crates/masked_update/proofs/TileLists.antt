@@ -17,6 +17,7 @@ use Rattle.masked_update.specs.TileOf.{TileOf, sub_at, empty_tile}
 use Rattle.masked_update.specs.Merged.{merged_at, merged_by}
 use Rattle.masked_update.specs.Taken.{taken_by, taken_where, tile_of, IsMember, MovesOn}
 use Rattle.masked_update.specs.Drawn.{IsDrawn}
+use Rattle.masked_update.specs.Canvas.{first_of, own_tile}
 use Rattle.masked_update.proofs.Best.{pieces_more, reached_is_layered}
 use Rattle.masked_update.proofs.Drawing.{after-none, after-more, after_is_reached, after_is_sound}
 use Rattle.masked_update.proofs.Merging.{eight_of, one_of_eight}
@@ -63,14 +64,6 @@ next_taken tile k list x m =
     let counted : length (take (k + 1) own) ≡ k + 1 = length-take-le (k + 1) own (omega arith) in
     ap (λ n. taken_by list.size tile x (tile_with (tile_after list.size tile (take k own)) n)) (sym now)
     ∙ one_taken list.size tile (take k own) x ∙ ap (tile_of list.size tile) more ∙ ap (tile_with (tile_after list.size tile (take (k + 1) own))) counted
-
--- the first members of a list
-abbrev pub first_of : ℕ → PieceList → PieceList
-first_of i list = record { size = list.size; members = take i list.members }
-
--- a tile that took its own list
-abbrev pub own_tile : PieceList → ℕ → TileOf
-own_tile list tile = tile_of list.size tile (tile_list tile list)
 
 pub none_listed : (list : PieceList) (tile : ℕ) → own_tile (first_of 0 list) tile ≡ empty_tile
 unfolding tile_list

@@ -1,16 +1,11 @@
 -- Tiles with a table of the least reference of each, which tells where a piece changes nothing.
-use Rattle.std.specs.Prelude.{ℕ, ◌≡◌, ◌<◌, ◌≤◌, Bool, true, List, length, slice_index_or}
-use Rattle.cull_base.specs.Screen.{Dimensions, tile_count_of}
+use Rattle.std.specs.Prelude.{ℕ, ◌≡◌, ◌<◌, ◌≤◌, List, length, slice_index_or}
 use Rattle.masked_update.specs.TileOf.{TileOf, sub_at, tile_at}
 
 -- no reference of the tile is below the nearness, so a piece that is nowhere nearer changes no subtile
 pub record NoneBelow (nearest : ℕ) (t : TileOf) : Type 0 where
   pub eight : length t.subs ≡ 8
   pub behind : (j : ℕ) → j < 8 → nearest ≤ (sub_at t j).reference
-
--- so it is in each tile where the test holds
-abbrev pub NoneBelowIn : ℕ → (ℕ → Bool) → Dimensions → List TileOf → Type 0
-NoneBelowIn nearest test size tiles = (t : ℕ) → t < tile_count_of size → test t ≡ true → NoneBelow nearest (tile_at tiles t)
 
 -- each number of the table is at most each reference of its tile
 pub record IsLeast (tiles : List TileOf) (table : List ℕ) : Type 0 where

@@ -11,3 +11,5 @@ pub mod Coverage
 pub mod Taken
 pub mod Least
 pub mod Drawn
+pub mod Canvas
+pub mod Walk

@@ -1,87 +1,119 @@
-//! Tiles that are drawn into, with a table that tells where a piece changes nothing.
-ghost use Rattle.std.specs.Prelude.{◌≡◌, ◌<◌, true, length, replicate, slice_set, IfOk};
+//! Tiles of a window that are drawn into, with a table that tells where a piece changes nothing.
+ghost use Rattle.std.specs.Prelude.{◌≡◌, ◌<◌, true, length, IfOk};
 ghost use Rattle.cull_base.specs.Screen.{tile_columns_of, tile_rows_of};
+ghost use Rattle.cull_base.specs.Span.{has_tile, tiles_in};
+ghost use Rattle.cull_base.specs.Tiles.{PieceList};
+ghost use Rattle.masked_update.specs.Canvas.{IsCanvas, StandsAt, empty_canvas, with_tile, tile_on};
 ghost use Rattle.masked_update.specs.Least.{NoneBelow};
 ghost use Rattle.masked_update.specs.Taken.{counted_tile, merged_tile};
-ghost use Rattle.masked_update.specs.TileOf.{tile_at, empty_tile};
+ghost use Rattle.masked_update.specs.TileOf.{tile_at};
 
 use crate::piece_setup::PieceSetup;
 use crate::tile_state::TileState;
-use cull_base::{Memory, Size, Tile};
+use cull_base::{Memory, Size, Tile, TileSpan};
 use std::alloc::Global;
 use std::marker::Model;
 
-/// The tiles of a screen by number. The table has, for each tile, a nearness that none of its references is below.
+/// The tiles of a window of the screen, row by row. The table has, for each tile, a nearness that none of its
+/// references is below.
 #[derive(Drop)]
 pub struct Canvas {
+    window: TileSpan,
     tiles: Vec<TileState>,
     least: Vec<u32>,
 }
 
 impl Model for Canvas {
-    ghost use Rattle.std.specs.Prelude.{List};
-    ghost use Rattle.masked_update.specs.TileOf.{TileOf};
+    ghost use Rattle.std.specs.Prelude.{◌≡◌, length};
+    ghost use Rattle.cull_base.specs.Span.{tiles_in};
+    ghost use Rattle.masked_update.specs.Canvas.{CanvasOf};
     ghost use Rattle.masked_update.specs.Least.{IsLeast};
 
-    ghost Value = { List TileOf };
+    ghost Value = { CanvasOf };
 
-    ghost view = { λ c. c.tiles.items };
+    ghost view = { λ c. record { window = c.window; tiles = c.tiles.items } };
 
-    ghost invariant = { λ c. IsLeast c.tiles.items c.least.items };
+    ghost invariant = { λ c. (length c.tiles.items ≡ tiles_in c.window) × IsLeast c.tiles.items c.least.items };
 }
 
 impl Canvas {
-    /// So many empty tiles. Err where memory gave out.
-    pub fn empty(alloc: Global, count: u32) -> Result<Canvas, Memory>
-        ensures { IfOk result (λ c. c ≡ replicate count empty_tile) }
+    /// The tiles of the window, empty. Err where memory gave out.
+    pub fn empty(alloc: Global, window: TileSpan) -> Result<Canvas, Memory>
+        ensures value { IfOk result (λ c. c ≡ empty_canvas window) }
+        ensures stands { IfOk result (λ c. (list : PieceList) → StandsAt list 0 c) }
     {
-        let tiles = vec![in alloc; TileState::empty(); count as usize].map_err(|_| Memory)?;
-        let least = vec![in alloc; 0u32; count as usize].map_err(|_| Memory)?;
-        Ok(Canvas { tiles, least })
+        let count = window.columns() as usize * window.rows() as usize;
+        let tiles = vec![in alloc; TileState::empty(); count].map_err(|_| Memory)?;
+        let least = vec![in alloc; 0u32; count].map_err(|_| Memory)?;
+        Ok(Canvas {
+            window,
+            tiles,
+            least,
+        })
+    }
+
+    /// The tiles that it has.
+    pub fn window(&self) -> TileSpan
+        ensures value { result ≡ self.now.window }
+        ensures whole { IsCanvas self.now }
+    {
+        let _tiles = self.tiles.len();
+        self.window
+    }
+
+    /// The tile at a place. Condition: the window has it.
+    pub fn tile(&self, place: Tile) -> TileState
+        requires { has_tile self.now.window place ≡ true }
+        ensures { result ≡ tile_on self.now place }
+    {
+        let start = self.window.row_start(u32::from(place.row));
+        self.tiles[start + (u32::from(place.column) - self.window.first_column) as usize]
     }
 
     // Whether no reference of a tile is below a nearness, by the table. A piece that is nowhere nearer changes none of
     // the tile's subtiles.
     #[inline(always)]
-    fn has_none_below(&self, tile: u32, nearest: u32) -> bool
-        requires { tile < length self.now }
-        ensures { result ≡ true → NoneBelow nearest (tile_at self.now tile) }
+    fn has_none_below(&self, number: usize, nearest: u32) -> bool
+        requires { number < length self.now.tiles }
+        ensures { result ≡ true → NoneBelow nearest (tile_at self.now.tiles number) }
     {
-        let _first = self.tiles[tile as usize].sub(0);
-        nearest <= self.least[tile as usize]
+        let _first = self.tiles[number].sub(0);
+        nearest <= self.least[number]
     }
 
-    /// Counts a piece in a tile, and says whether it stands behind all of the tile's references. Conditions: there is
-    /// such a tile, and its count is below 131,072.
-    pub fn count(&mut self, tile: u32, nearest: u32) -> bool
-        requires tile { tile < length self.old }
-        requires count { (tile_at self.old tile).count < 131072 }
-        ensures counted { self.new ≡ slice_set self.old tile (counted_tile (tile_at self.old tile)) }
-        ensures behind { result ≡ true → NoneBelow nearest (tile_at self.old tile) }
+    /// Counts a piece in the tile of a number, and says whether it stands behind all of the tile's references.
+    /// Conditions: there is such a tile, and its count is below 131,072.
+    pub(crate) fn count(&mut self, number: usize, nearest: u32) -> bool
+        requires tile { number < length self.old.tiles }
+        requires count { (tile_at self.old.tiles number).count < 131072 }
+        ensures counted { self.new ≡ with_tile self.old number (counted_tile (tile_at self.old.tiles number)) }
+        ensures behind { result ≡ true → NoneBelow nearest (tile_at self.old.tiles number) }
     {
-        let behind = self.has_none_below(tile, nearest);
-        self.tiles[tile as usize].count_piece();
+        let behind = self.has_none_below(number, nearest);
+        self.tiles[number].count_piece();
         behind
     }
 
-    /// Merges a piece into a tile, and counts nothing. Conditions: there is such a tile, and the column and the row are
-    /// below the screen's.
-    pub fn merge(&mut self, tile: u32, piece: &PieceSetup, size: Size, place: Tile)
-        requires tile { tile < length self.old }
+    /// Merges a piece into the tile of a number, and counts nothing. Conditions: there is such a tile, and the column
+    /// and the row are below the screen's.
+    pub(crate) fn merge(&mut self, number: usize, piece: &PieceSetup, size: Size, place: Tile)
+        requires tile { number < length self.old.tiles }
         requires column { place.column < tile_columns_of size }
         requires row { place.row < tile_rows_of size }
-        ensures { self.new ≡ slice_set self.old tile (merged_tile size place piece.now (tile_at self.old tile)) }
+        ensures { self.new ≡ with_tile self.old number (merged_tile size place piece.now (tile_at self.old.tiles number)) }
     {
-        if !self.has_none_below(tile, piece.nearest()) {
-            let changed = self.tiles[tile as usize].merge(piece, size, place);
+        if !self.has_none_below(number, piece.nearest()) {
+            let changed = self.tiles[number].merge(piece, size, place);
             if changed {
-                self.least[tile as usize] = self.tiles[tile as usize].least_reference();
+                self.least[number] = self.tiles[number].least_reference();
             }
         }
     }
 
+    /// Its tiles, row by row.
     pub fn into_tiles(self) -> Vec<TileState>
-        ensures { result.items ≡ self }
+        ensures tiles { result.items ≡ self.tiles }
+        ensures whole { length result.items ≡ tiles_in self.window }
     {
         self.tiles
     }

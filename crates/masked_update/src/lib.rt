@@ -14,10 +14,14 @@ mod tests;
 mod tile_layers;
 mod tile_state;
 mod tile_view;
+mod walk;
+mod window;
 
+pub use canvas::Canvas;
 pub use draw::draw_plain;
 pub use member::next_member;
 pub use piece_setup::PieceSetup;
 pub use sub_tile::SubTile;
 pub use tile_state::TileState;
 pub use tile_view::{PlainView, TileView};
+pub use window::{drawn_window, missing_members};

@@ -1,9 +1,14 @@
 //! Worked values of the update, from outside.
-ghost use Rattle.std.specs.Prelude.{◌≤◌};
+ghost use Rattle.std.specs.Prelude.{◌≡◌, ◌≤◌, IfOk};
+ghost use Rattle.cull_base.specs.Span.{IsSpan};
 ghost use Rattle.cull_base.specs.declared.nearness.TheConstants.{HELD_TOP};
 
-use crate::{PieceSetup, PlainView, SubTile, TileState, TileView, draw_plain, next_member};
-use cull_base::{FrameList, HELD_TOP, ScreenTri, Size, Tile};
+use crate::{
+    Canvas, PieceSetup, PlainView, SubTile, TileState, TileView, draw_plain, drawn_window,
+    missing_members, next_member,
+};
+use cull_base::{FrameList, HELD_TOP, Memory, ScreenTri, Size, Tile, TileSpan};
+use std::alloc::Global;
 use std::test::Fail;
 
 const EVERY_SAMPLE: u32 = 0xFFFF_FFFF;
@@ -193,6 +198,55 @@ fn piece_behind_each_reference_is_counted(rt: HostRuntime) -> Result<(), Fail> {
     for j in 0..8 {
         assert_eq!(rt; layers(&tile.sub(j)), (500, 0, 0), "subtile {j}");
     }
+    Ok(())
+}
+
+// A canvas of a window after the whole list.
+fn window_drawn(alloc: Global, list: &FrameList, window: TileSpan) -> Result<Canvas, Memory>
+    requires { IsSpan list.now.list.size window }
+    ensures { IfOk result (λ c. c.window ≡ window) }
+{
+    let mut canvas = Canvas::empty(alloc, window)?;
+    for index in 0..list.len() {
+        canvas.draw_member(list, index);
+    }
+    Ok(canvas)
+}
+
+// Two columns and two rows of tiles: a piece over all of them, one in the second tile, and one behind the first.
+#[test]
+fn two_windows_have_the_tiles_of_the_screen(rt: HostRuntime) -> Result<(), Fail> {
+    let size = Size::new(64, 16).ok_or("a size")?;
+    let mut list = FrameList::with_room(rt.alloc(), size, 3)?;
+    list.push(ScreenTri::new([0, 8192, 0], [0, 0, 8192], [500; 3]).ok_or("a piece")?);
+    list.push(ScreenTri::new([528, 1000, 1000], [0, 0, 112], [600; 3]).ok_or("a piece")?);
+    list.push(ScreenTri::new([0, 8192, 0], [0, 0, 8192], [400; 3]).ok_or("a piece")?);
+    let states = draw_plain(rt.alloc(), &list)?;
+    assert_eq!(rt; states.len(), 4);
+    let whole = TileSpan::whole(list.size());
+    assert_eq!(rt; whole.end_column, 2);
+    assert_eq!(rt; whole.end_row, 2);
+    for column in 0..2u16 {
+        let window = TileSpan {
+            first_column: u32::from(column),
+            end_column: u32::from(column) + 1,
+            ..whole
+        };
+        let canvas = window_drawn(rt.alloc(), &list, window)?;
+        for row in 0..2u16 {
+            let tile = canvas.tile(Tile { column, row });
+            let plain = states[usize::from(row * 2 + column)];
+            assert_eq!(rt; tile.count(), plain.count());
+            let second = column == 1 && row == 0;
+            assert_eq!(rt; tile.count(), if second { 3 } else { 2 });
+            for j in 0..8 {
+                assert_eq!(rt; layers(&tile.sub(j)), layers(&plain.sub(j)));
+            }
+        }
+        assert_eq!(rt; canvas.into_tiles().len(), 2);
+    }
+    missing_members();
+    drawn_window();
     Ok(())
 }
 

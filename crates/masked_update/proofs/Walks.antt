@@ -1,0 +1,216 @@
+-- Tiles of a canvas that change, one place more at a time.
+use Rattle.std.proofs.Common.{◌≡◌, inl, inr, ℕ, ◌+◌, ◌-◌, ◌<◌, ◌≤◌, ◌&&◌, Bool, true, false, nat_eq, length, set, cond, arith, refl, ap, ◌∙◌, sym, subst}
+use Rattle.std.proofs.lemmas.Bool.{and_parts, and_from, and_left, and_right, cond-false, cases_eq, eq-eqb, eqb-true}
+use Rattle.std.proofs.lemmas.Bool.Decides.{eqb_tells}
+use Rattle.std.proofs.lemmas.List.{get_or-set_other, length-set}
+use Rattle.std.proofs.lemmas.Grind.{get_or-set_at}
+use Rattle.cull_base.specs.Piece.{Piece, IsPiece, box_of}
+use Rattle.cull_base.specs.Depth.{greatest_nearness}
+use Rattle.cull_base.specs.Rectangle.{meets}
+use Rattle.cull_base.specs.Screen.{Dimensions, tile_place, tile_rect_of}
+use Rattle.cull_base.specs.declared.rect.Rect.{Rect}
+use Rattle.cull_base.specs.Span.{IsPartOf, HasTilesOf, is_between, has_tile, has_row, has_column, number_in, row_start_in, tiles_in}
+use Rattle.cull_base.specs.declared.place.Tile.{Tile}
+use Rattle.cull_base.specs.declared.tile_span.TileSpan.{TileSpan}
+use Rattle.masked_update.specs.TileOf.{TileOf, tile_at, no_tile}
+use Rattle.masked_update.specs.Taken.{taken_at, counted_tile, merged_tile, taken_where}
+use Rattle.masked_update.specs.Canvas.{CanvasOf, IsCanvas, IsInWindow, TookMet, with_tile, tile_on, tile_in}
+use Rattle.masked_update.specs.Walk.{ChangedWhere, CountedWhere, MergedWhere, HoldsWhere, NoneBelowWhere, is_in_row}
+use Rattle.masked_update.proofs.Merging.{merged_behind}
+use Rattle.masked_update.proofs.Grid.{grows_elsewhere, before, last_between, none_between}
+use Rattle.masked_update.proofs.Tiles.{tile_with, same_place, has, number_within, one_place, between}
+
+-- the columns of a span before one, and its rows before one
+abbrev pub columns_before : TileSpan → ℕ → TileSpan
+columns_before span column = record span { end_column = column }
+
+abbrev pub rows_before : TileSpan → ℕ → TileSpan
+rows_before span row = record span { end_row = row }
+
+-- of no place the test holds, so nothing has changed
+pub none_changed : (test : Tile → Bool) (f : Tile → TileOf → TileOf) (c : CanvasOf) → IsCanvas c → ((p : Tile) → test p ≡ false) → ChangedWhere test f c c
+none_changed test f c whole none = record { window = refl; whole = whole; tiles = λ p h. sym (cond-false _ _ _ (none p)) }
+
+-- a place where the test doesn't hold stays
+pub still : (test : Tile → Bool) (f : Tile → TileOf → TileOf) (old now : CanvasOf) (p : Tile) → ChangedWhere test f old now → has_tile old.window p ≡ true → test p ≡ false → tile_on now p ≡ tile_on old p
+still test f old now p changed h off = changed.tiles p h ∙ cond-false _ _ _ off
+
+pub number_inside : (test : Tile → Bool) (f : Tile → TileOf → TileOf) (old now : CanvasOf) (p : Tile) → ChangedWhere test f old now → has_tile old.window p ≡ true → number_in old.window p < length now.tiles
+number_inside test f old now p changed h =
+    let lt = number_within old.window p h in
+    let whole = changed.whole ∙ ap tiles_in changed.window in
+    omega (arith, lt, whole)
+
+-- one place more
+pub one_more : (test more : Tile → Bool) (f : Tile → TileOf → TileOf) (old now new : CanvasOf) (q : Tile) (n : ℕ) → ChangedWhere test f old now → has_tile old.window q ≡ true → n ≡ number_in old.window q
+    → test q ≡ false → more q ≡ true → ((p : Tile) → (p ≡ q → ⊥) → test p ≡ more p) → new ≡ with_tile now n (f q (tile_at now.tiles n)) → ChangedWhere more f old new
+one_more test more f old now new q n changed hq is off on elsewhere step = subst (ChangedWhere more f old) (sym step) (record {
+  window = changed.window;
+  whole = length-set now.tiles n s ∙ changed.whole;
+  tiles = λ p hp. ap (λ (w : TileSpan). tile_at (set now.tiles n s) (number_in w p)) changed.window ∙ by p hp;
+})
+  where
+    s : TileOf
+    s = f q (tile_at now.tiles n)
+
+    at : (p : Tile) → tile_on now p ≡ tile_at now.tiles (number_in old.window p)
+    at p = ap (λ (w : TileSpan). tile_at now.tiles (number_in w p)) changed.window
+
+    there : (p : Tile) → has_tile old.window p ≡ true → p ≡ q → tile_at (set now.tiles n s) (number_in old.window p) ≡ cond (more p) (f p (tile_on old p)) (tile_on old p)
+    there p hp e =
+        let same : number_in old.window p ≡ n = ap (number_in old.window) e ∙ sym is in
+        let inside : n < length now.tiles = (let lt = number_inside test f old now q changed hq in omega (arith, lt, is)) in
+        let was : tile_at now.tiles n ≡ tile_on old p = ap (tile_at now.tiles) (sym same) ∙ sym (at p) ∙ still test f old now p changed hp (ap test e ∙ off) in
+        get_or-set_at now.tiles n (number_in old.window p) s no_tile same inside ∙ ap (λ (r : Tile). f r (tile_at now.tiles n)) (sym e) ∙ ap (f p) was
+        ∙ sym (ap (λ b. cond b (f p (tile_on old p)) (tile_on old p)) (ap more e ∙ on))
+
+    apart : (p : Tile) → has_tile old.window p ≡ true → (p ≡ q → ⊥) → tile_at (set now.tiles n s) (number_in old.window p) ≡ cond (more p) (f p (tile_on old p)) (tile_on old p)
+    apart p hp ne =
+        get_or-set_other now.tiles n (number_in old.window p) s no_tile (λ e. ne (one_place old.window p q hp hq (e ∙ is))) ∙ sym (at p) ∙ changed.tiles p hp
+        ∙ ap (λ b. cond b (f p (tile_on old p)) (tile_on old p)) (elsewhere p ne)
+
+    by : (p : Tile) → has_tile old.window p ≡ true → tile_at (set now.tiles n s) (number_in old.window p) ≡ cond (more p) (f p (tile_on old p)) (tile_on old p)
+    by p hp = elim (cases_eq p.row q.row) [
+      | inl rows ↦ elim (cases_eq p.column q.column) [
+        | inl columns ↦ there p hp (same_place p q columns rows)
+        | inr ne ↦ apart p hp (λ e. ne (ap (λ (r : Tile). r.column) e))
+      ]
+      | inr ne ↦ apart p hp (λ e. ne (ap (λ (r : Tile). r.row) e))
+    ]
+
+-- the tests of a row, one column more at a time
+pub row_begins : (span : TileSpan) (row : ℕ) (p : Tile) → is_in_row (columns_before span span.first_column) row p ≡ false
+row_begins span row p = and_right (nat_eq p.row row) _ (none_between span.first_column p.column)
+
+pub row_off : (span : TileSpan) (row column : ℕ) (q : Tile) → q.column ≡ column → is_in_row (columns_before span column) row q ≡ false
+row_off span row column q e = and_right (nat_eq q.row row) _ (before span.first_column column q.column e)
+
+pub row_on : (span : TileSpan) (row column : ℕ) (q : Tile) → q.row ≡ row → q.column ≡ column → span.first_column ≤ column → is_in_row (columns_before span (column + 1)) row q ≡ true
+row_on span row column q rows columns le = and_from (nat_eq q.row row) _ (eq-eqb q.row row rows) (last_between span.first_column column q.column le columns)
+
+pub row_elsewhere : (span : TileSpan) (row column : ℕ) (q p : Tile) → q.row ≡ row → q.column ≡ column → (p ≡ q → ⊥) → is_in_row (columns_before span column) row p ≡ is_in_row (columns_before span (column + 1)) row p
+row_elsewhere span row column q p rows columns ne = elim (eqb_tells p.row row) [
+  | inr off ↦ ap (λ b. b && is_between span.first_column column p.column) off.0 ∙ sym (ap (λ b. b && is_between span.first_column (column + 1) p.column) off.0)
+  | inl on ↦ ap (λ b. nat_eq p.row row && b) (grows_elsewhere span.first_column column p.column (λ e. ne (same_place p q (e ∙ sym columns) (on.1 ∙ sym rows))))
+]
+
+-- one column more of a row
+pub row_more : (span : TileSpan) (f : Tile → TileOf → TileOf) (old now new : CanvasOf) (q : Tile) (n : ℕ) → has_tile old.window q ≡ true → n ≡ number_in old.window q → span.first_column ≤ q.column
+    → ChangedWhere (is_in_row (columns_before span q.column) q.row) f old now → new ≡ with_tile now n (f q (tile_at now.tiles n)) → ChangedWhere (is_in_row (columns_before span (q.column + 1)) q.row) f old new
+row_more span f old now new q n h is le changed step =
+    one_more (is_in_row (columns_before span q.column) q.row) (is_in_row (columns_before span (q.column + 1)) q.row) f old now new q n changed h is (row_off span q.row q.column q refl) (row_on span q.row q.column q refl refl le)
+    (λ p ne. row_elsewhere span q.row q.column q p refl refl ne) step
+
+-- the tile that the walk is at has not changed yet
+pub row_still : (span : TileSpan) (f : Tile → TileOf → TileOf) (old now : CanvasOf) (q : Tile) (n : ℕ) → has_tile old.window q ≡ true → n ≡ number_in old.window q
+    → ChangedWhere (is_in_row (columns_before span q.column) q.row) f old now → tile_at now.tiles n ≡ tile_on old q
+row_still span f old now q n h is changed =
+    ap (tile_at now.tiles) is ∙ sym (ap (λ (w : TileSpan). tile_at now.tiles (number_in w q)) changed.window) ∙ still (is_in_row (columns_before span q.column) q.row) f old now q changed h (row_off span q.row q.column q refl)
+
+-- what holds of the tiles of a row before one, and of it
+pub held_in_row : (span : TileSpan) (Holds : TileOf → Type 0) (c : CanvasOf) (q : Tile) → HoldsWhere (is_in_row (columns_before span q.column) q.row) Holds c → Holds (tile_on c q) → HoldsWhere (is_in_row (columns_before span (q.column + 1)) q.row) Holds c
+held_in_row span Holds c q all one p h on = elim (cases_eq p.column q.column) [
+  | inl e ↦
+      let rows = eqb-true p.row q.row (and_parts (nat_eq p.row q.row) _ on).0 in
+      subst (λ (r : Tile). Holds (tile_on c r)) (sym (same_place p q e rows)) one
+  | inr ne ↦ all p h (ap (λ b. nat_eq p.row q.row && b) (grows_elsewhere span.first_column q.column p.column ne) ∙ on)
+]
+
+-- the tests of the rows of a span, one row more at a time
+pub rows_begin : (span : TileSpan) (p : Tile) → has_tile (rows_before span span.first_row) p ≡ false
+rows_begin span p = and_left _ (has_column span p.column) (none_between span.first_row p.row)
+
+-- one row more
+pub rows_more : (span : TileSpan) (f : Tile → TileOf → TileOf) (old now new : CanvasOf) (row : ℕ) → span.first_row ≤ row → ChangedWhere (has_tile (rows_before span row)) f old now
+    → ChangedWhere (is_in_row span row) f now new → ChangedWhere (has_tile (rows_before span (row + 1))) f old new
+rows_more span f old now new row le inv step = record { window = step.window ∙ inv.window; whole = step.whole; tiles = λ p h. by p h }
+  where
+    if_so : Tile → Bool → TileOf
+    if_so p b = cond b (f p (tile_on old p)) (tile_on old p)
+
+    stepped : (p : Tile) → has_tile old.window p ≡ true → tile_on new p ≡ cond (is_in_row span row p) (f p (tile_on now p)) (tile_on now p)
+    stepped p h = step.tiles p (ap (λ (w : TileSpan). has_tile w p) inv.window ∙ h)
+
+    by : (p : Tile) → has_tile old.window p ≡ true → tile_on new p ≡ cond (has_tile (rows_before span (row + 1)) p) (f p (tile_on old p)) (tile_on old p)
+    by p h = elim (eqb_tells p.row row) [
+      | inl on ↦
+          let was : tile_on now p ≡ tile_on old p = still (has_tile (rows_before span row)) f old now p inv h (and_left _ (has_column span p.column) (before span.first_row row p.row on.1)) in
+          let tests : is_in_row span row p ≡ has_tile (rows_before span (row + 1)) p = ap (λ b. b && has_column span p.column) (on.0 ∙ sym (last_between span.first_row row p.row le on.1)) in
+          stepped p h ∙ ap (λ (s : TileOf). cond (is_in_row span row p) (f p s) s) was ∙ ap (λ b. cond b (f p (tile_on old p)) (tile_on old p)) tests
+      | inr off ↦
+          let stays : tile_on new p ≡ tile_on now p = stepped p h ∙ cond-false _ _ _ (and_left (nat_eq p.row row) (has_column span p.column) off.0) in
+          let tests : has_tile (rows_before span row) p ≡ has_tile (rows_before span (row + 1)) p = ap (λ b. b && has_column span p.column) (grows_elsewhere span.first_row row p.row off.1) in
+          stays ∙ inv.tiles p h ∙ ap (λ b. cond b (f p (tile_on old p)) (tile_on old p)) tests
+    ]
+
+-- the tiles of the row that the walk is at have not changed yet
+pub rows_still : (span : TileSpan) (f : Tile → TileOf → TileOf) (old now : CanvasOf) (row : ℕ) (p : Tile) → ChangedWhere (has_tile (rows_before span row)) f old now → has_tile old.window p ≡ true → is_in_row span row p ≡ true
+    → tile_on now p ≡ tile_on old p
+rows_still span f old now row p inv h on =
+    still (has_tile (rows_before span row)) f old now p inv h (and_left _ (has_column span p.column) (before span.first_row row p.row (eqb-true p.row row (and_parts (nat_eq p.row row) _ on).0)))
+
+-- what holds of the tiles of the rows before one, and of those of the row
+pub held_in_rows : (span : TileSpan) (Holds : TileOf → Type 0) (c : CanvasOf) (row : ℕ) → HoldsWhere (has_tile (rows_before span row)) Holds c → HoldsWhere (is_in_row span row) Holds c → HoldsWhere (has_tile (rows_before span (row + 1))) Holds c
+held_in_rows span Holds c row all one p h on = elim (cases_eq p.row row) [
+  | inl e ↦ one p h (and_from (nat_eq p.row row) (has_column span p.column) (eq-eqb p.row row e) (and_parts _ (has_column span p.column) on).1)
+  | inr ne ↦ all p h (ap (λ b. b && has_column span p.column) (grows_elsewhere span.first_row row p.row ne) ∙ on)
+]
+
+-- a tile of a row of the span stands in the span
+pub row_within : (span : TileSpan) (row : ℕ) (p : Tile) → span.first_row ≤ row → row < span.end_row → is_in_row span row p ≡ true → has_tile span p ≡ true
+row_within span row p le lt on =
+    let (rows, columns) = and_parts (nat_eq p.row row) (has_column span p.column) on in
+    let e = eqb-true p.row row rows in
+    and_from (has_row span p.row) (has_column span p.column) (between span.first_row span.end_row p.row (omega (arith, le, e)) (omega (arith, lt, e))) columns
+
+-- tiles that counted a piece and then had it merged took it
+pub counted_merged : (test : Tile → Bool) (size : Dimensions) (x : Piece) (old now new : CanvasOf) → CountedWhere test old now → MergedWhere test size x now new → ChangedWhere test (λ p t. taken_at size p x t) old new
+counted_merged test size x old now new c m = record { window = m.window ∙ c.window; whole = m.whole; tiles = λ p h. m.tiles p (ap (λ (w : TileSpan). has_tile w p) c.window ∙ h) ∙ ap (λ (t : TileOf). cond (test p) (merged_tile size p x t) t) (c.tiles p h) ∙ taken (test p) p (tile_on old p) }
+  where
+    taken : (b : Bool) (p : Tile) (t : TileOf) → let n = cond b (counted_tile t) t in cond b (merged_tile size p x n) n ≡ cond b (taken_at size p x t) t
+    taken true p t = refl
+    taken false p t = refl
+
+-- tiles that only counted a piece took it, where it stands behind them
+pub counted_behind : (test : Tile → Bool) (size : Dimensions) (x : Piece) (old new : CanvasOf) → IsPiece x → NoneBelowWhere (greatest_nearness x) test old → CountedWhere test old new → ChangedWhere test (λ p t. taken_at size p x t) old new
+counted_behind test size x old new piece behind c = record { window = c.window; whole = c.whole; tiles = λ p h. c.tiles p h ∙ taken p h (test p) refl }
+  where
+    taken : (p : Tile) → has_tile old.window p ≡ true → (b : Bool) → test p ≡ b → cond (test p) (counted_tile (tile_on old p)) (tile_on old p) ≡ cond (test p) (taken_at size p x (tile_on old p)) (tile_on old p)
+    taken p h true e = ap (λ (t : TileOf). cond (test p) (counted_tile t) (tile_on old p)) (sym (merged_behind size p x (tile_on old p) piece (behind p h e)))
+    taken p h false e = rw e refl
+
+-- the tiles of the span took a piece, which are those of the window that its box meets
+pub took_met : (span : TileSpan) (size : Dimensions) (x : Piece) (old new : CanvasOf) → ((t : ℕ) → IsInWindow size old.window t → has_tile span (tile_place size t) ≡ meets (box_of x) (tile_rect_of size t))
+    → ChangedWhere (has_tile span) (λ p t. taken_at size p x t) old new → TookMet size x old new
+took_met span size x old new tests took = record {
+  window = took.window;
+  tiles = λ t within. took.tiles (tile_place size t) within.within ∙ ap (λ b. taken_where b size t x (tile_in size old t)) (tests t within);
+}
+
+-- a place of the row that the walk is at stands in the window
+pub row_here : (window span : TileSpan) (row column : ℕ) → IsPartOf window span → span.first_row ≤ row → row < span.end_row → span.first_column ≤ column → column < span.end_column → has_tile window (tile_with column row) ≡ true
+row_here window span row column part from_row to_row from to = has window (tile_with column row) (record {
+  row_from = omega (arith, part.first_row);
+  row_before = omega (arith, part.end_row);
+  column_from = omega (arith, part.first_column);
+  column_before = omega (arith, part.end_column);
+})
+
+-- its number, as the walk computes it
+pub row_number : (window now : TileSpan) (row column start : ℕ) → now ≡ window → start ≡ row_start_in now row → start + (column - now.first_column) ≡ number_in window (tile_with column row)
+row_number window now row column start same is = ap (λ n. n + (column - now.first_column)) is ∙ ap (λ (w : TileSpan). number_in w (tile_with column row)) same
+
+-- it stands in the row, in the columns of the span
+pub row_in_span : (span : TileSpan) (row column : ℕ) → span.first_column ≤ column → column < span.end_column → is_in_row span row (tile_with column row) ≡ true
+row_in_span span row column from to = and_from (nat_eq row row) (is_between span.first_column span.end_column column) (eq-eqb row row refl) (between span.first_column span.end_column column from to)
+
+-- of the tiles of a window, a span cut to it has those that the piece's box meets
+pub met_in_cut : (size : Dimensions) (x : Piece) (window given reached cut : TileSpan) (r : Rect) → given ≡ window → r ≡ box_of x → HasTilesOf reached size r → ((p : Tile) → has_tile cut p ≡ (has_tile reached p && has_tile given p))
+    → (t : ℕ) → IsInWindow size window t → has_tile cut (tile_place size t) ≡ meets (box_of x) (tile_rect_of size t)
+met_in_cut size x window given reached cut r same is tiles cuts t within =
+    let p = tile_place size t in
+    cuts p ∙ ap (λ b. has_tile reached p && b) (ap (λ (w : TileSpan). has_tile w p) same ∙ within.within) ∙ and-true (has_tile reached p) ∙ tiles t within.on_screen ∙ ap (λ (s : Rect). meets s (tile_rect_of size t)) is
+  where
+    and-true : (b : Bool) → (b && true) ≡ b
+    and-true true = refl
+    and-true false = refl

@@ -1,0 +1,94 @@
+//! A piece is drawn into the tiles of a canvas that its box reaches.
+ghost use Rattle.std.specs.Prelude.{◌≡◌, ℕ, ◌<◌, ◌≤◌, true};
+ghost use Rattle.cull_base.specs.Piece.{IsPiece};
+ghost use Rattle.cull_base.specs.Screen.{IsSize, tile_rows_of};
+ghost use Rattle.cull_base.specs.Span.{IsPartOf, IsSpan, has_tile};
+ghost use Rattle.masked_update.specs.Canvas.{IsInWindow, TookMet, tile_in};
+ghost use Rattle.masked_update.specs.Walk.{CountedWhere, MayCount, MergedWhere, NoneBelowWhere, is_in_row};
+
+use crate::canvas::Canvas;
+use crate::piece_setup::PieceSetup;
+use cull_base::{ScreenTri, Size, Tile, TileSpan};
+
+// Counts a piece in the tiles of one row, in the columns of a span, and says whether it stands behind all of them.
+fn count_in_row(canvas: &mut Canvas, span: TileSpan, row: u32, nearest: u32) -> bool
+    requires part { IsPartOf canvas.old.window span }
+    requires row { (span.first_row ≤ row) × (row < span.end_row) }
+    requires counts { MayCount (is_in_row span row) canvas.old }
+    ensures counted { CountedWhere (is_in_row span row) canvas.old canvas.new }
+    ensures behind { result ≡ true → NoneBelowWhere nearest (is_in_row span row) canvas.old }
+{
+    let window = canvas.window();
+    let start = window.row_start(row);
+    let mut behind = true;
+    for column in span.first_column..span.end_column {
+        behind &= canvas.count(start + (column - window.first_column) as usize, nearest);
+    }
+    behind
+}
+
+// Counts a piece in the tiles of a span, and says whether it stands behind all of them.
+fn count_in_span(canvas: &mut Canvas, span: TileSpan, nearest: u32) -> bool
+    requires part { IsPartOf canvas.old.window span }
+    requires counts { MayCount (has_tile span) canvas.old }
+    ensures counted { CountedWhere (has_tile span) canvas.old canvas.new }
+    ensures behind { result ≡ true → NoneBelowWhere nearest (has_tile span) canvas.old }
+{
+    let _window = canvas.window();
+    let mut behind = true;
+    for row in span.first_row..span.end_row {
+        behind &= count_in_row(canvas, span, row, nearest);
+    }
+    behind
+}
+
+// Merges a piece into the tiles of one row, in the columns of a span.
+fn merge_in_row(canvas: &mut Canvas, piece: &PieceSetup, size: Size, span: TileSpan, row: u32)
+    requires part { IsPartOf canvas.old.window span }
+    requires span { IsSpan size span }
+    requires row { (span.first_row ≤ row) × (row < span.end_row) }
+    requires small { row < 256 }
+    ensures { MergedWhere (is_in_row span row) size piece.now canvas.old canvas.new }
+{
+    let window = canvas.window();
+    let start = window.row_start(row);
+    let _columns = size.tile_columns();
+    for column in span.first_column..span.end_column {
+        let place = Tile {
+            column: column as u16,
+            row: row as u16,
+        };
+        canvas.merge(
+            start + (column - window.first_column) as usize,
+            piece,
+            size,
+            place,
+        );
+    }
+}
+
+// Merges a piece into the tiles of a span.
+fn merge_in_span(canvas: &mut Canvas, piece: &PieceSetup, size: Size, span: TileSpan)
+    requires part { IsPartOf canvas.old.window span }
+    requires span { IsSpan size span }
+    requires sized { IsSize size.width size.height }
+    ensures { MergedWhere (has_tile span) size piece.now canvas.old canvas.new }
+{
+    let _window = canvas.window();
+    for row in span.first_row..span.end_row {
+        merge_in_row(canvas, piece, size, span, row);
+    }
+}
+
+/// Draws a piece into the tiles of the canvas that its box reaches. One that stands behind all of them is counted and
+/// not set up. Conditions: the window is of the screen, and the counts are below 131,072.
+pub fn draw_piece(canvas: &mut Canvas, tri: &ScreenTri, size: Size)
+    requires window { IsSpan size canvas.old.window }
+    requires counts { (t : ℕ) → IsInWindow size canvas.old.window t → (tile_in size canvas.old t).count < 131072 }
+    ensures { TookMet size tri.now canvas.old canvas.new }
+{
+    let span = TileSpan::of(&tri.boxed(), size).cut(&canvas.window());
+    if !count_in_span(canvas, span, tri.greatest_nearness()) {
+        merge_in_span(canvas, &PieceSetup::of(tri), size, span);
+    }
+}
