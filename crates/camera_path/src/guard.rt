@@ -13,16 +13,17 @@ fn is_beyond(limit: i64, v: i64, near: u16) -> bool
     requires limit { limit ≡ pos (16384 * near) }
     ensures { result ≡ is_beyond (16384 * near) v }
 {
-    v < -limit || limit < v
+    v.unsigned_abs() > limit as u64
 }
 
 /// Whether x, y or w of a clip vertex lies more than 16384 near distances away from 0.
 /// Condition: `near` is 1 to 1024.
+#[inline(always)]
 pub fn past_guard(v: &ClipVertex, near: u16) -> bool
     requires near_least { 1 ≤ near }
     requires near_most { near ≤ 1024 }
     ensures { result ≡ is_past_guard v.now near }
 {
     let limit = i64::from(near) * GUARD;
-    is_beyond(limit, v.x, near) || is_beyond(limit, v.y, near) || is_beyond(limit, v.w, near)
+    is_beyond(limit, v.x, near) | is_beyond(limit, v.y, near) | is_beyond(limit, v.w, near)
 }

@@ -50,6 +50,7 @@ fn place(pixel: u16) -> u32
 
 impl Plane {
     /// At each point the plane's fraction is the piece's depth.
+    #[inline(always)]
     pub fn of(tri: &ScreenTri) -> Plane
         ensures value { result ≡ plane_of tri.now }
         ensures numerator { (p : Point) → numerator_at result p ≡ numerator tri.now p }

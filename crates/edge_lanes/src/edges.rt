@@ -54,6 +54,7 @@ fn is_narrow(tri: &ScreenTri) -> bool
 impl Edges {
     ghost use Rattle.edge_lanes.specs.Inside.{inside_of, sub_of};
 
+    #[inline(always)]
     pub fn of(tri: &ScreenTri, side: Side) -> Edges
         ensures covered { side ≡ Side.Occluder → (u : Sub) → inside_of result u ≡ covered tri.now u }
         ensures touched { side ≡ Side.Object → (u : Sub) → inside_of result u ≡ touched tri.now u }

@@ -57,6 +57,7 @@ fn subtile(place: Tile, j: u32) -> Sub
 
 impl PieceSetup {
     /// Sets a piece up.
+    #[inline(always)]
     pub fn of(tri: &ScreenTri) -> PieceSetup
         ensures value { result ≡ tri.now }
         ensures valid { IsPiece tri.now }

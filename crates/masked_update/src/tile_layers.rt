@@ -1,6 +1,7 @@
 //! The layers of a tile's eight subtiles, which take a step together.
 ghost use Rattle.std.specs.Prelude.{◌≡◌, ℕ, ◌<◌, ◌≤◌, ◌^◌, length, replicate, slice_index_or, slice_set};
 ghost use Rattle.std.specs.Int.{bit_at};
+ghost use Rattle.cull_base.specs.Fold.{IsLayered};
 ghost use Rattle.cull_base.specs.State.{State, empty_state};
 ghost use Rattle.masked_update.specs.Lanes.{AreSteps, IsMergeable};
 
@@ -99,7 +100,8 @@ impl TileLayers {
     /// A nearness that no reference is below.
     #[inline(always)]
     pub fn least_reference(&self) -> u32
-        ensures { (j : ℕ) → j < 8 → result ≤ (slice_index_or self.now j empty_state).reference }
+        ensures least { (j : ℕ) → j < 8 → result ≤ (slice_index_or self.now j empty_state).reference }
+        ensures layered { (j : ℕ) → j < 8 → IsLayered (slice_index_or self.now j empty_state) }
     {
         let [a, b, c, d, e, f, g, h] = self.references;
         a.min(b).min(c.min(d)).min(e.min(f).min(g.min(h)))

@@ -1,5 +1,6 @@
 //! A tile: eight subtiles, and how many pieces it took.
 ghost use Rattle.std.specs.Prelude.{◌≡◌, ℕ, ◌<◌, ◌≤◌, false, length};
+ghost use Rattle.cull_base.specs.Fold.{IsLayered};
 ghost use Rattle.cull_base.specs.Piece.{IsPiece};
 ghost use Rattle.cull_base.specs.Screen.{IsSize, tile_columns_of, tile_rows_of, tile_count_of};
 
@@ -120,8 +121,9 @@ impl TileState {
     }
 
     /// A nearness that no reference is below.
-    pub(crate) fn least_reference(&self) -> u32
-        ensures { (j : ℕ) → j < 8 → result ≤ (sub_at self.now j).reference }
+    pub fn least_reference(&self) -> u32
+        ensures least { (j : ℕ) → j < 8 → result ≤ (sub_at self.now j).reference }
+        ensures layered { (j : ℕ) → j < 8 → IsLayered (sub_at self.now j) }
     {
         self.layers.least_reference()
     }

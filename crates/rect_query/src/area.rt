@@ -116,13 +116,16 @@ fn is_row_of_tile_hiding(state: &TileState, column: u32, row: u32, area: &Area, 
     true
 }
 
-// The same for a tile.
+// The same for a tile. No subtile is asked where each reference hides q.
 fn is_tile_hiding(state: &TileState, column: u32, row: u32, area: &Area, q: u32) -> bool
     requires area { area.now.x0 ≤ area.now.x1 }
     requires column { column < 64 }
     requires row { row < 256 }
     ensures { IsTrue result ↔ TileHides state.now column row area.now q }
 {
+    if q < state.least_reference() {
+        return true;
+    }
     let first = (row * 2).max(area.y0 / 4);
     let end = (row * 2 + 2).min(area.y1.div_ceil(4));
     for r in first..end {

@@ -1,6 +1,7 @@
 //! Where a point stands on the screen, and how near it is.
-ghost use Rattle.std.specs.Prelude.{◌≡◌, ℤ, pos, neg_ℤ, ◌*◌, ◌^◌, ◌*ℤ◌, ◌+ℤ◌, ◌≤ℤ◌, ◌≤◌};
+ghost use Rattle.std.specs.Prelude.{IfSome, negsuc, ◌<◌, ◌/◌, ◌<ℤ◌, ◌≡◌, ℤ, pos, neg_ℤ, ◌*◌, ◌^◌, ◌*ℤ◌, ◌+ℤ◌, ◌≤ℤ◌, ◌≤◌};
 ghost use Rattle.cull_base.specs.Bounds.{Bounded};
+ghost use Rattle.cull_base.specs.Depth.{floor_of};
 ghost use Rattle.cull_base.specs.Piece.{IsCoordinate};
 ghost use Rattle.cull_base.specs.declared.nearness.TheConstants.{GRADE_TOP};
 ghost use Rattle.near_clip.specs.Reach.{IsInReach};
@@ -101,30 +102,6 @@ fn place_y(point: &HomPoint, size: Size, doubled: &Divisor) -> i32
     place_of_offset(size.height(), point.w - point.y, point.w, doubled)
 }
 
-/// Where a point stands: in sixteenths of a pixel, y downwards.
-#[derive(Clone, Copy, Debug, PartialEq, Eq)]
-pub struct Place {
-    pub x: i32,
-    pub y: i32,
-}
-
-/// The place of a point that is in reach. Conditions as for `snap`.
-#[inline(always)]
-pub fn place_of(point: &HomPoint, near: u16, size: Size) -> Place
-    requires near_least { 1 ≤ near }
-    requires near_most { near ≤ 1024 }
-    requires reach { IsInReach near point.now }
-    ensures value { result ≡ place_of point.now size }
-    ensures x_within { IsCoordinate result.x }
-    ensures y_within { IsCoordinate result.y }
-{
-    let doubled = doubled_w(point);
-    Place {
-        x: place_x(point, size, &doubled),
-        y: place_y(point, size, &doubled),
-    }
-}
-
 #[inline(always)]
 fn nearness_numerator(near: u16, scale: u64) -> u64
     requires near { near ≤ 1024 }
@@ -162,11 +139,180 @@ fn nearness(point: &HomPoint, near: u16, side: Side, doubled: &Divisor) -> u32
     doubled.quotient(numerator + addend(side, point.w.unsigned_abs())) as u32
 }
 
-/// The point on the screen, its coordinates rounded to the nearest whole number and its nearness down for an
-/// occluder, up for an object. Condition: `near` is 1 to 1024; the scale is 1 to 2^25, w is `near` to 16384 `near`
-/// times the scale, x and y are at most 16384 `near` times the scale away from 0.
+/// Processors divide numbers below this size in a fraction of the time.
+const SHORT: u64 = 0x1_0000_0000;
+
+// A quotient in 32 bits. None where a number doesn't fit.
 #[inline(always)]
-pub fn snap(point: &HomPoint, near: u16, size: Size, side: Side) -> Snapped
+fn short_quotient(n: u64, d: u64) -> Option<u64>
+    requires { 0 < d }
+    ensures { IfSome result (λ q. q ≡ n / d) }
+{
+    if (n < SHORT) & (d < SHORT) {
+        Some(u64::from(n as u32 / d as u32))
+    } else {
+        None
+    }
+}
+
+// How far a number lies from 0, or below 0 from -1.
+#[inline(always)]
+fn depth(n: i64) -> u64
+    ensures front { pos 0 ≤ℤ n → pos result ≡ n }
+    ensures behind { n <ℤ pos 0 → negsuc result ≡ n }
+{
+    if n < 0 { (-1 - n) as u64 } else { n as u64 }
+}
+
+// The same of a floor, below 0 too.
+#[inline(always)]
+fn short_floor(n: i64, d: u64) -> Option<i64>
+    requires { 0 < d }
+    ensures { IfSome result (λ q. q ≡ floor_of n (pos d)) }
+{
+    match short_quotient(depth(n), d) {
+        Some(whole) => {
+            let whole = whole as i64;
+            Some(if n < 0 { -1 - whole } else { whole })
+        }
+        None => None,
+    }
+}
+
+#[inline(always)]
+fn short_place(pixels: u16, offset: i64, w: i64, doubled: u64) -> Option<i32>
+    requires { IsOnScale pixels offset w doubled (2 ^ 32) }
+    ensures { IfSome result (λ v. (v ≡ round_half (pos (8 * pixels) *ℤ offset) w) × IsCoordinate v) }
+{
+    match short_floor(16 * i64::from(pixels) * offset + w, doubled) {
+        Some(place) => Some(place as i32),
+        None => None,
+    }
+}
+
+#[inline(always)]
+fn short_nearness(point: &HomPoint, near: u16, side: Side, doubled: u64) -> Option<u32>
+    requires near_least { 1 ≤ near }
+    requires near_most { near ≤ 1024 }
+    requires reach { IsInReach near point.now }
+    requires sight { IsInSight point.now }
+    requires doubled { pos doubled ≡ pos 2 *ℤ point.now.w }
+    ensures { IfSome result (λ q. (q ≡ nearness_of point.now GRADE_TOP near side) × (q ≤ GRADE_TOP)) }
+{
+    let numerator = 2 * nearness_numerator(near, point.scale.unsigned_abs());
+    match short_quotient(numerator + addend(side, point.w.unsigned_abs()), doubled) {
+        Some(q) => Some(q as u32),
+        None => None,
+    }
+}
+
+#[inline(always)]
+fn short_x(point: &HomPoint, size: Size, doubled: u64) -> Option<i32>
+    requires sight { IsInSight point.now }
+    requires narrow { point.now.w ≤ℤ pos (2 ^ 32) }
+    requires doubled { pos doubled ≡ pos 2 *ℤ point.now.w }
+    ensures { IfSome result (λ x. (x ≡ screen_x point.now size) × IsCoordinate x) }
+{
+    short_place(size.width(), point.x + point.w, point.w, doubled)
+}
+
+#[inline(always)]
+fn short_y(point: &HomPoint, size: Size, doubled: u64) -> Option<i32>
+    requires sight { IsInSight point.now }
+    requires narrow { point.now.w ≤ℤ pos (2 ^ 32) }
+    requires doubled { pos doubled ≡ pos 2 *ℤ point.now.w }
+    ensures { IfSome result (λ y. (y ≡ screen_y point.now size) × IsCoordinate y) }
+{
+    short_place(size.height(), point.w - point.y, point.w, doubled)
+}
+
+/// Where a point stands: in sixteenths of a pixel, y downwards.
+#[derive(Clone, Copy, Debug, PartialEq, Eq)]
+pub struct Place {
+    pub x: i32,
+    pub y: i32,
+}
+
+// The place of a point whose two quotients are of numbers that fit 32 bits.
+#[inline(always)]
+fn short_place_of(point: &HomPoint, near: u16, size: Size) -> Option<Place>
+    requires near_least { 1 ≤ near }
+    requires near_most { near ≤ 1024 }
+    requires reach { IsInReach near point.now }
+    requires narrow { point.now.w ≤ℤ pos (2 ^ 32) }
+    ensures { IfSome result (λ p. (p ≡ place_of point.now size) × IsCoordinate p.x × IsCoordinate p.y) }
+{
+    let doubled = 2 * point.w.unsigned_abs();
+    let Some(x) = short_x(point, size, doubled) else {
+        return None;
+    };
+    let Some(y) = short_y(point, size, doubled) else {
+        return None;
+    };
+    Some(Place { x, y })
+}
+
+// The place of any point, by one reciprocal.
+#[inline(never)]
+fn long_place_of(point: &HomPoint, near: u16, size: Size) -> Place
+    requires near_least { 1 ≤ near }
+    requires near_most { near ≤ 1024 }
+    requires reach { IsInReach near point.now }
+    ensures value { result ≡ place_of point.now size }
+    ensures x_within { IsCoordinate result.x }
+    ensures y_within { IsCoordinate result.y }
+{
+    let doubled = doubled_w(point);
+    Place {
+        x: place_x(point, size, &doubled),
+        y: place_y(point, size, &doubled),
+    }
+}
+
+/// The place of a point that is in reach. Conditions as for `snap`.
+#[inline(always)]
+pub fn place_of(point: &HomPoint, near: u16, size: Size) -> Place
+    requires near_least { 1 ≤ near }
+    requires near_most { near ≤ 1024 }
+    requires reach { IsInReach near point.now }
+    ensures value { result ≡ place_of point.now size }
+    ensures x_within { IsCoordinate result.x }
+    ensures y_within { IsCoordinate result.y }
+{
+    if point.w <= NARROW_W {
+        if let Some(place) = short_place_of(point, near, size) {
+            return place;
+        }
+    }
+    long_place_of(point, near, size)
+}
+
+// A point whose three quotients are of numbers that fit 32 bits, as those of most points are.
+#[inline(always)]
+fn short_snap(point: &HomPoint, near: u16, size: Size, side: Side) -> Option<Snapped>
+    requires near_least { 1 ≤ near }
+    requires near_most { near ≤ 1024 }
+    requires reach { IsInReach near point.now }
+    requires sight { IsInSight point.now }
+    requires narrow { point.now.w ≤ℤ pos (2 ^ 32) }
+    ensures { IfSome result (λ s. (s ≡ snapped point.now GRADE_TOP near size side) × IsSnapped s) }
+{
+    let doubled = 2 * point.w.unsigned_abs();
+    let Some(x) = short_x(point, size, doubled) else {
+        return None;
+    };
+    let Some(y) = short_y(point, size, doubled) else {
+        return None;
+    };
+    let Some(q) = short_nearness(point, near, side, doubled) else {
+        return None;
+    };
+    Some(Snapped { x, y, q })
+}
+
+// Any point, by one reciprocal.
+#[inline(never)]
+fn long_snap(point: &HomPoint, near: u16, size: Size, side: Side) -> Snapped
     requires near_least { 1 ≤ near }
     requires near_most { near ≤ 1024 }
     requires reach { IsInReach near point.now }
@@ -179,4 +325,23 @@ pub fn snap(point: &HomPoint, near: u16, size: Size, side: Side) -> Snapped
         y: place_y(point, size, &doubled),
         q: nearness(point, near, side, &doubled),
     }
+}
+
+/// The point on the screen, its coordinates rounded to the nearest whole number and its nearness down for an
+/// occluder, up for an object. Condition: `near` is 1 to 1024; the scale is 1 to 2^25, w is `near` to 16384 `near`
+/// times the scale, x and y are at most 16384 `near` times the scale away from 0.
+#[inline(always)]
+pub fn snap(point: &HomPoint, near: u16, size: Size, side: Side) -> Snapped
+    requires near_least { 1 ≤ near }
+    requires near_most { near ≤ 1024 }
+    requires reach { IsInReach near point.now }
+    ensures value { result ≡ snapped point.now GRADE_TOP near size side }
+    ensures within { IsSnapped result }
+{
+    if point.w <= NARROW_W {
+        if let Some(snapped) = short_snap(point, near, size, side) {
+            return snapped;
+        }
+    }
+    long_snap(point, near, size, side)
 }

@@ -80,14 +80,14 @@ fn is_any_past_guard(tri: &Corners, near: u16) -> bool
     requires near_most { near ≤ 1024 }
     ensures { result ≡ is_any_past_guard tri.now.v0.now tri.now.v1.now tri.now.v2.now near }
 {
-    past_guard(tri.v0, near) || past_guard(tri.v1, near) || past_guard(tri.v2, near)
+    past_guard(tri.v0, near) | past_guard(tri.v1, near) | past_guard(tri.v2, near)
 }
 
 #[inline(always)]
 fn is_all_in_front(tri: &Corners, near: u16) -> bool
     ensures { result ≡ is_all_in_front tri.now.v0.now tri.now.v1.now tri.now.v2.now near }
 {
-    is_in_front(tri.v0, near) && is_in_front(tri.v1, near) && is_in_front(tri.v2, near)
+    is_in_front(tri.v0, near) & is_in_front(tri.v1, near) & is_in_front(tri.v2, near)
 }
 
 // The piece of a triangle that no plane cuts: it is its own polygon.

@@ -2,7 +2,7 @@ use Rattle.std.proofs.Common.{FitsSigned, w32, rules, refl}
 use Rattle.std.proofs.lemmas.Int.{to_z-of_z}
 use Rattle.snap_setup.specs.Snapping.{snapped}
 use Rattle.snap_setup.proofs.Reached.{in_sight}
-use Rattle.snap_setup.proofs.snapping.snap.Goals as goal
+use Rattle.snap_setup.proofs.snapping.long_snap.Goals as goal
 
 pub place_x-requires-clause-sight : goal.place_x-requires-clause-sight
 place_x-requires-clause-sight c = in_sight c.args.near c.args.point.now c.requires.near_least c.requires.near_most c.requires.reach

@@ -1,7 +1,7 @@
 use Rattle.std.proofs.Common.{FitsSigned, w32, rules, refl}
 use Rattle.std.proofs.lemmas.Int.{to_z-of_z}
 use Rattle.snap_setup.proofs.Reached.{in_sight}
-use Rattle.snap_setup.proofs.snapping.place_of.Goals as goal
+use Rattle.snap_setup.proofs.snapping.long_place_of.Goals as goal
 
 pub doubled_w-doubled-requires : goal.doubled_w-doubled-requires
 doubled_w-doubled-requires c = in_sight c.args.near c.args.point.now c.requires.near_least c.requires.near_most c.requires.reach
