@@ -74,7 +74,7 @@ fn verdicts_over(
     )
 }
 
-// The pieces of a frame, in submission order.
+// The pieces of a frame, in submission order. Its clauses alone ask for the frame's number.
 fn pieces_of(
     alloc: Global,
     scene: &Scene,

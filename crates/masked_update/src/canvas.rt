@@ -47,6 +47,7 @@ impl Canvas {
         requires { tile < length self.now }
         ensures { result ≡ true → NoneBelow nearest (tile_at self.now tile) }
     {
+        // an accessor tells that a tile has eight subtiles
         let _first = self.tiles[tile as usize].sub(0);
         nearest <= self.least[tile as usize]
     }

@@ -18,8 +18,8 @@ use Rattle.near_clip.specs.Reach.{IsInReach}
 use Rattle.near_clip.proofs.Guarded.{guarded}
 use Rattle.near_clip.proofs.Reaches.{near_part_reaches}
 use Rattle.snap_setup.specs.declared.snapping.Snapped.{Snapped}
-use Rattle.snap_setup.specs.Snapping.{snapped, screen_x, screen_y, nearness_of, IsSnapped}
-use Rattle.snap_setup.specs.Pieces.{triangle, triangles_of, is_left_out, is_dropped, exchanged, turned, piece_if, kept_of, snapped_part, is_any_past_guard, is_all_in_front, pieces_of, polygon_box, near_box_of}
+use Rattle.snap_setup.specs.Snapping.{snapped, nearness_of, IsSnapped}
+use Rattle.snap_setup.specs.Pieces.{triangle, triangles_of, is_left_out, is_dropped, exchanged, turned, kept_of, snapped_part, is_any_past_guard, pieces_of}
 use Rattle.snap_setup.specs.Triangles.{pieces_of_triangle}
 use Rattle.snap_setup.proofs.Areas.{turned_area}
 use Rattle.snap_setup.proofs.Floors.{rounded_near}
