@@ -1,6 +1,7 @@
-//! The guard: how far from the viewer a clip vertex may lie.
+//! The near distance and the guard: between which limits a clip vertex may lie.
 ghost use Rattle.std.specs.Prelude.{◌≡◌, pos, ◌≤◌, ◌*◌};
 ghost use Rattle.cull_base.specs.Guard.{is_beyond, is_past_guard};
+ghost use Rattle.cull_base.specs.NearPlane.{is_behind};
 
 use cull_base::ClipVertex;
 
@@ -14,6 +15,14 @@ fn is_beyond(limit: i64, v: i64, near: u16) -> bool
     ensures { result ≡ is_beyond (16384 * near) v }
 {
     v.unsigned_abs() > limit as u64
+}
+
+/// Whether a clip vertex lies before the near distance.
+#[inline(always)]
+pub fn is_behind(v: &ClipVertex, near: u16) -> bool
+    ensures { result ≡ is_behind near v.now }
+{
+    v.w < i64::from(near)
 }
 
 /// Whether x, y or w of a clip vertex lies more than 16384 near distances away from 0.

@@ -1,7 +1,7 @@
 -- What it means that an object is hidden.
-use Rattle.std.proofs.Common.{◌≡◌, ℕ, zero, suc, ◌+◌, ◌≤◌, ◌<◌, List, [], ◌∷◌, Bool, true, false, ◌||◌, not, cond, ◌⊎◌, nat_lt, arith, refl, ap, sym, ◌∙◌, inl, inr}
+use Rattle.std.proofs.Common.{◌≡◌, ℕ, zero, suc, ◌+◌, ◌≤◌, ◌<◌, Bool, true, false, ◌||◌, not, cond, nat_lt, arith, refl, ap, sym, ◌∙◌, inl, inr}
 use Rattle.std.specs.List.{list_all, list_any, range_with_len}
-use Rattle.std.proofs.lemmas.Bool.{cases_lt, and_parts}
+use Rattle.std.proofs.lemmas.Bool.{cases_lt, and_parts, or_cases}
 use Rattle.std.proofs.lemmas.Bool.Decides.{nat_tests}
 use Rattle.cull_base.specs.declared.rect.Rect.{Rect}
 use Rattle.cull_base.specs.declared.place.Sub.{Sub}
@@ -12,6 +12,7 @@ use Rattle.cull_base.specs.State.{State, is_none, has, hides}
 use Rattle.cull_base.specs.Fold.{IsLayered}
 use Rattle.cull_base.specs.Pixels.{at_each_pixel, at_some_pixel}
 use Rattle.cull_base.specs.Shape.{Shape, AlwaysOutside, AlwaysVisible, Flat, Pieces, has_sample, is_hidden_at, is_hidden, verdict_of}
+use Rattle.cull_base.proofs.Bits.{has-none}
 
 all_to : (p : ℕ → Bool) (a n : ℕ) → list_all p (range_with_len a n) ≡ true → (k : ℕ) → a ≤ k → k < a + n → p k ≡ true
 all_to p a zero e k le lt = absurd (omega arith)
@@ -59,11 +60,11 @@ some_pixel size test px py x y t =
     any_from (λ j. list_any (λ i. test i j) (range_with_len 0 size.width)) 0 size.height py (omega arith) (omega (arith, y))
     (any_from (λ i. test i py) 0 size.width px (omega arith) (omega (arith, x)) t)
 
-implied : (a b : Bool) → (not a || b) ≡ true → a ≡ true → b ≡ true
+pub implied : (a b : Bool) → (not a || b) ≡ true → a ≡ true → b ≡ true
 implied true b e f = e
 implied false b e f = absurd cc
 
-implies : (a b : Bool) → (a ≡ true → b ≡ true) → (not a || b) ≡ true
+pub implies : (a b : Bool) → (a ≡ true → b ≡ true) → (not a || b) ≡ true
 implies true b f = f refl
 implies false b f = refl
 
@@ -82,10 +83,6 @@ hidden_if size f shape px py x y has h =
     let some = some_pixel size (has_sample shape) px py x y has in
     let each = each_from size (λ i j. not (has_sample shape i j) || is_hidden_at f shape i j) (λ i j p q. implies (has_sample shape i j) (is_hidden_at f shape i j) (h i j p q)) in
     rw (some, each) refl
-
-or_cases : (a b : Bool) → (a || b) ≡ true → (a ≡ true) ⊎ (b ≡ true)
-or_cases true b e = inl refl
-or_cases false b e = inr e
 
 any_to : (p : ℕ → Bool) (a n : ℕ) → list_any p (range_with_len a n) ≡ true → (k : ℕ) × (a ≤ k) × (k < a + n) × (p k ≡ true)
 any_to p a zero e = absurd cc
@@ -122,12 +119,6 @@ pub met : (m b : Bool) (r screen : Rect) (size : Dimensions) → m ≡ meets r s
 met m b r screen size e s t = ap (meets r) (sym s) ∙ sym e ∙ t
 
 -- an empty set has no sample
-none_has : (xs : List Bool) (k : ℕ) → is_none xs ≡ true → has xs k ≡ false
-none_has [] k e = refl
-none_has (true ∷ xs) k e = absurd cc
-none_has (false ∷ xs) zero e = refl
-none_has (false ∷ xs) (suc k) e = none_has xs k e
-
 -- the bound is never below the reference
 pub below_reference : (s : State) (k q : ℕ) → IsLayered s → q < s.reference → hides s k q ≡ true
 below_reference s k q layered lt = by (has s.samples k) (is_none s.samples) refl refl
@@ -137,5 +128,5 @@ below_reference s k q layered lt = by (has s.samples k) (is_none s.samples) refl
     deeper false r w l h = grind (arith, nat_tests)
 
     by : (b n : Bool) → has s.samples k ≡ b → is_none s.samples ≡ n → hides s k q ≡ true
-    by b true e f = let none = none_has s.samples k f in deeper (has s.samples k) s.reference s.working lt (λ t. absurd cc)
+    by b true e f = let none = has-none s.samples k f in deeper (has s.samples k) s.reference s.working lt (λ t. absurd cc)
     by b false e f = deeper (has s.samples k) s.reference s.working lt (λ t. layered.above f)

@@ -4,6 +4,7 @@ use Rattle.std.specs.Int.{int_min, int_max, div_ceil}
 use Rattle.std.specs.Cmp.{both_ways}
 use Rattle.std.proofs.lemmas.Bool.{and_parts, and_cases}
 use Rattle.std.proofs.lemmas.Int.{ints}
+use Rattle.std.proofs.Math.Bool.{and_comm}
 use Rattle.std.proofs.Math.Nat.{mod-lt}
 use Rattle.std.proofs.lemmas.Bool.Decides.{nat_tests}
 use Rattle.cull_base.specs.declared.rect.Rect.{Rect}
@@ -71,12 +72,6 @@ row_within size t valid lt = within size.height (t / tile_columns_of size) (row_
     within : (h r : ℕ) → r < div_ceil h 8 → 8 * r < h
     within h r lt = omega arith
 
-swap : (a b : Bool) → (a && b) ≡ (b && a)
-swap true true = refl
-swap true false = refl
-swap false true = refl
-swap false false = refl
-
 off_both : (x y : Bool) → (x ≡ false) ⊎ (y ≡ false) → (x && y) ≡ false
 off_both x y (inl e) = rw e refl
 off_both true y (inr e) = e
@@ -104,7 +99,7 @@ span_meets size a x0 x1 y0 y1 t valid lt e0 e1 f0 f1 = by (meets a (screen_of si
         let (h, v) = and_parts (overlap a.x0 a.x1 (pos 0) (pos size.width)) (overlap a.y0 a.y1 (pos 0) (pos size.height)) some in
         let x = columns a.x0 a.x1 size.width c x0 x1 (column_below size t valid) (less (int_max a.x0 (pos 0)) (int_min a.x1 (pos size.width)) h) e0 e1 in
         let y = rows a.y0 a.y1 size.height r y0 y1 (row_within size t valid lt) (less (int_max a.y0 (pos 0)) (int_min a.y1 (pos size.height)) v) f0 f1 in
-        ap (λ b. b && is_between (x0 / 32) (div_ceil x1 32) c) y ∙ ap (λ b. overlap a.y0 a.y1 (pos (8 * r)) (pos (min (8 * r + 8) size.height)) && b) x ∙ swap (overlap a.y0 a.y1 (pos (8 * r)) (pos (min (8 * r + 8) size.height))) (overlap a.x0 a.x1 (pos (32 * c)) (pos (min (32 * c + 32) size.width)))
+        ap (λ b. b && is_between (x0 / 32) (div_ceil x1 32) c) y ∙ ap (λ b. overlap a.y0 a.y1 (pos (8 * r)) (pos (min (8 * r + 8) size.height)) && b) x ∙ and_comm (overlap a.y0 a.y1 (pos (8 * r)) (pos (min (8 * r + 8) size.height))) (overlap a.x0 a.x1 (pos (32 * c)) (pos (min (32 * c + 32) size.width)))
     by false off e0 e1 f0 f1 =
         let no = off_both (overlap a.x0 a.x1 (pos (32 * c)) (pos (min (32 * c + 32) size.width))) (overlap a.y0 a.y1 (pos (8 * r)) (pos (min (8 * r + 8) size.height)))
         (elim (and_cases (overlap a.x0 a.x1 (pos 0) (pos size.width)) (overlap a.y0 a.y1 (pos 0) (pos size.height)) off) [

@@ -16,12 +16,9 @@ numerator t p =
 abbrev pub denominator : Piece → ℤ
 denominator t = doubled_area t
 
--- the depth at p is at least v, and above v
+-- the depth at p is at least v
 abbrev pub DepthAtLeast : Piece → Point → ℕ → Type 0
 DepthAtLeast t p v = (pos v *ℤ denominator t) ≤ℤ numerator t p
-
-abbrev pub DepthAbove : Piece → Point → ℕ → Type 0
-DepthAbove t p v = (pos v *ℤ denominator t) <ℤ numerator t p
 
 -- the depth of s at p is no greater than that of t, and strictly less
 abbrev pub DepthNoGreater : Piece → Piece → Point → Type 0

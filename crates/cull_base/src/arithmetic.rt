@@ -1,7 +1,16 @@
 //! Steps of arithmetic on screen coordinates that stay inside their width, each with its value and its bound.
-ghost use Rattle.std.specs.Prelude.{◌≡◌, ℕ, ℤ, pos, ◌^◌, ◌*◌, ◌-ℤ◌, ◌*ℤ◌};
+ghost use Rattle.std.specs.Prelude.{◌≡◌, ℕ, ℤ, pos, ◌^◌, ◌*◌, ◌-ℤ◌, ◌*ℤ◌, ◌≤ℤ◌};
 ghost use Rattle.cull_base.specs.Piece.{IsCoordinate, point, edge_value};
 ghost use Rattle.cull_base.specs.Bounds.{Bounded};
+
+/// A place that isn't before the first pixel, as a pixel.
+#[inline(always)]
+pub fn pixel_of(place: i32) -> u32
+    requires { pos 0 ≤ℤ place }
+    ensures { pos result ≡ place }
+{
+    place as u32
+}
 
 /// a - b.
 #[inline(always)]

@@ -26,7 +26,7 @@ pub use frame_list::FrameList;
 pub use memory::{Failed, Memory, SinkError};
 pub use nearness::{GRADE_TOP, HELD_TOP};
 pub use place::{Sample, Sub, Tile};
-pub use rect::Rect;
+pub use rect::{NO_PIXELS, Rect};
 pub use scene_types::{Object, Tri, Verdict};
 pub use screen_tri::ScreenTri;
 pub use sink::{BytesSink, Sink, SureSink, write_whole};

@@ -11,6 +11,14 @@ pub struct Rect {
     pub y1: i32,
 }
 
+/// The rectangle of no pixels.
+pub const NO_PIXELS: Rect = Rect {
+    x0: 0,
+    y0: 0,
+    x1: 0,
+    y1: 0,
+};
+
 // Whether some number lies from a0 to before a1 and from b0 to before b1.
 fn overlap(a0: i32, a1: i32, b0: i32, b1: i32) -> bool
     ensures { result ≡ int_lt (int_max a0 b0) (int_min a1 b1) }
@@ -56,12 +64,7 @@ impl Rect {
                 y1: lesser(self.y1, other.y1),
             }
         } else {
-            Rect {
-                x0: 0,
-                y0: 0,
-                x1: 0,
-                y1: 0,
-            }
+            NO_PIXELS
         }
     }
 }

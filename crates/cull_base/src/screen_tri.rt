@@ -71,7 +71,7 @@ impl ScreenTri {
 
     /// The piece of numbers that are known to make one.
     #[inline(always)]
-    pub fn known(x: [i32; 3], y: [i32; 3], q: [u32; 3]) -> ScreenTri
+    pub fn from_valid(x: [i32; 3], y: [i32; 3], q: [u32; 3]) -> ScreenTri
         requires { IsPiece (piece x y q) }
         ensures { result ≡ piece x y q }
     {

@@ -116,6 +116,7 @@ impl Size {
         ensures row { result.row < tile_rows_of self.now }
         ensures within { (result.column < 64) × (result.row < 256) }
     {
+        // as above
         let _height = self.height;
         let columns = self.tile_columns();
         Tile {

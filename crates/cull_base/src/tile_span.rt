@@ -1,7 +1,8 @@
 //! The tiles that a rectangle reaches, computed from it and not searched for.
-ghost use Rattle.std.specs.Prelude.{◌≡◌, ◌≤◌, ◌&&◌, pos, ◌≤ℤ◌};
+ghost use Rattle.std.specs.Prelude.{◌≡◌, ◌≤◌, ◌&&◌};
 ghost use Rattle.cull_base.specs.Screen.{IsSize};
 
+use crate::arithmetic::pixel_of;
 use crate::rect::Rect;
 use crate::size;
 use crate::size::Size;
@@ -17,13 +18,6 @@ pub struct TileSpan {
     pub end_column: u32,
     pub first_row: u32,
     pub end_row: u32,
-}
-
-fn pixel_of(place: i32) -> u32
-    requires { pos 0 ≤ℤ place }
-    ensures { pos result ≡ place }
-{
-    place as u32
 }
 
 impl TileSpan {

@@ -39,7 +39,7 @@ pub clip_count : (s : Parts) (frame : ℕ) → length (frame_clips s frame) ≡ 
 unfolding frame_clips
 clip_count s frame = simp length-map
 
-has_clips : (n m : ℕ) (t : Tri) → n ≡ m → All (λ v. v < m) t.0 → HasClips n t
+pub has_clips : (n m : ℕ) (t : Tri) → n ≡ m → All (λ v. v < m) t.0 → HasClips n t
 has_clips n m t e h = rw e h
 
 -- the vertices of a range of object triangles are among the clip vertices

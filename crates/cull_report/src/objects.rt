@@ -10,23 +10,17 @@ ghost use Rattle.cull_report.specs.Hiding.{HidesObject};
 ghost use Rattle.cull_report.specs.Scene.{IsMarkedRight, size_of, frame_clips, object_area, verdict_in};
 
 use crate::form::{Form, form_of};
-use cull_base::{ClipVertex, Memory, Object, Rect, Tri, Verdict};
+use cull_base::{ClipVertex, Memory, NO_PIXELS, Object, Rect, Tri, Verdict};
 use masked_update::TileView;
 use mesh_query::{mesh_area, mesh_test};
 use rect_query::rect_test;
 use scene_reader::Scene;
 use std::alloc::Global;
 
-const NO_PIXELS: Rect = Rect {
-    x0: 0,
-    y0: 0,
-    x1: 0,
-    y1: 0,
-};
-
 pub(crate) fn object_count(scene: &Scene) -> u32
     ensures { result ≡ length scene.now.objects }
 {
+    // an accessor tells what is held of a scene: its objects are at most 65,536
     let _near = scene.near();
     scene.objects().len() as u32
 }
@@ -38,6 +32,7 @@ fn object_at(scene: &Scene, object: u32) -> &Object
     ensures valid { IsObject (length scene.now.object_tris) result.now }
     ensures scene { IsScene scene.now }
 {
+    // as above: each object is valid
     let _near = scene.near();
     &scene.objects()[object as usize]
 }
@@ -51,7 +46,7 @@ fn triangles(scene: &Scene, first: u32, count: u32) -> &[Tri]
     &scene.object_tris()[first..first + count as usize]
 }
 
-// The pixels of the screen that are looked at for a form.
+// The pixels of the screen that are looked at for a form. Its clauses alone ask for the frame.
 fn form_area(scene: &Scene, _frame: u32, clips: &[ClipVertex], form: Form) -> Rect
     requires clips { clips.now ≡ frame_clips scene.now _frame }
     requires triangles { HasTriangles (length scene.now.object_tris) form }
@@ -71,7 +66,7 @@ fn form_area(scene: &Scene, _frame: u32, clips: &[ClipVertex], form: Form) -> Re
     }
 }
 
-// The verdict of a form over a view that holds the tiles of its area.
+// The verdict of a form over a view that holds the tiles of its area. Its clauses alone ask for the frame.
 fn form_verdict<V: TileView>(
     scene: &Scene,
     _frame: u32,

@@ -47,11 +47,6 @@ index-subtile_steps column row j l = get_or-map-range_with_len (subtile_step col
 pub moved_fits : (s o : ℤ) → Bounded (2 ^ 61 + 2 ^ 49) s → Bounded (2 ^ 40) o → FitsSigned w64 (to_z w64 (of_z w64 s) +ℤ to_z w64 (of_z w64 o))
 moved_fits s o bs bo = let fs : FitsSigned w64 s = omega (arith, ints) in let fo : FitsSigned w64 o = omega (arith, ints) in simp to_z-of_z (omega (arith, ints))
 
-pub moved_is : (s o : ℤ) → Bounded (2 ^ 61 + 2 ^ 49) s → Bounded (2 ^ 40) o → to_z w64 (of_z w64 (to_z w64 (of_z w64 s) +ℤ to_z w64 (of_z w64 o))) ≡ s +ℤ o
-moved_is s o bs bo =
-    let fs : FitsSigned w64 s = omega (arith, ints) in let fo : FitsSigned w64 o = omega (arith, ints) in
-    let f : FitsSigned w64 (s +ℤ o) = omega (arith, ints) in simp to_z-of_z
-
 -- the same in 32 bits
 pub narrow_moved_fits : (s o : ℤ) → Bounded (2 ^ 30 + 2 ^ 26) s → Bounded (2 ^ 25) o → FitsSigned w32 (to_z w32 (of_z w32 s) +ℤ to_z w32 (of_z w32 o))
 narrow_moved_fits s o bs bo = let fs : FitsSigned w32 s = omega (arith, ints) in let fo : FitsSigned w32 o = omega (arith, ints) in simp to_z-of_z (omega (arith, ints))

@@ -57,7 +57,7 @@ fn subtile_steps(column: i64, row: i64) -> [i64; 8]
 
 // A value moved within a tile.
 #[inline(always)]
-fn moved(start: i64, by: i64) -> i64
+fn move_by(start: i64, by: i64) -> i64
     requires start { Bounded (2 ^ 61 + 2 ^ 49) start }
     requires by { Bounded (2 ^ 46) by }
     ensures value { result ≡ start +ℤ by }
@@ -109,7 +109,7 @@ impl WideEdge {
         ensures value { result ≡ moved_to (wide_line self.now) start j }
         ensures bounded { Bounded (2 ^ 61 + 2 ^ 49) result }
     {
-        moved(start, subtile_step(self.column, self.row, j))
+        move_by(start, subtile_step(self.column, self.row, j))
     }
 
     // Bit j is set where this value isn't negative with what subtile j of a tile adds.
@@ -130,7 +130,7 @@ impl WideEdge {
         requires { Bounded (2 ^ 61 + 2 ^ 47) start }
         ensures { result ≡ candidates_of (wide_line self.now) start }
     {
-        self.subtile_signs(moved(start, highest(self.column, self.row)))
+        self.subtile_signs(move_by(start, highest(self.column, self.row)))
     }
 
     /// Whether each sample of such a subtile is inside.
@@ -139,7 +139,7 @@ impl WideEdge {
         requires { Bounded (2 ^ 61 + 2 ^ 49) start }
         ensures { IsTrue result → pos 0 ≤ℤ (start +ℤ lowest_of self.now.column self.now.row) }
     {
-        moved(start, lowest(self.column, self.row)) >= 0
+        move_by(start, lowest(self.column, self.row)) >= 0
     }
 
     // Bit c is set where the value at column c isn't negative, in a row that begins with this value.
@@ -165,7 +165,7 @@ impl WideEdge {
         ensures value { result ≡ row_of (inside_from (wide_line self.now) start) row }
         ensures byte { result < 2 ^ 8 }
     {
-        self.columns(moved(start, steps(self.row, row)))
+        self.columns(move_by(start, steps(self.row, row)))
     }
 
     // The mask of a subtile that begins with this value, row by row.

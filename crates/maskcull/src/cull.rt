@@ -82,7 +82,7 @@ fn verdicts_over<R: Threads + Sync>(
     )
 }
 
-// The pieces of a frame, in submission order.
+// The pieces of a frame, in submission order. Its clauses alone ask for the frame's number.
 fn pieces_of<R: Threads + Sync>(
     rt: &R,
     alloc: Global,

@@ -182,87 +182,60 @@ fn equal_nearness_is_visible(rt: HostRuntime) -> Result<(), Fail> {
 
 #[test]
 fn nothing_is_hidden_by_no_triangles(rt: HostRuntime) -> Result<(), Fail> {
-    assert_reports(
-        &rt,
-        rt.alloc(),
-        scene(rt.alloc(), 0, &QUAD, &[], &[WHOLE])?,
-        UNDRAWN,
-    )
+    let alloc = rt.alloc();
+    let bytes = scene(alloc, 0, &QUAD, &[], &[WHOLE])?;
+    assert_reports(&rt, alloc, bytes, UNDRAWN)
 }
 
 #[test]
 fn no_objects_have_no_lines(rt: HostRuntime) -> Result<(), Fail> {
     let text = "msoc-report 1 32 8 1 0\nframe 0 pieces 2\nend 0 visible 0 occluded 0 outside 0\n";
-    assert_reports(
-        &rt,
-        rt.alloc(),
-        scene(rt.alloc(), 0, &QUAD, &TWO, &[])?,
-        text,
-    )
+    let alloc = rt.alloc();
+    let bytes = scene(alloc, 0, &QUAD, &TWO, &[])?;
+    assert_reports(&rt, alloc, bytes, text)
 }
 
 #[test]
 fn rectangles_without_a_pixel_in_the_screen_are_outside(rt: HostRuntime) -> Result<(), Fail> {
     let rectangles = [[5, 0, 5, 8, 3], [32, 0, 40, 8, 3]];
-    let text =
-        "msoc-report 1 32 8 1 2\nframe 0 pieces 2\n0 outside\n1 outside\nend 0 visible 0 occluded 0 outside 2\n";
-    assert_reports(
-        &rt,
-        rt.alloc(),
-        scene(rt.alloc(), 0, &QUAD, &TWO, &rectangles)?,
-        text,
-    )
+    let text = concat!(
+        "msoc-report 1 32 8 1 2\n",
+        "frame 0 pieces 2\n0 outside\n1 outside\nend 0 visible 0 occluded 0 outside 2\n",
+    );
+    let alloc = rt.alloc();
+    let bytes = scene(alloc, 0, &QUAD, &TWO, &rectangles)?;
+    assert_reports(&rt, alloc, bytes, text)
 }
 
 #[test]
 fn a_dropped_winding_draws_nothing(rt: HostRuntime) -> Result<(), Fail> {
     let alloc = rt.alloc();
-    assert_reports(&rt, alloc, scene(alloc, 1, &QUAD, &TWO, &[WHOLE])?, UNDRAWN)?;
-    assert_reports(
-        &rt,
-        alloc,
-        scene(alloc, 2, &QUAD, &TWO, &[WHOLE])?,
-        OCCLUDED,
-    )?;
-    assert_reports(
-        &rt,
-        alloc,
-        scene(alloc, 0, &QUAD, &TWO_TURNED, &[WHOLE])?,
-        OCCLUDED,
-    )?;
-    assert_reports(
-        &rt,
-        alloc,
-        scene(alloc, 1, &QUAD, &TWO_TURNED, &[WHOLE])?,
-        OCCLUDED,
-    )?;
-    assert_reports(
-        &rt,
-        alloc,
-        scene(alloc, 2, &QUAD, &TWO_TURNED, &[WHOLE])?,
-        UNDRAWN,
-    )
+    for (winding, triangles, text) in [
+        (1, &TWO, UNDRAWN),
+        (2, &TWO, OCCLUDED),
+        (0, &TWO_TURNED, OCCLUDED),
+        (1, &TWO_TURNED, OCCLUDED),
+        (2, &TWO_TURNED, UNDRAWN),
+    ] {
+        let bytes = scene(alloc, winding, &QUAD, triangles, &[WHOLE])?;
+        assert_reports(&rt, alloc, bytes, text)?;
+    }
+    Ok(())
 }
 
 #[test]
 fn a_triangle_at_the_guard_is_drawn_and_one_past_it_is_not(rt: HostRuntime) -> Result<(), Fail> {
     let alloc = rt.alloc();
     let at = [[-2, 2, 2], [16384, 2, 2], [-2, -16384, 2]];
-    let text =
-        "msoc-report 1 32 8 1 1\nframe 0 pieces 1\n0 occluded\nend 0 visible 0 occluded 1 outside 0\n";
-    assert_reports(
-        &rt,
-        alloc,
-        scene(alloc, 0, &at, &[[0, 1, 2]], &[WHOLE])?,
-        text,
-    )?;
+    let text = concat!(
+        "msoc-report 1 32 8 1 1\n",
+        "frame 0 pieces 1\n0 occluded\nend 0 visible 0 occluded 1 outside 0\n",
+    );
+    let bytes = scene(alloc, 0, &at, &[[0, 1, 2]], &[WHOLE])?;
+    assert_reports(&rt, alloc, bytes, text)?;
     let past = [[-2, 2, 2], [16385, 2, 2], [-2, -16384, 2]];
-    assert_reports(
-        &rt,
-        alloc,
-        scene(alloc, 0, &past, &[[0, 1, 2]], &[WHOLE])?,
-        UNDRAWN,
-    )
+    let bytes = scene(alloc, 0, &past, &[[0, 1, 2]], &[WHOLE])?;
+    assert_reports(&rt, alloc, bytes, UNDRAWN)
 }
 
 #[test]
@@ -380,12 +353,14 @@ fn words_that_are_no_command_are_refused(rt: HostRuntime) -> Result<(), Fail> {
     Ok(())
 }
 
-const TWO_FRAMES: &str =
-    "msoc-report 1 32 8 2 2\nframe 0 pieces 2\n0 occluded\n1 occluded\nend 0 visible 0 occluded 2 outside 0\nframe 1 pieces 2\n0 visible\n1 occluded\nend 1 visible 1 occluded 1 outside 0\n";
+const TWO_FRAMES: &str = concat!(
+    "msoc-report 1 32 8 2 2\n",
+    "frame 0 pieces 2\n0 occluded\n1 occluded\nend 0 visible 0 occluded 2 outside 0\n",
+    "frame 1 pieces 2\n0 visible\n1 occluded\nend 1 visible 1 occluded 1 outside 0\n",
+);
 
-// The quad with two rectangles behind it, and a second camera that stands two further away.
-fn two_frames(alloc: Global) -> Result<Vec<u8>, AllocError> {
-    let mut bytes = scene(alloc, 0, &QUAD, &TWO, &[WHOLE, [8, 2, 24, 6, 5]])?;
+// The scene of some bytes with a second camera, which stands two further away.
+fn seen_twice(mut bytes: Vec<u8>) -> Result<Vec<u8>, AllocError> {
     bytes.extend_from_slice(&FIRST[129..])?;
     let last = bytes.len() - 4;
     bytes[14] = 2;
@@ -393,10 +368,33 @@ fn two_frames(alloc: Global) -> Result<Vec<u8>, AllocError> {
     Ok(bytes)
 }
 
+// The quad with two rectangles behind it.
+fn two_frames(alloc: Global) -> Result<Vec<u8>, AllocError> {
+    let rectangles = [WHOLE, [8, 2, 24, 6, 5]];
+    seen_twice(scene(alloc, 0, &QUAD, &TWO, &rectangles)?)
+}
+
 #[test]
 fn each_frame_is_seen_through_its_own_camera(rt: HostRuntime) -> Result<(), Fail> {
     let alloc = rt.alloc();
     assert_reports(&rt, alloc, two_frames(alloc)?, TWO_FRAMES)
+}
+
+// In the second frame the box stands at the rectangle (12, 3, 20, 5) with the nearness 13107, and the quad covers the
+// pixels 8 to 23 by 2 to 5 with 16383. The mesh touches samples to the right of it.
+#[test]
+fn boxes_and_meshes_move_with_the_camera(rt: HostRuntime) -> Result<(), Fail> {
+    let alloc = rt.alloc();
+    let mut vertices = Vec::from_slice(alloc, &QUAD)?;
+    vertices.extend_from_slice(&[[-3, 3, 3], [3, 3, 3], [3, -3, 3]])?;
+    let objects = [(1, [-1, -1, 3, 1, 1, 6]), (2, [0, 1, 0, 0, 0, 0])];
+    let bytes = scene_of(alloc, 0, &vertices, &TWO, &[[4, 5, 6]], &objects)?;
+    let text = concat!(
+        "msoc-report 1 32 8 2 2\n",
+        "frame 0 pieces 2\n0 occluded\n1 occluded\nend 0 visible 0 occluded 2 outside 0\n",
+        "frame 1 pieces 2\n0 occluded\n1 visible\nend 1 visible 1 occluded 1 outside 0\n",
+    );
+    assert_reports(&rt, alloc, seen_twice(bytes)?, text)
 }
 
 #[test]
@@ -419,8 +417,11 @@ fn frames_before_a_report_fault_stand_whole(rt: HostRuntime) -> Result<(), Fail>
     let words = words(alloc, &["maskcull", "cull"])?;
     let status = run(&rt, alloc, &words, &mut input, &mut report, &mut notes);
     assert_eq!(rt; status, Status::ReportFault);
-    let front =
-        "msoc-report 1 32 8 2 2\nframe 0 pieces 2\n0 occluded\n1 occluded\nend 0 visible 0 occluded 2 outside 0\nframe 1 pieces 2\n";
+    let front = concat!(
+        "msoc-report 1 32 8 2 2\n",
+        "frame 0 pieces 2\n0 occluded\n1 occluded\nend 0 visible 0 occluded 2 outside 0\n",
+        "frame 1 pieces 2\n",
+    );
     assert_eq!(rt; report.held(), front.as_bytes());
     assert_eq!(rt; notes.held(), b"report fault\n".as_slice());
     Ok(())
@@ -441,27 +442,25 @@ fn boxes_are_hidden_by_their_rectangles(rt: HostRuntime) -> Result<(), Fail> {
         (1, [16385, 0, 5, 16385, 1, 6]),
         (1, [40, 0, 5, 41, 1, 6]),
     ];
-    let text =
-        "msoc-report 1 32 8 1 6\nframe 0 pieces 2\n0 occluded\n1 visible\n2 outside\n3 outside\n4 visible\n5 outside\nend 0 visible 2 occluded 1 outside 3\n";
-    assert_reports(
-        &rt,
-        alloc,
-        scene_of(alloc, 0, &QUAD, &TWO, &[], &boxes)?,
-        text,
-    )
+    let text = concat!(
+        "msoc-report 1 32 8 1 6\n",
+        "frame 0 pieces 2\n0 occluded\n1 visible\n2 outside\n3 outside\n4 visible\n5 outside\n",
+        "end 0 visible 2 occluded 1 outside 3\n",
+    );
+    let bytes = scene_of(alloc, 0, &QUAD, &TWO, &[], &boxes)?;
+    assert_reports(&rt, alloc, bytes, text)
 }
 
 #[test]
 fn rectangles_before_the_near_distance_are_visible(rt: HostRuntime) -> Result<(), Fail> {
     let rectangles = [[40, 0, 48, 8, -1], [0, 0, 8, 8, -1], [4, 4, 4, 4, 0]];
-    let text =
-        "msoc-report 1 32 8 1 3\nframe 0 pieces 2\n0 outside\n1 visible\n2 outside\nend 0 visible 1 occluded 0 outside 2\n";
-    assert_reports(
-        &rt,
-        rt.alloc(),
-        scene(rt.alloc(), 0, &QUAD, &TWO, &rectangles)?,
-        text,
-    )
+    let text = concat!(
+        "msoc-report 1 32 8 1 3\n",
+        "frame 0 pieces 2\n0 outside\n1 visible\n2 outside\nend 0 visible 1 occluded 0 outside 2\n",
+    );
+    let alloc = rt.alloc();
+    let bytes = scene(alloc, 0, &QUAD, &TWO, &rectangles)?;
+    assert_reports(&rt, alloc, bytes, text)
 }
 
 // The first mesh is behind the quad, the second past the guard, the third between all samples, the fourth beside the
@@ -491,14 +490,13 @@ fn meshes_are_hidden_by_their_pieces(rt: HostRuntime) -> Result<(), Fail> {
         (2, [0, 0, 0, 0, 0, 0]),
         (2, [5, 0, 0, 0, 0, 0]),
     ];
-    let text =
-        "msoc-report 1 32 8 1 7\nframe 0 pieces 2\n0 occluded\n1 visible\n2 visible\n3 outside\n4 outside\n5 outside\n6 outside\nend 0 visible 2 occluded 1 outside 4\n";
-    assert_reports(
-        &rt,
-        alloc,
-        scene_of(alloc, 0, &vertices, &TWO, &triangles, &meshes)?,
-        text,
-    )
+    let text = concat!(
+        "msoc-report 1 32 8 1 7\n",
+        "frame 0 pieces 2\n0 occluded\n1 visible\n2 visible\n3 outside\n4 outside\n5 outside\n",
+        "6 outside\nend 0 visible 2 occluded 1 outside 4\n",
+    );
+    let bytes = scene_of(alloc, 0, &vertices, &TWO, &triangles, &meshes)?;
+    assert_reports(&rt, alloc, bytes, text)
 }
 
 #[test]
@@ -506,12 +504,8 @@ fn a_mesh_at_the_quad_is_visible(rt: HostRuntime) -> Result<(), Fail> {
     let alloc = rt.alloc();
     let quad = [[-3, 3, 3], [3, 3, 3], [3, -3, 3], [-3, -3, 3]];
     let mesh = [(2, [0, 1, 0, 0, 0, 0])];
-    assert_reports(
-        &rt,
-        alloc,
-        scene_of(alloc, 0, &quad, &TWO, &[[0, 1, 2]], &mesh)?,
-        VISIBLE,
-    )
+    let bytes = scene_of(alloc, 0, &quad, &TWO, &[[0, 1, 2]], &mesh)?;
+    assert_reports(&rt, alloc, bytes, VISIBLE)
 }
 
 // The screen's right column of tiles is 8 pixels wide, its lower row 4 pixels high.
@@ -524,7 +518,9 @@ fn tiles_that_the_screen_cuts_are_drawn_and_asked(rt: HostRuntime) -> Result<(),
         bytes[6] = 40;
         bytes[8] = 12;
     }
-    let text =
-        "msoc-report 1 40 12 1 3\nframe 0 pieces 2\n0 occluded\n1 occluded\n2 outside\nend 0 visible 0 occluded 2 outside 1\n";
+    let text = concat!(
+        "msoc-report 1 40 12 1 3\n",
+        "frame 0 pieces 2\n0 occluded\n1 occluded\n2 outside\nend 0 visible 0 occluded 2 outside 1\n",
+    );
     assert_reports(&rt, alloc, bytes, text)
 }

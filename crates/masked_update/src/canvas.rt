@@ -77,6 +77,7 @@ impl Canvas {
         requires { number < length self.now.tiles }
         ensures { result ≡ true → NoneBelow nearest (tile_at self.now.tiles number) }
     {
+        // an accessor tells that a tile has eight subtiles
         let _first = self.tiles[number].sub(0);
         nearest <= self.least[number]
     }

@@ -2,6 +2,7 @@
 ghost use Rattle.std.specs.Prelude.{◌≡◌, ℕ, pos, ◌+◌, ◌-◌, ◌*◌, ◌^◌, ◌<◌, ◌≤◌, ◌≤ℤ◌, cond, min};
 ghost use Rattle.std.specs.Int.{int_min, int_max, div_ceil, bit_at};
 
+use cull_base::arithmetic::pixel_of;
 use cull_base::{Rect, Size, Tile};
 
 /// Columns and rows of a tile's subtiles, each from a first to before an end.
@@ -13,20 +14,12 @@ pub struct SubSpan {
     pub end_row: u32,
 }
 
-#[inline(always)]
-fn natural(place: i32) -> u32
-    requires { pos 0 ≤ℤ place }
-    ensures { pos result ≡ place }
-{
-    place as u32
-}
-
 // How many of a screen's columns or rows of pixels lie before a place.
 #[inline(always)]
 fn pixels_before(place: i32, count: u16) -> u32
     ensures { pos result ≡ int_min (int_max place (pos 0)) (pos count) }
 {
-    natural(place.max(0).min(i32::from(count)))
+    pixel_of(place.max(0).min(i32::from(count)))
 }
 
 // How many of some lie past a start, and at most so many.

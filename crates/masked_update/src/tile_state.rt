@@ -77,6 +77,7 @@ impl TileState {
         ensures valid { IsPiece tri.now }
         ensures sized { IsSize size.width size.height }
     {
+        // an accessor tells what is held of a size
         let _width = size.width();
         self.take_set_up(&PieceSetup::of(tri), size, tile);
     }

@@ -3,6 +3,7 @@ use Rattle.std.proofs.Common.{◌≡◌, ℕ, ℤ, pos, zero, suc, ◌+◌, ◌*
 use Rattle.std.specs.Int.{int_min, int_max}
 use Rattle.std.specs.List.{fold, Contains}
 use Rattle.std.proofs.lemmas.Int.{ints, clamps}
+use Rattle.std.proofs.lemmas.List.{map_push}
 use Rattle.std.proofs.lemmas.List.Sums.{fold_push}
 use Rattle.cull_base.specs.declared.rect.Rect.{Rect}
 use Rattle.cull_base.specs.Screen.{Dimensions, screen_of, tile_place, tile_rect_of}
@@ -104,10 +105,6 @@ hull_holds rects r m = record {
 }
 
 -- the hull of one rectangle more
-map_push : (f : Rect → ℤ) (rects : List Rect) (r : Rect) → map f (rects ++ r ∷ []) ≡ map f rects ++ f r ∷ []
-map_push f [] r = refl
-map_push f (x ∷ xs) r = ap (λ (ys : List ℤ). f x ∷ ys) (map_push f xs r)
-
 least_push : (f : Rect → ℤ) (b : Rect) (bs : List Rect) (r : Rect) → least_of (map f ((b ∷ bs) ++ r ∷ [])) ≡ int_min (least_of (map f (b ∷ bs))) (f r)
 least_push f b bs r = ap (fold int_min (f b)) (map_push f bs r) ∙ fold_push int_min (f b) (map f bs) (f r)
 

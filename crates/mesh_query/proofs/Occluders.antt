@@ -22,7 +22,7 @@ use Rattle.cull_base.specs.Tiles.{ArePieces}
 use Rattle.cull_base.specs.Nearer.{HasNearerPiece}
 use Rattle.cull_base.specs.Pixels.{sub_of_pixel, sample_of_pixel}
 use Rattle.cull_base.specs.Shape.{Shape, AlwaysOutside, AlwaysVisible, Flat, Pieces, has_sample, near_at, is_hidden}
-use Rattle.cull_base.proofs.HiddenObjects.{hidden_each}
+use Rattle.cull_base.proofs.HiddenObjects.{implied, hidden_each}
 use Rattle.cull_base.proofs.Nearer.{nearer_piece}
 use Rattle.cull_base.proofs.Pixels.{sample_below, sample_is_middle}
 use Rattle.depth_plane.proofs.Depths.{high_of-above}
@@ -33,7 +33,7 @@ use Rattle.snap_setup.specs.Pieces.{clip_at}
 use Rattle.mesh_query.specs.Meshes.{at_each_vertex, at_some_vertex, near_boxes, object_pieces, object_pieces_at, is_one_on_screen, hull_of, mesh_shape}
 use Rattle.mesh_query.proofs.Boxes.{hull_holds, within_all}
 use Rattle.mesh_query.proofs.Members.{first_of_list, later_of_list, cases_of_list, one_that_holds, each_holds, from_joined}
-use Rattle.mesh_query.proofs.Verdicts.{implied, box_among}
+use Rattle.mesh_query.proofs.Verdicts.{box_among}
 
 -- what holds of each of some fractions holds of the greatest, if there is one
 fold_has : (P : Fraction → Type 0) (x : Fraction) (xs : List Fraction) → P x → ((y : Fraction) → Contains xs y → P y) → P (fold greater x xs)

@@ -2,7 +2,8 @@
 use Rattle.std.proofs.Common.{◌≡◌, ℕ, ◌+◌, ◌<◌, List, [], ◌∷◌, ◌++◌, map, length, take, get_or, Bool, true, false, ◌||◌, Option, Some, arith, refl, sym, ap, ◌∙◌, subst, inl, inr}
 use Rattle.std.specs.Option.{option_to_list}
 use Rattle.std.specs.List.{Contains}
-use Rattle.std.proofs.lemmas.Bool.{both_ways, or_parts}
+use Rattle.std.proofs.lemmas.Bool.{both_ways, or_parts, or_right}
+use Rattle.std.proofs.Math.Bool.{or_assoc, or-false}
 use Rattle.std.proofs.lemmas.List.{take_more, map_push}
 use Rattle.std.proofs.lemmas.List.Elements.{Contains-append_left, Contains-append_right, Contains-append_cases}
 use Rattle.std.proofs.lemmas.List.Folds.{list_any-append}
@@ -20,20 +21,6 @@ use Rattle.mesh_query.proofs.Boxes.{touched_meets, same_within, meets_more}
 use Rattle.mesh_query.proofs.Members.{first_of_list, later_of_list, cases_of_list, one_holds, one_that_holds}
 use Rattle.mesh_query.proofs.TileParts.{Anywhere}
 use Rattle.snap_setup.proofs.PieceBoxes.{BoxHolds}
-
-or_assoc : (a b c : Bool) → ((a || b) || c) ≡ (a || (b || c))
-or_assoc true b c = refl
-or_assoc false b c = refl
-
-or_false : (a : Bool) → (a || false) ≡ a
-or_false true = refl
-or_false false = refl
-
-pub nothing_asked : (f : Sub → State) (size : Dimensions) (x : Progress) → HasAsked f size [] [] x x
-nothing_asked f size x = record {
-  touched = asked_none f (TouchedBy size []) x.touched (λ t px py ((k, lt, is), touch). absurd (omega (arith, lt)));
-  met = sym (or_false x.met);
-}
 
 -- some pieces, and then some more
 pub both_asked : (f : Sub → State) (size : Dimensions) (ps qs : List Piece) (bs cs : List Rect) (x y z : Progress) → HasAsked f size ps bs x y → HasAsked f size qs cs y z → HasAsked f size (ps ++ qs) (bs ++ cs) x z
@@ -55,12 +42,8 @@ piece_asked f size t m a b met h = record {
   touched = asked_same f f (TouchedIn size t Anywhere) (TouchedBy size (t ∷ [])) a b h
       (λ u px py (n, touch). elim (cases_of_list t u [] n) [ inl is ↦ (sym is, tt, touch) | inr (k, lt, e) ↦ absurd (omega (arith, lt)) ])
       (λ u px py (is, any, touch). (subst (Contains (t ∷ [])) (sym is) (first_of_list t []), touch)) (λ u px py on. refl);
-  met = sym (ap (λ (b : Bool). m || (b || false)) met ∙ or_end m);
+  met = sym (ap (λ (b : Bool). m || (b || false)) met ∙ or_right m true refl);
 }
-  where
-    or_end : (a : Bool) → (a || true) ≡ true
-    or_end true = refl
-    or_end false = refl
 
 pub piece_beside : (f : Sub → State) (size : Dimensions) (t : Piece) (x : Progress) → IsPiece t → meets (box_of t) (screen_of size) ≡ false → HasAsked f size (t ∷ []) (box_of t ∷ []) x x
 piece_beside f size t x piece off = record {
@@ -68,11 +51,8 @@ piece_beside f size t x piece off = record {
     | inl is ↦ both_ways (meets (box_of t) (screen_of size)) off (touched_meets size t (box_of t) px py piece (same_within (box_of t)) (rw (sym is) at touch))
     | inr (k, lt, e) ↦ absurd (omega (arith, lt))
   ]);
-  met = sym (ap (λ (b : Bool). x.met || (b || false)) off ∙ or_false x.met);
+  met = sym (ap (λ (b : Bool). x.met || (b || false)) off ∙ or-false x.met);
 }
-
-pub piece_shows : (f : Sub → State) (size : Dimensions) (t : Piece) (ps : List Piece) → Contains ps t → SomeShows f (TouchedIn size t Anywhere) → SomeShows f (TouchedBy size ps)
-piece_shows f size t ps m shows = shows_more f f (TouchedIn size t Anywhere) (TouchedBy size ps) shows (λ u px py (is, any, touch). (subst (Contains ps) (sym is) m, touch)) (λ u px py on. refl)
 
 -- one member more of a list of pieces
 pub member_asked : (f : Sub → State) (size : Dimensions) (ps : List Piece) (i : ℕ) (d : Piece) (x y z : Progress) → i < length ps → HasAsked f size (take i ps) (map box_of (take i ps)) x y

@@ -23,7 +23,7 @@ use Rattle.cull_base.specs.Depth.{high_of}
 use Rattle.cull_base.specs.State.{State, hides}
 use Rattle.cull_base.specs.Pixels.{sub_of_pixel, sample_of_pixel}
 use Rattle.cull_base.specs.Shape.{AlwaysOutside, AlwaysVisible, Pieces, has_sample, is_hidden_at, is_hidden, area_of, verdict_of}
-use Rattle.cull_base.proofs.HiddenObjects.{hidden_each, hidden_if, hidden_some}
+use Rattle.cull_base.proofs.HiddenObjects.{implied, implies, hidden_each, hidden_if, hidden_some}
 use Rattle.masked_update.specs.Views.{HoldsMet}
 use Rattle.snap_setup.proofs.PieceBoxes.{piece_in_near_box}
 use Rattle.snap_setup.proofs.ValidPieces.{pieces_are, held_by_member}
@@ -89,14 +89,6 @@ holds_boxes held near size clips tris left holds = all_some (near_box_at near si
 -- a sample of the pieces is one that a piece touches
 has_from : (size : Dimensions) (ps : List Piece) (t : Piece) (px py : ℕ) (hull : Rect) → Contains ps t → TouchesPixel size t px py → has_sample (Pieces ps hull) px py ≡ true
 has_from size ps t px py hull m (x, y, touch) = one_holds (λ u. touches u (middle px py)) ps t m touch
-
-pub implied : (a b : Bool) → (not a || b) ≡ true → a ≡ true → b ≡ true
-implied true b e f = e
-implied false b e f = absurd cc
-
-implies : (a b : Bool) → (a ≡ true → b ≡ true) → (not a || b) ≡ true
-implies true b f = f refl
-implies false b f = refl
 
 -- where a sample shows, the pieces aren't hidden
 shown : (size : Dimensions) (f : Sub → State) (ps : List Piece) (hull : Rect) → SomeShows f (TouchedBy size ps) → is_hidden size f (Pieces ps hull) ≡ false

@@ -8,15 +8,8 @@ ghost use Rattle.snap_setup.specs.Pieces.{HasClips};
 ghost use Rattle.mesh_query.specs.Meshes.{near_boxes, hull_of, is_one_on_screen, at_some_vertex, mesh_shape};
 
 use crate::vertices::early_verdict;
-use cull_base::{ClipVertex, Rect, Size, Tri};
+use cull_base::{ClipVertex, NO_PIXELS, Rect, Size, Tri};
 use snap_setup::{corners, near_box};
-
-const NO_PIXELS: Rect = Rect {
-    x0: 0,
-    y0: 0,
-    x1: 0,
-    y1: 0,
-};
 
 // The smallest rectangle that holds two.
 fn around(a: &Rect, b: &Rect) -> Rect

@@ -15,7 +15,8 @@ ghost use Rattle.mesh_query.specs.Asked.{Tells, at_first};
 ghost use Rattle.mesh_query.specs.Meshes.{near_box_at, near_boxes, object_pieces, is_one_on_screen, at_some_vertex, mesh_shape};
 
 use crate::piece::MeshPiece;
-use crate::vertices::{early_verdict, is_behind};
+use crate::vertices::early_verdict;
+use camera_path::is_behind;
 use cull_base::{ClipVertex, Side, Size, Tri, Verdict, Winding};
 use masked_update::TileView;
 use snap_setup::{Pieces, corners, near_box, set_up};
@@ -152,6 +153,7 @@ pub fn mesh_test<V: TileView>(
     ensures { result ≡ verdict_of size (state_in size (V.tile_of view.now))
         (mesh_shape GRADE_TOP near size clips.now tris.now) }
 {
+    // an accessor tells what is held of a size
     let _width = size.width();
     if let Some(verdict) = early_verdict(clips, tris, near) {
         return verdict;

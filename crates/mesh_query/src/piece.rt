@@ -1,6 +1,5 @@
 //! A piece of a mesh, asked of the tiles that its box reaches.
 ghost use Rattle.std.specs.Prelude.{◌≡◌, ℕ, true, ◌+◌, ◌*◌, ◌/◌, ◌%◌, ◌<◌, ◌≤◌};
-ghost use Rattle.cull_base.specs.Depth.{greatest_nearness};
 ghost use Rattle.cull_base.specs.Piece.{IsPiece, box_of, touched};
 ghost use Rattle.cull_base.specs.Screen.{IsSize, is_on_screen};
 ghost use Rattle.cull_base.specs.Span.{IsSpan, HasTilesOf};
@@ -36,14 +35,6 @@ impl Model for MeshPiece {
     ghost invariant = { IsSetUp };
 }
 
-fn greatest_nearness(tri: &ScreenTri) -> u32
-    ensures value { result ≡ greatest_nearness tri.now }
-    ensures valid { IsPiece tri.now }
-{
-    let [q0, q1, q2] = tri.q();
-    q0.max(q1.max(q2))
-}
-
 impl MeshPiece {
     /// Sets a piece up.
     pub fn of(tri: &ScreenTri) -> MeshPiece
@@ -54,7 +45,7 @@ impl MeshPiece {
             tri: *tri,
             edges: Edges::of(tri, Side::Object),
             plane: Plane::of(tri),
-            nearest: greatest_nearness(tri),
+            nearest: tri.greatest_nearness(),
         }
     }
 

@@ -17,6 +17,8 @@ const TWO: [Tri; 2] = [Tri([0, 1, 2]), Tri([0, 2, 3])];
 
 const APART: [Tri; 2] = [Tri([0, 1, 2]), Tri([3, 4, 5])];
 
+const THREE: [Tri; 3] = [Tri([0, 1, 2]), Tri([3, 4, 5]), Tri([6, 7, 8])];
+
 fn at(x: i64, y: i64, w: i64) -> ClipVertex {
     ClipVertex { x, y, w }
 }
@@ -75,9 +77,11 @@ fn each_piece_of_a_mesh_is_asked(rt: HostRuntime) -> Result<(), Fail> {
 #[test]
 fn a_mesh_past_the_guard_is_visible(rt: HostRuntime) -> Result<(), Fail> {
     let size = Size::new(32, 8).ok_or("size")?;
+    let before = [at(-1, 1, 1), at(16385, 1, 1), at(-1, -16384, 1)];
     let mesh = [at(-2, 2, 2), at(16385, 2, 2), at(-2, -16384, 2)];
     let behind = [at(-3, 3, 3), at(16385, 3, 3), at(-3, -16384, 3)];
     let two = behind_two(rt.alloc(), size)?;
+    assert_eq!(rt; verdict(&two, size, &before, &ONE), Verdict::Visible);
     assert_eq!(rt; verdict(&two, size, &mesh, &ONE), Verdict::Visible);
     assert_eq!(rt; verdict(&two, size, &behind, &ONE), Verdict::Visible);
     assert_eq!(rt; mesh_area(size, 1, &mesh, &ONE), rect(0, 0, 0, 0));
@@ -121,5 +125,29 @@ fn a_mesh_beside_the_screen_is_outside(rt: HostRuntime) -> Result<(), Fail> {
         mesh_area(size, 1, &on_both_sides, &APART),
         rect(0, 0, 0, 0)
     );
+    Ok(())
+}
+
+// The first triangle stands between all samples, the second beside the screen at X 556 to 560, and the third has no
+// area: it lies from X 256 to 512 at Y 64.
+#[test]
+fn the_area_of_a_mesh_reaches_around_all_its_boxes(rt: HostRuntime) -> Result<(), Fail> {
+    let size = Size::new(32, 8).ok_or("size")?;
+    let mesh = [
+        at(-246, 216, 256),
+        at(-242, 216, 256),
+        at(-242, 200, 256),
+        at(300, 216, 256),
+        at(304, 216, 256),
+        at(304, 200, 256),
+        at(0, 0, 2),
+        at(1, 0, 2),
+        at(2, 0, 2),
+    ];
+    assert_eq!(rt; mesh_area(size, 1, &mesh, &ONE), rect(0, 0, 1, 1));
+    assert_eq!(rt; mesh_area(size, 1, &mesh, &APART), rect(0, 0, 32, 1));
+    assert_eq!(rt; mesh_area(size, 1, &mesh, &THREE), rect(0, 0, 32, 5));
+    let two = behind_two(rt.alloc(), size)?;
+    assert_eq!(rt; verdict(&two, size, &mesh, &THREE), Verdict::Visible);
     Ok(())
 }

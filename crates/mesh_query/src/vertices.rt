@@ -6,16 +6,9 @@ ghost use Rattle.cull_base.specs.NearPlane.{is_behind};
 ghost use Rattle.snap_setup.specs.Pieces.{HasClips};
 ghost use Rattle.mesh_query.specs.Meshes.{vertices_of, at_each_vertex, at_some_vertex, early_verdict_of};
 
-use camera_path::past_guard;
+use camera_path::{is_behind, past_guard};
 use cull_base::{ClipVertex, Tri, Verdict};
 use snap_setup::corners;
-
-/// Whether a vertex lies before the near distance.
-pub fn is_behind(vertex: &ClipVertex, near: u16) -> bool
-    ensures { result ≡ is_behind near vertex.now }
-{
-    vertex.w < i64::from(near)
-}
 
 fn is_triangle_behind(clips: &[ClipVertex], tri: &Tri, near: u16) -> bool
     requires { HasClips (length clips.now) tri.now }

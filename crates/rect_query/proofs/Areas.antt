@@ -1,16 +1,14 @@
 -- The pixels of the screen that a rectangle has.
-use Rattle.std.proofs.Common.{◌≡◌, ℕ, ℤ, pos, ◌+◌, ◌*◌, ◌/◌, ◌%◌, ◌≤◌, ◌<◌, ◌≤ℤ◌, ◌<ℤ◌, Bool, true, ◌&&◌, cond, arith, refl, ap, ◌∙◌, int_lt, int_le}
-use Rattle.std.specs.Int.{int_min, int_max, div_ceil}
+use Rattle.std.proofs.Common.{◌≡◌, ℕ, ℤ, pos, ◌≤◌, ◌<◌, ◌≤ℤ◌, ◌<ℤ◌, Bool, true, ◌&&◌, cond, arith, refl, ap, ◌∙◌, int_lt, int_le}
+use Rattle.std.specs.Int.{int_min, int_max}
 use Rattle.std.proofs.lemmas.Bool.{and_parts}
 use Rattle.std.proofs.lemmas.Int.{ints}
-use Rattle.std.proofs.lemmas.Nat.{div-mul-add}
-use Rattle.std.proofs.Math.Nat.{mul-add-mod_self_right, mod-eq_of_lt}
 use Rattle.cull_base.proofs.Rectangles.{meets_pixel}
 use Rattle.cull_base.proofs.Pixels.{tile_of_pixel-is}
 use Rattle.cull_base.specs.Pixels.{tile_of_pixel}
 use Rattle.cull_base.specs.declared.rect.Rect.{Rect}
-use Rattle.cull_base.specs.Screen.{Dimensions, IsSize, screen_of, tile_columns_of, tile_rows_of, tile_rect_of}
-use Rattle.cull_base.specs.Rectangle.{HasPixel, meets, cut_of, common, no_pixels}
+use Rattle.cull_base.specs.Screen.{Dimensions, IsSize, screen_of, tile_rect_of}
+use Rattle.cull_base.specs.Rectangle.{meets, cut_of, common, no_pixels}
 use Rattle.masked_update.specs.Views.{HoldsMet}
 use Rattle.rect_query.specs.declared.area.Area.{Area}
 use Rattle.rect_query.specs.Area.{IsAreaOf, HoldsArea}
@@ -52,18 +50,6 @@ area_is a r cut screen size valid m ec es x0 y0 x1 y1 =
           let h = across.from px x both.0 in let v = down.from py y both.1 in
           record { left = h.0; right = h.1; above = v.0; below = v.1 };
     }
-
--- the corners of the cut rectangle aren't negative
-pub cut_whole : (r cut screen : Rect) (size : Dimensions) → meets r (screen_of size) ≡ true → cut ≡ cut_of r screen → screen ≡ screen_of size
-    → (pos 0 ≤ℤ cut.x0) × (pos 0 ≤ℤ cut.y0) × (pos 0 ≤ℤ cut.x1) × (pos 0 ≤ℤ cut.y1)
-cut_whole r cut screen size m ec es =
-    let is : cut ≡ common r (screen_of size) = ec ∙ ap (cut_of r) es ∙ ap (λ (b : Bool). cond b (common r (screen_of size)) no_pixels) m in
-    let both = and_parts (int_lt (int_max r.x0 (pos 0)) (int_min r.x1 (pos size.width))) (int_lt (int_max r.y0 (pos 0)) (int_min r.y1 (pos size.height))) m in
-    let x = ends r.x0 r.x1 size.width both.0 in let y = ends r.y0 r.y1 size.height both.1 in
-    rw is (x.0, y.0, x.1, y.1)
-  where
-    ends : (a0 a1 : ℤ) (w : ℕ) → int_lt (int_max a0 (pos 0)) (int_min a1 (pos w)) ≡ true → (pos 0 ≤ℤ int_max a0 (pos 0)) × (pos 0 ≤ℤ int_min a1 (pos w))
-    ends a0 a1 w lt = (grind (arith, ints), grind (arith, ints))
 
 held_axis : (a0 a1 : ℤ) (p : ℕ) → (int_le a0 (pos p) && int_lt (pos p) a1) ≡ true → (a0 ≤ℤ pos p) × (pos p <ℤ a1)
 held_axis a0 a1 p t = (grind (arith, ints), grind (arith, ints))

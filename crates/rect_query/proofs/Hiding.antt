@@ -1,9 +1,9 @@
 -- What it means that a rectangle is hidden.
-use Rattle.std.proofs.Common.{◌≡◌, ℕ, Bool, true, false, cond, arith, refl, IsTrue}
+use Rattle.std.proofs.Common.{◌≡◌, ℕ, Bool, true, cond, arith, refl, IsTrue}
 use Rattle.std.specs.Cmp.{both_ways}
 use Rattle.cull_base.specs.declared.rect.Rect.{Rect}
 use Rattle.cull_base.specs.declared.place.Sub.{Sub}
-use Rattle.cull_base.specs.declared.scene_types.Verdict.TheVariants.{Visible, Occluded, Outside}
+use Rattle.cull_base.specs.declared.scene_types.Verdict.TheVariants.{Visible, Occluded}
 use Rattle.cull_base.specs.Screen.{Dimensions, screen_of}
 use Rattle.cull_base.specs.Rectangle.{meets}
 use Rattle.cull_base.specs.State.{State, hides}
@@ -25,9 +25,6 @@ area_hidden b a r size q f is to from = both_ways (is_hidden size f (Flat r q)) 
   where
     first_pixel : IsIn a a.x0 a.y0
     first_pixel = record { left = omega arith; right = is.area.wide; above = omega arith; below = is.area.high }
-
-pub flat_outside : (size : Dimensions) (r : Rect) (q : ℕ) (f : Sub → State) → meets r (screen_of size) ≡ false → verdict_of size f (flat_shape size r q) ≡ Outside
-flat_outside size r q f m = rw m refl
 
 pub flat_tested : (size : Dimensions) (r : Rect) (q : ℕ) (f : Sub → State) (b : Bool) → meets r (screen_of size) ≡ true → is_hidden size f (Flat r q) ≡ b → verdict_of size f (flat_shape size r q) ≡ cond b Occluded Visible
 flat_tested size r q f b m h = rw (m, h) refl

@@ -1,6 +1,6 @@
 //! The pixels of the screen that a rectangle has, and whether their samples hide a nearness. Only the tiles and
 //! subtiles that it meets are looked at.
-ghost use Rattle.std.specs.Prelude.{◌≡◌, ℕ, pos, ◌≤ℤ◌, ◌+◌, ◌*◌, ◌/◌, ◌%◌, ◌<◌, ◌≤◌, ◌^◌, true, cond, map, IsTrue, ◌↔◌};
+ghost use Rattle.std.specs.Prelude.{◌≡◌, ℕ, ◌+◌, ◌*◌, ◌/◌, ◌%◌, ◌<◌, ◌≤◌, ◌^◌, true, cond, map, IsTrue, ◌↔◌};
 ghost use Rattle.std.specs.List.{range_with_len};
 ghost use Rattle.std.specs.Simd.Lanes.{mask_l};
 ghost use Rattle.cull_base.specs.Screen.{IsSize, screen_of};
@@ -10,6 +10,7 @@ ghost use Rattle.cull_base.specs.State.{has, samples_of, hides};
 ghost use Rattle.masked_update.specs.TileOf.{sub_at};
 ghost use Rattle.rect_query.specs.Area.{IsIn, IsArea, IsAreaOf, HoldsArea, SubHides, SubRowHides, TileHides, TileRowHides, HidesArea, is_sample_in};
 
+use cull_base::arithmetic::pixel_of;
 use cull_base::{Rect, Size};
 use masked_update::{SubTile, TileState, TileView};
 
@@ -20,13 +21,6 @@ pub struct Area {
     y0: u32,
     x1: u32,
     y1: u32,
-}
-
-fn pixel_of(place: i32) -> u32
-    requires { pos 0 ≤ℤ place }
-    ensures { pos result ≡ place }
-{
-    place as u32
 }
 
 // Of eight numbered places from the first on, those from one to before an end, as bits.
@@ -48,6 +42,7 @@ impl Area {
         ensures pixels { IsAreaOf result rect.now size }
         ensures sized { IsSize size.width size.height }
     {
+        // an accessor tells what is held of a size
         let _width = size.width();
         let common = rect.cut(&size.screen());
         Area {

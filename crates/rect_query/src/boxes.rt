@@ -8,7 +8,7 @@ ghost use Rattle.cull_base.specs.Piece.{least_of};
 ghost use Rattle.rect_query.specs.Boxes.{box_answer, box_rect_of};
 
 use crate::rectangle::nearness;
-use camera_path::past_guard;
+use camera_path::{is_behind, past_guard};
 use cull_base::{ClipVertex, Extent, Rect, Size};
 use near_clip::whole;
 use snap_setup::{place_of, rect_between};
@@ -20,12 +20,6 @@ pub enum BoxAnswer {
     Outside,
     Straddles,
     At { rect: Rect, q: u32 },
-}
-
-fn is_behind(corner: &ClipVertex, near: u16) -> bool
-    ensures { result ≡ is_behind near corner.now }
-{
-    corner.w < i64::from(near)
 }
 
 fn are_all_behind(corners: &[ClipVertex; 8], near: u16) -> bool

@@ -46,7 +46,7 @@ fn screen_tri(a: &Snapped, b: &Snapped, c: &Snapped) -> ScreenTri
     requires area { pos 0 <ℤ doubled_area (triangle a.now b.now c.now) }
     ensures { result ≡ triangle a.now b.now c.now }
 {
-    ScreenTri::known([a.x, b.x, c.x], [a.y, b.y, c.y], [a.q, b.q, c.q])
+    ScreenTri::from_valid([a.x, b.x, c.x], [a.y, b.y, c.y], [a.q, b.q, c.q])
 }
 
 #[inline(always)]

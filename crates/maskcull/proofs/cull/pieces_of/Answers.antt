@@ -9,11 +9,8 @@ use Rattle.cull_base.specs.declared.scene_types.Tri.{Tri}
 use Rattle.snap_setup.specs.Pieces.{HasClips, list_of_clips}
 use Rattle.cull_base.specs.declared.nearness.TheConstants.{GRADE_TOP}
 use Rattle.cull_report.specs.Scene.{frame_list}
-use Rattle.cull_report.proofs.Forms.{clip_count}
+use Rattle.cull_report.proofs.Forms.{clip_count, has_clips}
 use Rattle.maskcull.proofs.cull.pieces_of.Goals as goal
-
-has_clips : (n m : ℕ) (t : Tri) → n ≡ m → All (λ v. v < m) t.0 → HasClips n t
-has_clips n m t e h = rw e h
 
 pub frame_list_by_workers-requires-clause-indices : goal.frame_list_by_workers-requires-clause-indices
 frame_list_by_workers-requires-clause-indices c =

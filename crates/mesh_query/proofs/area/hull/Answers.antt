@@ -1,6 +1,7 @@
 use Rattle.std.proofs.Common.{◌≡◌, ◌+◌, ◌++◌, ◌∷◌, List, [], Bool, ◌||◌, true, false, take, get_or, append-nil, Option, Some, refl, sym, ap, ◌∙◌, subst}
 use Rattle.std.specs.Option.{option_to_list}
 use Rattle.std.specs.List.{All, list_any}
+use Rattle.std.proofs.Math.Bool.{or-false}
 use Rattle.std.proofs.lemmas.List.Folds.{list_any-append}
 use Rattle.cull_base.specs.declared.clip.ClipVertex.{ClipVertex}
 use Rattle.cull_base.specs.declared.rect.Rect.{Rect}
@@ -15,12 +16,8 @@ use Rattle.mesh_query.proofs.Members.{none_holds, none_there, joined_more}
 use Rattle.mesh_query.proofs.area.hull.Goals as goal
 use Rattle.mesh_query.proofs.area.hull.Goals.{in-Some+in-Some-hull, in-Some+in-None, in_default}
 
-or_false : (a : Bool) → (a || false) ≡ a
-or_false true = refl
-or_false false = refl
-
 one_more : (size : Dimensions) (boxes : List Rect) (r : Rect) → is_one_on_screen size (boxes ++ r ∷ []) ≡ (is_one_on_screen size boxes || meets r (screen_of size))
-one_more size boxes r = list_any-append (λ a. meets a (screen_of size)) boxes (r ∷ []) ∙ ap (λ (b : Bool). is_one_on_screen size boxes || b) (or_false (meets r (screen_of size)))
+one_more size boxes r = list_any-append (λ a. meets a (screen_of size)) boxes (r ∷ []) ∙ ap (λ (b : Bool). is_one_on_screen size boxes || b) (or-false (meets r (screen_of size)))
 
 no_triangle : Tri
 no_triangle = record { 0 = [] }

@@ -1,5 +1,6 @@
 use Rattle.std.proofs.Common.{◌≡◌, Bool, true, false, not, cond, Option, None, refl, sym, ap, ◌∙◌}
 use Rattle.std.specs.Prelude.{is_some}
+use Rattle.std.proofs.lemmas.Bool.{not-true, not-false}
 use Rattle.cull_base.specs.declared.scene_types.Verdict.{Verdict}
 use Rattle.cull_base.specs.declared.scene_types.Verdict.TheVariants.{Visible, Occluded, Outside}
 use Rattle.masked_update.specs.Views.{state_in}
@@ -31,31 +32,23 @@ returns-in_default-ask_triangles g c =
 by_found : (met touched : Bool) (v : Verdict) (m t : Bool) → v ≡ cond met (cond touched Occluded Visible) Outside → met ≡ m → touched ≡ t → cond m (cond t Occluded Visible) Outside ≡ v
 by_found met touched v m t e em et = sym (e ∙ ap (λ (b : Bool). cond b (cond touched Occluded Visible) Outside) em ∙ ap (λ (b : Bool). cond m (cond b Occluded Visible) Outside) et)
 
-was_met : (b : Bool) → not b ≡ false → b ≡ true
-was_met true e = refl
-was_met false e = absurd cc
-
-was_not : (b : Bool) → not b ≡ true → b ≡ false
-was_not true e = absurd cc
-was_not false e = refl
-
 pub returns-then-not-found : goal.returns-then-not-found
 returns-then-not-found g c =
     let left = early_open c.args.near c.args.clips.now c.args.tris.now (none_left c.early_verdict.result _ c.early_verdict.ensures c.in_default.is) in
     let found = c.in-Some-ask_triangles.found in
     let v = found_verdict (state_in c.args.size (g.V.TileView.tile_of c.args.view.now)) c.args.near c.args.size c.args.clips.now c.args.tris.now found left c.in-Some-ask_triangles.ensures in
-    by_found found.met found.touched _ false found.touched v (was_not found.met c.if-not-found.true) refl
+    by_found found.met found.touched _ false found.touched v (not-true found.met c.if-not-found.true) refl
 
 pub returns-then-found : goal.returns-then-found
 returns-then-found g c =
     let left = early_open c.args.near c.args.clips.now c.args.tris.now (none_left c.early_verdict.result _ c.early_verdict.ensures c.in_default.is) in
     let found = c.in-Some-ask_triangles.found in
     let v = found_verdict (state_in c.args.size (g.V.TileView.tile_of c.args.view.now)) c.args.near c.args.size c.args.clips.now c.args.tris.now found left c.in-Some-ask_triangles.ensures in
-    by_found found.met found.touched _ true true v (was_met found.met c.if-not-found.false) c.if-found.true
+    by_found found.met found.touched _ true true v (not-false found.met c.if-not-found.false) c.if-found.true
 
 pub returns-else-found : goal.returns-else-found
 returns-else-found g c =
     let left = early_open c.args.near c.args.clips.now c.args.tris.now (none_left c.early_verdict.result _ c.early_verdict.ensures c.in_default.is) in
     let found = c.in-Some-ask_triangles.found in
     let v = found_verdict (state_in c.args.size (g.V.TileView.tile_of c.args.view.now)) c.args.near c.args.size c.args.clips.now c.args.tris.now found left c.in-Some-ask_triangles.ensures in
-    by_found found.met found.touched _ true false v (was_met found.met c.if-not-found.false) c.if-found.false
+    by_found found.met found.touched _ true false v (not-false found.met c.if-not-found.false) c.if-found.false

@@ -14,10 +14,10 @@ pub returns-clause-value : goal.returns-clause-value
 returns-clause-value c =
     let fs : FitsSigned w64 c.args.start = c.ranges.start in
     let fr : FitsSigned w64 c.args.self.now.row = search rules in
-    let ft : FitsSigned w64 c.moved.result = search rules in
+    let ft : FitsSigned w64 c.move_by.result = search rules in
     let fv : FitsSigned w64 c.steps.result = search rules in
-    joined (wide_line c.args.self.now) c.args.start c.moved.result c.steps.result c.args.row c.columns.result
-    (simp to_z-of_z at c.columns.ensures) (simp to_z-of_z at c.moved.ensures.value) (simp to_z-of_z at c.steps.ensures.value)
+    joined (wide_line c.args.self.now) c.args.start c.move_by.result c.steps.result c.args.row c.columns.result
+    (simp to_z-of_z at c.columns.ensures) (simp to_z-of_z at c.move_by.ensures.value) (simp to_z-of_z at c.steps.ensures.value)
 
 pub returns-clause-byte : goal.returns-clause-byte
 returns-clause-byte c = let v = returns-clause-value c in rw v (row_of-lt _ _)
