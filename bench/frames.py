@@ -2,10 +2,12 @@
 """Milliseconds a frame of a built maskcull, on generated scenes of 1280 by 720 pixels.
 
 usage: bench/frames.py PROGRAM [--triangles 1000,20000,65536] [--rectangles 500] [--rounds 5]
+                       [--workers 1,2,4] [--bins 4] [--batch 64]
 
 Each scene has random triangles between near and far, as a camera that looks down the z axis sees them, and random
 rectangles as objects. A frame's time is the least of some runs of the program, less that of a run without triangles
-and with one rectangle, so that starting up falls out; reading the scene and writing the report are part of it.
+and with one rectangle, so that starting up falls out; reading the scene and writing the report are part of it. The
+screen is cut into so many columns and rows of bins where there is more than one worker.
 Measure on a quiet machine."""
 import argparse
 import struct
@@ -46,11 +48,17 @@ def scene(seed, triangles, rectangles):
     return header + vertices + indices + objects + struct.pack("<12i", *IDENTITY)
 
 
-def seconds(program, data, rounds):
+def words(workers, bins, batch):
+    cut = bins if workers > 1 else 1
+    options = {"--workers": workers, "--bins-x": cut, "--bins-y": cut, "--batch": batch}
+    return ["cull"] + [str(word) for option in options.items() for word in option]
+
+
+def seconds(program, words, data, rounds):
     least = float("inf")
     for _ in range(rounds):
         begin = time.perf_counter()
-        subprocess.run([program, "cull"], input=data, stdout=subprocess.DEVNULL, check=True)
+        subprocess.run([program, *words], input=data, stdout=subprocess.DEVNULL, check=True)
         least = min(least, time.perf_counter() - begin)
     return least
 
@@ -61,11 +69,16 @@ def main():
     parser.add_argument("--triangles", default="1000,20000,65536")
     parser.add_argument("--rectangles", type=int, default=500)
     parser.add_argument("--rounds", type=int, default=5)
+    parser.add_argument("--workers", default="1,2,4")
+    parser.add_argument("--bins", type=int, default=4)
+    parser.add_argument("--batch", type=int, default=64)
     args = parser.parse_args()
-    empty = seconds(args.program, scene(1, 0, 1), args.rounds)
+    empty = seconds(args.program, ["cull"], scene(1, 0, 1), args.rounds)
     for triangles in map(int, args.triangles.split(",")):
-        frame = seconds(args.program, scene(1, triangles, args.rectangles), args.rounds) - empty
-        print(f"{triangles:>7} triangles, {args.rectangles} rectangles: {1000 * frame:.2f} ms a frame")
+        data = scene(1, triangles, args.rectangles)
+        for workers in map(int, args.workers.split(",")):
+            frame = seconds(args.program, words(workers, args.bins, args.batch), data, args.rounds) - empty
+            print(f"{triangles:>7} triangles, {args.rectangles} rectangles, {workers} workers: {1000 * frame:.2f} ms")
 
 
 if __name__ == "__main__":

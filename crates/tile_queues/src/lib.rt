@@ -7,3 +7,6 @@ mod part;
 mod worker;
 
 pub use owned::draw_owned;
+
+#[cfg(test)]
+mod tests;
