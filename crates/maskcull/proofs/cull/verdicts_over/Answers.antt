@@ -15,11 +15,11 @@ use Rattle.maskcull.proofs.cull.verdicts_over.Goals as goal
 
 pub returns : goal.returns
 unfolding frame_verdicts
-returns c =
+returns g c =
     let s = c.args.scene.now in
     let tiles = c.new.result.states.now in
     let drawn : (t : ℕ) → t < tile_count_of (size_of s) → (tile_at tiles t).subs ≡ tile_after (size_of s) t (frame_pieces s c.args.frame) = rw (c.new.ensures) c.requires.drawn in
     let f : Sub → State = state_in (size_of s) (tile_at tiles) in
-    let g : Sub → State = λ u. after u (frame_pieces s c.args.frame) in
-    let is : map (object_verdict s c.args.frame f) s.objects ≡ frame_verdicts s c.args.frame = objects_alike s c.args.frame f g (drawn_agrees (size_of s) (frame_pieces s c.args.frame) tiles drawn) s.objects in
+    let whole : Sub → State = λ u. after u (frame_pieces s c.args.frame) in
+    let is : map (object_verdict s c.args.frame f) s.objects ≡ frame_verdicts s c.args.frame = objects_alike s c.args.frame f whole (drawn_agrees (size_of s) (frame_pieces s c.args.frame) tiles drawn) s.objects in
     subst (λ (vs : List Verdict). IfOk c.verdicts_by_workers.result (λ v. v.items ≡ vs)) is c.verdicts_by_workers.ensures

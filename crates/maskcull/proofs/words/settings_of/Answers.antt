@@ -1,25 +1,26 @@
-use Rattle.std.proofs.Common.{◌≡◌, ℕ, List, [], ◌∷◌, length, map, get_or, Bool, true, false, sym, ap, IsTrue, arith, refl, codes, Global, ◌≤◌, ◌<◌, nat_eq}
-use Rattle.std.specs.Prelude.{string_bytes}
-use Rattle.std.specs.Cmp.Lexicographic.{same_text, other_text}
+use Rattle.std.proofs.Common.{◌≡◌, List, [], ◌∷◌, length, map, take, drop, ◌-◌, subst, get_or, Option, Some, None, sym, ap, ◌∙◌, arith, codes, Global, ◌≤◌}
+use Rattle.std.specs.Prelude.{string_bytes, IfSome}
+use Rattle.std.specs.Cmp.Lexicographic.{same_text}
+use Rattle.std.proofs.lemmas.List.{take_all}
 use Rattle.std.specs.declared.string.String.{String}
-use Rattle.maskcull.specs.Words.{IsAccepted}
-use Rattle.maskcull.proofs.words.is_accepted.Goals as goal
-use lib.Pointwise.{pointwise}
+use Rattle.maskcull.specs.declared.settings.Settings.{Settings}
+use Rattle.maskcull.specs.Words.{AreOptions, HaveSettings}
+use Rattle.maskcull.proofs.words.settings_of.Goals as goal
 
-compared : (r : Bool) (text word : List ℕ) → r ≡ pointwise nat_eq text word → (IsTrue r → text ≡ word) × (text ≡ word → IsTrue r)
-compared true text word e = ((λ t. same_text text word e), (λ s. refl))
-compared false text word e = ((λ t. absurd cc), (λ s. absurd (other_text text word e s)))
+if_some : (o : Option Settings) (P Q : Settings → Type 0) → ((s : Settings) → P s → Q s) → IfSome o P → IfSome o Q
+if_some (Some s) P Q f h = f s h
+if_some None P Q f h = h
 
-second : (words : List (String Global)) (command : String Global) → 2 ≤ length words → length words < 3 → command ≡ get_or words 1 command
-    → IsAccepted (map (string_bytes {Z = Global}) words) ≡ (string_bytes command ≡ codes "cull")
-second [] command l m i = absurd (omega arith)
-second (a ∷ []) command l m i = absurd (omega arith)
-second (a ∷ b ∷ []) command l m i = ap (λ (w : String Global). string_bytes w ≡ codes "cull") (sym i)
-second (a ∷ b ∷ x ∷ xs) command l m i = absurd (omega arith)
+with_command : (words : List (String Global)) (command : String Global) → 2 ≤ length words → command ≡ get_or words 1 command → string_bytes command ≡ codes "cull"
+    → (s : Settings) → AreOptions (map (string_bytes {Z = Global}) (take (length words - 2) (drop 2 words))) s → HaveSettings (map (string_bytes {Z = Global}) words) s
+with_command [] command l is named s are = absurd (omega (arith, l))
+with_command (a ∷ []) command l is named s are = absurd (omega (arith, l))
+with_command (a ∷ b ∷ rest) command l is named s are =
+    let n : length rest ≤ length (a ∷ b ∷ rest) - 2 = omega arith in
+    (ap (string_bytes {Z = Global}) (sym is) ∙ named, subst (λ (ws : List (String Global)). AreOptions (map (string_bytes {Z = Global}) ws) s) (take_all (length (a ∷ b ∷ rest) - 2) rest n) are)
 
-pub returns-in-len2 : goal.returns-in-len2
-returns-in-len2 c =
-    let both = compared c.eq.result c.as_str.result.now (codes "cull") c.eq.ensures in
-    let is = second c.args.words.now c.command-item.result c.in-len2.len_at_least c.in-len2.len_below c.command-item.is in
-    let told = rw (c.as_str.ensures.value) at both in
-    rw is told
+pub returns-in-len2-up-clause-some : goal.returns-in-len2-up-clause-some
+returns-in-len2-up-clause-some c =
+    let named = sym c.as_str.ensures.value ∙ same_text c.as_str.result.now (codes "cull") (sym c.if-eq.true ∙ c.eq.ensures) in
+    if_some c.options_of.result _ (HaveSettings (map (string_bytes {Z = Global}) c.args.words.now))
+    (with_command c.args.words.now c.command-item.result c.in-len2-up.len_at_least c.command-item.is named) c.options_of.ensures.some
