@@ -26,7 +26,4 @@ pub last_between : (first n k : ℕ) → first ≤ n → k ≡ n → is_between 
 last_between first n k le e = grind (arith, nat_tests)
 
 pub none_between : (first k : ℕ) → is_between first first k ≡ false
-none_between first k = before_or first k
-  where
-    before_or : (first k : ℕ) → is_between first first k ≡ false
-    before_or first k = grind (arith, nat_tests)
+none_between first k = grind (arith, nat_tests)

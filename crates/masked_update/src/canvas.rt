@@ -57,6 +57,7 @@ impl Canvas {
         ensures value { result ≡ self.now.window }
         ensures whole { IsCanvas self.now }
     {
+        // what is held of both is known where both are read
         let _tiles = self.tiles.len();
         self.window
     }

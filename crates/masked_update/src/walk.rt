@@ -34,6 +34,7 @@ fn count_in_span(canvas: &mut Canvas, span: TileSpan, nearest: u32) -> bool
     ensures counted { CountedWhere (has_tile span) canvas.old canvas.new }
     ensures behind { result ≡ true → NoneBelowWhere nearest (has_tile span) canvas.old }
 {
+    // an accessor tells what is held of a canvas
     let _window = canvas.window();
     let mut behind = true;
     for row in span.first_row..span.end_row {
@@ -52,6 +53,7 @@ fn merge_in_row(canvas: &mut Canvas, piece: &PieceSetup, size: Size, span: TileS
 {
     let window = canvas.window();
     let start = window.row_start(row);
+    // an accessor tells how many columns there may be
     let _columns = size.tile_columns();
     for column in span.first_column..span.end_column {
         let place = Tile {
@@ -74,6 +76,7 @@ fn merge_in_span(canvas: &mut Canvas, piece: &PieceSetup, size: Size, span: Tile
     requires sized { IsSize size.width size.height }
     ensures { MergedWhere (has_tile span) size piece.now canvas.old canvas.new }
 {
+    // an accessor tells what is held of a canvas
     let _window = canvas.window();
     for row in span.first_row..span.end_row {
         merge_in_row(canvas, piece, size, span, row);
