@@ -87,7 +87,8 @@ impl WideEdge {
         }
     }
 
-    /// The value at the first sample of a tile.
+    /// The value at the first sample of a tile. Out of line, since nearly all pieces are narrow.
+    #[inline(never)]
     pub fn tile_start(&self, tile: Tile) -> i64
         requires column { tile.column < 64 }
         requires row { tile.row < 256 }

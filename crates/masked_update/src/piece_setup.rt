@@ -56,8 +56,8 @@ fn subtile(place: Tile, j: u32) -> Sub
 }
 
 impl PieceSetup {
-    /// Sets a piece up.
-    #[inline(always)]
+    /// Sets a piece up. Out of line, so that the loops over tiles only read what it computes.
+    #[inline(never)]
     pub fn of(tri: &ScreenTri) -> PieceSetup
         ensures value { result ≡ tri.now }
         ensures valid { IsPiece tri.now }

@@ -83,6 +83,17 @@ fn merge_in_span(canvas: &mut Canvas, piece: &PieceSetup, size: Size, span: Tile
     }
 }
 
+// Sets a piece up, and merges it into the tiles of a span.
+#[inline(always)]
+fn merge_piece(canvas: &mut Canvas, tri: &ScreenTri, size: Size, span: TileSpan)
+    requires part { IsPartOf canvas.old.window span }
+    requires span { IsSpan size span }
+    requires sized { IsSize size.width size.height }
+    ensures { MergedWhere (has_tile span) size tri.now canvas.old canvas.new }
+{
+    merge_in_span(canvas, &PieceSetup::of(tri), size, span);
+}
+
 /// Draws a piece into the tiles of the canvas that its box reaches. One that stands behind all of them is counted and
 /// not set up. Conditions: the window is of the screen, and the counts are below 131,072.
 pub fn draw_piece(canvas: &mut Canvas, tri: &ScreenTri, size: Size)
@@ -92,6 +103,6 @@ pub fn draw_piece(canvas: &mut Canvas, tri: &ScreenTri, size: Size)
 {
     let span = TileSpan::of(&tri.boxed(), size).cut(&canvas.window());
     if !count_in_span(canvas, span, tri.greatest_nearness()) {
-        merge_in_span(canvas, &PieceSetup::of(tri), size, span);
+        merge_piece(canvas, tri, size, span);
     }
 }

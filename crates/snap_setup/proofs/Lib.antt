@@ -1,4 +1,5 @@
 pub mod Floors
+pub mod NarrowPlaces
 pub mod Reached
 pub mod Areas
 pub mod KeptPieces

@@ -1,9 +1,8 @@
 use Rattle.std.proofs.Common.{◌<◌, subst}
-use Rattle.cull_base.specs.Piece.{Piece}
 use Rattle.cull_base.specs.Span.{has_tile}
 use Rattle.cull_base.specs.declared.place.Tile.{Tile}
 use Rattle.masked_update.specs.Canvas.{tile_on}
-use Rattle.masked_update.specs.Walk.{MergedWhere, NoneBelowWhere}
+use Rattle.masked_update.specs.Walk.{NoneBelowWhere}
 use Rattle.masked_update.proofs.Tiles.{on_screen}
 use Rattle.masked_update.proofs.Walks.{counted_merged, counted_behind, took_met, met_in_cut}
 use Rattle.masked_update.proofs.walk.draw_piece.Goals as goal
@@ -18,10 +17,9 @@ returns-then-not-count_in_span c =
     let old = c.args.canvas.now in
     let x = c.args.tri.now in
     let test = has_tile c.cut-span.result in
-    let merged = subst (λ (y : Piece). MergedWhere test c.args.size y c.count_in_span.new.canvas c.merge_in_span.new.canvas) c.of-then-not-count_in_span.ensures.value c.merge_in_span.ensures in
-    took_met c.cut-span.result c.args.size x old c.merge_in_span.new.canvas
+    took_met c.cut-span.result c.args.size x old c.merge_piece.new.canvas
     (met_in_cut c.args.size x old.window c.window.result c.of.result c.cut-span.result c.boxed.result c.window.ensures.value c.boxed.ensures c.of.ensures.tiles c.cut-span.ensures.tiles)
-    (counted_merged test c.args.size x old c.count_in_span.new.canvas c.merge_in_span.new.canvas c.count_in_span.ensures.counted merged)
+    (counted_merged test c.args.size x old c.count_in_span.new.canvas c.merge_piece.new.canvas c.count_in_span.ensures.counted c.merge_piece.ensures)
 
 pub returns-else-not-count_in_span : goal.returns-else-not-count_in_span
 returns-else-not-count_in_span c =
