@@ -1,5 +1,5 @@
 -- Views that hold the tiles of a form's area, and the triangles of meshes.
-use Rattle.std.proofs.Common.{◌≡◌, ℕ, ℤ, zero, suc, ◌<◌, List, [], ◌∷◌, length, map, take, drop, get_or, Bool, true, false, cond, arith, refl, sym, ap, ◌∙◌, subst}
+use Rattle.std.proofs.Common.{◌≡◌, ℕ, ℤ, zero, suc, ◌<◌, List, [], ◌∷◌, length, map, drop, get_or, Bool, true, false, cond, arith, refl, ap, ◌∙◌, subst}
 use Rattle.std.specs.Prelude.{IfSome, slice_get}
 use Rattle.std.specs.List.{All}
 use Rattle.std.proofs.lemmas.List.{length-map}
@@ -8,7 +8,7 @@ use Rattle.cull_base.specs.declared.clip.ClipVertex.{ClipVertex}
 use Rattle.cull_base.specs.declared.rect.Rect.{Rect}
 use Rattle.cull_base.specs.declared.scene_types.Object.{Object}
 use Rattle.cull_base.specs.declared.scene_types.Tri.{Tri}
-use Rattle.cull_base.specs.Screen.{Dimensions, screen_of, tile_count_of, tile_rect_of}
+use Rattle.cull_base.specs.Screen.{Dimensions, screen_of, tile_rect_of}
 use Rattle.cull_base.specs.Rectangle.{meets, cut_of, no_pixels}
 use Rattle.cull_base.specs.Shape.{Shape, AlwaysOutside, Flat as FlatShape, flat_shape, area_of}
 use Rattle.masked_update.specs.Views.{HoldsMet}
