@@ -1,5 +1,5 @@
 -- Views that hold the tiles of a form's area, and the triangles of meshes.
-use Rattle.std.proofs.Common.{◌≡◌, ℕ, ℤ, zero, suc, ◌<◌, List, [], ◌∷◌, length, map, take, drop, get_or, Bool, true, false, cond, arith, refl, sym, ap, ◌∙◌, subst}
+use Rattle.std.proofs.Common.{◌≡◌, ℕ, zero, suc, ◌<◌, List, [], ◌∷◌, length, drop, get_or, Bool, true, false, cond, arith, refl, ap, ◌∙◌, subst}
 use Rattle.std.specs.Prelude.{IfSome, slice_get}
 use Rattle.std.specs.List.{All}
 use Rattle.std.proofs.lemmas.List.{length-map}
@@ -8,7 +8,7 @@ use Rattle.cull_base.specs.declared.clip.ClipVertex.{ClipVertex}
 use Rattle.cull_base.specs.declared.rect.Rect.{Rect}
 use Rattle.cull_base.specs.declared.scene_types.Object.{Object}
 use Rattle.cull_base.specs.declared.scene_types.Tri.{Tri}
-use Rattle.cull_base.specs.Screen.{Dimensions, screen_of, tile_count_of, tile_rect_of}
+use Rattle.cull_base.specs.Screen.{Dimensions, screen_of, tile_rect_of}
 use Rattle.cull_base.specs.Rectangle.{meets, cut_of, no_pixels}
 use Rattle.cull_base.specs.Shape.{Shape, AlwaysOutside, Flat as FlatShape, flat_shape, area_of}
 use Rattle.masked_update.specs.Views.{HoldsMet}
@@ -17,7 +17,7 @@ use Rattle.scene_reader.specs.Layout.{Parts, IsScene}
 use Rattle.mesh_query.proofs.Boxes.{same_within, tile_meets_screen, tile_meets_cut}
 use Rattle.cull_report.specs.declared.form.Form.{Form}
 use Rattle.cull_report.specs.declared.form.Form.TheVariants.{Outside, Visible, Flat, Mesh}
-use Rattle.cull_report.specs.Forms.{range_of, shape_of_form, IsFlatForm, HasTriangles}
+use Rattle.cull_report.specs.Forms.{range_of, shape_of_form, IsFlatForm}
 use Rattle.cull_report.specs.Scene.{size_of, frame_clips}
 
 -- the area of a rectangle with one nearness
@@ -55,17 +55,6 @@ flat_form s frame Outside shape h = h
 flat_form s frame Visible shape h = h
 flat_form s frame (Flat r q) shape h = h
 flat_form s frame (Mesh first count) shape h = absurd h
-
-pub flat_has_triangles : (n : ℕ) (size : Dimensions) (form : Form) (shape : Shape) → IsFlatForm size form shape → HasTriangles n form
-flat_has_triangles n size Outside shape h = tt
-flat_has_triangles n size Visible shape h = tt
-flat_has_triangles n size (Flat r q) shape h = tt
-flat_has_triangles n size (Mesh first count) shape h = absurd h
-
--- two cameras that see each vertex alike
-pub all_alike : (f g : List ℤ → ClipVertex) → ((v : List ℤ) → g v ≡ f v) → (vs : List (List ℤ)) → map f vs ≡ map g vs
-all_alike f g same [] = refl
-all_alike f g same (v ∷ vs) = rw (same v, all_alike f g same vs) refl
 
 -- a fact of the object at a place
 pub at_place : (P : Object → Type 0) (os : List Object) (k : ℕ) (o : Object) → k < length os → o ≡ get_or os k o → P o → IfSome (slice_get os k) P

@@ -1,11 +1,9 @@
 -- An occluded object has a piece strictly nearer at each of its samples.
-use Rattle.std.proofs.Common.{◌≡◌, ℕ, ℤ, pos, zero, suc, ◌≤◌, ◌<◌, ◌≤ℤ◌, ◌<ℤ◌, Bool, ◌&&◌, ◌||◌, true, false, cond, arith, refl, sym, ap, ◌∙◌, List, [], ◌∷◌, map, length, take, drop, int_lt, int_le, Some, nat_lt, subst}
+use Rattle.std.proofs.Common.{◌≡◌, ℕ, ℤ, pos, zero, suc, ◌<◌, ◌≤ℤ◌, ◌<ℤ◌, Bool, ◌&&◌, true, false, cond, arith, refl, sym, ◌∙◌, List, [], ◌∷◌, map, length, take, drop, int_lt, int_le, Some, nat_lt, subst}
 use Rattle.std.specs.Prelude.{slice_get}
-use Rattle.std.specs.List.{All, Contains, list_all, list_any}
 use Rattle.std.proofs.lemmas.Bool.{and_parts}
 use Rattle.std.proofs.lemmas.Bool.Decides.{nat_tests}
 use Rattle.std.proofs.lemmas.Int.{ints}
-use Rattle.cull_base.specs.declared.clip.ClipVertex.{ClipVertex}
 use Rattle.cull_base.specs.declared.nearness.TheConstants.{GRADE_TOP}
 use Rattle.cull_base.specs.declared.rect.Rect.{Rect}
 use Rattle.cull_base.specs.declared.place.Sub.{Sub}
@@ -13,7 +11,7 @@ use Rattle.cull_base.specs.declared.scene_types.Object.{Object}
 use Rattle.cull_base.specs.declared.scene_types.Object.TheVariants.{Area, Block, Mesh}
 use Rattle.cull_base.specs.declared.scene_types.Verdict.{Verdict}
 use Rattle.cull_base.specs.declared.scene_types.Verdict.TheVariants.{Occluded}
-use Rattle.cull_base.specs.Screen.{Dimensions, IsSize, screen_of, tile_rect_of}
+use Rattle.cull_base.specs.Screen.{Dimensions, screen_of, tile_rect_of}
 use Rattle.cull_base.specs.Rectangle.{HasPixel, meets}
 use Rattle.cull_base.specs.Piece.{Piece, middle, touches}
 use Rattle.cull_base.specs.State.{State}
@@ -21,7 +19,7 @@ use Rattle.cull_base.specs.Fold.{after, IsSound}
 use Rattle.cull_base.specs.Tiles.{ArePieces}
 use Rattle.cull_base.specs.Nearer.{HasNearerPiece}
 use Rattle.cull_base.specs.Pixels.{sub_of_pixel, sample_of_pixel, tile_of_pixel}
-use Rattle.cull_base.specs.Shape.{Shape, AlwaysOutside, AlwaysVisible, Flat, Pieces, flat_shape, has_sample, near_at, area_of, is_hidden, verdict_of}
+use Rattle.cull_base.specs.Shape.{Shape, AlwaysOutside, AlwaysVisible, Flat, Pieces, has_sample, near_at, area_of, verdict_of}
 use Rattle.cull_base.proofs.HiddenObjects.{hidden_each, occluded_is_hidden}
 use Rattle.cull_base.proofs.Nearer.{nearer_piece}
 use Rattle.cull_base.proofs.Pixels.{sample_below, sample_is_middle, tile_of_pixel-is}
@@ -29,7 +27,6 @@ use Rattle.cull_base.proofs.Rectangles.{meets_pixel, cut_pixels}
 use Rattle.masked_update.proofs.Drawing.{after_is_sound}
 use Rattle.masked_update.specs.TileOf.{TileOf}
 use Rattle.masked_update.specs.Views.{state_in}
-use Rattle.snap_setup.proofs.PieceBoxes.{within_pixel}
 use Rattle.scene_reader.specs.Layout.{Parts, IsScene}
 use Rattle.rect_query.specs.declared.boxes.BoxAnswer.{BoxAnswer}
 use Rattle.rect_query.specs.declared.boxes.BoxAnswer.TheVariants.{Outside, Straddles, At}
@@ -39,7 +36,7 @@ use Rattle.mesh_query.proofs.Members.{one_that_holds}
 use Rattle.mesh_query.proofs.Boxes.{on_screen, touched_pixel}
 use Rattle.mesh_query.proofs.Occluders.{HasPieces, mesh_has_pieces, pieces_nearer}
 use Rattle.cull_report.specs.Scene.{frame_pieces, frame_verdicts, frame_clips, size_of, object_shape, object_area, object_verdict, verdict_in}
-use Rattle.cull_report.specs.Hiding.{AreAfter, HidesObject, HidesTruly}
+use Rattle.cull_report.specs.Hiding.{HidesObject, HidesTruly}
 use Rattle.cull_report.proofs.TileStates.{state_after}
 
 below : (m n : ℕ) → nat_lt m n ≡ true → m < n

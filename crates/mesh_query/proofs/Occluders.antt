@@ -1,5 +1,5 @@
 -- An occluded mesh has a piece strictly nearer at each of its samples.
-use Rattle.std.proofs.Common.{◌≡◌, ℕ, ℤ, pos, negsuc, suc, ◌*◌, ◌<◌, ◌≤◌, ◌+◌, ◌⊎◌, ◌*ℤ◌, ◌≤ℤ◌, ◌<ℤ◌, List, [], ◌∷◌, map, filter, Bool, true, false, ◌||◌, not, cond, arith, refl, sym, ap, ◌∙◌, subst, inl, inr, int_lt}
+use Rattle.std.proofs.Common.{◌≡◌, ℕ, ℤ, pos, negsuc, ◌*◌, ◌<◌, ◌≤◌, ◌+◌, ◌⊎◌, ◌*ℤ◌, ◌≤ℤ◌, ◌<ℤ◌, List, [], ◌∷◌, map, filter, Bool, true, false, ◌||◌, not, cond, arith, refl, ap, ◌∙◌, subst, inl, inr, int_lt}
 use Rattle.std.specs.List.{fold, Contains}
 use Rattle.std.proofs.lemmas.Int.{ints}
 use Rattle.std.proofs.lemmas.Bool.{both_ways}
@@ -13,9 +13,9 @@ use Rattle.cull_base.specs.declared.triangle.Winding.TheVariants.{Both}
 use Rattle.cull_base.specs.Guard.{is_past_guard}
 use Rattle.cull_base.specs.NearPlane.{is_behind}
 use Rattle.cull_base.specs.Screen.{Dimensions, IsSize}
-use Rattle.cull_base.specs.Piece.{Piece, Point, IsPiece, middle, touches, sample, box_of}
+use Rattle.cull_base.specs.Piece.{Piece, Point, IsPiece, middle, touches, box_of}
 use Rattle.cull_base.specs.Depth.{numerator, denominator, high_of}
-use Rattle.cull_base.specs.Fraction.{Fraction, IsBelow, whole_number, depth_at, greater, greatest_fraction}
+use Rattle.cull_base.specs.Fraction.{Fraction, whole_number, depth_at, greater, greatest_fraction}
 use Rattle.cull_base.specs.State.{State, hides}
 use Rattle.cull_base.specs.Fold.{IsSound}
 use Rattle.cull_base.specs.Tiles.{ArePieces}

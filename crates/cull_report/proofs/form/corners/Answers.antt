@@ -1,5 +1,4 @@
-use Rattle.std.proofs.Common.{◌≡◌, List, [], ◌∷◌, refl}
-use Rattle.cull_base.specs.declared.clip.ClipVertex.{ClipVertex}
+use Rattle.std.proofs.Common.{refl}
 use Rattle.cull_report.proofs.form.corners.Goals as goal
 
 pub returns : goal.returns

@@ -1,14 +1,13 @@
-use Rattle.std.proofs.Common.{◌≡◌, ℕ, List, ℤ, map, FitsSigned, w32, rules, refl, sym, ap, ◌∙◌, subst}
+use Rattle.std.proofs.Common.{◌≡◌, ℕ, List, ℤ, map, FitsSigned, w32, rules, refl, ap, ◌∙◌, subst}
 use Rattle.std.proofs.lemmas.Int.{to_z-of_z}
-use Rattle.cull_base.specs.declared.clip.ClipVertex.{ClipVertex}
 use Rattle.cull_base.specs.declared.nearness.TheConstants.{GRADE_TOP}
 use Rattle.cull_base.specs.Screen.{Dimensions}
-use Rattle.camera_path.specs.Clip.{clip_of, as_clip, identity_camera}
+use Rattle.camera_path.specs.Clip.{clip_of}
 use Rattle.rect_query.specs.Boxes.{box_shape}
 use Rattle.rect_query.specs.Rectangles.{rectangle_shape}
 use Rattle.cull_report.specs.Forms.{IsFlatForm}
 use Rattle.cull_report.specs.Scene.{size_of, camera_at, corners_of, object_shape}
-use Rattle.cull_report.proofs.Forms.{flat_form, flat_has_triangles, all_alike}
+use Rattle.cull_report.proofs.Forms.{flat_form}
 use Rattle.cull_report.proofs.form.form_of.Goals as goal
 
 pub returns-in-Area-clause-shape : goal.returns-in-Area-clause-shape

@@ -1,5 +1,4 @@
 use Rattle.std.proofs.Common.{◌≡◌, ap, ◌∙◌}
-use Rattle.cull_base.specs.declared.scene_types.Object.{Object}
 use Rattle.cull_base.specs.Shape.{area_of}
 use Rattle.cull_report.specs.Scene.{size_of, object_area}
 use Rattle.cull_report.proofs.Forms.{at_place}

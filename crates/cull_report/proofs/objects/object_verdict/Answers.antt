@@ -1,5 +1,4 @@
-use Rattle.std.proofs.Common.{◌≡◌, ◌<◌, sym, ap, ◌∙◌, subst, get_or}
-use Rattle.cull_base.specs.declared.rect.Rect.{Rect}
+use Rattle.std.proofs.Common.{◌≡◌, sym, ap, ◌∙◌, subst}
 use Rattle.cull_base.specs.declared.scene_types.Object.{Object}
 use Rattle.cull_base.specs.Shape.{area_of, verdict_of}
 use Rattle.masked_update.specs.Views.{HoldsMet, state_in}
