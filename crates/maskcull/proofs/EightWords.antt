@@ -18,6 +18,22 @@ pub record AreEight (words : List (String Global)) (w a x b y c t d : String Glo
   pub seventh : t ≡ get_or words 6 t
   pub eighth : d ≡ get_or words 7 d
 
+pub are_eight : (words : List (String Global)) (w a x b y c t d : String Global) → 8 ≤ length words → length words < 9
+    → w ≡ get_or words 0 w → a ≡ get_or words 1 a → x ≡ get_or words 2 x → b ≡ get_or words 3 b
+    → y ≡ get_or words 4 y → c ≡ get_or words 5 c → t ≡ get_or words 6 t → d ≡ get_or words 7 d → AreEight words w a x b y c t d
+are_eight words w a x b y c t d l m e0 e1 e2 e3 e4 e5 e6 e7 = record {
+  at_least = l;
+  below = m;
+  first = e0;
+  second = e1;
+  third = e2;
+  fourth = e3;
+  fifth = e4;
+  sixth = e5;
+  seventh = e6;
+  eighth = e7;
+}
+
 pub all_options : (s : Settings) (words : List (String Global)) (w a x b y c t d : String Global) → AreEight words w a x b y c t d → AreOptions (map (string_bytes {Z = Global}) words) s
     → AreAllOptions s (string_bytes w) (string_bytes a) (string_bytes x) (string_bytes b) (string_bytes y) (string_bytes c) (string_bytes t) (string_bytes d)
 all_options s [] w a x b y c t d h are = absurd (let l = h.at_least in omega (arith, l))

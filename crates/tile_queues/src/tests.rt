@@ -2,7 +2,7 @@
 ghost use Rattle.std.specs.Prelude.{◌≡◌, ◌*◌, ◌≤◌, length, IfOk};
 
 use crate::draw_owned;
-use binning::Cut;
+use binning::{Cut, batch_size};
 use cull_base::{FrameList, ScreenTri, Size};
 use masked_update::{TileState, draw_plain};
 use std::test::Fail;
@@ -37,7 +37,9 @@ fn two_workers_draw_what_one_draws(rt: HostRuntime) -> Result<(), Fail> {
     let list = threes(&rt, 1)?;
     let cut = Cut::new(2, 1).ok_or("a cut")?;
     let plain = draw_plain(rt.alloc(), &list)?;
-    let owned = draw_owned(&rt, rt.alloc(), &list, &cut, 2, 2)?;
+    let batch = batch_size(list.len(), 2);
+    let owned = draw_owned(&rt, rt.alloc(), &list, &cut, 2, batch)?;
+    assert_eq!(rt; batch, 2);
     assert_eq!(rt; owned.len(), 2);
     assert_eq!(rt; owned[0].count(), 2);
     assert_eq!(rt; owned[1].count(), 2);
@@ -52,7 +54,9 @@ fn threads_draw_what_one_draws(rt: HostRuntime) -> Result<(), Fail> {
     let list = threes(&rt, 500)?;
     let cut = Cut::new(8, 8).ok_or("a cut")?;
     let plain = draw_plain(rt.alloc(), &list)?;
-    let owned = draw_owned(&rt, rt.alloc(), &list, &cut, 64, 7)?;
+    let batch = batch_size(list.len(), 7);
+    let owned = draw_owned(&rt, rt.alloc(), &list, &cut, 64, batch)?;
+    assert_eq!(rt; owned.len(), 2);
     assert_eq!(rt; owned[0].count(), 1000);
     assert_eq!(rt; owned[1].count(), 1000);
     assert!(rt; are_alike(&owned[0], &plain[0]));
