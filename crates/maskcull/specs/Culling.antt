@@ -3,6 +3,13 @@ use Rattle.std.specs.Prelude.{ℕ, ◌≡◌, ◌<◌, ◌≤◌, List, [], leng
 use Rattle.cull_base.specs.Stream.{SourceSays, SinkSays, Rose, Appends, AppendsPrefix, IsNoted}
 use Rattle.scene_reader.specs.Fault.{first_fault, IsRefusal}
 use Rattle.maskcull.specs.Notes.{refusal_text}
+use Rattle.maskcull.specs.Demo.{demo_of}
+use Rattle.maskcull.specs.Summary.{summary_text}
+use Rattle.maskcull.specs.Words.{request_of}
+use Rattle.maskcull.specs.declared.request.Command.{Command}
+use Rattle.maskcull.specs.declared.request.Command.TheVariants.{Cull, Demo}
+use Rattle.maskcull.specs.declared.request.Request.{Request}
+use Rattle.clap.specs.Words.{Text}
 use Rattle.cull_report.specs.Hiding.{HidesTruly}
 use Rattle.scene_reader.specs.Layout.{Parts, IsScene, layout}
 use Rattle.scene_reader.specs.declared.error.SceneError.{SceneError}
@@ -97,3 +104,30 @@ WithoutFault before after sink_before sink_after =
 -- the bytes have a first fault, and that refusal was noted with its numbers
 abbrev pub NotesFault : SourceSays → SinkSays → SinkSays → Type 0
 NotesFault source before after = (e : SceneError) × IsRefusal e × HasFault source e × IsNoted before after (refusal_text e)
+
+-- ---- what a run owes by what its words ask for
+
+-- the words ask for something of which this holds
+abbrev pub Asks : List Text → (Command → Type 0) → Type 0
+Asks words P = (r : Request) × (request_of words ≡ Some r) × P r.command
+
+-- a fact of what the words ask for, if they ask for something
+abbrev pub IfAsked : List Text → (Command → Type 0) → Type 0
+IfAsked words P = IfSome (request_of words) (λ r. P r.command)
+
+abbrev pub IsCull : Command → Type 0
+IsCull command = command ≡ Cull
+
+abbrev pub IsDemo : Command → Type 0
+IsDemo command = (seed : ℕ) × (m : ℕ) × (command ≡ Demo seed m)
+
+-- the command did its work: the whole report of a scene was written, or the whole summary; and what it calls occluded is hidden
+abbrev pub IsDone : Command → SourceSays → SourceSays → SinkSays → SinkSays → Type 0
+IsDone Cull before after report_before report_after = IsCulled before after report_before report_after
+IsDone (Demo seed m) before after report_before report_after =
+    Appends report_before report_after (summary_text seed m) × HidesTruly (demo_of seed m)
+
+-- the report gained a front of what the command writes
+abbrev pub GainsFrontOf : Command → SourceSays → SinkSays → SinkSays → Type 0
+GainsFrontOf Cull source before after = GainsFront source before after
+GainsFrontOf (Demo seed m) source before after = AppendsPrefix before after (summary_text seed m)

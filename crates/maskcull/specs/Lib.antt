@@ -1,4 +1,7 @@
+pub mod App
 pub mod Words
+pub mod Demo
+pub mod Summary
 pub mod Notes
 pub mod Outcome
 pub mod Culling

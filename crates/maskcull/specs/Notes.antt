@@ -1,14 +1,15 @@
 -- What is noted of a run that isn't done.
-use Rattle.std.specs.Prelude.{ℕ, List, [], ◌∷◌, ◌++◌, map, codes}
+use Rattle.std.specs.Prelude.{ℕ, ◌⊎◌, List, [], ◌∷◌, ◌++◌, map, codes}
 use Rattle.std.specs.Fmt.{decimal}
 use Rattle.scene_reader.specs.declared.error.SceneError.{SceneError}
 use Rattle.scene_reader.specs.declared.error.SceneError.TheVariants.{Truncated, BadMagic, BadVersion, BadSize, BadNear, BadWinding, BadReserved, BadCount, Trailing, BadVertex, BadIndex, BadKind, BadObject, BadCamera}
 use Rattle.scene_reader.specs.declared.error.SceneError.TheVariants as errors
+use Rattle.cull_base.specs.Stream.{SinkSays, Rose, Appends, AppendsPrefix}
 use Rattle.cull_report.specs.Lines.{line}
 use Rattle.maskcull.specs.declared.failure.Failure.{Failure}
 use Rattle.maskcull.specs.declared.failure.Status.{Status}
 use Rattle.maskcull.specs.declared.failure.Status.TheVariants as statuses
-use Rattle.maskcull.specs.declared.failure.Failure.TheVariants.{Usage, Scene, ReadFault, ReportFault, Memory}
+use Rattle.maskcull.specs.declared.failure.Failure.TheVariants.{Scene, ReadFault, ReportFault, Memory}
 
 -- a refusal's number, and the numbers that tell where the fault is
 abbrev pub refusal_numbers : SceneError → List ℕ
@@ -32,8 +33,11 @@ refusal_numbers errors.Memory = []
 unfoldable pub refusal_text : SceneError → List ℕ
 refusal_text e = line (codes "scene" ∷ codes "refused" ∷ map decimal (refusal_numbers e))
 
+-- what comes first where the words are refused; behind it stands what is wrong with them
+abbrev pub usage_text : List ℕ
+usage_text = codes "usage refused" ++ 10 ∷ []
+
 abbrev pub note_text : Failure → List ℕ
-note_text Usage = codes "usage refused" ++ 10 ∷ []
 note_text (Scene e) = refusal_text e
 note_text ReadFault = codes "read fault" ++ 10 ∷ []
 note_text ReportFault = codes "report fault" ++ 10 ∷ []
@@ -42,8 +46,14 @@ note_text Memory = codes "out of memory" ++ 10 ∷ []
 -- what is noted of a status that needs no numbers
 abbrev pub status_text : Status → List ℕ
 status_text statuses.Done = []
-status_text statuses.Usage = note_text Usage
+status_text statuses.Usage = usage_text
 status_text statuses.Scene = []
 status_text statuses.ReadFault = note_text ReadFault
 status_text statuses.ReportFault = note_text ReportFault
 status_text statuses.Memory = note_text Memory
+
+-- the text was appended and more behind it, or a front of it where one of the sink's counts rose
+abbrev pub IsNotedFirst : SinkSays → SinkSays → List ℕ → Type 0
+IsNotedFirst before after text =
+    ((more : List ℕ) × Appends before after (text ++ more))
+    ⊎ (AppendsPrefix before after text × (Rose before.faults after.faults ⊎ Rose before.refusals after.refusals))

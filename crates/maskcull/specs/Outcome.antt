@@ -21,7 +21,6 @@ sink_failure sink.Failed = failures.ReportFault
 sink_failure sink.Memory = failures.Memory
 
 abbrev pub status_of : Failure → Status
-status_of failures.Usage = statuses.Usage
 status_of (failures.Scene e) = statuses.Scene
 status_of failures.ReadFault = statuses.ReadFault
 status_of failures.ReportFault = statuses.ReportFault

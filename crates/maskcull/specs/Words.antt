@@ -1,8 +1,19 @@
--- The command words, and the settings that they have.
-use Rattle.std.specs.Prelude.{ℕ, ◌≡◌, ◌≤◌, List, [], ◌∷◌, codes}
+-- The command words: what they ask for, and which of them are plain.
+use Rattle.std.specs.Prelude.{ℕ, Bool, ◌≡◌, ◌≤◌, ◌⊎◌, List, [], ◌∷◌, ◌++◌, Option, Some, None, All, Contains, find, flat_map, codes, if◌then◌else◌, option_and_then}
 use Rattle.std.specs.Fmt.{decimal}
+use Rattle.std.specs.Option.{option_map_or}
+use Rattle.std.specs.Str.{bytes_eq}
+use Rattle.std.specs.Str.Parse.{digits_value, without_leading_plus}
+use Rattle.clap.specs.Walk.{is_empty}
+use Rattle.clap.specs.Words.{Row, Text, one_of, subcommand_of, fault_of}
 use Rattle.binning.specs.Cut.{cut_into}
+use Rattle.maskcull.specs.App.{Numbered, workers, bins_x, bins_y, batch, seed, triangles, cull_options, demo_options, the_app}
+use Rattle.maskcull.specs.declared.request.Command.{Command}
+use Rattle.maskcull.specs.declared.request.Command.TheVariants.{Cull, Demo}
+use Rattle.maskcull.specs.declared.request.Request.{Request}
 use Rattle.maskcull.specs.declared.settings.Settings.{Settings}
+use Rattle.maskcull.specs.declared.words.Refusal.{Refusal}
+use Rattle.maskcull.specs.declared.words.Refusal.TheVariants as refusals
 
 -- so many workers and such batches can be asked for
 pub record AreInRange (s : Settings) : Type 0 where
@@ -11,37 +22,77 @@ pub record AreInRange (s : Settings) : Type 0 where
   pub some_batch : 1 ≤ s.batch
   pub small_batch : s.batch ≤ 4096
 
--- a number from 1 to the greatest, and its word in decimal without leading zeros
-pub record IsNumber (greatest : ℕ) (word : List ℕ) (n : ℕ) : Type 0 where
-  pub spelled : word ≡ decimal n
-  pub least : 1 ≤ n
-  pub most : n ≤ greatest
+-- so many triangles can be asked for
+abbrev pub HasFewTriangles : Command → Type 0
+HasFewTriangles (Demo s m) = m ≤ 65536
+HasFewTriangles Cull = Unit {0}
 
--- the name of an option, and then its number
-pub record IsOption (name : List ℕ) (greatest : ℕ) (word value : List ℕ) (n : ℕ) : Type 0 where
-  pub named : word ≡ name
-  pub number : IsNumber greatest value n
+-- the words are refused, and memory isn't wanted
+abbrev pub AreWords : Refusal → Type 0
+AreWords refusals.Memory = ⊥
+AreWords (refusals.Words text) = Unit {0}
 
-abbrev pub defaults : Settings
-defaults = record { workers = 1; cut = cut_into 1 1; batch = 64 }
+-- ---- what words ask for: of any words that `clap` takes, what it makes of them
 
--- four options with their values, in order
-pub record AreAllOptions (s : Settings) (workers a bins_x b bins_y c batch d : List ℕ) : Type 0 where
-  pub workers_is : IsOption (codes "--workers") 64 workers a s.workers
-  pub bins_x_is : IsOption (codes "--bins-x") 8 bins_x b s.cut.columns
-  pub bins_y_is : IsOption (codes "--bins-y") 8 bins_y c s.cut.rows
-  pub batch_is : IsOption (codes "--batch") 4096 batch d s.batch
+-- the number that an option has among the matches
+abbrev pub number_in : List Row → Numbered → ℕ
+number_in rows o = option_map_or (λ text. digits_value 10 (without_leading_plus text)) (one_of o.name rows) 0
 
--- the words behind the command: none, for the defaults, or all four options
-abbrev pub AreOptions : List (List ℕ) → Settings → Type 0
-AreOptions [] s = s ≡ defaults
-AreOptions (workers ∷ a ∷ bins_x ∷ b ∷ bins_y ∷ c ∷ batch ∷ d ∷ []) s = AreAllOptions s workers a bins_x b bins_y c batch d
-AreOptions words s = ⊥
+-- the request of a command by its name, where each option has such a number
+abbrev pub request_by : Text → (Numbered → ℕ) → Option Request
+request_by name number =
+    let settings = record { workers = number workers; cut = cut_into (number bins_x) (number bins_y); batch = number batch } in
+    if bytes_eq name (codes "cull") then Some (record { command = Cull; settings = settings })
+    else (if bytes_eq name (codes "demo") then Some (record { command = Demo (number seed) (number triangles); settings = settings })
+    else None)
 
--- the program's name, the command `cull`, and options
-abbrev pub HaveSettings : List (List ℕ) → Settings → Type 0
-HaveSettings (name ∷ command ∷ options) s = (command ≡ codes "cull") × AreOptions options s
-HaveSettings words s = ⊥
+-- what the words ask for; none where `clap` refuses them
+unfoldable pub request_of : List Text → Option Request
+request_of words =
+    if is_empty (fault_of the_app words) then option_and_then (λ p. request_by p.0 (number_in p.1)) (subcommand_of the_app words)
+    else None
 
-abbrev pub IsAccepted : List (List ℕ) → Type 0
-IsAccepted words = (s : Settings) × HaveSettings words s
+-- ---- plain words: the command, and options with numbers in their ranges, each at most once, in any order
+
+-- an option with its number, as one word or as two
+pub record Use : Type 0 where
+  pub option : Numbered
+  pub number : ℕ
+  pub is_joined : Bool
+
+-- `--name=value`, or `--name` and then the value, in decimal without leading zeros
+abbrev pub words_of_use : Use → List Text
+words_of_use u =
+    if u.is_joined then (codes "--" ++ u.option.name ++ codes "=" ++ decimal u.number) ∷ []
+    else (codes "--" ++ u.option.name) ∷ decimal u.number ∷ []
+
+-- the number is in its option's range
+abbrev pub IsInRange : Use → Type 0
+IsInRange u = (u.option.least ≤ u.number) × (u.number ≤ u.option.most)
+
+-- no option is used twice
+abbrev pub AreApart : List Use → Type 0
+AreApart [] = Unit {0}
+AreApart (u ∷ rest) = All (λ v. u.option ≡ v.option → ⊥) rest × AreApart rest
+
+-- uses of some of these options
+pub record AreUses (options : List Numbered) (uses : List Use) : Type 0 where
+  pub known : All (λ u. Contains u.option options) uses
+  pub in_range : All IsInRange uses
+  pub apart : AreApart uses
+
+-- the number that an option's use states, or its default
+abbrev pub stated : List Use → Numbered → ℕ
+stated uses o = option_map_or (λ u. u.number) (find (λ u. bytes_eq u.option.name o.name) uses) o.default
+
+-- the words are the program's name, this command's, and uses of its options
+pub record ArePlainFor (name : Text) (options : List Numbered) (words : List Text) (r : Request) : Type 0 where
+  pub program : Text
+  pub uses : List Use
+  pub are_uses : AreUses options uses
+  pub spelled : words ≡ program ∷ name ∷ flat_map words_of_use uses
+  pub asked : request_by name (stated uses) ≡ Some r
+
+-- plain words, and what they ask for
+abbrev pub ArePlain : List Text → Request → Type 0
+ArePlain words r = ArePlainFor (codes "cull") cull_options words r ⊎ ArePlainFor (codes "demo") demo_options words r

@@ -211,7 +211,6 @@ pub fn cull<R: Threads + Wait + Sync, S: Source, W: Sink>(
     ensures scene { IfErr result (λ f. IfScene f (HasFault (S.says input.old))) }
     ensures read { IsErrOf result Failure.ReadFault → Rose (S.says input.old).faults (S.says input.new).faults }
     ensures report { IsErrOf result Failure.ReportFault → Rose (W.says report.old).faults (W.says report.new).faults }
-    ensures never { IsErrOf result Failure.Usage → ⊥ }
 
     // What comes of bytes that are refused, and of a scene's.
     ensures refused { EachFault (S.says input.old) (λ e. EndsAs result (Failure.Scene e)) }

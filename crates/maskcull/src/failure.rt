@@ -25,7 +25,6 @@ pub enum Status {
 /// Why a run isn't done.
 #[derive(Clone, Copy, Debug, PartialEq, Eq)]
 pub enum Failure {
-    Usage,
     Scene(SceneError),
     ReadFault,
     ReportFault,
@@ -106,7 +105,6 @@ impl Failure {
         ensures { result ≡ status_of self.now }
     {
         match self {
-            Failure::Usage => Status::Usage,
             Failure::Scene(_) => Status::Scene,
             Failure::ReadFault => Status::ReadFault,
             Failure::ReportFault => Status::ReportFault,
@@ -118,7 +116,6 @@ impl Failure {
         ensures { result ≡ note_text self.now }
     {
         match self {
-            Failure::Usage => line_of(b"usage refused"),
             Failure::Scene(error) => refusal_line(error),
             Failure::ReadFault => line_of(b"read fault"),
             Failure::ReportFault => line_of(b"report fault"),

