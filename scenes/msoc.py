@@ -1,0 +1,77 @@
+"""The bytes of a scene, as `maskcull cull` reads them.
+
+A scene is a header of 32 bytes and five tables, one after the other without gaps:
+
+    vertices             12 bytes each   x, y, z
+    occluder triangles   12 bytes each   the numbers of three vertices, from 0
+    object triangles     12 bytes each   the same
+    objects              25 bytes each   a kind in one byte, then six numbers
+    cameras              48 bytes each   twelve numbers: a row of four for each of x, y and w; one camera a frame
+
+The lowest byte of a number comes first, and a number below 0 is stored as its two's complement. The occluder
+triangles are drawn; the objects are tested against what is drawn. A mesh has a range of the object triangles.
+
+A camera takes the vertex (x, y, z) to three numbers, x, y and w. Each is (a x + b y + c z) / 65536, rounded down,
+and then d is added, where a, b, c, d is its row. w is the distance along the view; x / w runs from -1 at the left
+edge of the screen to 1 at the right edge, and y / w from -1 at the lower edge to 1 at the upper one.
+
+README.md has the table of offsets and the limits of each number.
+"""
+import struct
+import sys
+
+RECTANGLE, BOX, MESH = 0, 1, 2
+KEEPS_BOTH, DROPS_CLOCKWISE, DROPS_COUNTERCLOCKWISE = 0, 1, 2
+ONE = 65536
+
+
+def rectangle(x0, y0, x1, y1, w):
+    """Pixels from (x0, y0) to before (x1, y1), y downwards, at distance w. No camera moves it."""
+    return (RECTANGLE, x0, y0, x1, y1, w, 0)
+
+
+def box(low, high):
+    """From the least corner to the greatest one, in the coordinates of vertices."""
+    return (BOX, *low, *high)
+
+
+def mesh(first, count):
+    """So many object triangles, from the first on."""
+    return (MESH, first, count, 0, 0, 0, 0)
+
+
+def scene(size, near, vertices, occluders, objects, cameras, object_triangles=(), winding=KEEPS_BOTH):
+    """The bytes of a scene."""
+    counts = (len(vertices), len(occluders), len(object_triangles), len(objects))
+    header = struct.pack("<4s4H2BH4I", b"MSOC", 1, *size, near, winding, 0, len(cameras), *counts)
+    tables = [("<3i", vertices), ("<3I", occluders), ("<3I", object_triangles), ("<B6i", objects), ("<12i", cameras)]
+    return header + b"".join(struct.pack(form, *row) for form, table in tables for row in table)
+
+
+class Triangles:
+    """Triangles of flat sides, each with vertices of its own, in a table of vertices that all share."""
+
+    def __init__(self, vertices):
+        self.vertices = vertices
+        self.rows = []
+
+    def quad(self, a, b, c, d):
+        """Two triangles, for four points that follow one another around it."""
+        first = len(self.vertices)
+        self.vertices += [a, b, c, d]
+        self.rows += [(first, first + 1, first + 2), (first, first + 2, first + 3)]
+
+    def solid(self, points, faces):
+        """Some points, and triangles by the numbers of the points."""
+        first = len(self.vertices)
+        self.vertices += points
+        self.rows += [tuple(first + number for number in face) for face in faces]
+
+
+def main(data, telling):
+    """Writes the scene to standard output, or with `--telling` the verdicts that the script explains."""
+    if sys.argv[1:] == ["--telling"]:
+        for frame, number, verdict in telling:
+            print(frame, number, verdict)
+    else:
+        sys.stdout.buffer.write(data)
