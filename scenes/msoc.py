@@ -68,10 +68,10 @@ class Triangles:
         self.rows += [tuple(first + number for number in face) for face in faces]
 
 
-def main(data, telling):
+def main(layout, telling):
     """Writes the scene to standard output, or with `--telling` the verdicts that the script explains."""
     if sys.argv[1:] == ["--telling"]:
         for frame, number, verdict in telling:
             print(frame, number, verdict)
     else:
-        sys.stdout.buffer.write(data)
+        sys.stdout.buffer.write(layout)
