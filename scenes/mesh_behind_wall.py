@@ -59,7 +59,7 @@ add(ball(0, 0, 600), "occluded", "visible")
 add(ball(500, 0, 700), "visible", "visible")
 # 2: half behind it, from 0.4 to 0.6. One sample that shows is enough.
 add(ball(300, 0, 600), "visible", "visible")
-# 3: in front of it, where nothing is drawn. In frame 1 it lies from -2.8 to -2.2.
+# 3: in front of it, where nothing is drawn. In frame 1 it lies from -3.6 to -1.9.
 add(ball(0, 0, 200), "visible", "outside")
 # 4: behind the eye. 5: above the screen, from 2.7 on. Nothing of them is on the screen.
 add(ball(0, 0, -100), "outside", "outside")
