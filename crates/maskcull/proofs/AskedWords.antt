@@ -1,6 +1,5 @@
 -- What words ask for, by what `clap` makes of them.
-use Rattle.std.proofs.Common.{◌≡◌, ◌∙◌, ◌⊎◌, ⊎_elim, ℕ, Bool, true, false, cond, refl, sym, ap, subst, inl, inr, List, [], ◌∷◌, codes, option_map, Option, Some, None, Result, IfOk, IfErr}
-use Rattle.std.specs.List.{flat_map}
+use Rattle.std.proofs.Common.{◌≡◌, ◌∙◌, ℕ, false, cond, refl, sym, ap, subst, inl, inr, List, [], codes, option_map, Option, Some, None, Result, IfOk, IfErr}
 use Rattle.std.specs.Prelude.{Box, IfSome, option_and_then}
 use Rattle.std.specs.Box.{box_value}
 use Rattle.std.specs.Option.{ok_or, unwrap_or}
@@ -11,14 +10,14 @@ use Rattle.clap.specs.declared.parser.matches.ArgMatches.{ArgMatches}
 use Rattle.clap.specs.declared.parser.matches.ArgMatches.TheViews.{out-ArgMatches, out-SubCommand}
 use Rattle.clap.specs.declared.parser.matches.SubCommand.{SubCommand}
 use Rattle.maskcull.specs.App.{Numbered, batch, bins_x, bins_y, cull_options, demo_options, seed, triangles, workers, the_app}
-use Rattle.maskcull.specs.Words.{ArePlain, ArePlainFor, AreWords, IsEntered, number_in, request_by, request_of, settings_by, stated, words_of_use}
+use Rattle.maskcull.specs.Words.{ArePlain, AreWords, IsEntered, number_in, request_by, request_of, settings_by, stated}
 use Rattle.maskcull.specs.declared.request.Command.TheVariants.{Cull, Demo}
 use Rattle.maskcull.specs.declared.request.Request.{Request}
 use Rattle.maskcull.specs.declared.settings.Settings.{Settings}
 use Rattle.maskcull.specs.declared.words.Refusal.{Refusal}
 use Rattle.maskcull.specs.declared.words.Refusal.TheVariants as refusals
 use Rattle.maskcull.proofs.OptionRules.{IsOf}
-use Rattle.maskcull.proofs.PlainWords.{AreTaken, cull_taken, demo_taken}
+use Rattle.maskcull.proofs.PlainWords.{cull_taken, demo_taken}
 use Rattle.maskcull.proofs.TakenWords.{entered_numbers}
 
 pub asked : (words : List Text) (sub : Option (Text × List Row)) → fault_of the_app words ≡ [] → subcommand_of the_app words ≡ sub

@@ -1,7 +1,7 @@
 -- What the builders' steps make of the command.
-use Rattle.std.proofs.Common.{◌≡◌, ◌∙◌, ◌||◌, ◌⊎◌, ⊎_elim, length, arith, inl, inr, false, refl, ap, ap₂, List, [], ◌∷◌, Result, Ok, Err, IfErr}
+use Rattle.std.proofs.Common.{◌≡◌, ◌∙◌, ◌||◌, ◌⊎◌, ⊎_elim, length, arith, inl, inr, false, ap, ap₂, List, [], ◌∷◌, Result, Ok, Err, IfErr}
 use Rattle.std.proofs.lemmas.Bool.{ne_eqb}
-use Rattle.clap.specs.Words.{AddsArg, AddsSubcommand, App, FailsBy, HasKind, Kinds, Rule, Text, app_of, fault_of, kind_of, rule_of, shape_of, with_rule, with_subcommand}
+use Rattle.clap.specs.Words.{AddsArg, AddsSubcommand, App, FailsBy, HasKind, Kinds, Rule, Text, app_of, fault_of, kind_of, rule_of, with_rule, with_subcommand}
 use Rattle.clap.specs.Walk.{is_empty}
 use Rattle.clap.specs.declared.error.Error.{Error}
 use Rattle.clap.specs.declared.error.kind.ErrorKind.TheVariants.{OutOfMemory}

@@ -1,10 +1,9 @@
 -- The options as `clap` has them once the command is built, and how it finds them.
-use Rattle.std.proofs.Common.{◌≡◌, ◌∙◌, ◌<◌, ◌+◌, ◌&&◌, ◌||◌, ◌⊎◌, inl, inr, ℕ, Bool, true, false, cond, not, refl, sym, ap, arith, List, [], ◌∷◌, ◌++◌, map, length, Option, Some, None, zero, suc, true≢false, nat_lt}
+use Rattle.std.proofs.Common.{◌≡◌, ◌∙◌, ◌<◌, ◌&&◌, ◌||◌, ◌⊎◌, inl, inr, ℕ, Bool, true, false, cond, not, refl, sym, ap, arith, List, [], ◌∷◌, ◌++◌, map, length, Some, zero, suc, true≢false}
 use Rattle.std.specs.Prelude.{Contains}
 use Rattle.std.specs.List.{find, list_all, slice_index_or}
 use Rattle.std.specs.Str.{bytes_eq}
 use Rattle.std.proofs.lemmas.Slice.Eq.{bytes_eq-Decides}
-use Rattle.clap.specs.Lexer.{has_byte}
 use Rattle.clap.specs.Walk.{Rule, Text, arg_by_id, arg_by_long}
 use Rattle.clap.specs.Simple.{filled, help_rule, with_index}
 use Rattle.clap.proofs.WalkLemmas.{both}
@@ -40,7 +39,7 @@ of_contained options o c = of_at options o c.0 c.1 c.2
 pub same_text : (text : Text) → bytes_eq text text ≡ true
 same_text text = (bytes_eq-Decides text text).1 refl
 
-is_no : (b : Bool) → not b ≡ true → b ≡ false
+pub is_no : (b : Bool) → not b ≡ true → b ≡ false
 is_no true e = sym e
 is_no false e = refl
 

@@ -1,6 +1,6 @@
 -- Plain words are never refused, and ask for what they say.
-use Rattle.std.proofs.Common.{◌≡◌, ◌∙◌, ◌<◌, ◌≤◌, ◌^◌, ◌==◌, ◌&&◌, ◌||◌, ◌⊎◌, ℕ, Bool, true, false, cond, not, zero, suc, refl, sym, ap, subst, inl, inr, arith, List, [], ◌∷◌, ◌++◌, map, length, codes, is_some, option_map, Option, Some, None, nat_le, nat_lt, slice_index_or, true≢false}
-use Rattle.std.specs.List.{All, AllByRecursion, Contains, find, flat_map, fold, list_all}
+use Rattle.std.proofs.Common.{◌≡◌, ◌∙◌, ◌<◌, ◌^◌, ◌==◌, ◌&&◌, ◌||◌, ℕ, Bool, true, false, not, zero, suc, refl, sym, ap, subst, inl, inr, arith, List, [], ◌∷◌, ◌++◌, map, length, codes, is_some, option_map, Option, Some, None, nat_le, nat_lt, slice_index_or}
+use Rattle.std.specs.List.{All, AllByRecursion, find, flat_map, fold, list_all}
 use Rattle.std.specs.Option.{option_map_or}
 use Rattle.std.specs.Str.{bytes_eq}
 use Rattle.std.proofs.lemmas.Bool.{eqb-false, leb-true, ltb-true}
@@ -14,10 +14,10 @@ use Rattle.clap.proofs.CutLemmas.{Lacks}
 use Rattle.clap.proofs.FaultLemmas.{stopped_fault}
 use Rattle.clap.proofs.WalkLemmas.{both, walk_stopped}
 use Rattle.maskcull.specs.App.{Numbered, cull_options, demo_options, the_app}
-use Rattle.maskcull.specs.Words.{AreApart, AreUses, IsInRange, Use, number_in, stated, words_of_use}
-use Rattle.maskcull.proofs.OptionRules.{IsOf, are_apart, of_contained, or_none, ready, rules_for, same_option}
+use Rattle.maskcull.specs.Words.{AreApart, AreUses, Use, number_in, stated, words_of_use}
+use Rattle.maskcull.proofs.OptionRules.{IsOf, of_contained, rules_for, same_option}
 use Rattle.maskcull.proofs.UseRows.{neither, row_for}
-use Rattle.maskcull.proofs.UseWalk.{AreFine, AreNew, IsFine, IsUse, Passes, between, held_for, leaf, rows_with, settled_is, settles, uses_pass}
+use Rattle.maskcull.proofs.UseWalk.{AreFine, AreNew, IsFine, IsUse, Passes, between, leaf, settled_is, settles, uses_pass}
 use Rattle.maskcull.proofs.UseDefaults.{defaults_pass, has_row-more, none_required, number_last}
 
 -- ---- the uses of plain words are new ones
@@ -89,10 +89,6 @@ module _ (name : Text) (options : List Numbered) (fine : AreFine options) where
 
 abbrev is_fine : Numbered → Bool
 is_fine o = nat_lt 0 (length o.name) && (not (has_byte 61 o.name) && (nat_lt o.most (2 ^ 63) && (nat_le o.least o.default && nat_le o.default o.most)))
-
-is_no : (b : Bool) → not b ≡ true → b ≡ false
-is_no true e = sym e
-is_no false e = refl
 
 lacks_from : (c : ℕ) (xs : List ℕ) → has_byte c xs ≡ false → Lacks c xs
 lacks_from c [] none i lt = absurd (omega arith)

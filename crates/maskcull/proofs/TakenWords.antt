@@ -1,5 +1,5 @@
 -- Whatever words the program takes, each option's number is in its range.
-use Rattle.std.proofs.Common.{◌≡◌, ◌∙◌, ◌<◌, ◌≤◌, ◌^◌, ◌==◌, ◌&&◌, ◌||◌, ◌⊎◌, ℕ, Bool, true, false, cond, not, pos, zero, suc, refl, sym, ap, subst, inl, inr, arith, List, [], ◌∷◌, ◌++◌, map, length, codes, is_some, option_map, Option, Some, None, true≢false}
+use Rattle.std.proofs.Common.{◌≡◌, ◌∙◌, ◌≤◌, ◌==◌, ◌&&◌, ◌||◌, ◌⊎◌, ℕ, Bool, true, false, cond, pos, zero, suc, refl, sym, ap, subst, inl, inr, arith, List, [], ◌∷◌, ◌++◌, length, codes, is_some, option_map, Option, Some, None, true≢false}
 use Rattle.std.specs.Fmt.{decimal}
 use Rattle.std.specs.List.{AllByRecursion, find, fold}
 use Rattle.std.specs.Option.{option_map_or}
@@ -11,7 +11,7 @@ use Rattle.clap.specs.Lexer.{long_of, short_of}
 use Rattle.clap.specs.Simple.{Shape, argument_words, built_leaf, entered, help_shape, inherited, rows_at, subcommand_of, with_leaf_noted}
 use Rattle.clap.specs.Walk.{Held, Outcome, Row, Rule, Step, Text, Waiting, Walk, answers_to, after_flag, after_step, arg_by_id, arg_by_index, arg_by_long, arg_by_short, at_row, attached_value, bundle, bundle_met, bundle_step, done, finished, flag_met, has_row, idle, long_met, long_or_other, more_values, next, nothing_held, option, option_met, option_word, plain, plain_word, positional, reacted, refused, row_text, rows_after, settled, settled_rows, short_met, short_or_plain, subcommand, subcommand_met, subcommand_or_other, takes_values, to_positional, trailing, used, used_by_id, value, waits, walk, walk_from, walked, walked_from, with_default, word_met}
 use Rattle.clap.specs.Faults.{bundle_fault, bundle_step_fault, check_fault, defaults_fault, entered_fault, fault_of, flag_word_fault, flags_fault, level_fault, long_fault, option_fault, other_fault, react_fault, repeat_fault, set_fault, settle_fault, short_fault, step_fault, turn_fault, use_fault, values_fault, walk_fault, word_fault}
-use Rattle.clap.specs.Kinds.{Kinds, or_else, range_kinds, value_kinds}
+use Rattle.clap.specs.Kinds.{Kinds, or_else, range_kinds}
 use Rattle.clap.specs.ValueTests.{accepts}
 use Rattle.clap.specs.declared.builder.value_parser.Reading.TheVariants.{WithoutMinus}
 use Rattle.clap.specs.declared.builder.value_parser.ValueParser.TheVariants.{Signed}
@@ -26,9 +26,9 @@ use Rattle.maskcull.proofs.PlainWords.{cull_fine, demo_fine, fault_behind, names
 use Rattle.clap.specs.Lexer.{without_minus}
 use Rattle.clap.specs.Values.{IsSignedIn, read_as}
 use Rattle.clap.proofs.ValueTestLemmas.{accepts-Accepts}
-use Rattle.maskcull.proofs.OptionRules.{IsOf, are_apart, ready, ready_help, rules_for, same_option}
-use Rattle.maskcull.proofs.UseRows.{append_nil, at_row-missing, neither}
-use Rattle.maskcull.proofs.UseWalk.{AreFine, IsFine, leaf}
+use Rattle.maskcull.proofs.OptionRules.{IsOf, ready, ready_help, rules_for, same_option}
+use Rattle.maskcull.proofs.UseRows.{append_nil, at_row-missing}
+use Rattle.maskcull.proofs.UseWalk.{AreFine, leaf}
 
 none_first : (a b : Kinds) → or_else a b ≡ [] → (a ≡ []) × (b ≡ [])
 none_first [] b e = (refl, e)

@@ -1,20 +1,16 @@
 -- What one use of an option adds to the matches, and that it has no fault.
-use Rattle.std.proofs.Common.{◌≡◌, ◌∙◌, ◌<◌, ◌≤◌, ◌^◌, ◌||◌, ℕ, Bool, true, false, cond, pos, refl, sym, ap, arith, List, [], ◌∷◌, ◌++◌, map, Option, Some, None, true≢false}
+use Rattle.std.proofs.Common.{◌≡◌, ◌∙◌, ◌<◌, ◌^◌, ◌||◌, Bool, true, false, cond, pos, refl, ap, List, [], ◌∷◌, ◌++◌, Some, None, true≢false}
 use Rattle.std.specs.Fmt.{decimal}
-use Rattle.std.specs.Prelude.{find}
 use Rattle.std.specs.Str.{bytes_eq}
-use Rattle.clap.specs.Walk.{Held, Row, Rule, Text, at_row, has_row, more_values, used}
-use Rattle.clap.specs.Faults.{settle_fault, use_fault}
-use Rattle.clap.specs.Kinds.{Kinds, or_else}
-use Rattle.clap.specs.Values.{reading_of}
+use Rattle.clap.specs.Walk.{Row, Text, at_row, has_row, more_values, used}
+use Rattle.clap.specs.Faults.{use_fault}
 use Rattle.clap.specs.ValueTests.{accepts}
 use Rattle.clap.specs.declared.builder.value_parser.Reading.TheVariants.{WithoutMinus}
 use Rattle.clap.specs.declared.builder.value_parser.ValueParser.TheVariants.{Signed}
 use Rattle.clap.specs.declared.parser.matches.ValueSource.TheVariants.{CommandLine}
-use Rattle.maskcull.specs.App.{Numbered}
 use Rattle.maskcull.specs.Words.{IsInRange, Use}
 use Rattle.maskcull.proofs.DecimalWords.{number_accepted}
-use Rattle.maskcull.proofs.OptionRules.{IsOf, are_apart, found_id, ready, rules_for}
+use Rattle.maskcull.proofs.OptionRules.{ready}
 
 abbrev pub row_for : Use → Row
 row_for u = record {

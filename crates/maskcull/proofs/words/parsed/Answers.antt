@@ -1,4 +1,4 @@
-use Rattle.std.proofs.Common.{◌≡◌, ◌∙◌, true, ap, map, refl, subst, string_bytes}
+use Rattle.std.proofs.Common.{◌≡◌, true, ap, map, subst, string_bytes}
 use Rattle.clap.specs.Words.{App, FailsBy, app_of, fault_of, is_simple_and_free}
 use Rattle.maskcull.specs.App.{the_app}
 use Rattle.maskcull.proofs.Builders.{refused}

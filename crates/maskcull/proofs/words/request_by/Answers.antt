@@ -1,4 +1,4 @@
-use Rattle.std.proofs.Common.{◌≡◌, ◌≤◌, arith, rules}
+use Rattle.std.proofs.Common.{arith, rules}
 use Rattle.clap.specs.Words.{found_of, rows_of}
 use Rattle.maskcull.specs.App.{demo_options}
 use Rattle.maskcull.specs.Words.{HasNumbers}

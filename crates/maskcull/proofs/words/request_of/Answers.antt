@@ -1,7 +1,5 @@
-use Rattle.std.proofs.Common.{◌≡◌, ◌∙◌, ◌⊎◌, ⊎_elim, ap, sym, map, string_bytes, List, Some, None}
-use Rattle.clap.specs.Words.{Row, Text, found_of, rows_of, subcommand_of}
-use Rattle.maskcull.specs.App.{the_app}
-use Rattle.maskcull.specs.Words.{number_in, request_by, request_of}
+use Rattle.std.proofs.Common.{◌∙◌, ⊎_elim, sym, map, string_bytes, None}
+use Rattle.clap.specs.Words.{found_of, rows_of}
 use Rattle.maskcull.proofs.AskedWords.{answers_none, answers_some, asked, command_entered, has_numbers, no_command, none_asked, plain_asked}
 use Rattle.maskcull.proofs.words.request_of.Goals as goal
 

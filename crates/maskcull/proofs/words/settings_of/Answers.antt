@@ -1,4 +1,4 @@
-use Rattle.std.proofs.Common.{◌≤◌, ℕ, arith}
+use Rattle.std.proofs.Common.{◌≤◌, arith}
 use Rattle.maskcull.proofs.OptionNumbers.{read_within, wider}
 use Rattle.maskcull.proofs.words.settings_of.Goals as goal
 
