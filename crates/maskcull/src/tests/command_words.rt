@@ -73,7 +73,15 @@ fn settings_change_no_byte(rt: HostRuntime) -> Result<(), Fail> {
         options("7", "8", "8", "1").as_slice(),
         &options("64", "8", "8", "4096"),
         &["maskcull", "cull", "--workers=64"],
-        &["maskcull", "cull", "--batch", "1", "--bins-y=8", "--workers", "2"],
+        &[
+            "maskcull",
+            "cull",
+            "--batch",
+            "1",
+            "--bins-y=8",
+            "--workers",
+            "2",
+        ],
     ] {
         let ended = run_with(&rt, alloc, given, Vec::from_slice(alloc, &FIRST)?)?;
         assert_eq!(rt; ended.report.as_slice(), OCCLUDED.as_bytes());
@@ -89,7 +97,9 @@ fn asked(
     given: &[&str],
 ) -> Result<([u32; 4], Option<(u32, u32)>), Fail> {
     let words = words(alloc, given)?;
-    let request = request_of(alloc, &words).ok().expect(rt, "words are refused");
+    let request = request_of(alloc, &words)
+        .ok()
+        .expect(rt, "words are refused");
     let settings = &request.settings;
     let made = match request.command {
         Command::Cull => None,
@@ -102,8 +112,14 @@ fn asked(
 #[test]
 fn defaults_stand_where_no_option_is_given(rt: HostRuntime) -> Result<(), Fail> {
     let alloc = rt.alloc();
-    assert_eq!(rt; asked(&rt, alloc, &["maskcull", "cull"])?, ([1, 1, 1, 64], None));
-    assert_eq!(rt; asked(&rt, alloc, &["maskcull", "demo"])?, ([1, 1, 1, 64], Some((1, 20000))));
+    assert_eq!(rt;
+        asked(&rt, alloc, &["maskcull", "cull"])?,
+        ([1, 1, 1, 64], None)
+    );
+    assert_eq!(rt;
+        asked(&rt, alloc, &["maskcull", "demo"])?,
+        ([1, 1, 1, 64], Some((1, 20000)))
+    );
     Ok(())
 }
 
@@ -111,10 +127,21 @@ fn defaults_stand_where_no_option_is_given(rt: HostRuntime) -> Result<(), Fail> 
 fn options_come_in_any_order_and_in_both_spellings(rt: HostRuntime) -> Result<(), Fail> {
     let alloc = rt.alloc();
     let given = [
-        "maskcull", "demo", "--triangles=0", "--bins-y", "3", "--seed", "4294967295", "--batch=5",
-        "--workers", "9",
+        "maskcull",
+        "demo",
+        "--triangles=0",
+        "--bins-y",
+        "3",
+        "--seed",
+        "4294967295",
+        "--batch=5",
+        "--workers",
+        "9",
     ];
-    assert_eq!(rt; asked(&rt, alloc, &given)?, ([9, 1, 3, 5], Some((4294967295, 0))));
+    assert_eq!(rt;
+        asked(&rt, alloc, &given)?,
+        ([9, 1, 3, 5], Some((4294967295, 0)))
+    );
     Ok(())
 }
 

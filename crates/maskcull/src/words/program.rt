@@ -25,8 +25,8 @@ const CULL_ABOUT: &str =
     "Reads a scene from standard input and writes its report to standard output";
 
 const CULL_MORE: &str = "Reads the bytes of a scene from standard input, to their end.
-Writes to standard output, for each frame: how many pieces it has, whether each object is visible, occluded or outside
-the screen, and how many are. No option changes a byte of it.
+Writes to standard output a header, and for each frame: how many pieces it has, whether each object is visible, occluded
+or outside the screen, and how many are. No option changes a byte of it.
 Notes on standard error why a run isn't done.
 
 Exit status:
@@ -42,8 +42,8 @@ const DEMO_ABOUT: &str =
 
 const DEMO_MORE: &str =
     "Reads nothing: the scene is made of a number, with 500 boxes as objects, and 4 frames.
-Writes to standard output, for each frame: how many pieces it has, and how many boxes are visible, occluded or outside
-the screen. Of the options only --seed and --triangles change it.
+Writes to standard output a header, and for each frame: how many pieces it has, and how many boxes are visible, occluded
+or outside the screen. Of the options only --seed and --triangles change it.
 Notes on standard error why a run isn't done.
 
 Exit status:
