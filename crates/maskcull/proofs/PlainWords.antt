@@ -15,7 +15,7 @@ use Rattle.clap.proofs.FaultLemmas.{stopped_fault}
 use Rattle.clap.proofs.WalkLemmas.{both, walk_stopped}
 use Rattle.maskcull.specs.App.{Numbered, cull_options, demo_options, the_app}
 use Rattle.maskcull.specs.Words.{AreApart, AreUses, Use, number_in, stated, words_of_use}
-use Rattle.maskcull.proofs.OptionRules.{IsOf, of_contained, rules_for, same_option}
+use Rattle.maskcull.proofs.OptionRules.{is_no, IsOf, of_contained, rules_for, same_option}
 use Rattle.maskcull.proofs.UseRows.{neither, row_for}
 use Rattle.maskcull.proofs.UseWalk.{AreFine, AreNew, IsFine, IsUse, Passes, between, leaf, settled_is, settles, uses_pass}
 use Rattle.maskcull.proofs.UseDefaults.{defaults_pass, has_row-more, none_required, number_last}

@@ -70,9 +70,7 @@ fn words_that_are_no_command_are_refused(rt: HostRuntime) -> Result<(), Fail> {
 fn settings_change_no_byte(rt: HostRuntime) -> Result<(), Fail> {
     let alloc = rt.alloc();
     for given in [
-        options("7", "8", "8", "1").as_slice(),
-        &options("64", "8", "8", "4096"),
-        &["maskcull", "cull", "--workers=64"],
+        ["maskcull", "cull", "--workers=64"].as_slice(),
         &[
             "maskcull",
             "cull",
@@ -82,6 +80,8 @@ fn settings_change_no_byte(rt: HostRuntime) -> Result<(), Fail> {
             "--workers",
             "2",
         ],
+        &options("7", "8", "8", "1"),
+        &options("64", "8", "8", "4096"),
     ] {
         let ended = run_with(&rt, alloc, given, Vec::from_slice(alloc, &FIRST)?)?;
         assert_eq!(rt; ended.report.as_slice(), OCCLUDED.as_bytes());
