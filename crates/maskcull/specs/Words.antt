@@ -1,13 +1,16 @@
 -- The command words: what they ask for, and which of them are plain.
-use Rattle.std.specs.Prelude.{ℕ, Bool, ◌≡◌, ◌≤◌, ◌⊎◌, List, [], ◌∷◌, ◌++◌, Option, Some, None, All, Contains, find, flat_map, codes, if◌then◌else◌, option_and_then}
+use Rattle.std.specs.Prelude.{ℕ, pos, Bool, true, ◌≡◌, ◌≤◌, ◌⊎◌, List, [], ◌∷◌, ◌++◌, Option, Some, None, All, Contains, find, flat_map, codes, if◌then◌else◌, option_and_then}
 use Rattle.std.specs.Fmt.{decimal}
+use Rattle.std.specs.List.{AllByRecursion}
 use Rattle.std.specs.Option.{option_map_or}
 use Rattle.std.specs.Str.{bytes_eq}
 use Rattle.std.specs.Str.Parse.{digits_value, without_leading_plus}
 use Rattle.clap.specs.Walk.{is_empty}
-use Rattle.clap.specs.Words.{Row, Text, one_of, subcommand_of, fault_of}
+use Rattle.clap.specs.Words.{IsSignedIn, Row, Text, one_of, without_minus, subcommand_of, fault_of}
 use Rattle.binning.specs.Cut.{cut_into}
 use Rattle.maskcull.specs.App.{Numbered, workers, bins_x, bins_y, batch, seed, triangles, cull_options, demo_options, the_app}
+use Rattle.maskcull.specs.declared.failure.Status.{Status}
+use Rattle.maskcull.specs.declared.failure.Status.TheVariants as statuses
 use Rattle.maskcull.specs.declared.request.Command.{Command}
 use Rattle.maskcull.specs.declared.request.Command.TheVariants.{Cull, Demo}
 use Rattle.maskcull.specs.declared.request.Request.{Request}
@@ -32,18 +35,29 @@ abbrev pub AreWords : Refusal → Type 0
 AreWords refusals.Memory = ⊥
 AreWords (refusals.Words text) = Unit {0}
 
+-- the status of a run whose words ask for nothing
+abbrev pub refusal_status : Refusal → Status
+refusal_status refusals.Memory = statuses.Memory
+refusal_status (refusals.Words text) = statuses.Usage
+
 -- ---- what words ask for: of any words that `clap` takes, what it makes of them
 
 -- the number that an option has among the matches
+abbrev pub number_named : List Row → Text → ℕ
+number_named rows name = option_map_or (λ text. digits_value 10 (without_leading_plus text)) (one_of name rows) 0
+
 abbrev pub number_in : List Row → Numbered → ℕ
-number_in rows o = option_map_or (λ text. digits_value 10 (without_leading_plus text)) (one_of o.name rows) 0
+number_in rows o = number_named rows o.name
+
+-- the settings, where each option has such a number
+abbrev pub settings_by : (Numbered → ℕ) → Settings
+settings_by number = record { workers = number workers; cut = cut_into (number bins_x) (number bins_y); batch = number batch }
 
 -- the request of a command by its name, where each option has such a number
 abbrev pub request_by : Text → (Numbered → ℕ) → Option Request
 request_by name number =
-    let settings = record { workers = number workers; cut = cut_into (number bins_x) (number bins_y); batch = number batch } in
-    if bytes_eq name (codes "cull") then Some (record { command = Cull; settings = settings })
-    else (if bytes_eq name (codes "demo") then Some (record { command = Demo (number seed) (number triangles); settings = settings })
+    if bytes_eq name (codes "cull") then Some (record { command = Cull; settings = settings_by number })
+    else (if bytes_eq name (codes "demo") then Some (record { command = Demo (number seed) (number triangles); settings = settings_by number })
     else None)
 
 -- what the words ask for; none where `clap` refuses them
@@ -51,6 +65,25 @@ unfoldable pub request_of : List Text → Option Request
 request_of words =
     if is_empty (fault_of the_app words) then option_and_then (λ p. request_by p.0 (number_in p.1)) (subcommand_of the_app words)
     else None
+
+-- ---- what `clap` has seen to
+
+-- the option of this name has a value among the matches, and it is a number in this range
+pub record IsNumbered (rows : List Row) (name : Text) (least most : ℕ) : Type 0 where
+  pub text : Text
+  pub is : one_of name rows ≡ Some (without_minus text)
+  pub within : IsSignedIn (pos least) (pos most) text
+
+abbrev pub HasNumber : List Row → Numbered → Type 0
+HasNumber rows o = IsNumbered rows o.name o.least o.most
+
+abbrev pub HasNumbers : List Numbered → List Row → Type 0
+HasNumbers options rows = AllByRecursion (HasNumber rows) options
+
+-- a command's name, and each of its options with a number in its range
+pub record IsEntered (name : Text) (rows : List Row) : Type 0 where
+  pub cull : bytes_eq name (codes "cull") ≡ true → HasNumbers cull_options rows
+  pub demo : bytes_eq name (codes "demo") ≡ true → HasNumbers demo_options rows
 
 -- ---- plain words: the command, and options with numbers in their ranges, each at most once, in any order
 
@@ -77,7 +110,7 @@ AreApart (u ∷ rest) = All (λ v. u.option ≡ v.option → ⊥) rest × AreApa
 
 -- uses of some of these options
 pub record AreUses (options : List Numbered) (uses : List Use) : Type 0 where
-  pub known : All (λ u. Contains u.option options) uses
+  pub known : All (λ u. Contains options u.option) uses
   pub in_range : All IsInRange uses
   pub apart : AreApart uses
 

@@ -7,6 +7,8 @@ use std::sync::Wait;
 use std::test::*;
 use std::thread::Threads;
 
+mod command_words;
+
 /// The first scene: a screen of 32 by 8, a quad at distance 2 and the rectangle of the whole screen at distance 3.
 const FIRST: [u8; 177] = [
     0x4d, 0x53, 0x4f, 0x43, 1, 0, 0x20, 0, 8, 0, 1, 0, 0, 0, 1, 0, //
@@ -134,19 +136,6 @@ fn culled<R: Threads + Wait + Sync>(
     bytes: Vec<u8>,
 ) -> Result<Ended, AllocError> {
     run_with(rt, alloc, &["maskcull", "cull"], bytes)
-}
-
-// The four options with these values.
-fn options<'a>(
-    workers: &'a str,
-    bins_x: &'a str,
-    bins_y: &'a str,
-    batch: &'a str,
-) -> [&'a str; 10] {
-    let (first, second, third) = ("--workers", "--bins-x", "--bins-y");
-    [
-        "maskcull", "cull", first, workers, second, bins_x, third, bins_y, "--batch", batch,
-    ]
 }
 
 // The first scene with the byte at a place changed.
@@ -353,61 +342,6 @@ fn an_input_that_fails_is_noted(rt: HostRuntime) -> Result<(), Fail> {
         assert_eq!(rt; report.held(), b"".as_slice());
         assert_eq!(rt; notes.held(), b"read fault\n".as_slice());
     }
-    Ok(())
-}
-
-#[test]
-fn words_that_are_no_command_are_refused(rt: HostRuntime) -> Result<(), Fail> {
-    let alloc = rt.alloc();
-    for refused in [
-        ["maskcull"].as_slice(),
-        &["maskcull", "draw"],
-        &["maskcull", "cull", "x"],
-        &["maskcull", "cull", "--workers", "2"],
-        &[
-            "maskcull",
-            "cull",
-            "--bins-x",
-            "1",
-            "--workers",
-            "1",
-            "--bins-y",
-            "1",
-            "--batch",
-            "1",
-        ],
-        &options("0", "1", "1", "1"),
-        &options("65", "1", "1", "1"),
-        &options("01", "1", "1", "1"),
-        &options("+1", "1", "1", "1"),
-        &options("1", "9", "1", "1"),
-        &options("1", "1", "0", "1"),
-        &options("1", "1", "1", "4097"),
-        &options("1", "1", "1", ""),
-        &[],
-    ] {
-        let ended = run_with(&rt, alloc, refused, Vec::from_slice(alloc, &FIRST)?)?;
-        assert_eq!(rt; ended.status.code(), 2);
-        assert_eq!(rt; ended.notes.as_slice(), b"usage refused\n".as_slice());
-        assert_eq!(rt; ended.report.len(), 0);
-    }
-    Ok(())
-}
-
-#[test]
-fn settings_change_no_byte(rt: HostRuntime) -> Result<(), Fail> {
-    let alloc = rt.alloc();
-    for workers in ["1", "7", "64"] {
-        for bins in ["1", "8"] {
-            let given = options(workers, bins, bins, "1");
-            let ended = run_with(&rt, alloc, &given, Vec::from_slice(alloc, &FIRST)?)?;
-            assert_eq!(rt; ended.report.as_slice(), OCCLUDED.as_bytes());
-            assert_eq!(rt; ended.status, Status::Done);
-        }
-    }
-    let largest = options("64", "8", "8", "4096");
-    let ended = run_with(&rt, alloc, &largest, Vec::from_slice(alloc, &FIRST)?)?;
-    assert_eq!(rt; ended.report.as_slice(), OCCLUDED.as_bytes());
     Ok(())
 }
 

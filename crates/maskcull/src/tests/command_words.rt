@@ -1,0 +1,169 @@
+//! The command words: which are refused, and what the others ask for.
+use super::*;
+use crate::request::Command;
+use crate::words::request_of;
+use cull_base::Source;
+
+// The four options with these values.
+fn options<'a>(
+    workers: &'a str,
+    bins_x: &'a str,
+    bins_y: &'a str,
+    batch: &'a str,
+) -> [&'a str; 10] {
+    let (first, second, third) = ("--workers", "--bins-x", "--bins-y");
+    [
+        "maskcull", "cull", first, workers, second, bins_x, third, bins_y, "--batch", batch,
+    ]
+}
+
+// The words are refused: a note tells it, nothing is read and nothing written.
+fn assert_usage<R: Threads + Wait + Sync + Abort>(
+    rt: &R,
+    alloc: Global,
+    given: &[&str],
+) -> Result<Vec<u8>, Fail> {
+    let mut fails = Vec::new(alloc);
+    fails.push(1)?;
+    let mut input = BytesSource::new(Vec::from_slice(alloc, &FIRST)?, 7, fails);
+    let mut report = SureSink::new(alloc);
+    let mut notes = SureSink::new(alloc);
+    let words = words(alloc, given)?;
+    let status = run(rt, alloc, &words, &mut input, &mut report, &mut notes);
+    assert_eq!(rt; status.code(), 2);
+    assert!(rt; notes.held().starts_with(b"usage refused\n"));
+    assert_eq!(rt; report.held().len(), 0);
+    // the input's first call fails, and it is still to come
+    assert!(rt; input.read(&mut [0]).is_err());
+    Ok(Vec::from_slice(alloc, notes.held())?)
+}
+
+#[test]
+fn words_that_are_no_command_are_refused(rt: HostRuntime) -> Result<(), Fail> {
+    let alloc = rt.alloc();
+    for refused in [
+        [].as_slice(),
+        &["maskcull"],
+        &["maskcull", "draw"],
+        &["maskcull", "live"],
+        &["maskcull", "cull", "x"],
+        &["maskcull", "cull", "--early"],
+        &["maskcull", "cull", "--seed", "1"],
+        &["maskcull", "--workers", "1", "cull"],
+        &["maskcull", "cull", "--workers"],
+        &["maskcull", "cull", "--workers=1", "--workers=1"],
+        &["maskcull", "demo", "--triangles", "65537"],
+        &["maskcull", "demo", "--seed=4294967296"],
+        &options("0", "1", "1", "1"),
+        &options("65", "1", "1", "1"),
+        &options("1", "9", "1", "1"),
+        &options("1", "1", "0", "1"),
+        &options("1", "1", "1", "4097"),
+        &options("1", "1", "1", ""),
+    ] {
+        let _ = assert_usage(&rt, alloc, refused)?;
+    }
+    Ok(())
+}
+
+#[test]
+fn settings_change_no_byte(rt: HostRuntime) -> Result<(), Fail> {
+    let alloc = rt.alloc();
+    for given in [
+        ["maskcull", "cull", "--workers=64"].as_slice(),
+        &[
+            "maskcull",
+            "cull",
+            "--batch",
+            "1",
+            "--bins-y=8",
+            "--workers",
+            "2",
+        ],
+        &options("7", "8", "8", "1"),
+        &options("64", "8", "8", "4096"),
+    ] {
+        let ended = run_with(&rt, alloc, given, Vec::from_slice(alloc, &FIRST)?)?;
+        assert_eq!(rt; ended.report.as_slice(), OCCLUDED.as_bytes());
+        assert_eq!(rt; ended.status, Status::Done);
+    }
+    Ok(())
+}
+
+// The workers, columns, rows and batch that some words ask for, and the seed and the triangles of a scene that is made.
+fn asked(
+    rt: &impl Abort,
+    alloc: Global,
+    given: &[&str],
+) -> Result<([u32; 4], Option<(u32, u32)>), Fail> {
+    let words = words(alloc, given)?;
+    let request = request_of(alloc, &words)
+        .ok()
+        .expect(rt, "words are refused");
+    let settings = &request.settings;
+    let made = match request.command {
+        Command::Cull => None,
+        Command::Demo { seed, triangles } => Some((seed, triangles)),
+    };
+    let (columns, rows) = (settings.cut.columns(), settings.cut.rows());
+    Ok(([settings.workers, columns, rows, settings.batch], made))
+}
+
+#[test]
+fn defaults_stand_where_no_option_is_given(rt: HostRuntime) -> Result<(), Fail> {
+    let alloc = rt.alloc();
+    assert_eq!(rt;
+        asked(&rt, alloc, &["maskcull", "cull"])?,
+        ([1, 1, 1, 64], None)
+    );
+    assert_eq!(rt;
+        asked(&rt, alloc, &["maskcull", "demo"])?,
+        ([1, 1, 1, 64], Some((1, 20000)))
+    );
+    Ok(())
+}
+
+#[test]
+fn options_come_in_any_order_and_in_both_spellings(rt: HostRuntime) -> Result<(), Fail> {
+    let alloc = rt.alloc();
+    let given = [
+        "maskcull",
+        "demo",
+        "--triangles=0",
+        "--bins-y",
+        "3",
+        "--seed",
+        "4294967295",
+        "--batch=5",
+        "--workers",
+        "9",
+    ];
+    assert_eq!(rt;
+        asked(&rt, alloc, &given)?,
+        ([9, 1, 3, 5], Some((4294967295, 0)))
+    );
+    Ok(())
+}
+
+#[test]
+fn help_tells_options_and_statuses(rt: HostRuntime) -> Result<(), Fail> {
+    let alloc = rt.alloc();
+    let all = assert_usage(&rt, alloc, &["maskcull", "--help"])?;
+    let cull = assert_usage(&rt, alloc, &["maskcull", "cull", "--help"])?;
+    let demo = assert_usage(&rt, alloc, &["maskcull", "demo", "--help"])?;
+    for (page, wanted) in [
+        (&all, "cull"),
+        (&all, "demo"),
+        (&all, "7  memory was wanted"),
+        (&cull, "--workers <workers>"),
+        (&cull, "[default: 64]"),
+        (&cull, "3  the input is no scene"),
+        (&demo, "--triangles <triangles>"),
+        (&demo, "[default: 20000]"),
+        (&demo, "2  the words were refused, or help was asked for"),
+    ] {
+        let text = str::from_utf8(page).ok().expect(&rt, "the page is text");
+        assert!(rt; text.contains(wanted), "no {wanted}");
+    }
+    Ok(())
+}

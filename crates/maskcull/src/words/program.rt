@@ -1,0 +1,214 @@
+//! The program as `clap` knows it: its commands, their options, and what help says of them.
+ghost use Rattle.std.specs.Prelude.{◌≡◌, pos, IfOk, IfErr, Some, [], ◌∷◌, false, codes};
+ghost use Rattle.clap.specs.Words.{app_of, kind_of, new_rule, rule_of};
+ghost use Rattle.clap.specs.declared.builder.Command.TheViews.{out-Command as fields_of};
+ghost use Rattle.clap.specs.declared.builder.value_parser.ValueParser.TheVariants.{Signed};
+ghost use Rattle.maskcull.specs.App.{rule_for, workers, bins_x, bins_y, batch, seed, triangles, sharing_options, cull_options, demo_options, command_shape, the_app};
+
+use clap::error::ErrorKind;
+use clap::{Arg, Command, Error, value_parser};
+use std::alloc::Global;
+
+const ABOUT: &str = "Says which objects of a scene are hidden behind its triangles";
+
+const MORE: &str = "A command's own help says what it reads and writes. Notes go to standard error.
+
+Exit status:
+  0  done: the input was read and the report written
+  2  the words were refused, or help was asked for
+  3  the input is no scene
+  4  the input couldn't be read
+  5  the report couldn't be written
+  7  memory was wanted";
+
+const CULL_ABOUT: &str =
+    "Reads a scene from standard input and writes its report to standard output";
+
+const CULL_MORE: &str = "Reads the bytes of a scene from standard input, to their end.
+Writes to standard output a header, and for each frame: how many pieces it has, whether each object is visible, occluded
+or outside the screen, and how many are. No option changes a byte of it.
+Notes on standard error why a run isn't done.
+
+Exit status:
+  0  done: the input was read and the report written
+  2  the words were refused, or help was asked for
+  3  the input is no scene
+  4  the input couldn't be read
+  5  the report couldn't be written
+  7  memory was wanted";
+
+const DEMO_ABOUT: &str =
+    "Makes a scene from a number and writes a summary of its report to standard output";
+
+const DEMO_MORE: &str =
+    "Reads nothing: the scene is made of a number, with 500 boxes as objects, and 4 frames.
+Writes to standard output a header, and for each frame: how many pieces it has, and how many boxes are visible, occluded
+or outside the screen. Of the options only --seed and --triangles change it.
+Notes on standard error why a run isn't done.
+
+Exit status:
+  0  done: the summary was written
+  2  the words were refused, or help was asked for
+  5  the summary couldn't be written
+  7  memory was wanted";
+
+// An option that has a number from `least` to `most`.
+fn option<'a>(
+    alloc: Global,
+    name: &'a str,
+    least: u32,
+    most: u32,
+    default: &'a str,
+    help: &'a str,
+) -> Arg<'a>
+    ensures rule { rule_of result ≡ record (new_rule name.now) {
+      long = Some name.now;
+      defaults = default.now ∷ [];
+      parser = Some (Signed (pos least) (pos most));
+    } }
+    ensures local { result.global ≡ false }
+{
+    let range = i64::from(least)..=i64::from(most);
+    Arg::new(alloc, name)
+        .long(name)
+        .default_value(default)
+        .value_parser(value_parser!(u32).range(range))
+        .help(help)
+}
+
+fn workers_option<'a>(alloc: Global) -> Arg<'a>
+    ensures rule { rule_of result ≡ rule_for workers }
+    ensures local { result.global ≡ false }
+{
+    option(
+        alloc,
+        "workers",
+        1,
+        64,
+        "1",
+        "How many workers draw side by side, 1 to 64",
+    )
+}
+
+fn bins_x_option<'a>(alloc: Global) -> Arg<'a>
+    ensures rule { rule_of result ≡ rule_for bins_x }
+    ensures local { result.global ≡ false }
+{
+    option(
+        alloc,
+        "bins-x",
+        1,
+        8,
+        "1",
+        "Into how many columns of bins the screen is cut, 1 to 8",
+    )
+}
+
+fn bins_y_option<'a>(alloc: Global) -> Arg<'a>
+    ensures rule { rule_of result ≡ rule_for bins_y }
+    ensures local { result.global ≡ false }
+{
+    option(
+        alloc,
+        "bins-y",
+        1,
+        8,
+        "1",
+        "Into how many rows of bins the screen is cut, 1 to 8",
+    )
+}
+
+fn batch_option<'a>(alloc: Global) -> Arg<'a>
+    ensures rule { rule_of result ≡ rule_for batch }
+    ensures local { result.global ≡ false }
+{
+    option(
+        alloc,
+        "batch",
+        1,
+        4096,
+        "64",
+        "How many pieces a batch has at least, 1 to 4096",
+    )
+}
+
+fn seed_option<'a>(alloc: Global) -> Arg<'a>
+    ensures rule { rule_of result ≡ rule_for seed }
+    ensures local { result.global ≡ false }
+{
+    option(
+        alloc,
+        "seed",
+        0,
+        u32::MAX,
+        "1",
+        "The number that makes the scene, 0 to 4294967295",
+    )
+}
+
+fn triangles_option<'a>(alloc: Global) -> Arg<'a>
+    ensures rule { rule_of result ≡ rule_for triangles }
+    ensures local { result.global ≡ false }
+{
+    option(
+        alloc,
+        "triangles",
+        0,
+        65536,
+        "20000",
+        "How many triangles the scene has, 0 to 65536",
+    )
+}
+
+// A command whose frames are cut and shared by options.
+fn sharing<'a>(
+    alloc: Global,
+    name: &'a str,
+    about: &'a str,
+    more: &'a str,
+) -> Result<Command<'a>, Error>
+    ensures memory { IfErr result (λ e. kind_of e ≡ ErrorKind.OutOfMemory) }
+    ensures app { IfOk result (λ c. app_of c ≡ record { top = command_shape name.now sharing_options; subs = [] }) }
+    ensures local { IfOk result (λ c. (fields_of c).has_globals ≡ false) }
+{
+    let command = Command::new(alloc, name).about(about).after_help(more);
+    Ok(
+        command
+            .arg(workers_option(alloc))?
+            .arg(bins_x_option(alloc))?
+            .arg(bins_y_option(alloc))?
+            .arg(batch_option(alloc))?,
+    )
+}
+
+fn cull<'a>(alloc: Global) -> Result<Command<'a>, Error>
+    ensures memory { IfErr result (λ e. kind_of e ≡ ErrorKind.OutOfMemory) }
+    ensures app { IfOk result (λ c. app_of c ≡ record { top = command_shape (codes "cull") cull_options; subs = [] }) }
+    ensures local { IfOk result (λ c. (fields_of c).has_globals ≡ false) }
+{
+    sharing(alloc, "cull", CULL_ABOUT, CULL_MORE)
+}
+
+fn demo<'a>(alloc: Global) -> Result<Command<'a>, Error>
+    ensures memory { IfErr result (λ e. kind_of e ≡ ErrorKind.OutOfMemory) }
+    ensures app { IfOk result (λ c. app_of c ≡ record { top = command_shape (codes "demo") demo_options; subs = [] }) }
+    ensures local { IfOk result (λ c. (fields_of c).has_globals ≡ false) }
+{
+    Ok(
+        sharing(alloc, "demo", DEMO_ABOUT, DEMO_MORE)?
+            .arg(seed_option(alloc))?
+            .arg(triangles_option(alloc))?,
+    )
+}
+
+/// The program: one of its commands must be named. The error is want of memory.
+pub fn program<'a>(alloc: Global) -> Result<Command<'a>, Error>
+    ensures memory { IfErr result (λ e. kind_of e ≡ ErrorKind.OutOfMemory) }
+    ensures app { IfOk result (λ c. app_of c ≡ the_app) }
+{
+    let program = Command::new(alloc, "maskcull")
+        .about(ABOUT)
+        .after_help(MORE)
+        .subcommand_required(true);
+    Ok(program.subcommand(cull(alloc)?)?.subcommand(demo(alloc)?)?)
+}
