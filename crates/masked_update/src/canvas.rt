@@ -1,16 +1,19 @@
 //! Tiles of a window that are drawn into, with a table that tells where a piece changes nothing.
 ghost use Rattle.std.specs.Prelude.{◌≡◌, ◌<◌, true, length, IfOk};
+ghost use Rattle.cull_base.specs.Piece.{box_of};
 ghost use Rattle.cull_base.specs.Screen.{tile_columns_of, tile_rows_of};
 ghost use Rattle.cull_base.specs.Span.{has_tile, tiles_in};
 ghost use Rattle.cull_base.specs.Tiles.{PieceList};
 ghost use Rattle.masked_update.specs.Canvas.{IsCanvas, StandsAt, empty_canvas, with_tile, tile_on};
 ghost use Rattle.masked_update.specs.Least.{NoneBelow};
+ghost use Rattle.masked_update.specs.Merged.{IsSubBox};
 ghost use Rattle.masked_update.specs.Taken.{counted_tile, merged_tile};
 ghost use Rattle.masked_update.specs.TileOf.{tile_at};
 
 use crate::piece_setup::PieceSetup;
+use crate::sub_span::SubBox;
 use crate::tile_state::TileState;
-use cull_base::{Memory, Size, Tile, TileSpan};
+use cull_base::{Memory, Tile, TileSpan};
 use std::alloc::Global;
 use std::marker::Model;
 
@@ -96,16 +99,17 @@ impl Canvas {
         behind
     }
 
-    /// Merges a piece into the tile of a number, and counts nothing. Conditions: there is such a tile, and the column
-    /// and the row are below the screen's.
-    pub(crate) fn merge(&mut self, number: usize, piece: &PieceSetup, size: Size, place: Tile)
+    /// Merges a piece into the tile of a number, and counts nothing. Conditions: there is such a tile, the column and
+    /// the row are below the screen's, and what is reached on it is what the piece reaches.
+    pub(crate) fn merge(&mut self, number: usize, piece: &PieceSetup, reached: &SubBox, place: Tile)
+        requires reached { IsSubBox (box_of piece.now) reached.now }
         requires tile { number < length self.old.tiles }
-        requires column { place.column < tile_columns_of size }
-        requires row { place.row < tile_rows_of size }
-        ensures { self.new ≡ with_tile self.old number (merged_tile size place piece.now (tile_at self.old.tiles number)) }
+        requires column { place.column < tile_columns_of reached.now.size }
+        requires row { place.row < tile_rows_of reached.now.size }
+        ensures { self.new ≡ with_tile self.old number (merged_tile reached.now.size place piece.now (tile_at self.old.tiles number)) }
     {
         if !self.has_none_below(number, piece.nearest()) {
-            let changed = self.tiles[number].merge(piece, size, place);
+            let changed = self.tiles[number].merge(piece, reached, place);
             if changed {
                 self.least[number] = self.tiles[number].least_reference();
             }

@@ -6,10 +6,10 @@ ghost use Rattle.cull_base.specs.Screen.{tile_columns_of, tile_rows_of};
 ghost use Rattle.edge_lanes.specs.Inside.{sub_of};
 ghost use Rattle.masked_update.specs.Coverage.{CoveredAt, IsCoverage, AreWanted};
 ghost use Rattle.masked_update.specs.Lanes.{IsMergeable};
-ghost use Rattle.masked_update.specs.Merged.{AreEdgesOf, merged_by};
+ghost use Rattle.masked_update.specs.Merged.{AreEdgesOf, IsSubBox, merged_by};
 
 use crate::coverage::Coverage;
-use crate::sub_span::SubSpan;
+use crate::sub_span::SubBox;
 use crate::tile_layers::TileLayers;
 use cull_base::{Rect, ScreenTri, Side, Size, Sub, Tile};
 use depth_plane::Plane;
@@ -87,6 +87,15 @@ impl PieceSetup {
         self.nearest
     }
 
+    /// The subtiles of a screen that the piece may reach.
+    #[inline(always)]
+    pub fn reached_on(&self, size: Size) -> SubBox
+        ensures reached { IsSubBox (box_of self.now) result }
+        ensures size { result.size ≡ size }
+    {
+        SubBox::of(&self.reached, size)
+    }
+
     // Subtile j of the tile: its covered samples, and its bound if there are any.
     #[inline(always)]
     fn cover(&self, coverage: &mut Coverage, edges: &TileEdges, place: Tile, j: u32)
@@ -129,21 +138,31 @@ impl PieceSetup {
     // The subtiles of a tile, as bits, that the box reaches on the screen and whose reference is below the piece. It
     // changes no other: it covers nothing outside its box, and its bound is nowhere above its greatest nearness.
     #[inline(always)]
-    fn subtiles_behind(&self, layers: &TileLayers, size: Size, place: Tile) -> u32
-        ensures wanted { AreWanted size place self.now layers.now result }
+    fn subtiles_behind(&self, layers: &TileLayers, reached: &SubBox, place: Tile) -> u32
+        requires { IsSubBox (box_of self.now) reached.now }
+        ensures wanted { AreWanted reached.now.size place self.now layers.now result }
         ensures eight { length layers.now ≡ 8 }
     {
-        SubSpan::of(&self.reached, size, place).bits() & layers.below(self.nearest)
+        reached.in_tile(place).bits() & layers.below(self.nearest)
     }
 
-    /// Merges the piece into a tile's subtiles on the screen, and says whether any may have changed.
-    pub(crate) fn merge_into(&self, layers: &mut TileLayers, size: Size, place: Tile) -> bool
-        requires column { place.column < tile_columns_of size }
-        requires row { place.row < tile_rows_of size }
-        ensures merged { layers.new ≡ merged_by size place self.now layers.old }
+    /// Merges the piece into a tile's subtiles on the screen, and says whether any may have changed. Conditions: the
+    /// column and the row are below the screen's, and what is reached on it is what the piece reaches.
+    pub(crate) fn merge_into(
+        &self,
+        layers: &mut TileLayers,
+        reached: &SubBox,
+        place: Tile,
+    ) -> bool
+        requires reached { IsSubBox (box_of self.now) reached.now }
+        requires column { place.column < tile_columns_of reached.now.size }
+        requires row { place.row < tile_rows_of reached.now.size }
+        ensures merged { layers.new ≡ merged_by reached.now.size place self.now layers.old }
         ensures same { result ≡ false → layers.new ≡ layers.old }
     {
-        let behind = self.subtiles_behind(layers, size, place);
+        // an accessor tells what is held of a size
+        let _width = reached.size.width();
+        let behind = self.subtiles_behind(layers, reached, place);
         if behind == 0 {
             return false;
         }

@@ -1,13 +1,15 @@
 //! A piece is drawn into the tiles of a canvas that its box reaches.
 ghost use Rattle.std.specs.Prelude.{◌≡◌, ℕ, ◌<◌, ◌≤◌, true};
-ghost use Rattle.cull_base.specs.Piece.{IsPiece};
+ghost use Rattle.cull_base.specs.Piece.{IsPiece, box_of};
 ghost use Rattle.cull_base.specs.Screen.{IsSize, tile_rows_of};
 ghost use Rattle.cull_base.specs.Span.{IsPartOf, IsSpan, has_tile};
 ghost use Rattle.masked_update.specs.Canvas.{IsInWindow, TookMet, tile_in};
+ghost use Rattle.masked_update.specs.Merged.{IsSubBox};
 ghost use Rattle.masked_update.specs.Walk.{CountedWhere, MayCount, MergedWhere, NoneBelowWhere, is_in_row};
 
 use crate::canvas::Canvas;
 use crate::piece_setup::PieceSetup;
+use crate::sub_span::SubBox;
 use cull_base::{ScreenTri, Size, Tile, TileSpan};
 
 // Counts a piece in the tiles of one row, in the columns of a span, and says whether it stands behind all of them.
@@ -44,17 +46,24 @@ fn count_in_span(canvas: &mut Canvas, span: TileSpan, nearest: u32) -> bool
 }
 
 // Merges a piece into the tiles of one row, in the columns of a span.
-fn merge_in_row(canvas: &mut Canvas, piece: &PieceSetup, size: Size, span: TileSpan, row: u32)
+fn merge_in_row(
+    canvas: &mut Canvas,
+    piece: &PieceSetup,
+    reached: &SubBox,
+    span: TileSpan,
+    row: u32,
+)
     requires part { IsPartOf canvas.old.window span }
-    requires span { IsSpan size span }
+    requires reached { IsSubBox (box_of piece.now) reached.now }
+    requires span { IsSpan reached.now.size span }
     requires row { (span.first_row ≤ row) × (row < span.end_row) }
     requires small { row < 256 }
-    ensures { MergedWhere (is_in_row span row) size piece.now canvas.old canvas.new }
+    ensures { MergedWhere (is_in_row span row) reached.now.size piece.now canvas.old canvas.new }
 {
     let window = canvas.window();
     let start = window.row_start(row);
     // an accessor tells how many columns there may be
-    let _columns = size.tile_columns();
+    let _columns = reached.size.tile_columns();
     for column in span.first_column..span.end_column {
         let place = Tile {
             column: column as u16,
@@ -63,23 +72,24 @@ fn merge_in_row(canvas: &mut Canvas, piece: &PieceSetup, size: Size, span: TileS
         canvas.merge(
             start + (column - window.first_column) as usize,
             piece,
-            size,
+            reached,
             place,
         );
     }
 }
 
 // Merges a piece into the tiles of a span.
-fn merge_in_span(canvas: &mut Canvas, piece: &PieceSetup, size: Size, span: TileSpan)
+fn merge_in_span(canvas: &mut Canvas, piece: &PieceSetup, reached: &SubBox, span: TileSpan)
     requires part { IsPartOf canvas.old.window span }
-    requires span { IsSpan size span }
-    requires sized { IsSize size.width size.height }
-    ensures { MergedWhere (has_tile span) size piece.now canvas.old canvas.new }
+    requires reached { IsSubBox (box_of piece.now) reached.now }
+    requires span { IsSpan reached.now.size span }
+    requires sized { IsSize reached.now.size.width reached.now.size.height }
+    ensures { MergedWhere (has_tile span) reached.now.size piece.now canvas.old canvas.new }
 {
     // an accessor tells what is held of a canvas
     let _window = canvas.window();
     for row in span.first_row..span.end_row {
-        merge_in_row(canvas, piece, size, span, row);
+        merge_in_row(canvas, piece, reached, span, row);
     }
 }
 
@@ -91,7 +101,8 @@ fn merge_piece(canvas: &mut Canvas, tri: &ScreenTri, size: Size, span: TileSpan)
     requires sized { IsSize size.width size.height }
     ensures { MergedWhere (has_tile span) size tri.now canvas.old canvas.new }
 {
-    merge_in_span(canvas, &PieceSetup::of(tri), size, span);
+    let piece = PieceSetup::of(tri);
+    merge_in_span(canvas, &piece, &piece.reached_on(size), span);
 }
 
 /// Draws a piece into the tiles of the canvas that its box reaches. One that stands behind all of them is counted and

@@ -7,7 +7,7 @@ use Rattle.masked_update.proofs.walk.merge_in_row.Goals as goal
 
 pub loop-column-init : goal.loop-column-init
 loop-column-init c =
-    none_changed (is_in_row (columns_before c.args.span c.args.span.first_column) c.args.row) (λ p t. merged_tile c.args.size p c.args.piece.now t) c.args.canvas.now c.window-window.ensures.whole (row_begins c.args.span c.args.row)
+    none_changed (is_in_row (columns_before c.args.span c.args.span.first_column) c.args.row) (λ p t. merged_tile c.args.reached.now.size p c.args.piece.now t) c.args.canvas.now c.window-window.ensures.whole (row_begins c.args.span c.args.row)
 
 pub merge-requires-clause-tile : goal.merge-requires-clause-tile
 merge-requires-clause-tile c =
@@ -15,7 +15,7 @@ merge-requires-clause-tile c =
     let span = c.args.span in
     let here = row_here old.window span c.args.row c.loop-column.column c.requires.part c.requires.row.0 c.requires.row.1 c.loop-column.auto.column c.loop-column-test.true in
     let number = row_number old.window c.window-window.result c.args.row c.loop-column.column c.row_start-start.result c.window-window.ensures.value c.row_start-start.ensures in
-    let inside = number_inside (is_in_row (columns_before span c.loop-column.column) c.args.row) (λ p t. merged_tile c.args.size p c.args.piece.now t) old c.loop-column.canvas (tile_with c.loop-column.column c.args.row) c.loop-column.invariant here in
+    let inside = number_inside (is_in_row (columns_before span c.loop-column.column) c.args.row) (λ p t. merged_tile c.args.reached.now.size p c.args.piece.now t) old c.loop-column.canvas (tile_with c.loop-column.column c.args.row) c.loop-column.invariant here in
     omega (arith, number, inside)
 
 pub loop-column-preserved : goal.loop-column-preserved
@@ -25,10 +25,10 @@ loop-column-preserved c =
     let q = tile_with c.loop-column.column c.args.row in
     let here = row_here old.window span c.args.row c.loop-column.column c.requires.part c.requires.row.0 c.requires.row.1 c.loop-column.auto.column c.loop-column-test.true in
     let number = row_number old.window c.window-window.result c.args.row c.loop-column.column c.row_start-start.result c.window-window.ensures.value c.row_start-start.ensures in
-    row_more span (λ p t. merged_tile c.args.size p c.args.piece.now t) old c.loop-column.canvas c.merge.new.self q _ here number c.loop-column.auto.column c.loop-column.invariant c.merge.ensures
+    row_more span (λ p t. merged_tile c.args.reached.now.size p c.args.piece.now t) old c.loop-column.canvas c.merge.new.self q _ here number c.loop-column.auto.column c.loop-column.invariant c.merge.ensures
 
 pub returns : goal.returns
 returns c =
     let span = c.args.span in
     let end : c.loop-column.column ≡ span.end_column = omega (arith, c.loop-column-test.false, c.loop-column.auto.column-end, c.requires.part.columns) in
-    subst (λ n. MergedWhere (is_in_row (columns_before span n) c.args.row) c.args.size c.args.piece.now c.args.canvas.now c.loop-column.canvas) end c.loop-column.invariant
+    subst (λ n. MergedWhere (is_in_row (columns_before span n) c.args.row) c.args.reached.now.size c.args.piece.now c.args.canvas.now c.loop-column.canvas) end c.loop-column.invariant
