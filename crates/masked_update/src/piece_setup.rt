@@ -4,6 +4,7 @@ ghost use Rattle.cull_base.specs.Piece.{IsPiece, box_of};
 ghost use Rattle.cull_base.specs.Depth.{greatest_nearness};
 ghost use Rattle.cull_base.specs.Screen.{tile_columns_of, tile_rows_of};
 ghost use Rattle.edge_lanes.specs.Inside.{sub_of};
+ghost use Rattle.edge_lanes.specs.Tiles.{AreWhole, inside_at};
 ghost use Rattle.masked_update.specs.Coverage.{CoveredAt, IsCoverage, AreWanted};
 ghost use Rattle.masked_update.specs.Lanes.{IsMergeable};
 ghost use Rattle.masked_update.specs.Merged.{AreEdgesOf, IsSubBox, merged_by};
@@ -98,15 +99,16 @@ impl PieceSetup {
 
     // Subtile j of the tile: its covered samples, and its bound if there are any.
     #[inline(always)]
-    fn cover(&self, coverage: &mut Coverage, edges: &TileEdges, place: Tile, j: u32)
+    fn cover(&self, coverage: &mut Coverage, edges: &TileEdges, whole: u32, place: Tile, j: u32)
         requires column { place.column < 64 }
         requires row { place.row < 256 }
         requires j { j < 8 }
         requires edges { AreEdgesOf edges.now place self.now }
+        requires whole { AreWhole (inside_at edges.now) whole }
         requires mergeable { IsMergeable coverage.old }
         ensures { CoveredAt place self.now j coverage.old coverage.new }
     {
-        let mask = edges.mask(j);
+        let mask = edges.mask_beside(whole, j);
         coverage.masks[j as usize] = mask;
         if mask != 0 {
             coverage.lows[j as usize] = self.plane.low(&self.tri, subtile(place, j));
@@ -126,10 +128,11 @@ impl PieceSetup {
             lows: [0; 8],
             masks: [0; 8],
         };
+        let whole = edges.whole();
         let mut left = wanted;
         while left != 0 {
             let j = left.trailing_zeros();
-            self.cover(&mut coverage, edges, place, j);
+            self.cover(&mut coverage, edges, whole, place, j);
             left &= !(1 << j);
         }
         coverage

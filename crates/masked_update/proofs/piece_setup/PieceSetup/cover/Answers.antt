@@ -7,9 +7,9 @@ use Rattle.masked_update.proofs.piece_setup.PieceSetup.cover.Goals as goal
 
 pub returns-then-mask-ne0 : goal.returns-then-mask-ne0
 returns-then-mask-ne0 c =
-    cover_some c.args.place c.args.self.now c.args.j c.mask-mask.result c.args.coverage.now c.requires.j c.requires.mergeable (c.mask-mask.ensures.samples ∙ c.requires.edges c.args.j) c.low.result
+    cover_some c.args.place c.args.self.now c.args.j c.mask_beside-mask.result c.args.coverage.now c.requires.j c.requires.mergeable (c.mask_beside-mask.ensures.samples ∙ c.requires.edges c.args.j) c.low.result
     (c.low.ensures.value ∙ ap (low_of c.self.inside.tri) c.subtile.ensures.value ∙ ap (λ (t : Piece). low_of t (sub_of c.args.place c.args.j)) c.self.view_is) c.low.ensures.within
 
 pub returns-else-mask-ne0 : goal.returns-else-mask-ne0
 returns-else-mask-ne0 c =
-    cover_none c.args.place c.args.self.now c.args.j c.mask-mask.result c.args.coverage.now c.requires.j c.requires.mergeable (c.mask-mask.ensures.samples ∙ c.requires.edges c.args.j) c.if-mask-ne0.false
+    cover_none c.args.place c.args.self.now c.args.j c.mask_beside-mask.result c.args.coverage.now c.requires.j c.requires.mergeable (c.mask_beside-mask.ensures.samples ∙ c.requires.edges c.args.j) c.if-mask-ne0.false
