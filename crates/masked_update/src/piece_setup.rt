@@ -1,9 +1,9 @@
 //! A piece set up for the tiles that take it: what each subtile asks of it is computed once.
-ghost use Rattle.std.specs.Prelude.{◌≡◌, ◌<◌, ◌^◌, false, length};
+ghost use Rattle.std.specs.Prelude.{◌≡◌, ◌<◌, ◌^◌, false, length, IfSome};
 ghost use Rattle.cull_base.specs.Piece.{IsPiece, box_of};
 ghost use Rattle.cull_base.specs.Depth.{greatest_nearness};
 ghost use Rattle.cull_base.specs.Screen.{tile_columns_of, tile_rows_of};
-ghost use Rattle.edge_lanes.specs.Inside.{sub_of};
+ghost use Rattle.depth_plane.specs.Plane.{IsTileFirst, plane_of};
 ghost use Rattle.edge_lanes.specs.Tiles.{AreWhole, inside_at};
 ghost use Rattle.masked_update.specs.Coverage.{CoveredAt, IsCoverage, AreWanted};
 ghost use Rattle.masked_update.specs.Lanes.{IsMergeable};
@@ -12,7 +12,7 @@ ghost use Rattle.masked_update.specs.Merged.{AreEdgesOf, IsSubBox, merged_by};
 use crate::coverage::Coverage;
 use crate::sub_span::SubBox;
 use crate::tile_layers::TileLayers;
-use cull_base::{Rect, ScreenTri, Side, Size, Sub, Tile};
+use cull_base::{Rect, ScreenTri, Side, Size, Tile};
 use depth_plane::Plane;
 use edge_lanes::{Edges, TileEdges};
 use std::marker::Model;
@@ -37,23 +37,6 @@ impl Model for PieceSetup {
     ghost view = { λ s. s.tri };
 
     ghost invariant = { IsSetUp };
-}
-
-// Subtile j of a tile.
-#[inline(always)]
-fn subtile(place: Tile, j: u32) -> Sub
-    requires column { place.column < 64 }
-    requires row { place.row < 256 }
-    requires j { j < 8 }
-    ensures value { result ≡ sub_of place j }
-    ensures column { result.column < 256 }
-    ensures row { result.row < 512 }
-{
-    let j = j as u16;
-    Sub {
-        column: 4 * place.column + j % 4,
-        row: 2 * place.row + j / 4,
-    }
 }
 
 impl PieceSetup {
@@ -99,19 +82,28 @@ impl PieceSetup {
 
     // Subtile j of the tile: its covered samples, and its bound if there are any.
     #[inline(always)]
-    fn cover(&self, coverage: &mut Coverage, edges: &TileEdges, whole: u32, place: Tile, j: u32)
+    fn cover(
+        &self,
+        coverage: &mut Coverage,
+        edges: &TileEdges,
+        whole: u32,
+        first: Option<i64>,
+        place: Tile,
+        j: u32,
+    )
         requires column { place.column < 64 }
         requires row { place.row < 256 }
         requires j { j < 8 }
         requires edges { AreEdgesOf edges.now place self.now }
         requires whole { AreWhole (inside_at edges.now) whole }
+        requires first { IfSome first (IsTileFirst (plane_of self.now) place) }
         requires mergeable { IsMergeable coverage.old }
         ensures { CoveredAt place self.now j coverage.old coverage.new }
     {
         let mask = edges.mask_beside(whole, j);
         coverage.masks[j as usize] = mask;
         if mask != 0 {
-            coverage.lows[j as usize] = self.plane.low(&self.tri, subtile(place, j));
+            coverage.lows[j as usize] = self.plane.low_in_tile(&self.tri, place, first, j);
         }
     }
 
@@ -129,10 +121,11 @@ impl PieceSetup {
             masks: [0; 8],
         };
         let whole = edges.whole();
+        let first = self.plane.tile_first(place);
         let mut left = wanted;
         while left != 0 {
             let j = left.trailing_zeros();
-            self.cover(&mut coverage, edges, whole, place, j);
+            self.cover(&mut coverage, edges, whole, first, place, j);
             left &= !(1 << j);
         }
         coverage
