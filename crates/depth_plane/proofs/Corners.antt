@@ -119,18 +119,19 @@ corner_least c u x y ex ey =
     let b = least_axis c.down (16 * (4 * u.row) + 8) 48 (16 * (m / 8)) (omega arith) in
     rw (s, ex, ey) (omega (arith, ints, a, b)))
 
+-- the value of a plane so far to the right and below
+moved : (a d l f : ℤ) (x y i j p q : ℕ) → f ≡ ((a *ℤ pos x) +ℤ (d *ℤ pos y)) +ℤ l → p ≡ x + i → q ≡ y + j →
+    (f +ℤ (a *ℤ pos i)) +ℤ (d *ℤ pos j) ≡ ((a *ℤ pos p) +ℤ (d *ℤ pos q)) +ℤ l
+moved a d l f x y i j p q ef ep eq =
+    let s = mul-add a (pos x) (pos i) in let t = mul-add d (pos y) (pos j) in
+    rw (ef, ep, eq) (omega (arith, ints, s, t))
+
 -- by what it is at the first subtile
 pub least_from_first : (c : Coefficients) (u : Sub) (first : ℤ) → IsNarrow c first →
     (first +ℤ (c.across *ℤ pos (128 * u.column))) +ℤ (c.down *ℤ pos (64 * u.row)) ≡ least_of (each_sample (λ k. numerator_at c (sample u k)))
 least_from_first c u first h =
     moved c.across c.down c.level first (8 + least_place c.across 112) (8 + least_place c.down 48) (128 * u.column) (64 * u.row) _ _ h.value (omega arith) (omega arith)
     ∙ corner_least c u ((16 * (8 * u.column) + 8) + least_place c.across 112) ((16 * (4 * u.row) + 8) + least_place c.down 48) refl refl
-  where
-    moved : (a d l f : ℤ) (x y i j p q : ℕ) → f ≡ ((a *ℤ pos x) +ℤ (d *ℤ pos y)) +ℤ l → p ≡ x + i → q ≡ y + j →
-        (f +ℤ (a *ℤ pos i)) +ℤ (d *ℤ pos j) ≡ ((a *ℤ pos p) +ℤ (d *ℤ pos q)) +ℤ l
-    moved a d l f x y i j p q ef ep eq =
-        let s = mul-add a (pos x) (pos i) in let t = mul-add d (pos y) (pos j) in
-        rw (ef, ep, eq) (omega (arith, ints, s, t))
 
 -- by what it is at another subtile above and to the left
 pub least_moved : (c : Coefficients) (u v : Sub) (i j : ℕ) → v.column ≡ u.column + i → v.row ≡ u.row + j →
@@ -140,12 +141,6 @@ least_moved c u v i j ec er =
     (16 * (8 * v.column) + 8 + least_place c.across 112) (16 * (4 * v.row) + 8 + least_place c.down 48)
     (sym (corner_least c u _ _ refl refl)) (omega (arith, ec)) (omega (arith, er))
     ∙ corner_least c v _ _ refl refl
-  where
-    moved : (a d l f : ℤ) (x y i j p q : ℕ) → f ≡ ((a *ℤ pos x) +ℤ (d *ℤ pos y)) +ℤ l → p ≡ x + i → q ≡ y + j →
-        (f +ℤ (a *ℤ pos i)) +ℤ (d *ℤ pos j) ≡ ((a *ℤ pos p) +ℤ (d *ℤ pos q)) +ℤ l
-    moved a d l f x y i j p q ef ep eq =
-        let s = mul-add a (pos x) (pos i) in let t = mul-add d (pos y) (pos j) in
-        rw (ef, ep, eq) (omega (arith, ints, s, t))
 
 -- by that over a tile's first subtile
 pub least_risen : (c : Coefficients) (tile : Tile) (j : ℕ) → least_in c (sub_in tile 0) +ℤ rise_at c.across c.down j ≡ least_in c (sub_in tile j)

@@ -144,12 +144,7 @@ impl PieceSetup {
 
     /// Merges the piece into a tile's subtiles on the screen, and says whether any may have changed. Conditions: the
     /// column and the row are below the screen's, and what is reached on it is what the piece reaches.
-    pub(crate) fn merge_into(
-        &self,
-        layers: &mut TileLayers,
-        reached: &SubBox,
-        place: Tile,
-    ) -> bool
+    pub(crate) fn merge_into(&self, layers: &mut TileLayers, reached: &SubBox, place: Tile) -> bool
         requires reached { IsSubBox (box_of self.now) reached.now }
         requires column { place.column < tile_columns_of reached.now.size }
         requires row { place.row < tile_rows_of reached.now.size }

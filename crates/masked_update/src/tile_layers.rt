@@ -47,7 +47,9 @@ impl Model for TileLayers {
 fn least_of_pairs(a: [u32; 4], b: [u32; 4]) -> [u32; 4]
     ensures { result ≡ zip2 min a b }
 {
-    u32x4::from_array(a).simd_min(u32x4::from_array(b)).to_array()
+    u32x4::from_array(a)
+        .simd_min(u32x4::from_array(b))
+        .to_array()
 }
 
 #[inline(always)]

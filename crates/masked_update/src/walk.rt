@@ -46,13 +46,7 @@ fn count_in_span(canvas: &mut Canvas, span: TileSpan, nearest: u32) -> bool
 }
 
 // Merges a piece into the tiles of one row, in the columns of a span.
-fn merge_in_row(
-    canvas: &mut Canvas,
-    piece: &PieceSetup,
-    reached: &SubBox,
-    span: TileSpan,
-    row: u32,
-)
+fn merge_in_row(canvas: &mut Canvas, piece: &PieceSetup, reached: &SubBox, span: TileSpan, row: u32)
     requires part { IsPartOf canvas.old.window span }
     requires reached { IsSubBox (box_of piece.now) reached.now }
     requires span { IsSpan reached.now.size span }
