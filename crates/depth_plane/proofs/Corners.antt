@@ -1,5 +1,5 @@
 -- A plane is least and greatest over the samples of a subtile at a corner.
-use Rattle.std.proofs.Common.{◌≡◌, ℕ, ℤ, pos, negsuc, suc, zero, ◌+◌, ◌*◌, ◌/◌, ◌%◌, ◌<◌, ◌≤◌, ◌+ℤ◌, ◌*ℤ◌, ◌≤ℤ◌, ◌∙◌, arith, refl, List, map, length, get_or, ◌⊎◌, inl, inr}
+use Rattle.std.proofs.Common.{◌≡◌, ℕ, ℤ, pos, negsuc, suc, zero, ◌+◌, ◌*◌, ◌/◌, ◌%◌, ◌<◌, ◌≤◌, ◌+ℤ◌, ◌*ℤ◌, ◌≤ℤ◌, ◌^◌, ◌∙◌, sym, slice_index_or, arith, refl, List, map, length, get_or, ◌⊎◌, inl, inr}
 use Rattle.std.specs.Int.{int_min, int_max}
 use Rattle.std.specs.List.{fold, range_with_len, All, Contains}
 use Rattle.std.proofs.Math.Nat.{mul-le-mul_left}
@@ -7,9 +7,12 @@ use Rattle.std.proofs.lemmas.Int.{ints, fold-int_min_bounds, fold-int_min_reache
 use Rattle.std.proofs.lemmas.List.FromFn.{length-map-range_with_len, get_or-map-range_with_len}
 use Rattle.std.proofs.lemmas.List.Elements.{All-get_or}
 use Rattle.cull_base.specs.Piece.{least_of, greatest_of, Point, sample, each_sample}
+use Rattle.cull_base.specs.Bounds.{Bounded}
+use Rattle.cull_base.proofs.Bounds.{bounded-mul}
 use Rattle.cull_base.specs.declared.place.Sub.{Sub}
-use Rattle.depth_plane.specs.Plane.{Coefficients, numerator_at, IsNarrow}
-use Rattle.depth_plane.specs.Corner.{least_place, greatest_place}
+use Rattle.cull_base.specs.declared.place.Tile.{Tile}
+use Rattle.depth_plane.specs.Plane.{Coefficients, numerator_at, IsNarrow, least_in, sub_in}
+use Rattle.depth_plane.specs.Corner.{least_place, greatest_place, rise_at, rises_of}
 use Rattle.depth_plane.proofs.Products.{mul-add}
 
 abbrev rest : (ℕ → ℤ) → List ℤ
@@ -116,18 +119,44 @@ corner_least c u x y ex ey =
     let b = least_axis c.down (16 * (4 * u.row) + 8) 48 (16 * (m / 8)) (omega arith) in
     rw (s, ex, ey) (omega (arith, ints, a, b)))
 
+-- the value of a plane so far to the right and below
+moved : (a d l f : ℤ) (x y i j p q : ℕ) → f ≡ ((a *ℤ pos x) +ℤ (d *ℤ pos y)) +ℤ l → p ≡ x + i → q ≡ y + j →
+    (f +ℤ (a *ℤ pos i)) +ℤ (d *ℤ pos j) ≡ ((a *ℤ pos p) +ℤ (d *ℤ pos q)) +ℤ l
+moved a d l f x y i j p q ef ep eq =
+    let s = mul-add a (pos x) (pos i) in let t = mul-add d (pos y) (pos j) in
+    rw (ef, ep, eq) (omega (arith, ints, s, t))
+
 -- by what it is at the first subtile
 pub least_from_first : (c : Coefficients) (u : Sub) (first : ℤ) → IsNarrow c first →
     (first +ℤ (c.across *ℤ pos (128 * u.column))) +ℤ (c.down *ℤ pos (64 * u.row)) ≡ least_of (each_sample (λ k. numerator_at c (sample u k)))
 least_from_first c u first h =
     moved c.across c.down c.level first (8 + least_place c.across 112) (8 + least_place c.down 48) (128 * u.column) (64 * u.row) _ _ h.value (omega arith) (omega arith)
     ∙ corner_least c u ((16 * (8 * u.column) + 8) + least_place c.across 112) ((16 * (4 * u.row) + 8) + least_place c.down 48) refl refl
+
+-- by what it is at another subtile above and to the left
+pub least_moved : (c : Coefficients) (u v : Sub) (i j : ℕ) → v.column ≡ u.column + i → v.row ≡ u.row + j →
+    (least_in c u +ℤ (c.across *ℤ pos (128 * i))) +ℤ (c.down *ℤ pos (64 * j)) ≡ least_in c v
+least_moved c u v i j ec er =
+    moved c.across c.down c.level (least_in c u) (16 * (8 * u.column) + 8 + least_place c.across 112) (16 * (4 * u.row) + 8 + least_place c.down 48) (128 * i) (64 * j)
+    (16 * (8 * v.column) + 8 + least_place c.across 112) (16 * (4 * v.row) + 8 + least_place c.down 48)
+    (sym (corner_least c u _ _ refl refl)) (omega (arith, ec)) (omega (arith, er))
+    ∙ corner_least c v _ _ refl refl
+
+-- by that over a tile's first subtile
+pub least_risen : (c : Coefficients) (tile : Tile) (j : ℕ) → least_in c (sub_in tile 0) +ℤ rise_at c.across c.down j ≡ least_in c (sub_in tile j)
+least_risen c tile j = apart (least_in c (sub_in tile 0)) (c.across *ℤ pos (128 * (j % 4))) (c.down *ℤ pos (64 * (j / 4))) ∙ least_moved c (sub_in tile 0) (sub_in tile j) (j % 4) (j / 4) (omega arith) (omega arith)
   where
-    moved : (a d l f : ℤ) (x y i j p q : ℕ) → f ≡ ((a *ℤ pos x) +ℤ (d *ℤ pos y)) +ℤ l → p ≡ x + i → q ≡ y + j →
-        (f +ℤ (a *ℤ pos i)) +ℤ (d *ℤ pos j) ≡ ((a *ℤ pos p) +ℤ (d *ℤ pos q)) +ℤ l
-    moved a d l f x y i j p q ef ep eq =
-        let s = mul-add a (pos x) (pos i) in let t = mul-add d (pos y) (pos j) in
-        rw (ef, ep, eq) (omega (arith, ints, s, t))
+    apart : (f p q : ℤ) → f +ℤ (p +ℤ q) ≡ (f +ℤ p) +ℤ q
+    apart f p q = omega (arith, ints)
+
+pub rise-bounded : (a d : ℤ) (j : ℕ) → j < 8 → Bounded (2 ^ 46) a → Bounded (2 ^ 46) d → Bounded (2 ^ 56) (rise_at a d j)
+rise-bounded a d j lt ba bd =
+    let p = bounded-mul (2 ^ 46) 384 a (pos (128 * (j % 4))) ba (omega (arith, ints), omega (arith, ints)) in
+    let q = bounded-mul (2 ^ 46) 64 d (pos (64 * (j / 4))) bd (omega (arith, ints, lt), omega (arith, ints, lt)) in
+    (omega (arith, ints, p, q), omega (arith, ints, p, q))
+
+pub index-rises_of : (a d : ℤ) (j : ℕ) → j < 8 → slice_index_or (rises_of a d) j (pos 0) ≡ rise_at a d j
+index-rises_of a d j lt = get_or-map-range_with_len (rise_at a d) 0 8 j j (pos 0) lt (omega arith)
 
 pub corner_greatest : (c : Coefficients) (u : Sub) (x y : ℕ) → x ≡ (16 * (8 * u.column) + 8) + greatest_place c.across 112 → y ≡ (16 * (4 * u.row) + 8) + greatest_place c.down 48 →
     numerator_at c (at x y) ≡ greatest_of (each_sample (λ k. numerator_at c (sample u k)))

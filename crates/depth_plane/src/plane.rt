@@ -1,19 +1,19 @@
 //! The plane of a piece's depth.
-ghost use Rattle.std.specs.Prelude.{◌≡◌, ℕ, ℤ, pos, true, ◌<◌, ◌≤◌, ◌^◌, ◌<ℤ◌, IsTrue, ◌↔◌, ◌+◌, ◌*◌};
+ghost use Rattle.std.specs.Prelude.{◌≡◌, ℕ, ℤ, pos, true, ◌<◌, ◌≤◌, ◌^◌, ◌<ℤ◌, IsTrue, ◌↔◌, ◌+◌, ◌*◌, ◌/◌, ◌%◌, IfSome};
 ghost use Rattle.cull_base.specs.Piece.{least_of, greatest_of, IsPiece, Point, sample, each_sample};
 ghost use Rattle.std.specs.Int.{int_max};
 ghost use Rattle.cull_base.specs.Depth.{floor_of, least_nearness, greatest_nearness, numerator, denominator, low_of, high_of};
 ghost use Rattle.cull_base.specs.Bounds.{Bounded};
 ghost use Rattle.cull_base.specs.declared.nearness.TheConstants.{HELD_TOP};
-ghost use Rattle.depth_plane.specs.Plane.{plane_of, numerator_at, IsNearer, point_of, IsLowBound, IsHighBound, TellsNearerPiece, IsNarrow, low_from};
+ghost use Rattle.depth_plane.specs.Plane.{plane_of, numerator_at, IsNearer, point_of, IsLowBound, IsHighBound, TellsNearerPiece, IsNarrow, IsTileFirst, least_in, low_from, sub_in};
 
 use crate::corner::{
     SPAN_ACROSS, SPAN_DOWN, greatest_along, least_along, narrow_first, narrow_numerator,
-    numerator_at,
+    numerator_at, subtile_rises,
 };
 use crate::quotient::{ceiling, cut_to_range, is_greater, narrow_floor};
 use crate::vertices::Vertices;
-use cull_base::{Divisor, Sample, ScreenTri, Sub};
+use cull_base::{Divisor, Sample, ScreenTri, Sub, Tile};
 use std::marker::Model;
 
 /// The depth of a piece at (x, y), in sixteenths of a pixel: `(across * x + down * y + level) / area`.
@@ -24,19 +24,22 @@ pub struct Plane {
     level: i128,
     // the least numerator over the first subtile, where numerators over the screen fit 64 bits
     first: Option<i64>,
+    // what the plane rises by from a tile's first subtile to each
+    rises: [i64; 8],
     area: Divisor,
 }
 
 impl Model for Plane {
     ghost use Rattle.std.specs.Prelude.{pos, IfSome};
-    ghost use Rattle.depth_plane.specs.Plane.{Coefficients, coefficients, IsPlane, IsNarrow};
+    ghost use Rattle.depth_plane.specs.Plane.{Coefficients, coefficients, IsPlane, IsNarrow, HasRises};
 
     ghost Value = { Coefficients };
 
     ghost view = { λ p. coefficients p.across p.down p.level (pos p.area) };
 
     ghost invariant = { λ p.
-        let c = coefficients p.across p.down p.level (pos p.area) in IsPlane c × IfSome p.first (IsNarrow c) };
+        let c = coefficients p.across p.down p.level (pos p.area) in
+        IsPlane c × IfSome p.first (IsNarrow c) × HasRises c p.rises };
 }
 
 // Where the sample of a pixel stands, in sixteenths of a pixel.
@@ -46,6 +49,23 @@ fn place(pixel: u16) -> u32
     ensures small { result < 2 ^ 21 }
 {
     16 * u32::from(pixel) + 8
+}
+
+// Subtile j of a tile.
+#[inline(always)]
+fn subtile(tile: Tile, j: u32) -> Sub
+    requires column { tile.column < 64 }
+    requires row { tile.row < 256 }
+    requires j { j < 8 }
+    ensures value { result ≡ sub_in tile j }
+    ensures column { result.column < 256 }
+    ensures row { result.row < 512 }
+{
+    let j = j as u16;
+    Sub {
+        column: 4 * tile.column + j % 4,
+        row: 2 * tile.row + j / 4,
+    }
 }
 
 impl Plane {
@@ -67,6 +87,7 @@ impl Plane {
             down,
             level,
             first: narrow_first(across, down, level),
+            rises: subtile_rises(across, down),
             area: Divisor::of(area.unsigned_abs()),
         }
     }
@@ -83,6 +104,60 @@ impl Plane {
         ensures below { IsLowBound tri.now sub result }
     {
         self.low_above(tri.least_nearness(), sub)
+    }
+
+    /// The least numerator over the first subtile of a tile, where those over all of them fit 64 bits. Condition: the
+    /// tile lies within 2048 by 2048 pixels.
+    #[inline(always)]
+    pub fn tile_first(&self, tile: Tile) -> Option<i64>
+        requires column { tile.column < 64 }
+        requires row { tile.row < 256 }
+        ensures { IfSome result (IsTileFirst self.now tile) }
+    {
+        let first = self.first?;
+        Some(self.narrow_least(first, subtile(tile, 0)))
+    }
+
+    // The least numerator over subtile j of a tile, by that over the first.
+    #[inline(always)]
+    fn least_in_tile(&self, tile: Tile, first: i64, j: u32) -> i64
+        requires first { IsTileFirst self.now tile first }
+        requires j { j < 8 }
+        ensures { result ≡ least_in self.now (sub_in tile j) }
+    {
+        first + self.rises[j as usize]
+    }
+
+    /// The low bound of subtile j of a tile, by the least numerator over the first, as `low` gives it. Conditions: the
+    /// plane is the piece's, the tile lies within 2048 by 2048 pixels, and j is below 8.
+    #[inline(always)]
+    pub fn low_in_tile(&self, tri: &ScreenTri, tile: Tile, first: Option<i64>, j: u32) -> u32
+        requires plane { self.now ≡ plane_of tri.now }
+        requires column { tile.column < 64 }
+        requires row { tile.row < 256 }
+        requires first { IfSome first (IsTileFirst self.now tile) }
+        requires j { j < 8 }
+        ensures value { result ≡ low_of tri.now (sub_in tile j) }
+        ensures within { result ≤ HELD_TOP }
+    {
+        self.low_in_tile_above(tri.least_nearness(), tile, first, j)
+    }
+
+    // The same for a piece whose least nearness is this.
+    #[inline(always)]
+    fn low_in_tile_above(&self, nearness: u32, tile: Tile, first: Option<i64>, j: u32) -> u32
+        requires column { tile.column < 64 }
+        requires row { tile.row < 256 }
+        requires first { IfSome first (IsTileFirst self.now tile) }
+        requires j { j < 8 }
+        ensures { result ≡ low_from self.now nearness (sub_in tile j) }
+    {
+        match first {
+            Some(first) => {
+                narrow_floor(self.least_in_tile(tile, first, j), &self.area, nearness)
+            }
+            None => self.wide_low(nearness, subtile(tile, j)),
+        }
     }
 
     // The low bound of a subtile, for a piece whose least nearness is this.
@@ -171,7 +246,8 @@ impl Plane {
         requires first { IsNarrow self.now first }
         requires column { sub.column < 256 }
         requires row { sub.row < 512 }
-        ensures { result ≡ least_of (each_sample (λ k. numerator_at self.now (sample sub k))) }
+        ensures value { result ≡ least_of (each_sample (λ k. numerator_at self.now (sample sub k))) }
+        ensures bounded { Bounded (2 ^ 62 + 2 ^ 61 + 2 ^ 54) result }
     {
         let right = 128 * u32::from(sub.column);
         let below = 64 * u32::from(sub.row);

@@ -1,21 +1,21 @@
 -- The eight subtiles of a tile, by the edges' values at the tile's first sample.
-use Rattle.std.proofs.Common.{◌≡◌, ℕ, ℤ, zero, suc, pos, negsuc, ◌+◌, ◌*◌, ◌/◌, ◌%◌, ◌^◌, ◌<◌, ◌+ℤ◌, ◌*ℤ◌, ◌≤ℤ◌, ◌<ℤ◌, arith, refl, ap, sym, ◌∙◌, Bool, true, false, cond, ◌⊎◌, inl, inr, min, map, bit_and, w32, w64, FitsSigned, to_z, of_z, slice_index_or}
+use Rattle.std.proofs.Common.{◌≡◌, ℕ, ℤ, zero, suc, pos, negsuc, ◌+◌, ◌-◌, ◌*◌, ◌/◌, ◌%◌, ◌^◌, ◌<◌, ◌+ℤ◌, ◌*ℤ◌, ◌≤ℤ◌, ◌<ℤ◌, arith, refl, ap, sym, ◌∙◌, Bool, true, false, cond, ◌⊎◌, inl, inr, min, map, bit_and, w32, w64, FitsSigned, to_z, of_z, slice_index_or}
 use Rattle.std.specs.Int.{int_min, int_max, bit_at}
 use Rattle.std.specs.Simd.Lanes.{mask_l}
 use Rattle.std.proofs.lemmas.Bool.{both_ways}
 use Rattle.std.proofs.lemmas.Int.{clamps, ints, to_z-of_z}
 use Rattle.std.proofs.lemmas.List.FromFn.{get_or-map-range_with_len}
 use Rattle.std.proofs.lemmas.Nat.{and_le_r}
-use Rattle.std.proofs.lemmas.Nat.Bits.{bit_at_and}
+use Rattle.std.proofs.lemmas.Nat.Bits.{bit_at_and, bit_at-lt}
 use Rattle.std.proofs.lemmas.Simd.{bit_mask_l, mask_l-lt}
 use Rattle.cull_base.specs.Bounds.{Bounded}
 use Rattle.cull_base.specs.State.{samples_of, no_samples}
 use Rattle.cull_base.specs.declared.place.Tile.{Tile}
 use Rattle.cull_base.proofs.Masks.{samples_of-mask_l_each}
-use Rattle.edge_lanes.specs.Lanes.{columns, highest_of, is_not_negative, subtile_signs, subtile_step, subtile_steps}
-use Rattle.edge_lanes.specs.Lines.{Line, Lines, candidates_of, candidates_of_all, inside_all, inside_lines, mask_of_all, moved_to}
+use Rattle.edge_lanes.specs.Lanes.{columns, highest_of, lowest_of, is_not_negative, subtile_signs, subtile_step, subtile_steps}
+use Rattle.edge_lanes.specs.Lines.{Line, Lines, candidates_of, candidates_of_all, inside_all, inside_lines, mask_of_all, moved_to, whole_of, whole_of_all}
 use Rattle.edge_lanes.specs.Inside.{sub_of}
-use Rattle.edge_lanes.proofs.Extremes.{Rejects, not_negative, rejected, step_least, step_most}
+use Rattle.edge_lanes.proofs.Extremes.{Accepts, Rejects, accepted_by_all, not_negative, rejected, step_least, step_most}
 use Rattle.edge_lanes.proofs.Inside.{Begins, inside_all-begun}
 
 subtile_step-bounded : (n : ℕ) (column row : ℤ) (j : ℕ) → j < 8 → Bounded n column → Bounded n row → Bounded (28 * n) (subtile_step column row j)
@@ -111,3 +111,42 @@ no_samples-clear e tile s t v f g h j lt z =
 pub mask_of_all-begun : (e : Lines) (tile : Tile) (s t v : ℤ) (j : ℕ) → j < 8 → Begins e.first tile s → Begins e.second tile t → Begins e.third tile v →
     mask_of_all e s t v j ≡ mask_l (inside_lines e (sub_of tile j))
 mask_of_all-begun e tile s t v j l f g h = ap mask_l (inside_all-begun e tile s t v j l f g h)
+
+-- an edge with the bit of a subtile accepts it
+accepts_set : (e : Line) (s : ℤ) (j : ℕ) → j < 8 → bit_at (whole_of e s) j ≡ 1 → Accepts e (moved_to e s j)
+accepts_set e s j l bit =
+    swapped s (lowest_of e.column e.row) (subtile_step e.column e.row j)
+    (at_least ((s +ℤ lowest_of e.column e.row) +ℤ subtile_step e.column e.row j)
+    (set _ (sym (bit_at-subtile_signs e.column e.row (s +ℤ lowest_of e.column e.row) j l) ∙ bit)))
+  where
+    set : (b : Bool) → ◌≡◌ {A = ℕ} (cond b 1 0) 1 → b ≡ true
+    set true h = refl
+    set false h = absurd (omega arith)
+
+    at_least : (v : ℤ) → is_not_negative v ≡ true → pos 0 ≤ℤ v
+    at_least (pos n) h = omega (arith, ints)
+    at_least (negsuc n) h = absurd (both_ways (is_not_negative (negsuc n)) refl h)
+
+    swapped : (s h o : ℤ) → pos 0 ≤ℤ ((s +ℤ h) +ℤ o) → pos 0 ≤ℤ ((s +ℤ o) +ℤ h)
+    swapped s h o l = omega (arith, ints)
+
+-- where a bit is in three masks joined, it is in each
+each_set : (a b c j : ℕ) → bit_at (bit_and (bit_and a b) c) j ≡ 1 → (bit_at a j ≡ 1) × ((bit_at b j ≡ 1) × (bit_at c j ≡ 1))
+each_set a b c j h =
+    of_least (bit_at a j) (bit_at b j) (bit_at c j) (bit_at-lt a j) (bit_at-lt b j) (bit_at-lt c j) (sym (bit_at_and (bit_and a b) c j ∙ ap (λ (m : ℕ). min m (bit_at c j)) (bit_at_and a b j)) ∙ h)
+  where
+    of_least : (x y z : ℕ) → x < 2 → y < 2 → z < 2 → min (min x y) z ≡ 1 → (x ≡ 1) × ((y ≡ 1) × (z ≡ 1))
+    of_least x y z lx ly lz e = (omega arith, (omega arith, omega arith))
+
+pub whole-set : (e : Lines) (tile : Tile) (s t v : ℤ) → Begins e.first tile s → Begins e.second tile t → Begins e.third tile v →
+    (j : ℕ) → j < 8 → bit_at (whole_of_all e s t v) j ≡ 1 → mask_l (inside_lines e (sub_of tile j)) ≡ 2 ^ 32 - 1
+whole-set e tile s t v f g h j lt z =
+    let each = each_set (whole_of e.first s) (whole_of e.second t) (whole_of e.third v) j z in
+    sym (mask_of_all-begun e tile s t v j lt f g h)
+    ∙ accepted_by_all e (moved_to e.first s j) (moved_to e.second t j) (moved_to e.third v j) (accepts_set e.first s j lt each.0) (accepts_set e.second t j lt each.1.0) (accepts_set e.third v j lt each.1.1)
+
+pub whole_of_all-lt : (e : Lines) (s t u : ℤ) → whole_of_all e s t u < 2 ^ 8
+whole_of_all-lt e s t u =
+    let l = and_le_r (bit_and (whole_of e.first s) (whole_of e.second t)) (whole_of e.third u) in
+    let byte : whole_of e.third u < 2 ^ 8 = mask_l-lt (map (λ j. is_not_negative ((u +ℤ lowest_of e.third.column e.third.row) +ℤ subtile_step e.third.column e.third.row j)) columns) in
+    omega arith

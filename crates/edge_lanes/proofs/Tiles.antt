@@ -5,15 +5,15 @@ use Rattle.std.proofs.lemmas.Int.{ints, to_z-of_z}
 use Rattle.cull_base.specs.Bounds.{Bounded}
 use Rattle.cull_base.specs.State.{samples_of}
 use Rattle.cull_base.specs.declared.place.Tile.{Tile}
-use Rattle.edge_lanes.specs.Lines.{Line, candidates_of_all, mask_of_all}
+use Rattle.edge_lanes.specs.Lines.{Line, candidates_of_all, mask_of_all, whole_of_all}
 use Rattle.edge_lanes.specs.Inside.{StartsAt, inside_of, lines_of_kind, narrow_line, sub_of, wide_line}
-use Rattle.edge_lanes.specs.Tiles.{AreCandidates, inside_at}
+use Rattle.edge_lanes.specs.Tiles.{AreCandidates, AreWhole, inside_at}
 use Rattle.edge_lanes.specs.declared.edges.Kind.{Kind}
 use Rattle.edge_lanes.specs.declared.edges.Kind.TheVariants.{Narrow, Wide}
 use Rattle.edge_lanes.specs.declared.narrow_edges.NarrowEdges.{NarrowEdges}
 use Rattle.edge_lanes.specs.declared.tile_edges.TileEdges.{TileEdges}
 use Rattle.edge_lanes.proofs.Inside.{Begins, begins_clamped, begins_exact, samples_of-mask_l_inside}
-use Rattle.edge_lanes.proofs.Subtiles.{mask_of_all-begun, no_samples-clear}
+use Rattle.edge_lanes.proofs.Subtiles.{mask_of_all-begun, no_samples-clear, whole-set}
 
 begins_first : (k : Kind) (tile : Tile) (v : ℤ) → StartsAt k (lines_of_kind k).first tile v → Begins (lines_of_kind k).first tile v
 begins_first (Narrow e) tile v h = begins_clamped (narrow_line e.first) tile v e.first.column_bounded e.first.row_bounded h.0
@@ -32,6 +32,13 @@ unfolding inside_at inside_of
 candidates_of_all-clear t m e j l z =
     let k = t.edges.now.kind in
     no_samples-clear (lines_of_kind k) t.tile t.first t.second t.third (begins_first k t.tile t.first t.first_starts) (begins_second k t.tile t.second t.second_starts) (begins_third k t.tile t.third t.third_starts)
+    j l (rw e at z)
+
+pub whole_of_all-set : (t : TileEdges) (m : ℕ) → m ≡ whole_of_all (lines_of_kind t.edges.now.kind) t.first t.second t.third → AreWhole (inside_at t) m
+unfolding inside_at inside_of
+whole_of_all-set t m e j l z =
+    let k = t.edges.now.kind in
+    whole-set (lines_of_kind k) t.tile t.first t.second t.third (begins_first k t.tile t.first t.first_starts) (begins_second k t.tile t.second t.second_starts) (begins_third k t.tile t.third t.third_starts)
     j l (rw e at z)
 
 pub mask_of_all-inside : (t : TileEdges) (j : ℕ) → j < 8 → mask_of_all (lines_of_kind t.edges.now.kind) t.first t.second t.third j ≡ mask_l (inside_at t j)

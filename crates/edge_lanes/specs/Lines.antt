@@ -7,7 +7,7 @@ use Rattle.cull_base.specs.Piece.{Piece, Point, edge_value, middle, is_top_or_le
 use Rattle.cull_base.specs.declared.triangle.Side.{Side}
 use Rattle.cull_base.specs.declared.place.Sub.{Sub}
 use Rattle.cull_base.specs.declared.place.Tile.{Tile}
-use Rattle.edge_lanes.specs.Lanes.{is_not_negative, bias_of, highest_of, subtile_signs, subtile_step}
+use Rattle.edge_lanes.specs.Lanes.{is_not_negative, bias_of, highest_of, lowest_of, subtile_signs, subtile_step}
 
 -- the value at the first pixel's sample, and what a pixel to the right adds to it and one below
 pub record Line : Type 0 where
@@ -83,6 +83,13 @@ candidates_of e start = subtile_signs e.column e.row (start +ℤ highest_of e.co
 
 abbrev pub candidates_of_all : Lines → ℤ → ℤ → ℤ → ℕ
 candidates_of_all e s t u = bit_and (bit_and (candidates_of e.first s) (candidates_of e.second t)) (candidates_of e.third u)
+
+-- bit j is set only where an edge accepts all of subtile j, in a tile that begins with this value; where each of three does
+abbrev pub whole_of : Line → ℤ → ℕ
+whole_of e start = subtile_signs e.column e.row (start +ℤ lowest_of e.column e.row)
+
+abbrev pub whole_of_all : Lines → ℤ → ℤ → ℤ → ℕ
+whole_of_all e s t u = bit_and (bit_and (whole_of e.first s) (whole_of e.second t)) (whole_of e.third u)
 
 -- the mask of subtile j in a tile that begins with these values
 abbrev pub mask_of_all : Lines → ℤ → ℤ → ℤ → ℕ → ℕ

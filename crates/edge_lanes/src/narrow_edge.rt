@@ -1,11 +1,11 @@
 //! An edge less than 2^20 sixteenths of a pixel long each way, by its values' sixteenths: a value moved by 16k isn't
 //! negative exactly where its sixteenth, rounded down and moved by k, isn't.
-ghost use Rattle.std.specs.Prelude.{◌≡◌, ℕ, ℤ, pos, ◌^◌, ◌+◌, ◌<◌, ◌+ℤ◌, ◌-ℤ◌, ◌*ℤ◌, ◌≤ℤ◌, IsTrue};
+ghost use Rattle.std.specs.Prelude.{◌≡◌, ℕ, ℤ, pos, ◌^◌, ◌+◌, ◌<◌, ◌+ℤ◌, ◌-ℤ◌, ◌*ℤ◌};
 ghost use Rattle.std.specs.Int.{int_div_euclid};
 ghost use Rattle.cull_base.specs.Piece.{IsCoordinate, point};
 ghost use Rattle.cull_base.specs.Bounds.{Bounded};
 ghost use Rattle.edge_lanes.specs.Lanes.{offsets_of, highest_of, lowest_of, subtile_step, subtile_steps, subtile_signs, row_of};
-ghost use Rattle.edge_lanes.specs.Lines.{IsEdge, IsShort, candidates_of, clamped, inside_from, line, moved_to, tile_value};
+ghost use Rattle.edge_lanes.specs.Lines.{IsEdge, IsShort, candidates_of, clamped, inside_from, line, moved_to, tile_value, whole_of};
 
 use crate::arithmetic::{shift, steps};
 use crate::bias::first_value;
@@ -206,6 +206,16 @@ impl NarrowEdge {
         start + self.highest
     }
 
+    // The least that a subtile holds which begins with this value.
+    #[inline(always)]
+    fn with_lowest(&self, start: i32) -> i32
+        requires { Bounded (2 ^ 30) start }
+        ensures value { result ≡ start +ℤ lowest_of self.now.column self.now.row }
+        ensures bounded { Bounded (2 ^ 30 + 2 ^ 24) result }
+    {
+        start + self.lowest
+    }
+
     /// The subtiles of a tile that begins with this value: bit j is clear where no sample of subtile j is inside.
     #[inline(always)]
     pub fn candidates(&self, start: i32) -> u64
@@ -215,13 +225,13 @@ impl NarrowEdge {
         self.subtile_signs(self.with_highest(start))
     }
 
-    /// Whether each sample of a subtile that begins with this value is inside.
+    /// The subtiles of a tile that begins with this value: bit j is set only where each sample of subtile j is inside.
     #[inline(always)]
-    pub fn accepts_all(&self, start: i32) -> bool
-        requires { Bounded (2 ^ 30 + 2 ^ 25) start }
-        ensures { IsTrue result → pos 0 ≤ℤ (start +ℤ lowest_of self.now.column self.now.row) }
+    pub fn whole(&self, start: i32) -> u64
+        requires { Bounded (2 ^ 30) start }
+        ensures { result ≡ whole_of (narrow_line self.now) start }
     {
-        start + self.lowest >= 0
+        self.subtile_signs(self.with_lowest(start))
     }
 
     /// The samples of such a subtile that are inside, row by row.

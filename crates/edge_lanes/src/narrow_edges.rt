@@ -1,10 +1,10 @@
 //! The three edges of a piece whose box has sides below 2^20 sixteenths of a pixel, in lanes of 32 bits.
-ghost use Rattle.std.specs.Prelude.{◌≡◌, ℕ, ◌+◌, ◌-◌, ◌*◌, ◌<◌, ◌^◌, IsTrue, bit_and};
+ghost use Rattle.std.specs.Prelude.{◌≡◌, ℕ, ◌+◌, ◌-◌, ◌*◌, ◌<◌, ◌^◌, bit_and};
 ghost use Rattle.std.specs.Simd.Lanes.{mask_l};
 ghost use Rattle.cull_base.specs.Bounds.{Bounded};
 ghost use Rattle.cull_base.specs.Piece.{each_sample, vertex};
 ghost use Rattle.edge_lanes.specs.Inside.{narrow_line, narrow_lines};
-ghost use Rattle.edge_lanes.specs.Lines.{AreEdges, IsEdge, IsNarrow, IsShort, candidates_of_all, inside_all, mask_of_all};
+ghost use Rattle.edge_lanes.specs.Lines.{AreEdges, IsEdge, IsNarrow, IsShort, candidates_of_all, inside_all, mask_of_all, whole_of_all};
 
 use crate::narrow_edge::NarrowEdge;
 use cull_base::{ScreenTri, Side};
@@ -79,18 +79,19 @@ impl NarrowEdges {
         (first & second & third) as u32
     }
 
-    // Whether the edges accept each sample of a subtile that begins with these values.
+    /// The subtiles that each edge accepts whole, in a tile that begins with these values.
     #[inline(always)]
-    fn accept_all(&self, first: i32, second: i32, third: i32) -> bool
-        requires first { Bounded (2 ^ 30 + 2 ^ 25) first }
-        requires second { Bounded (2 ^ 30 + 2 ^ 25) second }
-        requires third { Bounded (2 ^ 30 + 2 ^ 25) third }
-        ensures { IsTrue result →
-            mask_l (each_sample (inside_all (narrow_lines self.now) first second third)) ≡ 2 ^ 32 - 1 }
+    pub fn whole(&self, first: i32, second: i32, third: i32) -> u32
+        requires first { Bounded (2 ^ 30) first }
+        requires second { Bounded (2 ^ 30) second }
+        requires third { Bounded (2 ^ 30) third }
+        ensures value { result ≡ whole_of_all (narrow_lines self.now) first second third }
+        ensures byte { result < 2 ^ 8 }
     {
-        self.first.accepts_all(first)
-            & self.second.accepts_all(second)
-            & self.third.accepts_all(third)
+        let first = self.first.whole(first);
+        let second = self.second.whole(second);
+        let third = self.third.whole(third);
+        (first & second & third) as u32
     }
 
     #[inline(always)]
@@ -123,10 +124,6 @@ impl NarrowEdges {
         let first = self.first.subtile_start(first, j);
         let second = self.second.subtile_start(second, j);
         let third = self.third.subtile_start(third, j);
-        if self.accept_all(first, second, third) {
-            u32::MAX
-        } else {
-            self.rows(first, second, third)
-        }
+        self.rows(first, second, third)
     }
 }

@@ -51,7 +51,7 @@ impl Edges {
 }
 
 impl TileEdges<'_> {
-    ghost use Rattle.edge_lanes.specs.Tiles.{inside_at, AreCandidates};
+    ghost use Rattle.edge_lanes.specs.Tiles.{inside_at, AreCandidates, AreWhole};
 
     /// The subtiles that an edge doesn't reject whole: bit j, of eight, is clear only where no sample of subtile j lies
     /// inside.
@@ -65,6 +65,35 @@ impl TileEdges<'_> {
                 edges.candidates(self.first as i32, self.second as i32, self.third as i32)
             }
             Kind::Wide(edges) => edges.candidates(self.first, self.second, self.third),
+        }
+    }
+
+    /// Subtiles of which each sample lies inside: bit j, of eight, is set only where subtile j is such a one. None is
+    /// told of wide edges.
+    #[inline(always)]
+    pub fn whole(&self) -> u32
+        ensures { AreWhole (inside_at self.now) result }
+    {
+        match &self.edges.kind {
+            Kind::Narrow(edges) => {
+                edges.whole(self.first as i32, self.second as i32, self.third as i32)
+            }
+            Kind::Wide(_) => 0,
+        }
+    }
+
+    /// As `mask`, where it is known of some subtiles that they are whole: of these no sample is asked.
+    #[inline(always)]
+    pub fn mask_beside(&self, whole: u32, j: u32) -> u32
+        requires whole { AreWhole (inside_at self.now) whole }
+        requires j { j < 8 }
+        ensures value { result ≡ mask_l (inside_at self.now j) }
+        ensures samples { samples_of result ≡ inside_at self.now j }
+    {
+        if (whole >> j) & 1 == 1 {
+            u32::MAX
+        } else {
+            self.mask(j)
         }
     }
 

@@ -87,7 +87,7 @@ mask_of a w m l c =
     let k = left_at a w m t in
     cond (told nat_lt a t) (cond (told nat_eq (bit_or k c) 4294967295) 0 (bit_or k c)) m
 
-told_is : (b : Bool) → top 31 (cond b 4294967295 0) ≡ b
+pub told_is : (b : Bool) → top 31 (cond b 4294967295 0) ≡ b
 told_is true = refl
 told_is false = refl
 

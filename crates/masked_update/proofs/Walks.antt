@@ -13,9 +13,9 @@ use Rattle.cull_base.specs.Span.{IsPartOf, HasTilesOf, is_between, has_tile, has
 use Rattle.cull_base.specs.declared.place.Tile.{Tile}
 use Rattle.cull_base.specs.declared.tile_span.TileSpan.{TileSpan}
 use Rattle.masked_update.specs.TileOf.{TileOf, tile_at, no_tile}
-use Rattle.masked_update.specs.Taken.{taken_at, counted_tile, merged_tile, taken_where}
+use Rattle.masked_update.specs.Taken.{taken_at, counted_tile, taken_where}
 use Rattle.masked_update.specs.Canvas.{CanvasOf, IsCanvas, IsInWindow, TookMet, with_tile, tile_on, tile_in}
-use Rattle.masked_update.specs.Walk.{ChangedWhere, CountedWhere, MergedWhere, HoldsWhere, NoneBelowWhere, is_in_row}
+use Rattle.masked_update.specs.Walk.{ChangedWhere, CountedWhere, HoldsWhere, NoneBelowWhere, is_in_row}
 use Rattle.masked_update.proofs.Merging.{merged_behind}
 use Rattle.masked_update.proofs.Grid.{grows_elsewhere, before, last_between, none_between}
 use Rattle.masked_update.proofs.Tiles.{tile_with, same_place, has, number_within, one_place, between}
@@ -162,14 +162,6 @@ row_within span row p le lt on =
     let (rows, columns) = and_parts (nat_eq p.row row) (has_column span p.column) on in
     let e = eqb-true p.row row rows in
     and_from (has_row span p.row) (has_column span p.column) (between span.first_row span.end_row p.row (omega (arith, le, e)) (omega (arith, lt, e))) columns
-
--- tiles that counted a piece and then had it merged took it
-pub counted_merged : (test : Tile → Bool) (size : Dimensions) (x : Piece) (old now new : CanvasOf) → CountedWhere test old now → MergedWhere test size x now new → ChangedWhere test (λ p t. taken_at size p x t) old new
-counted_merged test size x old now new c m = record { window = m.window ∙ c.window; whole = m.whole; tiles = λ p h. m.tiles p (ap (λ (w : TileSpan). has_tile w p) c.window ∙ h) ∙ ap (λ (t : TileOf). cond (test p) (merged_tile size p x t) t) (c.tiles p h) ∙ taken (test p) p (tile_on old p) }
-  where
-    taken : (b : Bool) (p : Tile) (t : TileOf) → let n = cond b (counted_tile t) t in cond b (merged_tile size p x n) n ≡ cond b (taken_at size p x t) t
-    taken true p t = refl
-    taken false p t = refl
 
 -- tiles that only counted a piece took it, where it stands behind them
 pub counted_behind : (test : Tile → Bool) (size : Dimensions) (x : Piece) (old new : CanvasOf) → IsPiece x → NoneBelowWhere (greatest_nearness x) test old → CountedWhere test old new → ChangedWhere test (λ p t. taken_at size p x t) old new

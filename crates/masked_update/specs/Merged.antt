@@ -1,5 +1,5 @@
 -- A piece merged into the subtiles of a tile.
-use Rattle.std.specs.Prelude.{ℕ, pos, ◌≡◌, ◌+◌, ◌*◌, ◌<◌, ◌≤◌, Bool, true, List, map, cond, slice_index_or}
+use Rattle.std.specs.Prelude.{ℕ, pos, ◌≡◌, ◌+◌, ◌-◌, ◌*◌, ◌<◌, ◌≤◌, Bool, true, List, map, min, cond, slice_index_or}
 use Rattle.std.specs.List.{range_with_len}
 use Rattle.cull_base.specs.Screen.{Dimensions, is_on_screen}
 use Rattle.cull_base.specs.Piece.{Piece, covered}
@@ -13,6 +13,7 @@ use Rattle.edge_lanes.specs.Inside.{sub_of}
 use Rattle.edge_lanes.specs.Tiles.{inside_at}
 use Rattle.edge_lanes.specs.declared.tile_edges.TileEdges.{TileEdges}
 use Rattle.masked_update.specs.Grid.{is_in_rows}
+use Rattle.masked_update.specs.declared.sub_span.SubBox.{SubBox}
 use Rattle.masked_update.specs.declared.sub_span.SubSpan.{SubSpan}
 
 -- the pixels of a subtile
@@ -45,3 +46,16 @@ pub record IsSubSpan (r : Rect) (size : Dimensions) (place : Tile) (span : SubSp
   pub rows_within : span.end_row ≤ 2
   pub on_screen : (j : ℕ) → has_sub span j ≡ true → is_on_screen size (sub_of place j) ≡ true
   pub reached : (j : ℕ) → j < 8 → is_on_screen size (sub_of place j) ≡ true → meets r (sub_rect_of (sub_of place j)) ≡ true → has_sub span j ≡ true
+
+-- the subtiles of a tile that are among those of the screen
+abbrev pub span_at : SubBox → Tile → SubSpan
+span_at b place = record {
+  first_column = min (b.first_column - 4 * place.column) 4;
+  end_column = min (b.end_column - 4 * place.column) 4;
+  first_row = min (b.first_row - 2 * place.row) 2;
+  end_row = min (b.end_row - 2 * place.row) 2;
+}
+
+-- in each tile the subtiles are those on the screen that may share a pixel with a rectangle
+abbrev pub IsSubBox : Rect → SubBox → Type 0
+IsSubBox r b = (place : Tile) → IsSubSpan r b.size place (span_at b place)

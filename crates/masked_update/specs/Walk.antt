@@ -6,7 +6,7 @@ use Rattle.cull_base.specs.Span.{has_tile, has_column}
 use Rattle.cull_base.specs.declared.place.Tile.{Tile}
 use Rattle.cull_base.specs.declared.tile_span.TileSpan.{TileSpan}
 use Rattle.masked_update.specs.TileOf.{TileOf}
-use Rattle.masked_update.specs.Taken.{counted_tile, merged_tile}
+use Rattle.masked_update.specs.Taken.{counted_tile, taken_at}
 use Rattle.masked_update.specs.Least.{NoneBelow}
 use Rattle.masked_update.specs.Canvas.{CanvasOf, IsCanvas, tile_on}
 
@@ -34,5 +34,5 @@ pub record ChangedWhere (test : Tile → Bool) (f : Tile → TileOf → TileOf) 
 abbrev pub CountedWhere : (Tile → Bool) → CanvasOf → CanvasOf → Type 0
 CountedWhere test old new = ChangedWhere test (λ p t. counted_tile t) old new
 
-abbrev pub MergedWhere : (Tile → Bool) → Dimensions → Piece → CanvasOf → CanvasOf → Type 0
-MergedWhere test size x old new = ChangedWhere test (λ p t. merged_tile size p x t) old new
+abbrev pub TakenWhere : (Tile → Bool) → Dimensions → Piece → CanvasOf → CanvasOf → Type 0
+TakenWhere test size x old new = ChangedWhere test (λ p t. taken_at size p x t) old new

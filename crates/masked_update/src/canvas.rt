@@ -1,16 +1,19 @@
 //! Tiles of a window that are drawn into, with a table that tells where a piece changes nothing.
 ghost use Rattle.std.specs.Prelude.{◌≡◌, ◌<◌, true, length, IfOk};
+ghost use Rattle.cull_base.specs.Piece.{box_of};
 ghost use Rattle.cull_base.specs.Screen.{tile_columns_of, tile_rows_of};
 ghost use Rattle.cull_base.specs.Span.{has_tile, tiles_in};
 ghost use Rattle.cull_base.specs.Tiles.{PieceList};
 ghost use Rattle.masked_update.specs.Canvas.{IsCanvas, StandsAt, empty_canvas, with_tile, tile_on};
 ghost use Rattle.masked_update.specs.Least.{NoneBelow};
-ghost use Rattle.masked_update.specs.Taken.{counted_tile, merged_tile};
+ghost use Rattle.masked_update.specs.Merged.{IsSubBox};
+ghost use Rattle.masked_update.specs.Taken.{counted_tile, merged_tile, taken_at};
 ghost use Rattle.masked_update.specs.TileOf.{tile_at};
 
 use crate::piece_setup::PieceSetup;
+use crate::sub_span::SubBox;
 use crate::tile_state::TileState;
-use cull_base::{Memory, Size, Tile, TileSpan};
+use cull_base::{Memory, Tile, TileSpan};
 use std::alloc::Global;
 use std::marker::Model;
 
@@ -71,10 +74,10 @@ impl Canvas {
         self.tiles[start + (u32::from(place.column) - self.window.first_column) as usize]
     }
 
-    // Whether no reference of a tile is below a nearness, by the table. A piece that is nowhere nearer changes none of
-    // the tile's subtiles.
+    /// Whether no reference of a tile is below a nearness, by the table. A piece that is nowhere nearer changes none of
+    /// the tile's subtiles. Condition: there is such a tile.
     #[inline(always)]
-    fn has_none_below(&self, number: usize, nearest: u32) -> bool
+    pub(crate) fn has_none_below(&self, number: usize, nearest: u32) -> bool
         requires { number < length self.now.tiles }
         ensures { result ≡ true → NoneBelow nearest (tile_at self.now.tiles number) }
     {
@@ -83,33 +86,44 @@ impl Canvas {
         nearest <= self.least[number]
     }
 
-    /// Counts a piece in the tile of a number, and says whether it stands behind all of the tile's references.
-    /// Conditions: there is such a tile, and its count is below 131,072.
-    pub(crate) fn count(&mut self, number: usize, nearest: u32) -> bool
+    /// Counts a piece in the tile of a number. Conditions: there is such a tile, and its count is below 131,072.
+    pub(crate) fn count(&mut self, number: usize)
         requires tile { number < length self.old.tiles }
         requires count { (tile_at self.old.tiles number).count < 131072 }
-        ensures counted { self.new ≡ with_tile self.old number (counted_tile (tile_at self.old.tiles number)) }
-        ensures behind { result ≡ true → NoneBelow nearest (tile_at self.old.tiles number) }
+        ensures { self.new ≡ with_tile self.old number (counted_tile (tile_at self.old.tiles number)) }
     {
-        let behind = self.has_none_below(number, nearest);
         self.tiles[number].count_piece();
-        behind
     }
 
-    /// Merges a piece into the tile of a number, and counts nothing. Conditions: there is such a tile, and the column
-    /// and the row are below the screen's.
-    pub(crate) fn merge(&mut self, number: usize, piece: &PieceSetup, size: Size, place: Tile)
+    /// Merges a piece into the tile of a number, and counts nothing. Conditions: there is such a tile, the column and
+    /// the row are below the screen's, and what is reached on it is what the piece reaches.
+    pub(crate) fn merge(&mut self, number: usize, piece: &PieceSetup, reached: &SubBox, place: Tile)
+        requires reached { IsSubBox (box_of piece.now) reached.now }
         requires tile { number < length self.old.tiles }
-        requires column { place.column < tile_columns_of size }
-        requires row { place.row < tile_rows_of size }
-        ensures { self.new ≡ with_tile self.old number (merged_tile size place piece.now (tile_at self.old.tiles number)) }
+        requires column { place.column < tile_columns_of reached.now.size }
+        requires row { place.row < tile_rows_of reached.now.size }
+        ensures { self.new ≡ with_tile self.old number (merged_tile reached.now.size place piece.now (tile_at self.old.tiles number)) }
     {
         if !self.has_none_below(number, piece.nearest()) {
-            let changed = self.tiles[number].merge(piece, size, place);
+            let changed = self.tiles[number].merge(piece, reached, place);
             if changed {
                 self.least[number] = self.tiles[number].least_reference();
             }
         }
+    }
+
+    /// Counts a piece in the tile of a number and merges it there. Conditions: those of `count` and `merge`.
+    #[inline(always)]
+    pub(crate) fn take(&mut self, number: usize, piece: &PieceSetup, reached: &SubBox, place: Tile)
+        requires reached { IsSubBox (box_of piece.now) reached.now }
+        requires tile { number < length self.old.tiles }
+        requires count { (tile_at self.old.tiles number).count < 131072 }
+        requires column { place.column < tile_columns_of reached.now.size }
+        requires row { place.row < tile_rows_of reached.now.size }
+        ensures { self.new ≡ with_tile self.old number (taken_at reached.now.size place piece.now (tile_at self.old.tiles number)) }
+    {
+        self.count(number);
+        self.merge(number, piece, reached, place);
     }
 
     /// Its tiles, row by row.

@@ -1,17 +1,18 @@
 //! A piece set up for the tiles that take it: what each subtile asks of it is computed once.
-ghost use Rattle.std.specs.Prelude.{◌≡◌, ◌<◌, ◌^◌, false, length};
+ghost use Rattle.std.specs.Prelude.{◌≡◌, ◌<◌, ◌^◌, false, length, IfSome};
 ghost use Rattle.cull_base.specs.Piece.{IsPiece, box_of};
 ghost use Rattle.cull_base.specs.Depth.{greatest_nearness};
 ghost use Rattle.cull_base.specs.Screen.{tile_columns_of, tile_rows_of};
-ghost use Rattle.edge_lanes.specs.Inside.{sub_of};
+ghost use Rattle.depth_plane.specs.Plane.{IsTileFirst, plane_of};
+ghost use Rattle.edge_lanes.specs.Tiles.{AreWhole, inside_at};
 ghost use Rattle.masked_update.specs.Coverage.{CoveredAt, IsCoverage, AreWanted};
 ghost use Rattle.masked_update.specs.Lanes.{IsMergeable};
-ghost use Rattle.masked_update.specs.Merged.{AreEdgesOf, merged_by};
+ghost use Rattle.masked_update.specs.Merged.{AreEdgesOf, IsSubBox, merged_by};
 
 use crate::coverage::Coverage;
-use crate::sub_span::SubSpan;
+use crate::sub_span::SubBox;
 use crate::tile_layers::TileLayers;
-use cull_base::{Rect, ScreenTri, Side, Size, Sub, Tile};
+use cull_base::{Rect, ScreenTri, Side, Size, Tile};
 use depth_plane::Plane;
 use edge_lanes::{Edges, TileEdges};
 use std::marker::Model;
@@ -36,23 +37,6 @@ impl Model for PieceSetup {
     ghost view = { λ s. s.tri };
 
     ghost invariant = { IsSetUp };
-}
-
-// Subtile j of a tile.
-#[inline(always)]
-fn subtile(place: Tile, j: u32) -> Sub
-    requires column { place.column < 64 }
-    requires row { place.row < 256 }
-    requires j { j < 8 }
-    ensures value { result ≡ sub_of place j }
-    ensures column { result.column < 256 }
-    ensures row { result.row < 512 }
-{
-    let j = j as u16;
-    Sub {
-        column: 4 * place.column + j % 4,
-        row: 2 * place.row + j / 4,
-    }
 }
 
 impl PieceSetup {
@@ -87,20 +71,39 @@ impl PieceSetup {
         self.nearest
     }
 
+    /// The subtiles of a screen that the piece may reach.
+    #[inline(always)]
+    pub fn reached_on(&self, size: Size) -> SubBox
+        ensures reached { IsSubBox (box_of self.now) result }
+        ensures size { result.size ≡ size }
+    {
+        SubBox::of(&self.reached, size)
+    }
+
     // Subtile j of the tile: its covered samples, and its bound if there are any.
     #[inline(always)]
-    fn cover(&self, coverage: &mut Coverage, edges: &TileEdges, place: Tile, j: u32)
+    fn cover(
+        &self,
+        coverage: &mut Coverage,
+        edges: &TileEdges,
+        whole: u32,
+        first: Option<i64>,
+        place: Tile,
+        j: u32,
+    )
         requires column { place.column < 64 }
         requires row { place.row < 256 }
         requires j { j < 8 }
         requires edges { AreEdgesOf edges.now place self.now }
+        requires whole { AreWhole (inside_at edges.now) whole }
+        requires first { IfSome first (IsTileFirst (plane_of self.now) place) }
         requires mergeable { IsMergeable coverage.old }
         ensures { CoveredAt place self.now j coverage.old coverage.new }
     {
-        let mask = edges.mask(j);
+        let mask = edges.mask_beside(whole, j);
         coverage.masks[j as usize] = mask;
         if mask != 0 {
-            coverage.lows[j as usize] = self.plane.low(&self.tri, subtile(place, j));
+            coverage.lows[j as usize] = self.plane.low_in_tile(&self.tri, place, first, j);
         }
     }
 
@@ -117,10 +120,12 @@ impl PieceSetup {
             lows: [0; 8],
             masks: [0; 8],
         };
+        let whole = edges.whole();
+        let first = self.plane.tile_first(place);
         let mut left = wanted;
         while left != 0 {
             let j = left.trailing_zeros();
-            self.cover(&mut coverage, edges, place, j);
+            self.cover(&mut coverage, edges, whole, first, place, j);
             left &= !(1 << j);
         }
         coverage
@@ -129,21 +134,26 @@ impl PieceSetup {
     // The subtiles of a tile, as bits, that the box reaches on the screen and whose reference is below the piece. It
     // changes no other: it covers nothing outside its box, and its bound is nowhere above its greatest nearness.
     #[inline(always)]
-    fn subtiles_behind(&self, layers: &TileLayers, size: Size, place: Tile) -> u32
-        ensures wanted { AreWanted size place self.now layers.now result }
+    fn subtiles_behind(&self, layers: &TileLayers, reached: &SubBox, place: Tile) -> u32
+        requires { IsSubBox (box_of self.now) reached.now }
+        ensures wanted { AreWanted reached.now.size place self.now layers.now result }
         ensures eight { length layers.now ≡ 8 }
     {
-        SubSpan::of(&self.reached, size, place).bits() & layers.below(self.nearest)
+        reached.in_tile(place).bits() & layers.below(self.nearest)
     }
 
-    /// Merges the piece into a tile's subtiles on the screen, and says whether any may have changed.
-    pub(crate) fn merge_into(&self, layers: &mut TileLayers, size: Size, place: Tile) -> bool
-        requires column { place.column < tile_columns_of size }
-        requires row { place.row < tile_rows_of size }
-        ensures merged { layers.new ≡ merged_by size place self.now layers.old }
+    /// Merges the piece into a tile's subtiles on the screen, and says whether any may have changed. Conditions: the
+    /// column and the row are below the screen's, and what is reached on it is what the piece reaches.
+    pub(crate) fn merge_into(&self, layers: &mut TileLayers, reached: &SubBox, place: Tile) -> bool
+        requires reached { IsSubBox (box_of self.now) reached.now }
+        requires column { place.column < tile_columns_of reached.now.size }
+        requires row { place.row < tile_rows_of reached.now.size }
+        ensures merged { layers.new ≡ merged_by reached.now.size place self.now layers.old }
         ensures same { result ≡ false → layers.new ≡ layers.old }
     {
-        let behind = self.subtiles_behind(layers, size, place);
+        // an accessor tells what is held of a size
+        let _width = reached.size.width();
+        let behind = self.subtiles_behind(layers, reached, place);
         if behind == 0 {
             return false;
         }

@@ -5,6 +5,16 @@ ghost use Rattle.std.specs.Int.{int_min, int_max, div_ceil, bit_at};
 use cull_base::arithmetic::pixel_of;
 use cull_base::{Rect, Size, Tile};
 
+/// Columns and rows of a screen's subtiles, each from a first to before an end.
+#[derive(Clone, Copy)]
+pub struct SubBox {
+    pub size: Size,
+    pub first_column: u32,
+    pub end_column: u32,
+    pub first_row: u32,
+    pub end_row: u32,
+}
+
 /// Columns and rows of a tile's subtiles, each from a first to before an end.
 #[derive(Clone, Copy)]
 pub struct SubSpan {
@@ -41,26 +51,44 @@ fn ones_between(first: u32, end: u32) -> u32
     (1 << end) - (1 << first)
 }
 
-impl SubSpan {
-    ghost use Rattle.masked_update.specs.Merged.{IsSubSpan, has_sub};
+impl SubBox {
+    ghost use Rattle.masked_update.specs.Merged.{IsSubBox, span_at};
 
-    /// The subtiles of the tile at a place that are on the screen and that the rectangle reaches. Condition: no corner
-    /// of the rectangle is before its first.
+    /// The subtiles on the screen that the rectangle reaches. Condition: no corner of the rectangle is before its first.
     #[inline(always)]
-    pub fn of(rect: &Rect, size: Size, place: Tile) -> SubSpan
+    pub fn of(rect: &Rect, size: Size) -> SubBox
         requires across { rect.now.x0 ≤ℤ rect.now.x1 }
         requires down { rect.now.y0 ≤ℤ rect.now.y1 }
-        ensures { IsSubSpan rect.now size place result }
+        ensures reached { IsSubBox rect.now result }
+        ensures size { result.size ≡ size }
+    {
+        SubBox {
+            size,
+            first_column: pixels_before(rect.x0, size.width()) / 8,
+            end_column: pixels_before(rect.x1, size.width()).div_ceil(8),
+            first_row: pixels_before(rect.y0, size.height()) / 4,
+            end_row: pixels_before(rect.y1, size.height()).div_ceil(4),
+        }
+    }
+
+    /// Those of them in the tile at a place.
+    #[inline(always)]
+    pub fn in_tile(self, place: Tile) -> SubSpan
+        ensures { result ≡ span_at self place }
     {
         let column = 4 * u32::from(place.column);
         let row = 2 * u32::from(place.row);
         SubSpan {
-            first_column: past(pixels_before(rect.x0, size.width()) / 8, column, 4),
-            end_column: past(pixels_before(rect.x1, size.width()).div_ceil(8), column, 4),
-            first_row: past(pixels_before(rect.y0, size.height()) / 4, row, 2),
-            end_row: past(pixels_before(rect.y1, size.height()).div_ceil(4), row, 2),
+            first_column: past(self.first_column, column, 4),
+            end_column: past(self.end_column, column, 4),
+            first_row: past(self.first_row, row, 2),
+            end_row: past(self.end_row, row, 2),
         }
     }
+}
+
+impl SubSpan {
+    ghost use Rattle.masked_update.specs.Merged.{has_sub};
 
     /// The subtiles of the span, as bits.
     #[inline(always)]

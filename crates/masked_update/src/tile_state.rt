@@ -1,10 +1,11 @@
 //! A tile: eight subtiles, and how many pieces it took.
 ghost use Rattle.std.specs.Prelude.{◌≡◌, ℕ, ◌<◌, ◌≤◌, false, length};
 ghost use Rattle.cull_base.specs.Fold.{IsLayered};
-ghost use Rattle.cull_base.specs.Piece.{IsPiece};
+ghost use Rattle.cull_base.specs.Piece.{IsPiece, box_of};
 ghost use Rattle.cull_base.specs.Screen.{IsSize, tile_columns_of, tile_rows_of, tile_count_of};
 
 use crate::piece_setup::PieceSetup;
+use crate::sub_span::SubBox;
 use crate::sub_tile::SubTile;
 use crate::tile_layers::TileLayers;
 use cull_base::{ScreenTri, Size, Tile};
@@ -29,6 +30,7 @@ impl Model for TileState {
 
 impl TileState {
     ghost use Rattle.masked_update.specs.TileOf.{sub_at, empty_tile};
+    ghost use Rattle.masked_update.specs.Merged.{IsSubBox};
     ghost use Rattle.masked_update.specs.Taken.{taken_by, taken_at, merged_tile, counted_tile};
 
     /// Eight empty subtiles, and no piece taken.
@@ -98,19 +100,20 @@ impl TileState {
         requires row { place.row < tile_rows_of size }
         ensures { self.new ≡ taken_at size place piece.now self.old }
     {
-        self.merge(piece, size, place);
+        self.merge(piece, &piece.reached_on(size), place);
         self.count_piece();
     }
 
-    /// Merges a piece, doesn't count it, and says whether any subtile may have changed. Condition: the column and the
-    /// row are below the screen's.
-    pub(crate) fn merge(&mut self, piece: &PieceSetup, size: Size, place: Tile) -> bool
-        requires column { place.column < tile_columns_of size }
-        requires row { place.row < tile_rows_of size }
-        ensures merged { self.new ≡ merged_tile size place piece.now self.old }
+    /// Merges a piece, doesn't count it, and says whether any subtile may have changed. Conditions: the column and the
+    /// row are below the screen's, and what is reached on it is what the piece reaches.
+    pub(crate) fn merge(&mut self, piece: &PieceSetup, reached: &SubBox, place: Tile) -> bool
+        requires reached { IsSubBox (box_of piece.now) reached.now }
+        requires column { place.column < tile_columns_of reached.now.size }
+        requires row { place.row < tile_rows_of reached.now.size }
+        ensures merged { self.new ≡ merged_tile reached.now.size place piece.now self.old }
         ensures same { result ≡ false → self.new ≡ self.old }
     {
-        piece.merge_into(&mut self.layers, size, place)
+        piece.merge_into(&mut self.layers, reached, place)
     }
 
     /// Counts a piece, and doesn't merge it.

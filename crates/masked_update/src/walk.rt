@@ -1,97 +1,130 @@
 //! A piece is drawn into the tiles of a canvas that its box reaches.
 ghost use Rattle.std.specs.Prelude.{◌≡◌, ℕ, ◌<◌, ◌≤◌, true};
-ghost use Rattle.cull_base.specs.Piece.{IsPiece};
+ghost use Rattle.cull_base.specs.Piece.{IsPiece, box_of};
 ghost use Rattle.cull_base.specs.Screen.{IsSize, tile_rows_of};
 ghost use Rattle.cull_base.specs.Span.{IsPartOf, IsSpan, has_tile};
 ghost use Rattle.masked_update.specs.Canvas.{IsInWindow, TookMet, tile_in};
-ghost use Rattle.masked_update.specs.Walk.{CountedWhere, MayCount, MergedWhere, NoneBelowWhere, is_in_row};
+ghost use Rattle.masked_update.specs.Merged.{IsSubBox};
+ghost use Rattle.masked_update.specs.Walk.{CountedWhere, MayCount, TakenWhere, NoneBelowWhere, is_in_row};
 
 use crate::canvas::Canvas;
 use crate::piece_setup::PieceSetup;
+use crate::sub_span::SubBox;
 use cull_base::{ScreenTri, Size, Tile, TileSpan};
 
-// Counts a piece in the tiles of one row, in the columns of a span, and says whether it stands behind all of them.
-fn count_in_row(canvas: &mut Canvas, span: TileSpan, row: u32, nearest: u32) -> bool
-    requires part { IsPartOf canvas.old.window span }
+// Whether a piece stands behind all tiles of one row, in the columns of a span.
+#[inline(always)]
+fn is_behind_in_row(canvas: &Canvas, span: TileSpan, row: u32, nearest: u32) -> bool
+    requires part { IsPartOf canvas.now.window span }
     requires row { (span.first_row ≤ row) × (row < span.end_row) }
-    requires counts { MayCount (is_in_row span row) canvas.old }
-    ensures counted { CountedWhere (is_in_row span row) canvas.old canvas.new }
-    ensures behind { result ≡ true → NoneBelowWhere nearest (is_in_row span row) canvas.old }
+    ensures { result ≡ true → NoneBelowWhere nearest (is_in_row span row) canvas.now }
 {
     let window = canvas.window();
     let start = window.row_start(row);
-    let mut behind = true;
     for column in span.first_column..span.end_column {
-        behind &= canvas.count(start + (column - window.first_column) as usize, nearest);
+        if !canvas.has_none_below(start + (column - window.first_column) as usize, nearest) {
+            return false;
+        }
     }
-    behind
+    true
 }
 
-// Counts a piece in the tiles of a span, and says whether it stands behind all of them.
-fn count_in_span(canvas: &mut Canvas, span: TileSpan, nearest: u32) -> bool
+// Whether it stands behind all tiles of a span.
+#[inline(always)]
+fn is_behind_in_span(canvas: &Canvas, span: TileSpan, nearest: u32) -> bool
+    requires part { IsPartOf canvas.now.window span }
+    ensures { result ≡ true → NoneBelowWhere nearest (has_tile span) canvas.now }
+{
+    for row in span.first_row..span.end_row {
+        if !is_behind_in_row(canvas, span, row, nearest) {
+            return false;
+        }
+    }
+    true
+}
+
+// Counts a piece in the tiles of one row, in the columns of a span.
+fn count_in_row(canvas: &mut Canvas, span: TileSpan, row: u32)
+    requires part { IsPartOf canvas.old.window span }
+    requires row { (span.first_row ≤ row) × (row < span.end_row) }
+    requires counts { MayCount (is_in_row span row) canvas.old }
+    ensures { CountedWhere (is_in_row span row) canvas.old canvas.new }
+{
+    let window = canvas.window();
+    let start = window.row_start(row);
+    for column in span.first_column..span.end_column {
+        canvas.count(start + (column - window.first_column) as usize);
+    }
+}
+
+// Counts a piece in the tiles of a span.
+fn count_in_span(canvas: &mut Canvas, span: TileSpan)
     requires part { IsPartOf canvas.old.window span }
     requires counts { MayCount (has_tile span) canvas.old }
-    ensures counted { CountedWhere (has_tile span) canvas.old canvas.new }
-    ensures behind { result ≡ true → NoneBelowWhere nearest (has_tile span) canvas.old }
+    ensures { CountedWhere (has_tile span) canvas.old canvas.new }
 {
     // an accessor tells what is held of a canvas
     let _window = canvas.window();
-    let mut behind = true;
     for row in span.first_row..span.end_row {
-        behind &= count_in_row(canvas, span, row, nearest);
+        count_in_row(canvas, span, row);
     }
-    behind
 }
 
-// Merges a piece into the tiles of one row, in the columns of a span.
-fn merge_in_row(canvas: &mut Canvas, piece: &PieceSetup, size: Size, span: TileSpan, row: u32)
+// Has the tiles of one row take a piece, in the columns of a span.
+fn take_in_row(canvas: &mut Canvas, piece: &PieceSetup, reached: &SubBox, span: TileSpan, row: u32)
     requires part { IsPartOf canvas.old.window span }
-    requires span { IsSpan size span }
+    requires reached { IsSubBox (box_of piece.now) reached.now }
+    requires span { IsSpan reached.now.size span }
     requires row { (span.first_row ≤ row) × (row < span.end_row) }
     requires small { row < 256 }
-    ensures { MergedWhere (is_in_row span row) size piece.now canvas.old canvas.new }
+    requires counts { MayCount (is_in_row span row) canvas.old }
+    ensures { TakenWhere (is_in_row span row) reached.now.size piece.now canvas.old canvas.new }
 {
     let window = canvas.window();
     let start = window.row_start(row);
     // an accessor tells how many columns there may be
-    let _columns = size.tile_columns();
+    let _columns = reached.size.tile_columns();
     for column in span.first_column..span.end_column {
         let place = Tile {
             column: column as u16,
             row: row as u16,
         };
-        canvas.merge(
+        canvas.take(
             start + (column - window.first_column) as usize,
             piece,
-            size,
+            reached,
             place,
         );
     }
 }
 
-// Merges a piece into the tiles of a span.
-fn merge_in_span(canvas: &mut Canvas, piece: &PieceSetup, size: Size, span: TileSpan)
+// Has the tiles of a span take a piece.
+fn take_in_span(canvas: &mut Canvas, piece: &PieceSetup, reached: &SubBox, span: TileSpan)
     requires part { IsPartOf canvas.old.window span }
-    requires span { IsSpan size span }
-    requires sized { IsSize size.width size.height }
-    ensures { MergedWhere (has_tile span) size piece.now canvas.old canvas.new }
+    requires reached { IsSubBox (box_of piece.now) reached.now }
+    requires span { IsSpan reached.now.size span }
+    requires sized { IsSize reached.now.size.width reached.now.size.height }
+    requires counts { MayCount (has_tile span) canvas.old }
+    ensures { TakenWhere (has_tile span) reached.now.size piece.now canvas.old canvas.new }
 {
     // an accessor tells what is held of a canvas
     let _window = canvas.window();
     for row in span.first_row..span.end_row {
-        merge_in_row(canvas, piece, size, span, row);
+        take_in_row(canvas, piece, reached, span, row);
     }
 }
 
-// Sets a piece up, and merges it into the tiles of a span.
+// Sets a piece up, and has the tiles of a span take it.
 #[inline(always)]
-fn merge_piece(canvas: &mut Canvas, tri: &ScreenTri, size: Size, span: TileSpan)
+fn take_piece(canvas: &mut Canvas, tri: &ScreenTri, size: Size, span: TileSpan)
     requires part { IsPartOf canvas.old.window span }
     requires span { IsSpan size span }
     requires sized { IsSize size.width size.height }
-    ensures { MergedWhere (has_tile span) size tri.now canvas.old canvas.new }
+    requires counts { MayCount (has_tile span) canvas.old }
+    ensures { TakenWhere (has_tile span) size tri.now canvas.old canvas.new }
 {
-    merge_in_span(canvas, &PieceSetup::of(tri), size, span);
+    let piece = PieceSetup::of(tri);
+    take_in_span(canvas, &piece, &piece.reached_on(size), span);
 }
 
 /// Draws a piece into the tiles of the canvas that its box reaches. One that stands behind all of them is counted and
@@ -102,7 +135,9 @@ pub fn draw_piece(canvas: &mut Canvas, tri: &ScreenTri, size: Size)
     ensures { TookMet size tri.now canvas.old canvas.new }
 {
     let span = TileSpan::of(&tri.boxed(), size).cut(&canvas.window());
-    if !count_in_span(canvas, span, tri.greatest_nearness()) {
-        merge_piece(canvas, tri, size, span);
+    if is_behind_in_span(canvas, span, tri.greatest_nearness()) {
+        count_in_span(canvas, span);
+    } else {
+        take_piece(canvas, tri, size, span);
     }
 }

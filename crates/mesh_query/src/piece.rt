@@ -4,7 +4,7 @@ ghost use Rattle.cull_base.specs.Piece.{IsPiece, box_of, touched};
 ghost use Rattle.cull_base.specs.Screen.{IsSize, is_on_screen};
 ghost use Rattle.cull_base.specs.Span.{IsSpan, HasTilesOf};
 ghost use Rattle.edge_lanes.specs.Inside.{sub_of};
-ghost use Rattle.edge_lanes.specs.Tiles.{inside_at};
+ghost use Rattle.edge_lanes.specs.Tiles.{AreWhole, inside_at};
 ghost use Rattle.masked_update.specs.Views.{HoldsMet, state_in};
 ghost use Rattle.mesh_query.specs.Asked.{Answers, TouchedIn, InSub, InTile, InRow, states_of};
 
@@ -57,6 +57,7 @@ impl MeshPiece {
         sub_tile: &SubTile,
         size: Size,
         edges: &TileEdges,
+        whole: u32,
         place: Tile,
         j: u16,
         known: bool,
@@ -66,6 +67,7 @@ impl MeshPiece {
         requires row { place.row < 256 }
         requires j { j < 8 }
         requires on_screen { is_on_screen size (sub_of place j) ≡ true }
+        requires whole { AreWhole (inside_at edges.now) whole }
         requires edges { inside_at edges.now j ≡ touched self.now (sub_of place j) }
         ensures { Answers (λ _. sub_tile.now) (TouchedIn size self.now (InSub (sub_of place j))) known result }
     {
@@ -81,7 +83,7 @@ impl MeshPiece {
         if known && high < reference {
             return Some(true);
         }
-        let mask = edges.mask(u32::from(j));
+        let mask = edges.mask_beside(whole, u32::from(j));
         if mask == 0 {
             return Some(known);
         }
@@ -100,6 +102,7 @@ impl MeshPiece {
     {
         let edges = self.edges.at_tile(place);
         let candidates = edges.candidates();
+        let whole = edges.whole();
         let mut touched = known;
         for j in 0..8 {
             let sub = Sub {
@@ -108,7 +111,7 @@ impl MeshPiece {
             };
             if (candidates >> j) & 1 == 1 && size.on_screen(sub) {
                 let sub_tile = state.sub(j as u8);
-                touched = self.ask_subtile(&sub_tile, size, &edges, place, j, touched)?;
+                touched = self.ask_subtile(&sub_tile, size, &edges, whole, place, j, touched)?;
             }
         }
         Some(touched)

@@ -49,4 +49,4 @@ returns-then-is_small c area =
     let bl = told c.is_small.result (2 ^ 61) c.args.level (simp to_z-of_z at c.is_small.ensures).0 c.if-is_small.true in
     let gl : FitsSigned w64 c.args.level = omega (arith, ints, bl) in
     simp to_z-of_z (narrow c.args.across c.args.down c.args.level area c.narrow_numerator.result c.least_along-x.result c.least_along-y.result ba bd bl
-    (simp to_z-of_z at c.narrow_numerator.ensures) (simp to_z-of_z at c.least_along-x.ensures.value) (simp to_z-of_z at c.least_along-y.ensures.value))
+    (simp to_z-of_z at c.narrow_numerator.ensures.value) (simp to_z-of_z at c.least_along-x.ensures.value) (simp to_z-of_z at c.least_along-y.ensures.value))

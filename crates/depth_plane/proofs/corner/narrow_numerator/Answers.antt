@@ -20,11 +20,22 @@ overflow_add-result-2 c =
     let one = fit_one c.args.first c.narrow_term.result c.requires.first c.narrow_term.ensures.bounded in
     simp to_z-of_z (fit_both c.args.first c.narrow_term.result c.narrow_term-2.result c.requires.first c.narrow_term.ensures.bounded c.narrow_term-2.ensures.bounded)
 
-pub returns : goal.returns
-returns c =
+pub returns-clause-value : goal.returns-clause-value
+returns-clause-value c =
     let ff : FitsSigned w64 c.args.first = c.ranges.first in
     let fa : FitsSigned w64 c.narrow_term.result = search rules in let fb : FitsSigned w64 c.narrow_term-2.result = search rules in
     let ga : FitsSigned w64 c.args.across = c.ranges.across in let gd : FitsSigned w64 c.args.down = c.ranges.down in
     let one = fit_one c.args.first c.narrow_term.result c.requires.first c.narrow_term.ensures.bounded in
     let two = fit_both c.args.first c.narrow_term.result c.narrow_term-2.result c.requires.first c.narrow_term.ensures.bounded c.narrow_term-2.ensures.bounded in
     simp to_z-of_z (joined c.args.first c.narrow_term.result c.narrow_term-2.result _ _ (simp to_z-of_z at c.narrow_term.ensures.value) (simp to_z-of_z at c.narrow_term-2.ensures.value))
+
+bound_both : (f a b : ℤ) → Bounded (2 ^ 61 + 2 ^ 54) f → Bounded (2 ^ 61) a → Bounded (2 ^ 61) b → Bounded (2 ^ 62 + 2 ^ 61 + 2 ^ 54) ((f +ℤ a) +ℤ b)
+bound_both f a b h i j = (omega (arith, ints, h, i, j), omega (arith, ints, h, i, j))
+
+pub returns-clause-bounded : goal.returns-clause-bounded
+returns-clause-bounded c =
+    let ff : FitsSigned w64 c.args.first = c.ranges.first in
+    let fa : FitsSigned w64 c.narrow_term.result = search rules in let fb : FitsSigned w64 c.narrow_term-2.result = search rules in
+    let one = fit_one c.args.first c.narrow_term.result c.requires.first c.narrow_term.ensures.bounded in
+    let two = fit_both c.args.first c.narrow_term.result c.narrow_term-2.result c.requires.first c.narrow_term.ensures.bounded c.narrow_term-2.ensures.bounded in
+    simp to_z-of_z (bound_both c.args.first c.narrow_term.result c.narrow_term-2.result c.requires.first c.narrow_term.ensures.bounded c.narrow_term-2.ensures.bounded)

@@ -65,6 +65,7 @@ invariant_of-result c =
         area_within = within c.area-area.result _ c.area-area.ensures.bounded is;
       }),
       simp to_z-of_z (simp to_z-of_z at (c.narrow_first.ensures (pos c.of.result))),
+      simp to_z-of_z (simp to_z-of_z at c.subtile_rises.ensures),
     )
 
 pub returns-clause-numerator : goal.returns-clause-numerator

@@ -16,7 +16,7 @@ returns-else-not-has_none_below c =
     let old = c.args.self.now in
     let t = tile_at old.tiles c.args.number in
     let behind = subst (λ q. NoneBelow q t) c.nearest.ensures.value (c.has_none_below.ensures c.if-not-has_none_below.false) in
-    let same = ap (λ (s : TileOf). set old.tiles c.args.number s) (merged_behind c.args.size c.args.place c.args.piece.now t c.nearest.ensures.valid behind) ∙ set-get_or old.tiles c.args.number no_tile in
+    let same = ap (λ (s : TileOf). set old.tiles c.args.number s) (merged_behind c.args.reached.now.size c.args.place c.args.piece.now t c.nearest.ensures.valid behind) ∙ set-get_or old.tiles c.args.number no_tile in
     sym (ap (canvas_with old.window) same)
 
 pub invariant_of-self : goal.invariant_of-self

@@ -16,19 +16,19 @@ edges_are s x edges place up is at j = at j ∙ up.edges_cover (sub_of place j) 
 
 pub returns-then-behind-eq0-clause-merged : goal.returns-then-behind-eq0-clause-merged
 returns-then-behind-eq0-clause-merged c =
-    merged_nowhere c.args.size c.args.place c.args.self.now c.subtiles_behind-behind.result c.args.layers.now c.subtiles_behind-behind.ensures.eight c.if-behind-eq0.true c.subtiles_behind-behind.ensures.wanted
+    merged_nowhere c.args.reached.now.size c.args.place c.args.self.now c.subtiles_behind-behind.result c.args.layers.now c.subtiles_behind-behind.ensures.eight c.if-behind-eq0.true c.subtiles_behind-behind.ensures.wanted
 
 pub returns-then-met-eq0-clause-merged : goal.returns-then-met-eq0-clause-merged
 returns-then-met-eq0-clause-merged c =
     let x = c.args.self.now in
     let edges = edges_are c.self.inside x c.at_tile-edges.result c.args.place c.self.invariant c.self.view_is c.at_tile-edges.ensures in
-    merged_nowhere c.args.size c.args.place x _ c.args.layers.now c.subtiles_behind-behind.ensures.eight c.if-met-eq0.true
-    (met_of c.args.size c.args.place x c.args.layers.now c.at_tile-edges.result c.subtiles_behind-behind.result c.candidates.result edges c.candidates.ensures.clear c.subtiles_behind-behind.ensures.wanted)
+    merged_nowhere c.args.reached.now.size c.args.place x _ c.args.layers.now c.subtiles_behind-behind.ensures.eight c.if-met-eq0.true
+    (met_of c.args.reached.now.size c.args.place x c.args.layers.now c.at_tile-edges.result c.subtiles_behind-behind.result c.candidates.result edges c.candidates.ensures.clear c.subtiles_behind-behind.ensures.wanted)
 
 pub returns-clause-merged : goal.returns-clause-merged
 returns-clause-merged c =
     let x = c.args.self.now in
     let edges = edges_are c.self.inside x c.at_tile-edges.result c.args.place c.self.invariant c.self.view_is c.at_tile-edges.ensures in
-    merged_all c.args.size c.args.place x _ c.coverage.result c.args.layers.now c.merge.new.self
-    (met_of c.args.size c.args.place x c.args.layers.now c.at_tile-edges.result c.subtiles_behind-behind.result c.candidates.result edges c.candidates.ensures.clear c.subtiles_behind-behind.ensures.wanted)
+    merged_all c.args.reached.now.size c.args.place x _ c.coverage.result c.args.layers.now c.merge.new.self
+    (met_of c.args.reached.now.size c.args.place x c.args.layers.now c.at_tile-edges.result c.subtiles_behind-behind.result c.candidates.result edges c.candidates.ensures.clear c.subtiles_behind-behind.ensures.wanted)
     c.coverage.ensures c.merge.ensures

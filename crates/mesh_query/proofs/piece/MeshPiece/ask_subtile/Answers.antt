@@ -23,19 +23,19 @@ returns-then-high-reference c =
 
 pub returns-then-mask-eq0 : goal.returns-then-mask-eq0
 returns-then-mask-eq0 c =
-    let mask = c.mask-mask.ensures.samples ∙ ap (inside_at c.args.edges.now) c.from.ensures ∙ c.requires.edges in
-    by_empty_mask c.args.size c.args.self.now (sub_of c.args.place c.args.j) c.args.sub_tile.now c.mask-mask.result c.args.known mask c.if-mask-eq0.true
+    let mask = c.mask_beside-mask.ensures.samples ∙ ap (inside_at c.args.edges.now) c.from.ensures ∙ c.requires.edges in
+    by_empty_mask c.args.size c.args.self.now (sub_of c.args.place c.args.j) c.args.sub_tile.now c.mask_beside-mask.result c.args.known mask c.if-mask-eq0.true
 
 pub returns-then-hides : goal.returns-then-hides
 returns-then-hides c =
     let t = c.args.self.now in let u = sub_of c.args.place c.args.j in
-    let mask = c.mask-mask.ensures.samples ∙ ap (inside_at c.args.edges.now) c.from.ensures ∙ c.requires.edges in
+    let mask = c.mask_beside-mask.ensures.samples ∙ ap (inside_at c.args.edges.now) c.from.ensures ∙ c.requires.edges in
     let high : c.high-high.result ≡ high_of t u = c.high-high.ensures.value ∙ ap (λ (x : Piece). high_of x u) c.self.view_is in
-    by_mask c.args.size t u c.args.sub_tile.now c.mask-mask.result c.high-high.result c.args.known c.requires.sized c.requires.on_screen mask c.mask-mask.type_inv c.if-mask-eq0.false high (c.hides.ensures.0 c.if-hides.true)
+    by_mask c.args.size t u c.args.sub_tile.now c.mask_beside-mask.result c.high-high.result c.args.known c.requires.sized c.requires.on_screen mask c.mask_beside-mask.type_inv c.if-mask-eq0.false high (c.hides.ensures.0 c.if-hides.true)
 
 pub returns : goal.returns
 returns c =
     let t = c.args.self.now in let u = sub_of c.args.place c.args.j in
-    let mask = c.mask-mask.ensures.samples ∙ ap (inside_at c.args.edges.now) c.from.ensures ∙ c.requires.edges in
+    let mask = c.mask_beside-mask.ensures.samples ∙ ap (inside_at c.args.edges.now) c.from.ensures ∙ c.requires.edges in
     let high : c.high-high.result ≡ high_of t u = c.high-high.ensures.value ∙ ap (λ (x : Piece). high_of x u) c.self.view_is in
-    one_shows c.args.size t u c.args.sub_tile.now c.mask-mask.result c.high-high.result c.requires.sized c.requires.on_screen mask high (λ all. both_ways c.hides.result c.if-hides.false (c.hides.ensures.1 all))
+    one_shows c.args.size t u c.args.sub_tile.now c.mask_beside-mask.result c.high-high.result c.requires.sized c.requires.on_screen mask high (λ all. both_ways c.hides.result c.if-hides.false (c.hides.ensures.1 all))

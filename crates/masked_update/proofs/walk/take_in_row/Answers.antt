@@ -1,0 +1,45 @@
+use Rattle.std.proofs.Common.{◌≡◌, ◌<◌, arith, sym, subst}
+use Rattle.masked_update.specs.TileOf.{TileOf}
+use Rattle.masked_update.specs.Taken.{taken_at}
+use Rattle.masked_update.specs.Walk.{TakenWhere, is_in_row}
+use Rattle.masked_update.proofs.Tiles.{tile_with}
+use Rattle.masked_update.proofs.Walks.{columns_before, none_changed, number_inside, row_begins, row_here, row_in_span, row_more, row_number, row_still}
+use Rattle.masked_update.proofs.walk.take_in_row.Goals as goal
+
+pub loop-column-init : goal.loop-column-init
+loop-column-init c =
+    none_changed (is_in_row (columns_before c.args.span c.args.span.first_column) c.args.row) (λ p t. taken_at c.args.reached.now.size p c.args.piece.now t) c.args.canvas.now c.window-window.ensures.whole (row_begins c.args.span c.args.row)
+
+pub take-requires-clause-tile : goal.take-requires-clause-tile
+take-requires-clause-tile c =
+    let old = c.args.canvas.now in
+    let span = c.args.span in
+    let here = row_here old.window span c.args.row c.loop-column.column c.requires.part c.requires.row.0 c.requires.row.1 c.loop-column.auto.column c.loop-column-test.true in
+    let number = row_number old.window c.window-window.result c.args.row c.loop-column.column c.row_start-start.result c.window-window.ensures.value c.row_start-start.ensures in
+    let inside = number_inside (is_in_row (columns_before span c.loop-column.column) c.args.row) (λ p t. taken_at c.args.reached.now.size p c.args.piece.now t) old c.loop-column.canvas (tile_with c.loop-column.column c.args.row) c.loop-column.invariant here in
+    omega (arith, number, inside)
+
+pub loop-column-preserved : goal.loop-column-preserved
+loop-column-preserved c =
+    let old = c.args.canvas.now in
+    let span = c.args.span in
+    let q = tile_with c.loop-column.column c.args.row in
+    let here = row_here old.window span c.args.row c.loop-column.column c.requires.part c.requires.row.0 c.requires.row.1 c.loop-column.auto.column c.loop-column-test.true in
+    let number = row_number old.window c.window-window.result c.args.row c.loop-column.column c.row_start-start.result c.window-window.ensures.value c.row_start-start.ensures in
+    row_more span (λ p t. taken_at c.args.reached.now.size p c.args.piece.now t) old c.loop-column.canvas c.take.new.self q _ here number c.loop-column.auto.column c.loop-column.invariant c.take.ensures
+
+pub returns : goal.returns
+returns c =
+    let span = c.args.span in
+    let end : c.loop-column.column ≡ span.end_column = omega (arith, c.loop-column-test.false, c.loop-column.auto.column-end, c.requires.part.columns) in
+    subst (λ n. TakenWhere (is_in_row (columns_before span n) c.args.row) c.args.reached.now.size c.args.piece.now c.args.canvas.now c.loop-column.canvas) end c.loop-column.invariant
+
+pub take-requires-clause-count : goal.take-requires-clause-count
+take-requires-clause-count c =
+    let old = c.args.canvas.now in
+    let span = c.args.span in
+    let q = tile_with c.loop-column.column c.args.row in
+    let here = row_here old.window span c.args.row c.loop-column.column c.requires.part c.requires.row.0 c.requires.row.1 c.loop-column.auto.column c.loop-column-test.true in
+    let number = row_number old.window c.window-window.result c.args.row c.loop-column.column c.row_start-start.result c.window-window.ensures.value c.row_start-start.ensures in
+    let still = row_still span (λ p t. taken_at c.args.reached.now.size p c.args.piece.now t) old c.loop-column.canvas q _ here number c.loop-column.invariant in
+    subst (λ (t : TileOf). t.count < 131072) (sym still) (c.requires.counts q here (row_in_span span c.args.row c.loop-column.column c.loop-column.auto.column c.loop-column-test.true))
