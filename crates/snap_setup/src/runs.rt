@@ -10,8 +10,9 @@ ghost use Rattle.snap_setup.specs.Runs.{empty_list, members_of, run_of, AreMade}
 
 use crate::frame::{frame_list, push_all};
 use cull_base::{ClipVertex, FrameList, Memory, Size, Tri, Winding};
+use side_by_side::for_each_share;
 use std::alloc::Global;
-use std::thread::{Threads, for_each_mut};
+use std::thread::Threads;
 
 /// A thread is worth its start for so many triangles.
 const SHARE: usize = 1024;
@@ -63,7 +64,7 @@ fn fill<R: Threads + Sync>(
     ensures runs { length rooms.new ≡ length rooms.old }
 {
     let threads = rooms.len();
-    for_each_mut(
+    for_each_share(
         rt,
         rooms,
         threads,

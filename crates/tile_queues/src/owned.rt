@@ -12,8 +12,9 @@ use crate::worker::Worker;
 use binning::{Cut, bin_of_tile};
 use cull_base::{FrameList, Memory};
 use masked_update::{TileState, draw_plain};
+use side_by_side::for_each_share;
 use std::alloc::Global;
-use std::thread::{Threads, for_each_mut};
+use std::thread::Threads;
 
 /// A thread is worth its start for so many pieces.
 const SHARE: u32 = 512;
@@ -53,7 +54,7 @@ fn draw_all<R: Threads + Sync>(
     requires empty { AreWorkersAt list.now.list cut.now workers 0 all.old }
     ensures { AreWorkersAt list.now.list cut.now workers (length list.now.list.members) all.new }
 {
-    for_each_mut(
+    for_each_share(
         rt,
         all,
         threads,
