@@ -9,6 +9,7 @@ mod fill;
 mod grid;
 mod part;
 mod parts;
+mod rooms;
 #[cfg(test)]
 mod tests;
 
@@ -17,3 +18,4 @@ pub use bins::{bin_of_tile, bin_rect, bin_span};
 pub use cut::Cut;
 pub use part::BinPart;
 pub use parts::{bin_batch, parts_make_tile_lists};
+pub use rooms::{BinRoom, bin_into};

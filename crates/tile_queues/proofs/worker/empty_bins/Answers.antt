@@ -5,7 +5,7 @@ use Rattle.binning.specs.Bins.{bin_span_of}
 use Rattle.masked_update.specs.Canvas.{CanvasOf}
 use Rattle.tile_queues.specs.Bins.{IsBinAt}
 use Rattle.tile_queues.proofs.Lists.{pushed_at}
-use Rattle.tile_queues.proofs.worker.Worker.with_bins.Goals as goal
+use Rattle.tile_queues.proofs.worker.empty_bins.Goals as goal
 
 pub loop-j-preserved : goal.loop-j-preserved
 loop-j-preserved c =

@@ -1,7 +1,7 @@
 use Rattle.std.proofs.Common.{◌≡◌, ℕ, ◌+◌, ◌*◌, ◌<◌, ◌≤◌, length, get_or, vec_capacity}
 use Rattle.masked_update.specs.Canvas.{CanvasOf}
 use Rattle.tile_queues.specs.Bins.{IsBinAt}
-use Rattle.tile_queues.proofs.worker.Worker.with_bins.Given as goal
+use Rattle.tile_queues.proofs.worker.empty_bins.Given as goal
 
 abbrev pub invariant-loop-j : goal.invariant-loop-j
 invariant-loop-j l =
