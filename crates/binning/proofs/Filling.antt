@@ -1,9 +1,14 @@
 -- Rooms that change one after another.
-use Rattle.std.proofs.Common.{◌≡◌, ℕ, ◌+◌, ◌<◌, ◌≤◌, List, [], ◌∷◌, ◌++◌, length, get_or, set, cond, arith, refl, ap, ◌∙◌, sym, below_more}
-use Rattle.std.proofs.lemmas.List.{get_or-set_same, get_or-set_other, get_or_default}
+use Rattle.std.proofs.Common.{◌≡◌, ℕ, ◌+◌, ◌<◌, ◌≤◌, List, [], ◌∷◌, ◌++◌, length, get_or, set, ℤ, ◌≤ℤ◌, int_lt, Bool, true, false, cond, arith, refl, ap, ◌∙◌, sym, below_more}
+use Rattle.std.specs.Int.{int_min, int_max}
+use Rattle.std.proofs.lemmas.Bool.{and_parts, and_from}
+use Rattle.std.proofs.lemmas.Int.{ints}
+use Rattle.std.proofs.lemmas.List.{append-nil, get_or-set_same, get_or-set_other, get_or_default}
 use Rattle.cull_base.specs.Piece.{Piece, box_of}
+use Rattle.cull_base.specs.Rectangle.{meets}
+use Rattle.cull_base.specs.declared.rect.Rect.{Rect}
 use Rattle.binning.specs.Places.{places_in}
-use Rattle.binning.specs.Rooms.{RoomOf, room, emptied, offered, filled, ChangedEach}
+use Rattle.binning.specs.Rooms.{RoomOf, room, emptied, offered, filled, ChangedEach, IsAround, least_with}
 use Rattle.binning.proofs.Places.{places_in-nil, places_in-next, meets_at-is}
 
 -- the first k rooms are changed, and the others stayed
@@ -38,3 +43,41 @@ filled_next members from index x old now new len le lt is f o j d below =
     o j d (omega (arith, below, len)) ∙ ap (offered (box_of x) index) (f j d below)
     ∙ ap (λ b. room r (places_in r members from index ++ cond b (index ∷ []) [])) (sym (meets_at-is r members index x lt is))
     ∙ ap (room r) (sym (places_in-next r members from index le))
+
+wider : (a0 a1 b0 b1 c0 c1 : ℤ) → c0 ≤ℤ b0 → b1 ≤ℤ c1 → int_lt (int_max a0 b0) (int_min a1 b1) ≡ true → int_lt (int_max a0 c0) (int_min a1 c1) ≡ true
+wider a0 a1 b0 b1 c0 c1 p q h = grind (arith, ints)
+
+least : (a b : ℤ) → (int_min a b ≤ℤ a) × (int_min a b ≤ℤ b)
+least a b = (grind (arith, ints), grind (arith, ints))
+
+greatest : (a b : ℤ) → (a ≤ℤ int_max a b) × (b ≤ℤ int_max a b)
+greatest a b = (grind (arith, ints), grind (arith, ints))
+
+-- what meets one of two rectangles meets the least that has both
+pub meets_first : (box a b : Rect) → meets box a ≡ true → meets box (least_with a b) ≡ true
+meets_first box a b h =
+    let (x, y) = and_parts _ _ h in
+    and_from _ _ (wider box.x0 box.x1 a.x0 a.x1 (int_min a.x0 b.x0) (int_max a.x1 b.x1) (least a.x0 b.x0).0 (greatest a.x1 b.x1).0 x)
+    (wider box.y0 box.y1 a.y0 a.y1 (int_min a.y0 b.y0) (int_max a.y1 b.y1) (least a.y0 b.y0).0 (greatest a.y1 b.y1).0 y)
+
+pub meets_second : (box a b : Rect) → meets box b ≡ true → meets box (least_with a b) ≡ true
+meets_second box a b h =
+    let (x, y) = and_parts _ _ h in
+    and_from _ _ (wider box.x0 box.x1 b.x0 b.x1 (int_min a.x0 b.x0) (int_max a.x1 b.x1) (least a.x0 b.x0).1 (greatest a.x1 b.x1).1 x)
+    (wider box.y0 box.y1 b.y0 b.y1 (int_min a.y0 b.y0) (int_max a.y1 b.y1) (least a.y0 b.y0).1 (greatest a.y1 b.y1).1 y)
+
+-- a box that misses what is around all rooms is offered in vain
+pub offered_far : (around box : Rect) (index : ℕ) (rooms : List RoomOf) → IsAround around rooms → meets box around ≡ false → ChangedEach (offered box index) rooms rooms
+offered_far around box index rooms is off j d lt =
+    let r = get_or rooms j d in
+    by (meets box r.rect) refl (λ h. is j d box lt h)
+  where
+    by : (b : Bool) → meets box (get_or rooms j d).rect ≡ b → (meets box (get_or rooms j d).rect ≡ true → meets box around ≡ true) → get_or rooms j d ≡ offered box index (get_or rooms j d)
+    by true e near = absurd (let no : true ≡ false = sym (near e) ∙ off in cc)
+    by false e near = ap (room (get_or rooms j d).rect) (sym (append-nil (get_or rooms j d).indices) ∙ ap (λ b. (get_or rooms j d).indices ++ cond b (index ∷ []) []) (sym e))
+
+-- rooms that are filled have the rectangles that they had
+pub around_filled : (around : Rect) (members : List Piece) (from to : ℕ) (old now : List RoomOf) → length now ≡ length old → ChangedEach (filled members from to) old now → IsAround around old → IsAround around now
+around_filled around members from to old now len f is j r box lt h =
+    let below : j < length old = omega (arith, lt, len) in
+    is j r box below (sym (ap (λ (x : RoomOf). meets box x.rect) (f j r below)) ∙ h)

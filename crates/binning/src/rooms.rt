@@ -3,7 +3,7 @@ ghost use Rattle.std.specs.Prelude.{◌≡◌, [], ◌<◌, ◌≤◌, ◌&&◌,
 ghost use Rattle.cull_base.specs.Rectangle.{meets};
 ghost use Rattle.binning.specs.Bins.{bin_rect_of};
 ghost use Rattle.binning.specs.Cut.{bin_count_of};
-ghost use Rattle.binning.specs.Rooms.{ChangedEach, emptied, filled, offered, room};
+ghost use Rattle.binning.specs.Rooms.{ChangedEach, IsAround, emptied, filled, offered, room};
 
 use crate::bins::bin_rect;
 use crate::cut::Cut;
@@ -40,6 +40,14 @@ impl BinRoom {
             }),
             Err(_) => Err(Memory),
         }
+    }
+
+    /// The pixels of its bin's tiles.
+    #[inline(always)]
+    pub(crate) fn rect(&self) -> &Rect
+        ensures { result.now ≡ self.now.rect }
+    {
+        &self.rect
     }
 
     /// The indices in the frame list, rising.
@@ -86,17 +94,37 @@ fn offer_to_all(rooms: &mut [BinRoom], boxed: &Rect, index: u32) -> Result<(), M
     Ok(())
 }
 
+// The same: a box that misses the rectangle around all bins needn't be offered.
+#[inline(always)]
+fn offer_near(rooms: &mut [BinRoom], around: &Rect, boxed: &Rect, index: u32) -> Result<(), Memory>
+    requires { IsAround around.now rooms.old }
+    ensures { OnOk result (ChangedEach (offered boxed.now index) rooms.old rooms.new) }
+{
+    if boxed.meets(around) {
+        offer_to_all(rooms, boxed, index)?;
+    }
+    Ok(())
+}
+
 /// Puts into each room its bin's part of a batch in place of what it had: the indices from one to before another whose
-/// piece's box meets the bin's rectangle, rising. Condition: from is at most to, and to at most the length. Err where
-/// memory gave out, which it doesn't where the rooms have memory for the batch.
-pub fn bin_into(rooms: &mut [BinRoom], list: &FrameList, from: u32, to: u32) -> Result<(), Memory>
+/// piece's box meets the bin's rectangle, rising. Conditions: from is at most to, and to at most the length; a box that
+/// meets a bin meets the rectangle around them. Err where memory gave out, which it doesn't where the rooms have memory
+/// for the batch.
+pub fn bin_into(
+    rooms: &mut [BinRoom],
+    around: &Rect,
+    list: &FrameList,
+    from: u32,
+    to: u32,
+) -> Result<(), Memory>
     requires order { from ≤ to }
     requires within { to ≤ length list.now.list.members }
+    requires around { IsAround around.now rooms.old }
     ensures { OnOk result (ChangedEach (filled list.now.list.members from to) rooms.old rooms.new) }
 {
     empty_all(rooms);
     for index in from..to {
-        offer_to_all(rooms, &list.get(index).boxed(), index)?;
+        offer_near(rooms, around, &list.get(index).boxed(), index)?;
     }
     Ok(())
 }

@@ -1,12 +1,13 @@
 //! A worker, which owns the tiles of its bins while a frame is drawn.
 ghost use Rattle.std.specs.Prelude.{◌≡◌, ◌≤◌, ◌<◌, ◌+◌, ◌*◌, ℕ, true, length, IfOk, OnOk, slice_index_or};
 ghost use Rattle.binning.specs.Cut.{bin_count_of};
+ghost use Rattle.binning.specs.Rooms.{IsAround};
 ghost use Rattle.masked_update.specs.Canvas.{CanvasOf};
 ghost use Rattle.tile_queues.specs.Bins.{AreRoomsOf, HavePlaces, IsBinAt, IsWorkerAt, bins_owned};
 
 use crate::part::draw_part;
-use binning::{BinRoom, Cut, batch_count, bin_into, bin_span};
-use cull_base::{FrameList, Memory};
+use binning::{BinRoom, Cut, batch_count, bin_into, bin_span, rect_around};
+use cull_base::{FrameList, Memory, Rect};
 use masked_update::Canvas;
 use std::alloc::Global;
 use std::marker::Model;
@@ -104,6 +105,7 @@ fn draw_parts(
 fn draw_batch(
     bins: &mut [Canvas],
     rooms: &mut [BinRoom],
+    around: &Rect,
     list: &FrameList,
     cut: &Cut,
     from: u32,
@@ -116,11 +118,13 @@ fn draw_batch(
     requires worker { worker < workers }
     requires few { workers ≤ 64 }
     requires rooms { AreRoomsOf list.now.list.size cut.now workers worker rooms.old }
+    requires around { IsAround around.now rooms.old }
     requires bins { IsWorkerAt list.now.list cut.now workers from worker bins.old }
     ensures rooms { OnOk result (AreRoomsOf list.now.list.size cut.now workers worker rooms.new) }
+    ensures around { OnOk result (IsAround around.now rooms.new) }
     ensures bins { OnOk result (IsWorkerAt list.now.list cut.now workers to worker bins.new) }
 {
-    bin_into(rooms, list, from, to)?;
+    bin_into(rooms, around, list, from, to)?;
     draw_parts(bins, rooms, list, cut, from, to, workers, worker);
     Ok(())
 }
@@ -143,10 +147,11 @@ fn draw_batches(
     ensures { OnOk result (IsWorkerAt list.now.list cut.now workers (length list.now.list.members) worker bins.new) }
 {
     let len = list.len();
+    let around = rect_around(rooms);
     let mut from = 0u32;
     for _ in 0..batch_count(len, size) {
         let to = len.min(from.saturating_add(size));
-        draw_batch(bins, rooms, list, cut, from, to, workers, worker)?;
+        draw_batch(bins, rooms, &around, list, cut, from, to, workers, worker)?;
         from = to;
     }
     Ok(())
