@@ -11,7 +11,7 @@ use std::sync::Wait;
 use std::thread::{Threads, available_parallelism};
 
 /// A thread is worth its start for so many vertices.
-const SHARE: usize = 16384;
+const SHARE: usize = 8192;
 
 // One for each share of the work, and no more than there are processors.
 fn thread_count<R: Threads>(rt: &R, vertices: usize) -> usize

@@ -67,19 +67,21 @@ fn share_and_rest<R: Threads + Sync, T: Send, F: Fn(usize, &mut T) + Sync>(
     ensures rest { EachBothFrom (ChangesAt F.Fn f.now) up rest.old rest.new }
 {
     let mut front = ||
-        requires { IsSync F.row × IsSend T.row × (base + length share.now < 2 ^ 64) × EachFrom (AcceptsAt F.Fn f.now) base share.now }
+        requires { IsSync F.row × IsSend T.row × (base + length share.now < 2 ^ 64)
+            × EachFrom (AcceptsAt F.Fn f.now) base share.now }
         ensures { EachBothFrom (ChangesAt F.Fn f.entry.now) base share.entry.now share.exit.now }
     { in_turn(share, base, f) };
     let mut back = ||
-        requires { IsSync R.row × IsSync F.row × IsSend T.row × (0 < size) × (up + length rest.now < 2 ^ 64) × EachFrom (AcceptsAt F.Fn f.now) up rest.now }
+        requires { IsSync R.row × IsSync F.row × IsSend T.row × (0 < size) × (up + length rest.now < 2 ^ 64)
+            × EachFrom (AcceptsAt F.Fn f.now) up rest.now }
         ensures { EachBothFrom (ChangesAt F.Fn f.entry.now) up rest.entry.now rest.exit.now }
     { shares_from(rt, f, up, size, rest) };
     join_mut(rt, &mut front, &mut back);
 }
 
-/// Calls f(i, &mut s[i]) at each place, in at most so many threads: as std's `for_each_mut`, but the caller itself starts
-/// all threads, one after another, and takes the last share. So no thread waits for another to be started, and each has
-/// a processor to itself sooner.
+/// Calls f(i, &mut s[i]) at each place, in at most so many threads: as std's `for_each_mut`, but the caller itself
+/// starts all threads, one after another, and takes the last share. So no thread waits for another to be started, and
+/// each has a processor to itself sooner.
 pub fn for_each_share<R: Threads + Sync, T: Send, F: Fn(usize, &mut T) + Sync>(
     rt: &R,
     s: &mut [T],

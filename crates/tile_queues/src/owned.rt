@@ -62,8 +62,9 @@ fn draw_all<R: Threads + Sync>(
             requires few { workers ≤ 64 }
             requires rooms { AreRoomsOf list.now.list.size cut.now workers w worker.old.rooms }
             requires bins { IsWorkerAt list.now.list cut.now workers 0 w worker.old.bins }
-            ensures { worker.new.is_done ≡ true
-                → IsWorkerAt list.entry.now.list cut.entry.now workers (length list.entry.now.list.members) w worker.new.bins }
+            ensures { let drawn = length list.entry.now.list.members in
+                worker.new.is_done ≡ true
+                → IsWorkerAt list.entry.now.list cut.entry.now workers drawn w worker.new.bins }
         { worker.draw(list, cut, size, workers, w as u32) },
     );
 }
@@ -116,10 +117,10 @@ fn gather(
 }
 
 /// Each tile of the screen after the whole list, whatever the cut, the number of workers and the size of batches: what
-/// `draw_plain` says of its tiles. Bin b belongs to worker b mod workers, which owns its tiles while it draws them: of one
-/// batch after another, each of so many pieces, it makes the parts of its own bins and draws them. One worker or one bin
-/// needs no batches, and no thread is started for a list that isn't worth one. Err where memory gave out. Conditions: 1 to 64 workers, and a batch has at least one
-/// piece, so that there are at most 2048.
+/// `draw_plain` says of its tiles. Bin b belongs to worker b mod workers, which owns its tiles while it draws them: of
+/// one batch after another, each of so many pieces, it makes the parts of its own bins and draws them. One worker or one
+/// bin needs no batches, and no thread is started for a list that isn't worth one. Err where memory gave out.
+/// Conditions: 1 to 64 workers, and a batch has at least one piece, so that there are at most 2048.
 pub fn draw_owned<R: Threads + Sync>(
     rt: &R,
     alloc: Global,
