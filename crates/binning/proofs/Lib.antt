@@ -5,3 +5,4 @@ pub mod Places
 pub mod Walks
 pub mod Laws
 pub mod Pushed
+pub mod Filling

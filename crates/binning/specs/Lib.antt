@@ -5,3 +5,4 @@ pub mod Grid
 pub mod Places
 pub mod Parts
 pub mod Pushed
+pub mod Rooms

@@ -8,7 +8,7 @@ ghost use Rattle.binning.specs.Cut.{bin_count_of};
 
 use crate::axis::Axis;
 use crate::cut::Cut;
-use cull_base::{Rect, Size, TileSpan};
+use cull_base::{NO_PIXELS, Rect, Size, TileSpan};
 
 /// The bin in which a tile stands. Condition: the tile is below the count.
 pub fn bin_of_tile(size: Size, cut: &Cut, tile: u32) -> u32
@@ -74,12 +74,7 @@ fn span_rect(size: Size, span: &TileSpan) -> Rect
             &size.tile_rect((span.end_row - 1) * columns + (span.end_column - 1)),
         )
     } else {
-        Rect {
-            x0: 0,
-            y0: 0,
-            x1: 0,
-            y1: 0,
-        }
+        NO_PIXELS
     }
 }
 

@@ -5,12 +5,13 @@ ghost use Rattle.camera_path.specs.Clip.{clip_of, AreWithin};
 
 use crate::camera::Camera;
 use cull_base::{ClipVertex, Memory};
+use side_by_side::for_each_share;
 use std::alloc::Global;
 use std::sync::Wait;
-use std::thread::{Threads, available_parallelism, for_each_mut};
+use std::thread::{Threads, available_parallelism};
 
 /// A thread is worth its start for so many vertices.
-const SHARE: usize = 16384;
+const SHARE: usize = 8192;
 
 // One for each share of the work, and no more than there are processors.
 fn thread_count<R: Threads>(rt: &R, vertices: usize) -> usize
@@ -37,7 +38,7 @@ pub fn clip_into<R: Threads + Wait + Sync>(
     ensures { clips.new ≡ map (clip_of camera.now.0) vertices.now }
 {
     let threads = thread_count(rt, vertices.len());
-    for_each_mut(
+    for_each_share(
         rt,
         clips,
         threads,

@@ -8,8 +8,9 @@ use crate::objects::{object_count, verdict_at, verdicts};
 use cull_base::{ClipVertex, Memory, Verdict};
 use masked_update::TileView;
 use scene_reader::Scene;
+use side_by_side::for_each_share;
 use std::alloc::Global;
-use std::thread::{Threads, for_each_mut};
+use std::thread::Threads;
 
 /// A thread is worth its start for so many objects and triangles of meshes.
 const SHARE: usize = 512;
@@ -35,7 +36,7 @@ fn fill<R: Threads + Sync, V: TileView + Sync>(
     requires right { IsMarkedRight (verdict_in scene.now frame (V.tile_of view.now)) scene.now.objects settled.now }
     ensures { places.new ≡ map (verdict_in scene.now frame (V.tile_of view.now)) scene.now.objects }
 {
-    for_each_mut(
+    for_each_share(
         rt,
         places,
         threads,

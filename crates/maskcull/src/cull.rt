@@ -20,10 +20,13 @@ use cull_report::{verdicts_by_workers, write_frame, write_header};
 use masked_update::{PlainView, TileState};
 use scene_reader::{Scene, read_scene};
 use snap_setup::frame_list_by_workers;
-use std::alloc::Global;
+use std::alloc::{AllocError, Global};
 use std::sync::Wait;
 use std::thread::Threads;
 use tile_queues::draw_owned;
+
+/// In bytes, above half of what a frame takes at any time.
+const LARGE: usize = 0x100_0000;
 
 /// What a frame's lines tell.
 #[derive(Drop)]
@@ -158,6 +161,14 @@ fn report_frame<R: Threads + Wait + Sync, W: Sink>(
     Ok(())
 }
 
+// Asks for a large block that nobody touches, and gives it up. The C library hands freed memory back to the system where
+// more lies free than twice the largest block that it was given back so far, and then a frame's memory is made anew for
+// each frame, page by page. After this it is kept for the next frame.
+fn keep_freed_memory(alloc: Global) {
+    let block: Result<Vec<u8>, AllocError> = Vec::with_capacity(alloc, LARGE);
+    drop(block);
+}
+
 // Draws frame after frame, and writes the lines of each before the next begins.
 fn report_frames<R: Threads + Wait + Sync, W: Sink>(
     rt: &R,
@@ -172,6 +183,7 @@ fn report_frames<R: Threads + Wait + Sync, W: Sink>(
     ensures valid { OnOk result (AllArePieces scene.now) }
     ensures scene { OnOk result (IsScene scene.now) }
 {
+    keep_freed_memory(alloc);
     let nowhere = ClipVertex { x: 0, y: 0, w: 0 };
     let mut clips = vec![in alloc; nowhere; scene.vertices().len()].map_err(|_| Failure::Memory)?;
     for frame in 0..scene.cameras().len() as u32 {

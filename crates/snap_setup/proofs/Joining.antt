@@ -1,5 +1,5 @@
 -- The pieces of runs of triangles, one run after another, are those of all triangles.
-use Rattle.std.proofs.Common.{◌≡◌, ℕ, zero, suc, ◌+◌, ◌*◌, ◌<◌, ◌≤◌, List, [], ◌∷◌, ◌++◌, length, take, get_or, append-nil, refl, sym, ap, ◌∙◌, arith}
+use Rattle.std.proofs.Common.{◌≡◌, ℕ, zero, suc, ◌+◌, ◌*◌, ◌<◌, ◌≤◌, List, [], ◌∷◌, ◌++◌, length, take, drop, get_or, append-nil, refl, sym, ap, ◌∙◌, arith}
 use Rattle.std.proofs.Math.Nat.{suc-mul, mul_comm}
 use Rattle.std.proofs.Math.Seq.{take-add}
 use Rattle.std.proofs.lemmas.List.{take_all, take_more}
@@ -13,7 +13,7 @@ use Rattle.cull_base.specs.Piece.{Piece}
 use Rattle.cull_base.specs.Screen.{Dimensions}
 use Rattle.cull_base.specs.Tiles.{FrameListOf}
 use Rattle.snap_setup.specs.Pieces.{list_of_clips}
-use Rattle.snap_setup.specs.Runs.{run_of, empty_list, AreMade, members_of}
+use Rattle.snap_setup.specs.Runs.{run_of, AreMade, members_of}
 
 module _ (clips : List ClipVertex) (tris : List Tri) (near : ℕ) (size : Dimensions) (winding : Winding) (share : ℕ) where
   abbrev pieces : List Tri → List Piece
@@ -32,11 +32,11 @@ module _ (clips : List ClipVertex) (tris : List Tri) (near : ℕ) (size : Dimens
       → members_of (take k rooms) ≡ pieces (take (k * share) tris)
   first_runs rooms made zero h = none ∙ ap (λ (n : ℕ). pieces (take n tris)) (let e : zero ≡ zero * share = omega arith in e)
   first_runs rooms made (suc k) h =
-      let d = empty_list size (2 * share) in
+      let d : FrameListOf = record { list = record { size = size; members = [] }; room = 0 } in
       let lt : k < length rooms = omega (arith, h) in
       let more = take_more rooms k d lt in
       let old = first_runs rooms made k (omega (arith, h)) in
-      let here : (get_or rooms k d).list.members ≡ pieces (run_of tris share k) = ap (λ (f : FrameListOf). f.list.members) (made k d lt) in
+      let here : (get_or rooms k d).list.members ≡ pieces (run_of tris share k) = made k d lt in
       ap (λ (n : ℕ). members_of (take n rooms)) (let e : suc k ≡ k + 1 = omega arith in e) ∙ ap members_of more ∙ flat_map-append (λ (f : FrameListOf). f.list.members) (take k rooms) (get_or rooms k d ∷ [])
       ∙ (λ i. old i ++ (append-nil (get_or rooms k d).list.members ∙ here) i)
       ∙ sym (both (take (k * share) tris) (run_of tris share k))
@@ -46,6 +46,18 @@ module _ (clips : List ClipVertex) (tris : List Tri) (near : ℕ) (size : Dimens
   all_runs rooms made whole = ap members_of (sym (take_all (length rooms) rooms (omega arith))) ∙ first_runs rooms made (length rooms) (omega arith) ∙ ap pieces (take_all (length rooms * share) tris whole)
 
   -- where the share is the triangles by the number of runs, rounded up
-  pub shared_out : (rooms : List FrameListOf) → AreMade clips tris near size winding share rooms → 0 < length rooms → share ≡ div_ceil (length tris) (length rooms)
+  shared_out : (rooms : List FrameListOf) → AreMade clips tris near size winding share rooms → 0 < length rooms → share ≡ div_ceil (length tris) (length rooms)
       → members_of rooms ≡ list_of_clips clips tris GRADE_TOP near size winding
   shared_out rooms made some is = all_runs rooms made (rw (mul_comm (length rooms) share) (rw is (div_ceil_times (length tris) (length rooms) some).0))
+
+-- the first of some lists, and the others behind it
+first_and_others : (rooms : List FrameListOf) (d : FrameListOf) → 0 < length rooms → members_of rooms ≡ (get_or rooms 0 d).list.members ++ members_of (drop 1 rooms)
+first_and_others [] d some = absurd (omega arith)
+first_and_others (r ∷ rooms) d some = refl
+
+module _ (clips : List ClipVertex) (tris : List Tri) (near : ℕ) (size : Dimensions) (winding : Winding) (share : ℕ) where
+  -- so the first list with the members of the others behind its own has all pieces
+  pub joined : (rooms others : List FrameListOf) (first : FrameListOf) → AreMade clips tris near size winding share rooms → 0 < length rooms → share ≡ div_ceil (length tris) (length rooms)
+      → first ≡ get_or rooms 0 first → others ≡ drop 1 rooms → first.list.members ++ members_of others ≡ list_of_clips clips tris GRADE_TOP near size winding
+  joined rooms others first made some is e f =
+      (λ i. (e i).list.members ++ members_of (f i)) ∙ sym (first_and_others rooms first some) ∙ shared_out clips tris near size winding share rooms made some is

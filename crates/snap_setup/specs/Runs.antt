@@ -1,5 +1,5 @@
 -- The triangles of a frame in runs, whose pieces are made side by side.
-use Rattle.std.specs.Prelude.{ℕ, ◌≡◌, ◌*◌, ◌<◌, List, [], length, take, drop, slice_index_or}
+use Rattle.std.specs.Prelude.{ℕ, ◌≡◌, ◌*◌, ◌<◌, ◌≤◌, List, [], length, take, drop, slice_index_or}
 use Rattle.cull_base.specs.declared.clip.ClipVertex.{ClipVertex}
 use Rattle.cull_base.specs.declared.scene_types.Tri.{Tri}
 use Rattle.cull_base.specs.declared.triangle.Winding.{Winding}
@@ -14,15 +14,29 @@ use Rattle.snap_setup.specs.Pieces.{list_of_clips}
 abbrev pub run_of : List Tri → ℕ → ℕ → List Tri
 run_of tris share k = take share (drop (k * share) tris)
 
-abbrev pub empty_list : Dimensions → ℕ → FrameListOf
-empty_list size room = record { list = record { size = size; members = [] }; room = room }
+-- an empty list for a screen, with room for so many pieces at least
+pub record IsRoom (size : Dimensions) (need : ℕ) (f : FrameListOf) : Type 0 where
+  pub sized : f.list.size ≡ size
+  pub empty : f.list.members ≡ []
+  pub enough : need ≤ f.room
 
 -- the members of some lists, one list after another
 abbrev pub members_of : List FrameListOf → List Piece
 members_of rooms = flat_map (λ (f : FrameListOf). f.list.members) rooms
 
--- each room holds the pieces of its run
+-- each room got the pieces of its run
+abbrev pub AreFilled : List ClipVertex → List Tri → ℕ → Dimensions → Winding → ℕ → List FrameListOf → List FrameListOf → Type 0
+AreFilled clips tris near size winding share old new =
+    (k : ℕ) (d : FrameListOf) → k < length old
+    → slice_index_or new k d ≡ with_members (slice_index_or old k d) (list_of_clips clips (run_of tris share k) GRADE_TOP near size winding)
+
+-- each room holds the pieces of its run, and nothing else
 abbrev pub AreMade : List ClipVertex → List Tri → ℕ → Dimensions → Winding → ℕ → List FrameListOf → Type 0
 AreMade clips tris near size winding share rooms =
     (k : ℕ) (d : FrameListOf) → k < length rooms
-    → slice_index_or rooms k d ≡ with_members (empty_list size (2 * share)) (list_of_clips clips (run_of tris share k) GRADE_TOP near size winding)
+    → (slice_index_or rooms k d).list.members ≡ list_of_clips clips (run_of tris share k) GRADE_TOP near size winding
+
+-- the first of some rooms is for a screen, and has room for so many pieces
+abbrev pub IsFirstFor : Dimensions → ℕ → List FrameListOf → Type 0
+IsFirstFor size most rooms =
+    (d : FrameListOf) → ((slice_index_or rooms 0 d).list.size ≡ size) × (most ≤ (slice_index_or rooms 0 d).room)

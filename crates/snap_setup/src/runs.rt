@@ -1,28 +1,40 @@
 //! The pieces of a frame, made by workers side by side: each makes those of runs of triangles, and the runs are joined
 //! in submission order.
-ghost use Rattle.std.specs.Prelude.{◌≡◌, ◌<◌, ◌≤◌, ◌*◌, ◌+◌, length, replicate, take, IfOk};
+ghost use Rattle.std.specs.Prelude.{◌≡◌, ◌<◌, ◌≤◌, ◌*◌, ◌+◌, length, IfOk};
 ghost use Rattle.std.specs.List.{All};
 ghost use Rattle.cull_base.specs.Screen.{Dimensions};
 ghost use Rattle.cull_base.specs.Tiles.{with_members};
 ghost use Rattle.cull_base.specs.declared.nearness.TheConstants.{GRADE_TOP};
 ghost use Rattle.snap_setup.specs.Pieces.{list_of_clips, HasClips};
-ghost use Rattle.snap_setup.specs.Runs.{empty_list, members_of, run_of, AreMade};
+ghost use Rattle.snap_setup.specs.Runs.{members_of, run_of, AreFilled, AreMade, IsFirstFor, IsRoom};
 
 use crate::frame::{frame_list, push_all};
 use cull_base::{ClipVertex, FrameList, Memory, Size, Tri, Winding};
+use side_by_side::for_each_share;
 use std::alloc::Global;
-use std::thread::{Threads, for_each_mut};
+use std::thread::Threads;
 
 /// A thread is worth its start for so many triangles.
 const SHARE: usize = 1024;
 
-// Empty lists for the pieces of so many runs.
-fn rooms_for(alloc: Global, size: Size, share: usize, runs: usize) -> Result<Vec<FrameList>, Memory>
-    requires { share ≤ 65536 }
-    ensures { IfOk result (λ v. v.items ≡ replicate runs (empty_list size (2 * share))) }
+// Empty lists for the pieces of so many runs. The first has room for those of all runs.
+fn rooms_for(
+    alloc: Global,
+    size: Size,
+    whole: usize,
+    share: usize,
+    runs: usize,
+) -> Result<Vec<FrameList>, Memory>
+    requires whole { whole ≤ 65536 }
+    requires share { share ≤ whole }
+    requires runs { 0 < runs }
+    ensures empty { IfOk result (λ v. All (IsRoom size (2 * share)) v.items) }
+    ensures first { IfOk result (λ v. IsFirstFor size (2 * whole) v.items) }
+    ensures runs { IfOk result (λ v. length v.items ≡ runs) }
 {
     let mut rooms = Vec::with_capacity(alloc, runs).map_err(|_| Memory)?;
-    for _ in 0..runs {
+    rooms.push_reserved(FrameList::with_room(alloc, size, 2 * whole as u32)?);
+    for _ in 1..runs {
         rooms.push_reserved(FrameList::with_room(alloc, size, 2 * share as u32)?);
     }
     Ok(rooms)
@@ -58,12 +70,12 @@ fn fill<R: Threads + Sync>(
     requires share { share ≤ 65536 }
     requires runs { 0 < length rooms.old }
     requires few { length rooms.old ≤ 65536 }
-    requires empty { All (λ l. l ≡ empty_list size (2 * share)) rooms.old }
-    ensures made { AreMade clips.now tris.now near size winding share rooms.new }
+    requires empty { All (IsRoom size (2 * share)) rooms.old }
+    ensures filled { AreFilled clips.now tris.now near size winding share rooms.old rooms.new }
     ensures runs { length rooms.new ≡ length rooms.old }
 {
     let threads = rooms.len();
-    for_each_mut(
+    for_each_share(
         rt,
         rooms,
         threads,
@@ -74,14 +86,14 @@ fn fill<R: Threads + Sync>(
             requires indices { All (HasClips (length clips.now)) tris.now }
             requires share { share ≤ 65536 }
             requires run { k ≤ 65536 }
-            requires empty { room.old ≡ empty_list size (2 * share) }
-            ensures { room.new ≡ with_members (empty_list size (2 * share))
+            requires empty { IsRoom size (2 * share) room.old }
+            ensures { room.new ≡ with_members room.old
                 (list_of_clips clips.entry.now (run_of tris.entry.now share k) GRADE_TOP near size winding) }
         { push_all(clips, run(tris, share, k), near, size, winding, room) },
     );
 }
 
-// The pieces of each of so many runs, made side by side.
+// The pieces of each of so many runs, made side by side. The first list has room for all of them.
 fn make_runs<R: Threads + Sync>(
     rt: &R,
     alloc: Global,
@@ -97,13 +109,14 @@ fn make_runs<R: Threads + Sync>(
     requires near_most { near ≤ 1024 }
     requires triangles { length tris.now ≤ 65536 }
     requires indices { All (HasClips (length clips.now)) tris.now }
-    requires share { share ≤ 65536 }
+    requires share { share ≤ length tris.now }
     requires runs { 0 < runs }
     requires few { runs ≤ 65536 }
     ensures made { IfOk result (λ v. AreMade clips.now tris.now near size winding share v.items) }
+    ensures first { IfOk result (λ v. IsFirstFor size (2 * length tris.now) v.items) }
     ensures runs { IfOk result (λ v. length v.items ≡ runs) }
 {
-    let mut rooms = rooms_for(alloc, size, share, runs)?;
+    let mut rooms = rooms_for(alloc, size, tris.len(), share, runs)?;
     fill(
         rt,
         rooms.as_mut_slice(),
@@ -151,8 +164,8 @@ pub fn frame_list_by_workers<R: Threads + Sync>(
         return frame_list(alloc, clips, tris, near, size, winding);
     }
     let share = tris.len().div_ceil(runs);
-    let mut list = FrameList::with_room(alloc, size, 2 * tris.len() as u32)?;
-    let rooms = make_runs(rt, alloc, clips, tris, near, size, winding, share, runs)?;
+    let mut rooms = make_runs(rt, alloc, clips, tris, near, size, winding, share, runs)?;
+    let mut list = rooms.remove(0);
     join_all(&mut list, rooms.as_slice());
     Ok(list)
 }

@@ -1,5 +1,3 @@
-pub mod Kept
 pub mod PlacesInTurn
-pub mod Lists
 pub mod Owning
-pub mod Parting
+pub mod Lists

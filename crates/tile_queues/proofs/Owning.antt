@@ -11,7 +11,7 @@ use Rattle.masked_update.proofs.Canvases.{drawn_in}
 use Rattle.binning.specs.Cut.{CutOf, IsCut, bin_count_of}
 use Rattle.binning.specs.Bins.{bin_of}
 use Rattle.binning.proofs.BinSpans.{in_span}
-use Rattle.tile_queues.specs.Bins.{IsBinAt, IsWorkerAt, AreWorkersAt, bins_owned}
+use Rattle.tile_queues.specs.Bins.{IsBinAt, IsWorkerAt, AreDone, AreWorkersAt, WorkerOf, bins_owned}
 
 more : (j workers : ℕ) → (j + 1) * workers ≡ j * workers + workers
 more j workers = omega arith
@@ -39,11 +39,14 @@ pub record Held (list : PieceList) (tile : ℕ) (c : CanvasOf) : Type 0 where
 -- which the bin belongs.
 pub held_tile : (list : PieceList) (cut : CutOf) (workers tile bin : ℕ) → IsSize list.size.width list.size.height → IsCut cut.columns cut.rows → 0 < workers → tile < tile_count_of list.size
     → bin ≡ bin_of list.size cut tile → bin < bin_count_of cut → ArePieces list.members
-    → (all : List (List CanvasOf)) → AreWorkersAt list cut workers (length list.members) all
-    → (worker : List CanvasOf) → worker ≡ get_or all (bin % workers) worker → (c : CanvasOf) → c ≡ get_or worker (bin / workers) c → Held list tile c
-held_tile list cut workers tile bin sized valid some lt is below pieces all (count, each) worker of c at =
+    → (all : List WorkerOf) → AreDone all → AreWorkersAt list cut workers (length list.members) all
+    → (worker : WorkerOf) → worker ≡ get_or all (bin % workers) worker → (c : CanvasOf) → c ≡ get_or worker.bins (bin / workers) c → Held list tile c
+held_tile list cut workers tile bin sized valid some lt is below pieces all done stands worker of c at =
     let mine = mod_below bin workers some in
-    let w : IsWorkerAt list cut workers (length list.members) (bin % workers) worker = subst (IsWorkerAt list cut workers (length list.members) (bin % workers)) (sym of) (each (bin % workers) worker (omega (arith, count, mine))) in
+    let count = stands.count in
+    let there : bin % workers < length all = omega (arith, count, mine) in
+    let w : IsWorkerAt list cut workers (length list.members) (bin % workers) worker.bins =
+    subst (λ (x : WorkerOf). IsWorkerAt list cut workers (length list.members) (bin % workers) x.bins) (sym of) (stands.each (bin % workers) worker there (done (bin % workers) worker there)) in
     let own = w.count in
     let inside = belongs (bin_count_of cut) workers bin some below in
     let b : IsBinAt list cut (length list.members) (bin / workers * workers + bin % workers) c = subst (IsBinAt list cut (length list.members) (bin / workers * workers + bin % workers)) (sym at) (w.each (bin / workers) c (omega (arith, own, inside))) in

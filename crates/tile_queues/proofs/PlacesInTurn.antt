@@ -1,7 +1,5 @@
 -- A bin's tiles take the places of a part one after another, and what stands between them misses the bin.
-use Rattle.std.proofs.Common.{◌≡◌, ℕ, suc, drop, get_or, length, ◌+◌, ◌-◌, ◌<◌, ◌≤◌, List, [], ◌∷◌, false, arith, sym, ap, subst, ◌∙◌}
-use Rattle.std.proofs.Math.Seq.{drop-cons}
-use Rattle.std.specs.List.{filter, range_with_len}
+use Rattle.std.proofs.Common.{◌≡◌, ℕ, ◌+◌, ◌<◌, ◌≤◌, List, length, get_or, sym, subst, ◌∙◌}
 use Rattle.cull_base.specs.Piece.{box_of}
 use Rattle.cull_base.specs.Screen.{IsSize}
 use Rattle.cull_base.specs.Tiles.{PieceList}
@@ -10,24 +8,25 @@ use Rattle.masked_update.proofs.Canvases.{stands_on}
 use Rattle.binning.specs.Cut.{CutOf, IsCut}
 use Rattle.binning.specs.Bins.{bin_rect_of, bin_span_of}
 use Rattle.binning.specs.Parts.{indices_in}
-use Rattle.binning.specs.Places.{meets_at, places_in}
+use Rattle.binning.specs.Places.{NoneMeets}
 use Rattle.binning.proofs.Places.{meets_at-is}
 use Rattle.binning.proofs.BinSpans.{in_bin, none_meets_bin}
+use Rattle.binning.proofs.Walks.{IsWalked, walk_begins, walk_next, walk_ends}
 use Rattle.tile_queues.specs.Bins.{IsBinAt}
-use Rattle.tile_queues.proofs.Kept.{first_kept, none_kept}
 
--- the bin's tiles stand at some place, and the part's places from there to its end are these
-abbrev pub StandsBefore : PieceList → CutOf → ℕ → ℕ → List ℕ → CanvasOf → Type 0
-StandsBefore list cut bin to places c = (n : ℕ) × (n ≤ to) × (places ≡ indices_in list cut n to bin) × IsBinAt list cut n bin c
+-- the bin's tiles stand at the place to which a walk over a part's indices came
+abbrev pub StandsWalked : PieceList → CutOf → ℕ → ℕ → List ℕ → ℕ → CanvasOf → Type 0
+StandsWalked list cut bin to indices taken c =
+    (n : ℕ) × IsWalked (bin_rect_of list.size cut bin) list.members to indices taken n × IsBinAt list cut n bin c
 
--- the bin's tiles stand at the next place, and the others stand behind it
-pub record IsNext (list : PieceList) (cut : CutOf) (bin to i : ℕ) (others : List ℕ) (c : CanvasOf) : Type 0 where
+-- the bin's tiles stand at the next place, and the walk goes on after it
+pub record IsNextPlace (list : PieceList) (cut : CutOf) (bin to i taken : ℕ) (indices : List ℕ) (c : CanvasOf) : Type 0 where
   pub below : i < to
-  pub others_are : others ≡ indices_in list cut (i + 1) to bin
   pub at : IsBinAt list cut i bin c
+  pub walked : IsWalked (bin_rect_of list.size cut bin) list.members to indices taken (i + 1)
 
 module _ (list : PieceList) (cut : CutOf) (bin : ℕ) (sized : IsSize list.size.width list.size.height) (valid : IsCut cut.columns cut.rows) where
-  missed : (a b : ℕ) → a ≤ b → ((m : ℕ) → a ≤ m → m < b → meets_at (bin_rect_of list.size cut bin) list.members m ≡ false) → MissBetween list (bin_span_of list.size cut bin) a b
+  missed : (a b : ℕ) → a ≤ b → NoneMeets (bin_rect_of list.size cut bin) list.members a b → MissBetween list (bin_span_of list.size cut bin) a b
   missed a b le none = record {
     ordered = le;
     members = λ i x ge lt below is t within.
@@ -41,28 +40,15 @@ module _ (list : PieceList) (cut : CutOf) (bin : ℕ) (sized : IsSize list.size.
     stands = stands_on list a b c (subst (λ w. MissBetween list w a b) (sym at.window) miss) at.stands;
   }
 
-  pub next_place : (to i : ℕ) (others : List ℕ) (c : CanvasOf) → StandsBefore list cut bin to (i ∷ others) c → IsNext list cut bin to i others c
-  unfolding places_in
-  next_place to i others c (n, le, is, at) =
-      let r = first_kept (meets_at (bin_rect_of list.size cut bin) list.members) (to - n) n i others (sym is) in
-      let from = r.from in let below = r.below in
-      let l : n + (to - n) - (i + 1) ≡ to - (i + 1) = omega arith in
-      record {
-        below = omega (arith, below, le);
-        others_are = r.behind ∙ ap (λ k. filter (meets_at (bin_rect_of list.size cut bin) list.members) (range_with_len (i + 1) k)) l;
-        at = moved n i c (missed n i from r.passed) at;
-      }
+  pub first_turn : (from to : ℕ) (indices : List ℕ) (c : CanvasOf) → from ≤ to → indices ≡ indices_in list cut from to bin → IsBinAt list cut from bin c → StandsWalked list cut bin to indices 0 c
+  first_turn from to indices c le is at = (from, walk_begins (bin_rect_of list.size cut bin) list.members from to indices le is, at)
 
-  pub no_place : (to : ℕ) (c : CanvasOf) → StandsBefore list cut bin to [] c → IsBinAt list cut to bin c
-  unfolding places_in
-  no_place to c (n, le, is, at) =
-      let none = none_kept (meets_at (bin_rect_of list.size cut bin) list.members) (to - n) n (sym is) in
-      moved n to c (missed n to le (λ m ge lt. none m ge (omega (arith, lt, le)))) at
+  pub next_turn : (to taken : ℕ) (indices : List ℕ) (c : CanvasOf) → taken < length indices → StandsWalked list cut bin to indices taken c
+      → IsNextPlace list cut bin to (get_or indices taken 0) (taken + 1) indices c
+  next_turn to taken indices c lt (n, w, at) =
+      let (next, walked) = walk_next (bin_rect_of list.size cut bin) list.members to indices taken n w lt in
+      record { below = next.before; at = moved n (get_or indices taken 0) c (missed n (get_or indices taken 0) next.from_on next.none) at; walked = walked }
 
-  -- the place that stands next among those that are left
-  pub turn : (to k : ℕ) (indices items : List ℕ) (c : CanvasOf) → items ≡ indices → k < length items → StandsBefore list cut bin to (drop k indices) c
-      → IsNext list cut bin to (get_or items k 0) (drop (k + 1) indices) c
-  turn to k indices items c same lt before =
-      let one : suc k ≡ k + 1 = omega arith in
-      let cut_off : drop k indices ≡ get_or items k 0 ∷ drop (k + 1) indices = ap (drop k) (sym same) ∙ drop-cons items k 0 lt ∙ (λ j. get_or items k 0 ∷ drop (one j) (same j)) in
-      next_place to (get_or items k 0) (drop (k + 1) indices) c (subst (λ (ps : List ℕ). StandsBefore list cut bin to ps c) cut_off before)
+  pub last_turn : (to taken : ℕ) (indices : List ℕ) (c : CanvasOf) → length indices ≤ taken → StandsWalked list cut bin to indices taken c → IsBinAt list cut to bin c
+  last_turn to taken indices c le (n, w, at) =
+      moved n to c (missed n to w.before (walk_ends (bin_rect_of list.size cut bin) list.members to indices taken n w le)) at

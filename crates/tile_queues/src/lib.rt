@@ -1,7 +1,6 @@
 //! The drawing of a frame by workers side by side, each with bins of its own.
 #![tactic(auto)]
 
-mod batch;
 mod owned;
 mod part;
 mod worker;

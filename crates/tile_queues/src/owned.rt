@@ -1,19 +1,18 @@
 //! A frame drawn by workers: each owns the tiles of its bins, draws them and hands them back.
-ghost use Rattle.std.specs.Prelude.{◌≡◌, ◌≤◌, ◌<◌, ◌+◌, ◌*◌, ℕ, length, IfOk, OnOk, All};
+ghost use Rattle.std.specs.Prelude.{◌≡◌, ◌≤◌, ◌<◌, ◌+◌, ◌*◌, ℕ, true, length, IfOk, OnOk, All};
 ghost use Rattle.cull_base.specs.Screen.{IsSize, tile_count_of};
 ghost use Rattle.cull_base.specs.Tiles.{ArePieces};
 ghost use Rattle.masked_update.specs.Drawn.{AreDrawn, IsDrawn};
 ghost use Rattle.binning.specs.Parts.{batch_count_of};
-ghost use Rattle.tile_queues.specs.Batches.{AreBatches};
-ghost use Rattle.tile_queues.specs.Bins.{AreWorkersAt, IsWorkerAt};
+ghost use Rattle.tile_queues.specs.Bins.{AreDone, AreReady, AreRoomsOf, AreWorkersAt, IsWorkerAt};
 
-use crate::batch::{Batch, batches_of};
 use crate::worker::Worker;
 use binning::{Cut, bin_of_tile};
 use cull_base::{FrameList, Memory};
 use masked_update::{TileState, draw_plain};
+use side_by_side::for_each_share;
 use std::alloc::Global;
-use std::thread::{Threads, for_each_mut};
+use std::thread::Threads;
 
 /// A thread is worth its start for so many pieces.
 const SHARE: u32 = 512;
@@ -23,14 +22,16 @@ fn make_workers(
     alloc: Global,
     list: &FrameList,
     cut: &Cut,
+    size: u32,
     workers: u32,
 ) -> Result<Vec<Worker>, Memory>
     requires { workers ≤ 64 }
-    ensures { IfOk result (λ v. AreWorkersAt list.now.list cut.now workers 0 v.items) }
+    ensures { IfOk result (λ v. AreReady list.now.list cut.now workers v.items) }
 {
     let mut all = Vec::with_capacity(alloc, workers as usize).map_err(|_| Memory)?;
     for worker in 0..workers {
-        all.push_reserved(Worker::with_bins(alloc, list, cut, workers, worker)?);
+        let made = Worker::with_bins(alloc, list, cut, size, workers, worker)?;
+        all.push_reserved(made);
     }
     Ok(all)
 }
@@ -40,7 +41,6 @@ fn draw_all<R: Threads + Sync>(
     rt: &R,
     all: &mut [Worker],
     list: &FrameList,
-    batches: &[Batch],
     cut: &Cut,
     size: u32,
     workers: u32,
@@ -49,11 +49,10 @@ fn draw_all<R: Threads + Sync>(
     requires size { 1 ≤ size }
     requires few { workers ≤ 64 }
     requires threads { 0 < threads }
-    requires batches { AreBatches list.now.list cut.now size batches.now }
-    requires empty { AreWorkersAt list.now.list cut.now workers 0 all.old }
+    requires ready { AreReady list.now.list cut.now workers all.old }
     ensures { AreWorkersAt list.now.list cut.now workers (length list.now.list.members) all.new }
 {
-    for_each_mut(
+    for_each_share(
         rt,
         all,
         threads,
@@ -61,17 +60,27 @@ fn draw_all<R: Threads + Sync>(
             requires size { 1 ≤ size }
             requires worker { w < workers }
             requires few { workers ≤ 64 }
-            requires batches { AreBatches list.now.list cut.now size batches.now }
-            requires empty { IsWorkerAt list.now.list cut.now workers 0 w worker.old }
-            ensures { IsWorkerAt list.entry.now.list cut.entry.now workers (length list.entry.now.list.members) w worker.new }
-        { worker.draw(list, batches, cut, size, workers, w as u32) },
+            requires rooms { AreRoomsOf list.now.list.size cut.now workers w worker.old.rooms }
+            requires bins { IsWorkerAt list.now.list cut.now workers 0 w worker.old.bins }
+            ensures { let drawn = length list.entry.now.list.members in
+                worker.new.is_done ≡ true
+                → IsWorkerAt list.entry.now.list cut.entry.now workers drawn w worker.new.bins }
+        { worker.draw(list, cut, size, workers, w as u32) },
     );
+}
+
+// Whether all workers drew all batches.
+fn are_done(all: &[Worker]) -> bool
+    ensures { result ≡ true → AreDone all.now }
+{
+    all.iter().all(|worker| worker.is_done())
 }
 
 // A tile as its bin's worker hands it back.
 fn tile_of(all: &[Worker], list: &FrameList, cut: &Cut, workers: u32, tile: u32) -> TileState
     requires some { 0 < workers }
     requires tile { tile < tile_count_of list.now.list.size }
+    requires done { AreDone all.now }
     requires drawn { AreWorkersAt list.now.list cut.now workers (length list.now.list.members) all.now }
     ensures { IsDrawn list.now.list tile result }
 {
@@ -93,6 +102,7 @@ fn gather(
     workers: u32,
 ) -> Result<Vec<TileState>, Memory>
     requires some { 0 < workers }
+    requires done { AreDone all.now }
     requires drawn { AreWorkersAt list.now.list cut.now workers (length list.now.list.members) all.now }
     ensures tiles { IfOk result (λ v. length v.items ≡ tile_count_of list.now.list.size) }
     ensures drawn { IfOk result (λ v. AreDrawn list.now.list v.items) }
@@ -107,10 +117,10 @@ fn gather(
 }
 
 /// Each tile of the screen after the whole list, whatever the cut, the number of workers and the size of batches: what
-/// `draw_plain` says of its tiles. All batches are binned first, each of so many pieces. Bin b belongs to worker b mod
-/// workers, which owns its tiles while it draws them. One worker or one bin needs no batches, and no thread is started
-/// for a list that isn't worth one. Err where memory gave out. Conditions: 1 to 64 workers, and a batch has at least one
-/// piece, so that there are at most 2048.
+/// `draw_plain` says of its tiles. Bin b belongs to worker b mod workers, which owns its tiles while it draws them: of
+/// one batch after another, each of so many pieces, it makes the parts of its own bins and draws them. One worker or one
+/// bin needs no batches, and no thread is started for a list that isn't worth one. Err where memory gave out.
+/// Conditions: 1 to 64 workers, and a batch has at least one piece, so that there are at most 2048.
 pub fn draw_owned<R: Threads + Sync>(
     rt: &R,
     alloc: Global,
@@ -132,17 +142,10 @@ pub fn draw_owned<R: Threads + Sync>(
         return draw_plain(alloc, list);
     }
     let threads = (list.len() / SHARE).min(workers).max(1) as usize;
-    let batches = batches_of(alloc, list, cut, batch)?;
-    let mut all = make_workers(alloc, list, cut, workers)?;
-    draw_all(
-        rt,
-        all.as_mut_slice(),
-        list,
-        batches.as_slice(),
-        cut,
-        batch,
-        workers,
-        threads,
-    );
+    let mut all = make_workers(alloc, list, cut, batch, workers)?;
+    draw_all(rt, all.as_mut_slice(), list, cut, batch, workers, threads);
+    if !are_done(all.as_slice()) {
+        return Err(Memory);
+    }
     gather(alloc, all.as_slice(), list, cut, workers)
 }

@@ -1,11 +1,11 @@
 //! The part of a batch, drawn into the tiles of its bin.
 ghost use Rattle.std.specs.Prelude.{◌≡◌, ◌≤◌, ◌<◌, length};
-ghost use Rattle.cull_base.specs.Screen.{IsSize};
 ghost use Rattle.binning.specs.Cut.{CutOf, IsCut, bin_count_of};
 ghost use Rattle.binning.specs.Parts.{indices_in};
+ghost use Rattle.cull_base.specs.Screen.{IsSize};
 ghost use Rattle.tile_queues.specs.Bins.{IsBinAt};
 
-use binning::{BinPart, Cut};
+use binning::Cut;
 use cull_base::FrameList;
 use masked_update::Canvas;
 
@@ -14,7 +14,7 @@ use masked_update::Canvas;
 pub(crate) fn draw_part(
     canvas: &mut Canvas,
     list: &FrameList,
-    part: &BinPart,
+    indices: &[u32],
     cut: &Cut,
     _bin: u32,
     _from: u32,
@@ -23,14 +23,14 @@ pub(crate) fn draw_part(
     requires bin { _bin < bin_count_of cut.now }
     requires order { _from ≤ _to }
     requires within { _to ≤ length list.now.list.members }
-    requires places { part.now.indices ≡ indices_in list.now.list cut.now _from _to _bin }
+    requires places { indices.now ≡ indices_in list.now.list cut.now _from _to _bin }
     requires stands { IsBinAt list.now.list cut.now _from _bin canvas.old }
     ensures { IsBinAt list.now.list cut.now _to _bin canvas.new }
 {
     // accessors tell what is held of a size and of a cut
     let _width = list.size().width();
     let _columns = cut.columns();
-    for index in part.indices() {
+    for index in indices {
         canvas.draw_member(list, *index);
     }
 }

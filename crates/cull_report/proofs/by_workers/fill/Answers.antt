@@ -13,7 +13,7 @@ pub returns : goal.returns
 returns g c =
     let objects = c.args.scene.now.objects in
     let verdict = verdict_in c.args.scene.now c.args.frame (g.V.TileView.tile_of c.args.view.now) in
-    let size : length c.for_each_mut.new.s ≡ length objects = c.for_each_mut.auto.s ∙ c.requires.places in
-    ext_get_or Outside c.for_each_mut.new.s (map verdict objects) (size ∙ sym (length-map objects verdict))
-    (λ i lt. let k = (c.for_each_mut.ensures i Outside (omega (arith, lt, size, c.requires.places))).1 in
+    let size : length c.for_each_share.new.s ≡ length objects = c.for_each_share.auto.s ∙ c.requires.places in
+    ext_get_or Outside c.for_each_share.new.s (map verdict objects) (size ∙ sym (length-map objects verdict))
+    (λ i lt. let k = (c.for_each_share.ensures i Outside (omega (arith, lt, size, c.requires.places))).1 in
     sym k.left ∙ k.call some_object ∙ sym (get_or-map verdict objects i some_object Outside (omega (arith, lt, size))))

@@ -1,0 +1,12 @@
+use Rattle.std.proofs.Common.{◌≡◌, ℕ, ◌+◌, ◌*◌, ◌<◌, ◌≤◌, length, get_or}
+use Rattle.masked_update.specs.Canvas.{CanvasOf}
+use Rattle.tile_queues.specs.Bins.{IsBinAt}
+use Rattle.tile_queues.proofs.worker.draw_parts.Given as goal
+
+abbrev pub invariant-loop-j : goal.invariant-loop-j
+invariant-loop-j l =
+    record {
+      count : length l.bins ≡ length l.initial.bins;
+      drawn : (i : ℕ) (d : CanvasOf) → i < l.j → IsBinAt l.list.list l.cut l.to (i * l.workers + l.worker) (get_or l.bins i d);
+      left : (i : ℕ) (d : CanvasOf) → l.j ≤ i → i < length l.bins → IsBinAt l.list.list l.cut l.fn.from (i * l.workers + l.worker) (get_or l.bins i d);
+    }
