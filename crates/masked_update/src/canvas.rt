@@ -102,7 +102,8 @@ impl Canvas {
         requires tile { number < length self.old.tiles }
         requires column { place.column < tile_columns_of reached.now.size }
         requires row { place.row < tile_rows_of reached.now.size }
-        ensures { self.new ≡ with_tile self.old number (merged_tile reached.now.size place piece.now (tile_at self.old.tiles number)) }
+        ensures { self.new ≡ with_tile self.old number
+            (merged_tile reached.now.size place piece.now (tile_at self.old.tiles number)) }
     {
         if !self.has_none_below(number, piece.nearest()) {
             let changed = self.tiles[number].merge(piece, reached, place);
@@ -120,7 +121,8 @@ impl Canvas {
         requires count { (tile_at self.old.tiles number).count < 131072 }
         requires column { place.column < tile_columns_of reached.now.size }
         requires row { place.row < tile_rows_of reached.now.size }
-        ensures { self.new ≡ with_tile self.old number (taken_at reached.now.size place piece.now (tile_at self.old.tiles number)) }
+        ensures { self.new ≡ with_tile self.old number
+            (taken_at reached.now.size place piece.now (tile_at self.old.tiles number)) }
     {
         self.count(number);
         self.merge(number, piece, reached, place);

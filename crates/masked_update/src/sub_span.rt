@@ -54,7 +54,8 @@ fn ones_between(first: u32, end: u32) -> u32
 impl SubBox {
     ghost use Rattle.masked_update.specs.Merged.{IsSubBox, span_at};
 
-    /// The subtiles on the screen that the rectangle reaches. Condition: no corner of the rectangle is before its first.
+    /// The subtiles on the screen that the rectangle reaches. Condition: no corner of the rectangle is before its
+    /// first.
     #[inline(always)]
     pub fn of(rect: &Rect, size: Size) -> SubBox
         requires across { rect.now.x0 ≤ℤ rect.now.x1 }
