@@ -1,1 +1,4 @@
-pub mod Frames
+pub mod Ranges
+pub mod FrameByFrame
+pub mod Draws
+pub mod DemoScene

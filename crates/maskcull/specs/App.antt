@@ -1,5 +1,5 @@
 -- The command line as `clap` knows it: the program, its commands, and their options.
-use Rattle.std.specs.Prelude.{ℕ, pos, Some, List, [], ◌∷◌, ◌++◌, map, codes}
+use Rattle.std.specs.Prelude.{ℕ, pos, true, Some, List, [], ◌∷◌, ◌++◌, map, codes}
 use Rattle.std.specs.Fmt.{decimal}
 use Rattle.clap.specs.Words.{App, Rule, Shape, Text, new_app, new_rule, with_subcommand}
 use Rattle.clap.specs.Simple.{new_shape, on_top}

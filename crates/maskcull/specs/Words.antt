@@ -12,6 +12,8 @@ use Rattle.maskcull.specs.declared.request.Command.{Command}
 use Rattle.maskcull.specs.declared.request.Command.TheVariants.{Cull, Demo}
 use Rattle.maskcull.specs.declared.request.Request.{Request}
 use Rattle.maskcull.specs.declared.settings.Settings.{Settings}
+use Rattle.maskcull.specs.declared.failure.Status.{Status}
+use Rattle.maskcull.specs.declared.failure.Status.TheVariants as statuses
 use Rattle.maskcull.specs.declared.words.Refusal.{Refusal}
 use Rattle.maskcull.specs.declared.words.Refusal.TheVariants as refusals
 
@@ -32,6 +34,10 @@ abbrev pub AreWords : Refusal → Type 0
 AreWords refusals.Memory = ⊥
 AreWords (refusals.Words text) = Unit {0}
 
+abbrev pub refusal_status : Refusal → Status
+refusal_status refusals.Memory = statuses.Memory
+refusal_status (refusals.Words text) = statuses.Usage
+
 -- ---- what words ask for: of any words that `clap` takes, what it makes of them
 
 -- the number that an option has among the matches
@@ -41,7 +47,7 @@ number_in rows o = option_map_or (λ text. digits_value 10 (without_leading_plus
 -- the request of a command by its name, where each option has such a number
 abbrev pub request_by : Text → (Numbered → ℕ) → Option Request
 request_by name number =
-    let settings = record { workers = number workers; cut = cut_into (number bins_x) (number bins_y); batch = number batch } in
+    let settings : Settings = record { workers = number workers; cut = cut_into (number bins_x) (number bins_y); batch = number batch } in
     if bytes_eq name (codes "cull") then Some (record { command = Cull; settings = settings })
     else (if bytes_eq name (codes "demo") then Some (record { command = Demo (number seed) (number triangles); settings = settings })
     else None)
@@ -77,7 +83,7 @@ AreApart (u ∷ rest) = All (λ v. u.option ≡ v.option → ⊥) rest × AreApa
 
 -- uses of some of these options
 pub record AreUses (options : List Numbered) (uses : List Use) : Type 0 where
-  pub known : All (λ u. Contains u.option options) uses
+  pub known : All (λ u. Contains options u.option) uses
   pub in_range : All IsInRange uses
   pub apart : AreApart uses
 

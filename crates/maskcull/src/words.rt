@@ -2,8 +2,9 @@
 ghost use Rattle.std.specs.Prelude.{◌≡◌, ℕ, IfOk, IfErr, None, Some, map, string_bytes, true, false};
 ghost use Rattle.clap.specs.Words.{app_of, kind_of, rule_of, takes};
 ghost use Rattle.maskcull.specs.App.{rule_for, the_app};
-ghost use Rattle.maskcull.specs.Notes.{IsNotedFirst, usage_text};
-ghost use Rattle.maskcull.specs.Words.{AreInRange, AreWords, ArePlain, HasFewTriangles, request_of};
+ghost use Rattle.cull_base.specs.Stream.{IsNoted};
+ghost use Rattle.maskcull.specs.Notes.{IsNotedFirst, usage_text, status_text};
+ghost use Rattle.maskcull.specs.Words.{AreInRange, AreWords, ArePlain, HasFewTriangles, request_of, refusal_status};
 
 use crate::failure::{Failure, Status};
 use crate::request::{Command, Request};
@@ -24,6 +25,10 @@ pub enum Refusal {
 impl Refusal {
     /// Notes the refusal, as far as the sink takes it, and tells its status.
     pub fn end<E: Sink>(&self, notes: &mut E) -> Status
+        ensures value { result ≡ refusal_status self.now }
+        ensures noted_words { AreWords self.now → IsNotedFirst (E.says notes.old) (E.says notes.new) usage_text }
+        ensures noted_memory { (AreWords self.now → ⊥)
+            → IsNoted (E.says notes.old) (E.says notes.new) (status_text Status.Memory) }
     {
         Failure::Memory.end(notes)
     }
