@@ -9,5 +9,5 @@ mod text;
 
 pub use by_workers::verdicts_by_workers;
 pub use objects::{object_area, object_verdict, verdicts};
-pub use report::{write_frame, write_header};
-pub use text::Line;
+pub use report::{count_of, write_frame, write_header};
+pub use text::{Line, Text};

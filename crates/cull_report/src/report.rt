@@ -102,7 +102,8 @@ fn write_verdicts<W: Sink>(sink: &mut W, verdicts: &[Verdict]) -> Result<(), Sin
     Ok(())
 }
 
-fn count_of(verdicts: &[Verdict], wanted: Verdict) -> usize
+/// How many of some verdicts are the wanted one.
+pub fn count_of(verdicts: &[Verdict], wanted: Verdict) -> usize
     ensures visible { wanted ≡ Verdict.Visible → result ≡ count_by is_visible verdicts.now }
     ensures occluded { wanted ≡ Verdict.Occluded → result ≡ count_by is_occluded verdicts.now }
     ensures outside { wanted ≡ Verdict.Outside → result ≡ count_by is_outside verdicts.now }

@@ -1,4 +1,3 @@
-pub mod Frames
 pub mod DecimalWords
 pub mod OptionRules
 pub mod UseRows
@@ -10,3 +9,7 @@ pub mod DefaultTexts
 pub mod Builders
 pub mod OptionNumbers
 pub mod AskedWords
+pub mod Ranges
+pub mod FrameByFrame
+pub mod Draws
+pub mod DemoScene

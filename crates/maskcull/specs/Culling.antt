@@ -55,6 +55,13 @@ pub record Reports (before after : SinkSays) (result : Result (Unit {0}) Failure
 abbrev pub IsBeforeReport : Failure → Type 0
 IsBeforeReport f = (f ≡ Memory → ⊥) × (f ≡ ReportFault → ⊥)
 
+-- the failure is one that comes of an input alone
+abbrev pub IsOfInput : Failure → Type 0
+IsOfInput (Scene e) = Unit {0}
+IsOfInput ReadFault = Unit {0}
+IsOfInput ReportFault = ⊥
+IsOfInput Memory = ⊥
+
 -- the status is one after which part of the report may stand
 abbrev pub MayHaveWritten : Status → Type 0
 MayHaveWritten status = (status ≡ statuses.ReportFault) ⊎ (status ≡ statuses.Memory)

@@ -13,11 +13,15 @@ unfoldable pub demo_line : ℕ → ℕ → List ℕ
 demo_line seed m = line (codes "demo" ∷ codes "seed" ∷ decimal seed ∷ codes "triangles" ∷ decimal m
     ∷ codes "boxes" ∷ decimal box_count ∷ codes "frames" ∷ decimal frame_count ∷ [])
 
--- the line of a frame, by its pieces and its verdicts
-unfoldable pub summary_line : ℕ → ℕ → List Verdict → List ℕ
-summary_line frame pieces verdicts = line (codes "frame" ∷ decimal frame ∷ codes "pieces" ∷ decimal pieces
-    ∷ codes "visible" ∷ decimal (count_by is_visible verdicts) ∷ codes "occluded" ∷ decimal (count_by is_occluded verdicts)
-    ∷ codes "outside" ∷ decimal (count_by is_outside verdicts) ∷ [])
+-- the line of a frame, by its pieces and how many objects have each verdict
+unfoldable pub counts_line : ℕ → ℕ → ℕ → ℕ → ℕ → List ℕ
+counts_line frame pieces visible occluded outside = line (codes "frame" ∷ decimal frame ∷ codes "pieces" ∷ decimal pieces
+    ∷ codes "visible" ∷ decimal visible ∷ codes "occluded" ∷ decimal occluded ∷ codes "outside" ∷ decimal outside ∷ [])
+
+-- the same by its verdicts
+abbrev pub summary_line : ℕ → ℕ → List Verdict → List ℕ
+summary_line frame pieces verdicts =
+    counts_line frame pieces (count_by is_visible verdicts) (count_by is_occluded verdicts) (count_by is_outside verdicts)
 
 abbrev pub frame_summary : Parts → ℕ → List ℕ
 frame_summary s frame = summary_line frame (length (frame_pieces s frame)) (frame_verdicts s frame)

@@ -6,8 +6,11 @@ ghost use Rattle.maskcull.specs.Demo.{demo_of};
 ghost use Rattle.maskcull.specs.Summary.{summary_text};
 ghost use Rattle.maskcull.specs.Words.{AreInRange};
 
+use crate::demo_scene::demo_scene;
 use crate::failure::Failure;
+use crate::frames::{FrameLines, report_frames};
 use crate::settings::Settings;
+use crate::summary::write_demo_line;
 use cull_base::Sink;
 use std::alloc::Global;
 use std::sync::Wait;
@@ -27,5 +30,7 @@ pub fn demo<R: Threads + Wait + Sync, W: Sink>(
     ensures reported { Reports (W.says report.old) (W.says report.new) result (summary_text seed triangles) }
     ensures hidden { OnOk result (HidesTruly (demo_of seed triangles)) }
 {
-    Err(Failure::Memory)
+    let scene = demo_scene(alloc, u64::from(seed), triangles)?;
+    write_demo_line(report, seed, triangles)?;
+    report_frames(rt, alloc, settings, FrameLines::Summary, &scene, report)
 }

@@ -6,9 +6,12 @@ mod cull;
 mod demo;
 mod demo_scene;
 mod failure;
+mod frames;
+mod generator;
 mod request;
 mod run;
 mod settings;
+mod summary;
 mod words;
 
 use adapters::{Input, Output};

@@ -1,19 +1,60 @@
 //! The top call: from command words and the bytes of a scene to the report.
-ghost use Rattle.std.specs.Prelude.{◌≡◌, ℕ, ◌⊎◌, None, Some, map, string_bytes};
+ghost use Rattle.std.specs.Prelude.{◌≡◌, ℕ, ◌⊎◌, None, Some, map, string_bytes, IfErr, OnOk, OnErr, IsErrOf};
+ghost use Rattle.scene_reader.specs.Fault.{IsRefusal};
 ghost use Rattle.cull_base.specs.Stream.{Rose, IsNoted};
-ghost use Rattle.maskcull.specs.Culling.{Asks, IfAsked, IsCull, IsDemo, IsDone, WithoutFault, NotesFault, EachFault, EachScene, GainsFrontOf, WithoutScene, StatusIs, MayHaveWritten};
+ghost use Rattle.maskcull.specs.Culling.{IfScene, EndsAs, HasFault, IsOfInput, IsBeforeReport, Asks, IfAsked, IsCull, IsDemo, IsDone, WithoutFault, NotesFault, EachFault, EachScene, GainsFrontOf, WithoutScene, StatusIs, MayHaveWritten};
 ghost use Rattle.maskcull.specs.Notes.{IsNotedFirst, status_text};
-ghost use Rattle.maskcull.specs.Words.{ArePlain, request_of};
+ghost use Rattle.maskcull.specs.Words.{AreInRange, ArePlain, HasFewTriangles, request_of};
 
 use crate::cull::cull;
 use crate::demo::demo;
-use crate::failure::Status;
+use crate::failure::{Failure, Status};
 use crate::request::{Command, Request};
 use crate::words::request_of;
 use cull_base::{Sink, Source};
 use std::alloc::Global;
 use std::sync::Wait;
 use std::thread::Threads;
+
+// Does what is asked for.
+fn perform<R: Threads + Wait + Sync, S: Source, W: Sink>(
+    rt: &R,
+    alloc: Global,
+    request: &Request,
+    input: &mut S,
+    report: &mut W,
+) -> Result<(), Failure>
+    requires settings { AreInRange request.now.settings }
+    requires few { HasFewTriangles request.now.command }
+    ensures done { OnOk result (IsDone request.now.command
+        (S.says input.old) (S.says input.new) (W.says report.old) (W.says report.new)) }
+
+    // The causes.
+    ensures refusal { IfErr result (λ f. IfScene f IsRefusal) }
+    ensures scene { IfErr result (λ f. IfScene f (HasFault (S.says input.old))) }
+    ensures asked { IfErr result (λ f. IsOfInput f → IsCull request.now.command) }
+    ensures read { IsErrOf result Failure.ReadFault → Rose (S.says input.old).faults (S.says input.new).faults }
+    ensures report { IsErrOf result Failure.ReportFault → Rose (W.says report.old).faults (W.says report.new).faults }
+
+    // What comes of bytes that are refused, of a scene's, and of a scene from a seed.
+    ensures refused { IsCull request.now.command
+        → EachFault (S.says input.old) (λ e. EndsAs result (Failure.Scene e)) }
+    ensures drawn { IsCull request.now.command
+        → EachScene (S.says input.old) (λ _. OnErr result (EndsAs result Failure.ReportFault)) }
+
+    // What stands on the input and on the report.
+    ensures unread { (IsCull request.now.command → ⊥) → input.new ≡ input.old }
+    ensures untouched { IfErr result (λ f. IsBeforeReport f → report.new ≡ report.old) }
+    ensures prefix { OnErr result (GainsFrontOf request.now.command
+        (S.says input.old) (W.says report.old) (W.says report.new)) }
+    ensures nothing { IsCull request.now.command → WithoutScene (S.says input.old) (report.new ≡ report.old) }
+{
+    let settings = &request.settings;
+    match request.command {
+        Command::Cull => cull(rt, alloc, settings, input, report),
+        Command::Demo { seed, triangles } => demo(rt, alloc, settings, seed, triangles, report),
+    }
+}
 
 /// Runs a command, whatever its settings: `cull` reads a scene from the input and writes its report, `demo` makes a
 /// scene and writes its summary. What is said of bytes holds where the input tells its bytes; a sink's claim where the
@@ -73,12 +114,7 @@ pub fn run<R: Threads + Wait + Sync, S: Source, W: Sink, E: Sink>(
         Ok(request) => request,
         Err(refusal) => return refusal.end(notes),
     };
-    let settings = &request.settings;
-    let result = match request.command {
-        Command::Cull => cull(rt, alloc, settings, input, report),
-        Command::Demo { seed, triangles } => demo(rt, alloc, settings, seed, triangles, report),
-    };
-    match result {
+    match perform(rt, alloc, &request, input, report) {
         Ok(()) => Status::Done,
         Err(failure) => failure.end(notes),
     }

@@ -1,7 +1,7 @@
 //! Rectangles over a tile that is drawn in part, and boxes before, across and behind the near plane.
 use super::*;
-use cull_base::{ClipVertex, Rect, Size, Verdict};
-use masked_update::{PlainView, SubTile, TileState};
+use cull_base::{ClipVertex, FrameList, Rect, ScreenTri, Size, Verdict};
+use masked_update::{PlainView, SubTile, TileState, draw_plain};
 use std::test::Fail;
 
 const FIRST_FOUR: Rect = Rect {
@@ -127,5 +127,34 @@ fn a_box_that_straddles_the_near_plane_or_the_guard_has_no_rectangle(
     assert_eq!(rt; answer([0, 0, -5], [1, 1, 0])?, BoxAnswer::Outside);
     let far = 0x100_0000;
     assert_eq!(rt; answer([-far, 0, -far], [far, 1, 0])?, BoxAnswer::Outside);
+    Ok(())
+}
+
+// README shows this test as the way in which another crate uses these layers.
+#[test]
+fn a_triangle_hides_what_lies_behind_it(rt: HostRuntime) -> Result<(), Fail> {
+    let size = Size::new(64, 32).ok_or("a size")?;
+    // x and y of three points in sixteenths of a pixel, clockwise, and the nearness of each
+    let triangle = ScreenTri::new([0, 1024, 0], [0, 0, 1024], [40000; 3]).ok_or("a piece")?;
+    let mut list = FrameList::with_room(rt.alloc(), size, 1)?;
+    list.push(triangle);
+    let tiles = draw_plain(rt.alloc(), &list)?;
+    let view = PlainView::new(&tiles);
+    // at twice the near distance of 16: half of 65535, rounded up
+    let nearness = rect_near(32, 16).ok_or("a nearness")?;
+    let behind = Rect {
+        x0: 4,
+        y0: 4,
+        x1: 12,
+        y1: 12,
+    };
+    let beside = Rect {
+        x0: 56,
+        y0: 24,
+        x1: 64,
+        y1: 32,
+    };
+    assert_eq!(rt; rect_test(&view, size, behind, nearness), Verdict::Occluded);
+    assert_eq!(rt; rect_test(&view, size, beside, nearness), Verdict::Visible);
     Ok(())
 }

@@ -1,8 +1,15 @@
 //! The command words: which are refused, and what the others ask for.
-use super::*;
+use crate::failure::Status;
 use crate::request::Command;
+use crate::run::run;
+use crate::tests::scenes::{FIRST, OCCLUDED, run_with, words};
 use crate::words::request_of;
-use cull_base::Source;
+use cull_base::{BytesSource, Source, SureSink};
+use std::alloc::Global;
+use std::process::Abort;
+use std::sync::Wait;
+use std::test::*;
+use std::thread::Threads;
 
 // The four options with these values.
 fn options<'a>(

@@ -1,18 +1,11 @@
-use Rattle.std.proofs.Common.{length, Result, Ok, Err}
-use Rattle.std.specs.Prelude.{OnOk}
+use Rattle.std.proofs.Common.{length}
 use Rattle.std.proofs.lemmas.Result.{err_from_is_err_and}
 use Rattle.cull_report.specs.Scene.{scene_header, frames_text, report_text}
-use Rattle.scene_reader.specs.Layout.{Parts, IsScene}
-use Rattle.cull_report.specs.Hiding.{HidesTruly}
-use Rattle.maskcull.specs.declared.failure.Failure.{Failure}
-use Rattle.maskcull.specs.Culling.{AllArePieces}
 use Rattle.maskcull.specs.Outcome.{sink_failure}
-use Rattle.maskcull.proofs.Frames.{all_hide, reports_then, reports_no_more, reports_written}
+use Rattle.maskcull.specs.Frames.{frames_lines}
+use Rattle.maskcull.specs.declared.frames.FrameLines.TheVariants.{Report}
+use Rattle.maskcull.proofs.FrameByFrame.{frames_text_are_lines, hidden_then, reports_then, reports_no_more, reports_written}
 use Rattle.maskcull.proofs.cull.report_scene.Goals as goal
-
-hidden_then : (r : Result (Unit {0}) Failure) (s : Parts) → OnOk r (IsScene s) → OnOk r (AllArePieces s) → OnOk r (HidesTruly s)
-hidden_then (Ok x) s scene all = all_hide s scene all
-hidden_then (Err e) s scene all = all
 
 pub returns-in_err-write_header-clause-reported : goal.returns-in_err-write_header-clause-reported
 unfolding report_text
@@ -28,7 +21,8 @@ unfolding report_text
 returns-clause-reported g c =
     let s = c.args.scene.now in
     let s0 = g.W.Sink.says c.args.report.now in let s1 = g.W.Sink.says c.write_header.new.sink in let s2 = g.W.Sink.says c.report_frames.new.report in
-    reports_then s0 s1 s2 c.report_frames.result (scene_header s) (frames_text s (length s.cameras)) c.in_ok-write_header.ensures.ok c.write_header.ensures.faults_stay c.report_frames.ensures.reported
+    rw (frames_text_are_lines s (length s.cameras))
+    (reports_then s0 s1 s2 c.report_frames.result (scene_header s) (frames_lines Report s (length s.cameras)) c.in_ok-write_header.ensures.ok c.write_header.ensures.faults_stay c.report_frames.ensures.reported)
 
 pub returns-clause-hidden : goal.returns-clause-hidden
 returns-clause-hidden g c = hidden_then c.report_frames.result c.args.scene.now c.report_frames.ensures.scene c.report_frames.ensures.valid

@@ -11,7 +11,7 @@ use Rattle.masked_update.specs.Views.{state_in}
 use Rattle.cull_report.specs.Scene.{frame_verdicts, frame_pieces, size_of, object_verdict}
 use Rattle.cull_report.proofs.Agreement.{objects_alike}
 use Rattle.cull_report.proofs.TileStates.{drawn_agrees}
-use Rattle.maskcull.proofs.cull.verdicts_over.Goals as goal
+use Rattle.maskcull.proofs.frames.verdicts_over.Goals as goal
 
 pub returns : goal.returns
 unfolding frame_verdicts

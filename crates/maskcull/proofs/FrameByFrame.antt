@@ -1,6 +1,5 @@
 -- The report of a scene, frame by frame.
 use Rattle.std.proofs.Common.{◌≡◌, ℕ, zero, suc, ◌+◌, ◌<◌, ◌≤◌, ◌++◌, List, [], length, take, append_assoc, arith, refl, ap, sym, ◌∙◌, ◌-◌, Option, Some, None, subst, Result, Ok, Err, inl, inr}
-use Rattle.std.specs.List.{flat_map, range_with_len}
 use Rattle.std.proofs.lemmas.Bool.{cases_lt}
 use Rattle.std.proofs.lemmas.List.{append-nil, length-append, take-append-le}
 use Rattle.std.specs.Option.{option_map}
@@ -11,47 +10,49 @@ use Rattle.cull_base.specs.declared.memory.SinkError.TheVariants as sink
 use Rattle.cull_base.specs.Stream.{SinkSays, Appends, AppendsPrefix, Rose, Writes}
 use Rattle.cull_base.proofs.Streams.{appends_then}
 use Rattle.scene_reader.specs.Layout.{Parts, IsScene}
-use Rattle.cull_report.specs.Scene.{frame_pieces, frame_report, frames_text}
+use Rattle.cull_report.specs.Scene.{frame_pieces, frames_text}
 use Rattle.cull_report.specs.Hiding.{HidesTruly}
 use Rattle.cull_report.proofs.Occluders.{hides_truly}
 use Rattle.maskcull.specs.declared.failure.Failure.{Failure}
+use Rattle.maskcull.specs.declared.frames.FrameLines.{FrameLines}
+use Rattle.maskcull.specs.declared.frames.FrameLines.TheVariants.{Report, Summary}
+use Rattle.maskcull.specs.Frames.{lines_of, frames_lines}
+use Rattle.maskcull.specs.Demo.{demo_of, frame_count}
+use Rattle.maskcull.specs.Summary.{frames_summary}
+use Rattle.std.specs.Prelude.{OnOk}
+use Rattle.maskcull.proofs.Ranges.{flat_map-next, flat_map-begins}
 use Rattle.maskcull.specs.Culling.{Reports, AllArePieces, IsReportFailure}
 use Rattle.maskcull.specs.Outcome.{sink_failure}
 
--- the lines of one frame more
-one_more : (f : ℕ → List ℕ) (a k : ℕ) → flat_map f (range_with_len a (suc k)) ≡ flat_map f (range_with_len a k) ++ f (a + k)
-one_more f a zero = let e : a ≡ a + 0 = omega arith in append-nil (f a) ∙ ap f e
-one_more f a (suc k) =
-    let e : (a + 1) + k ≡ a + suc k = omega arith in
-    ap (λ (t : List ℕ). f a ++ t) (one_more f (a + 1) k ∙ ap (λ n. flat_map f (range_with_len (a + 1) k) ++ f n) e)
-    ∙ sym (append_assoc (f a) (flat_map f (range_with_len (a + 1) k)) (f (a + suc k)))
-
-pub frames_text-suc : (s : Parts) (k : ℕ) → frames_text s (k + 1) ≡ frames_text s k ++ frame_report s k
-unfolding frames_text
-frames_text-suc s k = let e : k + 1 ≡ suc k = omega arith in let z : 0 + k ≡ k = omega arith in ap (λ n. flat_map (frame_report s) (range_with_len 0 n)) e ∙ one_more (frame_report s) 0 k ∙ ap (λ n. flat_map (frame_report s) (range_with_len 0 k) ++ frame_report s n) z
-
-pub frames_text-none : (s : Parts) (says : SinkSays) → Appends says says (frames_text s 0)
-unfolding frames_text
-frames_text-none s says = nothing says.holding
+pub frames_lines-none : (lines : FrameLines) (s : Parts) (says : SinkSays) → Appends says says (frames_lines lines s 0)
+unfolding frames_lines
+frames_lines-none lines s says = nothing says.holding
   where
     nothing : (held : Option (List ℕ)) → held ≡ option_map (λ (h : List ℕ). h ++ []) held
     nothing None = refl
     nothing (Some h) = ap Some (sym (append-nil h))
 
--- the lines of more frames begin with those of the first
-begins : (f : ℕ → List ℕ) (a m n : ℕ) → (rest : List ℕ) × (flat_map f (range_with_len a (m + n)) ≡ flat_map f (range_with_len a m) ++ rest)
-begins f a zero n = let e : zero + n ≡ n = omega arith in (flat_map f (range_with_len a n), ap (λ k. flat_map f (range_with_len a k)) e)
-begins f a (suc m) n =
-    let (rest, e) = begins f (a + 1) m n in
-    let k : suc m + n ≡ suc (m + n) = omega arith in
-    (rest, ap (λ k. flat_map f (range_with_len a k)) k ∙ ap (λ (t : List ℕ). f a ++ t) e ∙ sym (append_assoc (f a) (flat_map f (range_with_len (a + 1) m)) rest))
+pub frames_lines-next : (lines : FrameLines) (s : Parts) (k : ℕ) → frames_lines lines s (k + 1) ≡ frames_lines lines s k ++ lines_of lines s k
+unfolding frames_lines
+frames_lines-next lines s k = flat_map-next (lines_of lines s) k
 
-pub frames_text-more : (s : Parts) (k count : ℕ) → k < count → (rest : List ℕ) × (frames_text s count ≡ frames_text s (k + 1) ++ rest)
-unfolding frames_text
-frames_text-more s k count lt =
-    let (rest, e) = begins (frame_report s) 0 (k + 1) (count - (k + 1)) in
-    let c : count ≡ (k + 1) + (count - (k + 1)) = omega arith in
-    (rest, ap (λ n. flat_map (frame_report s) (range_with_len 0 n)) c ∙ e)
+-- the lines of more frames begin with those of the first
+pub frames_lines-begins : (lines : FrameLines) (s : Parts) (k count : ℕ) → k < count → (rest : List ℕ) × (frames_lines lines s count ≡ frames_lines lines s (k + 1) ++ rest)
+unfolding frames_lines
+frames_lines-begins lines s k count lt = flat_map-begins (lines_of lines s) k count lt
+
+-- the report's lines, and the summary's
+pub frames_text_are_lines : (s : Parts) (count : ℕ) → frames_text s count ≡ frames_lines Report s count
+unfolding frames_text frames_lines
+frames_text_are_lines s count = refl
+
+pub frames_summary_are_lines : (s : Parts) (count : ℕ) → frames_summary s count ≡ frames_lines Summary s count
+unfolding frames_summary frames_lines
+frames_summary_are_lines s count = refl
+
+pub demo_frames : (seed m : ℕ) → length (demo_of seed m).cameras ≡ frame_count
+unfolding demo_of
+demo_frames seed m = refl
 
 pub next_valid : (s : Parts) (k : ℕ) → ((f : ℕ) → f < k → ArePieces (frame_pieces s f)) → ArePieces (frame_pieces s k) → (f : ℕ) → f < k + 1 → ArePieces (frame_pieces s f)
 next_valid s k before last f lt = elim (cases_lt f k) [
@@ -59,8 +60,10 @@ next_valid s k before last f lt = elim (cases_lt f k) [
   | inr not_less ↦ let is : k ≡ f = omega arith in subst (λ f. ArePieces (frame_pieces s f)) is last
 ]
 
-pub all_hide : (s : Parts) → IsScene s → AllArePieces s → HidesTruly s
-all_hide s scene all = hides_truly s scene all
+-- what is called occluded is hidden, once the frames of a scene were drawn
+pub hidden_then : (r : Result (Unit {0}) Failure) (s : Parts) → OnOk r (IsScene s) → OnOk r (AllArePieces s) → OnOk r (HidesTruly s)
+hidden_then (Ok x) s scene all = hides_truly s scene all
+hidden_then (Err e) s scene all = all
 
 failed_later : (f : Failure) (s0 s1 s2 : SinkSays) → s0.faults ≤ s1.faults → IsReportFailure f s1 s2 → IsReportFailure f s0 s2
 failed_later f s0 s1 s2 le h = elim h [

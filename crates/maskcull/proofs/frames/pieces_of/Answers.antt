@@ -9,7 +9,7 @@ use Rattle.snap_setup.specs.Pieces.{HasClips, list_of_clips}
 use Rattle.cull_base.specs.declared.nearness.TheConstants.{GRADE_TOP}
 use Rattle.cull_report.specs.Scene.{frame_list}
 use Rattle.cull_report.proofs.Forms.{clip_count, has_clips}
-use Rattle.maskcull.proofs.cull.pieces_of.Goals as goal
+use Rattle.maskcull.proofs.frames.pieces_of.Goals as goal
 
 pub frame_list_by_workers-requires-clause-indices : goal.frame_list_by_workers-requires-clause-indices
 frame_list_by_workers-requires-clause-indices g c =

@@ -3,7 +3,7 @@ use Rattle.cull_base.specs.Tiles.{PieceList, ArePieces}
 use Rattle.cull_base.specs.Screen.{tile_count_of}
 use Rattle.masked_update.specs.Drawn.{AreDrawn}
 use Rattle.cull_report.specs.Scene.{frame_list}
-use Rattle.maskcull.proofs.cull.draw.Goals as goal
+use Rattle.maskcull.proofs.frames.draw.Goals as goal
 
 pub verdicts_over-requires-clause-tiles : goal.verdicts_over-requires-clause-tiles
 unfolding frame_list

@@ -1,0 +1,100 @@
+//! The command `demo`, and the generator of its scene.
+use crate::failure::Status;
+use crate::generator::Generator;
+use crate::tests::scenes::run_with;
+use std::alloc::Global;
+use std::process::Abort;
+use std::sync::Wait;
+use std::test::*;
+use std::thread::Threads;
+
+const WITHOUT_TRIANGLES: &str = concat!(
+    "demo seed 1 triangles 0 boxes 500 frames 4\n",
+    "frame 0 pieces 0 visible 419 occluded 0 outside 81\n",
+    "frame 1 pieces 0 visible 422 occluded 0 outside 78\n",
+    "frame 2 pieces 0 visible 422 occluded 0 outside 78\n",
+    "frame 3 pieces 0 visible 414 occluded 0 outside 86\n",
+);
+
+const MANY_TRIANGLES: &str = concat!(
+    "demo seed 1 triangles 20000 boxes 500 frames 4\n",
+    "frame 0 pieces 19999 visible 59 occluded 383 outside 58\n",
+    "frame 1 pieces 20008 visible 92 occluded 350 outside 58\n",
+    "frame 2 pieces 20032 visible 71 occluded 373 outside 56\n",
+    "frame 3 pieces 19970 visible 74 occluded 364 outside 62\n",
+);
+
+// Without a byte of input the words give this summary.
+fn assert_summary<R: Threads + Wait + Sync + Abort>(
+    rt: &R,
+    alloc: Global,
+    words: &[&str],
+    text: &str,
+) -> Result<(), Fail> {
+    let ended = run_with(rt, alloc, words, Vec::new(alloc))?;
+    assert_eq!(rt; ended.report.as_slice(), text.as_bytes());
+    assert_eq!(rt; ended.status, Status::Done);
+    assert_eq!(rt; ended.notes.len(), 0);
+    Ok(())
+}
+
+#[test]
+fn the_first_draws_of_seed_0(rt: HostRuntime) -> Result<(), Fail> {
+    let mut generator = Generator { state: 0 };
+    assert_eq!(rt; generator.next(16_001), 5311);
+    assert_eq!(rt; generator.state, 1_442_695_040_888_963_407);
+    assert_eq!(rt; generator.state >> 33, 167_951_807);
+    let mut again = Generator { state: 0 };
+    assert_eq!(rt; again.centre().x, -2689);
+    Ok(())
+}
+
+#[test]
+fn without_triangles_no_frame_has_pieces(rt: HostRuntime) -> Result<(), Fail> {
+    let words = ["maskcull", "demo", "--seed", "1", "--triangles", "0"];
+    assert_summary(&rt, rt.alloc(), &words, WITHOUT_TRIANGLES)
+}
+
+// Whatever the settings are.
+fn assert_many<R: Threads + Wait + Sync + Abort>(
+    rt: &R,
+    alloc: Global,
+    workers: &str,
+    bins: &str,
+) -> Result<(), Fail> {
+    let words = [
+        "maskcull",
+        "demo",
+        "--seed",
+        "1",
+        "--triangles",
+        "20000",
+        "--workers",
+        workers,
+        "--bins-x",
+        bins,
+        "--bins-y",
+        bins,
+    ];
+    assert_summary(rt, alloc, &words, MANY_TRIANGLES)
+}
+
+#[test]
+fn many_triangles_by_one_worker_in_one_bin(rt: HostRuntime) -> Result<(), Fail> {
+    assert_many(&rt, rt.alloc(), "1", "1")
+}
+
+#[test]
+fn many_triangles_by_one_worker_in_many_bins(rt: HostRuntime) -> Result<(), Fail> {
+    assert_many(&rt, rt.alloc(), "1", "4")
+}
+
+#[test]
+fn many_triangles_by_many_workers_in_one_bin(rt: HostRuntime) -> Result<(), Fail> {
+    assert_many(&rt, rt.alloc(), "8", "1")
+}
+
+#[test]
+fn many_triangles_by_many_workers_in_many_bins(rt: HostRuntime) -> Result<(), Fail> {
+    assert_many(&rt, rt.alloc(), "8", "4")
+}
