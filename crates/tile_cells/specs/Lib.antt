@@ -1,0 +1,5 @@
+pub mod Words
+pub mod Rule
+pub mod Cells
+pub mod Passes
+pub mod Snapshots
