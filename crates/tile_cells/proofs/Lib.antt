@@ -1,2 +1,4 @@
 pub mod Opening
 pub mod Keeps
+pub mod Packing
+pub mod Writing

@@ -2,6 +2,14 @@
 //! the tile after exactly so many members of its list, and never fewer than it had seen.
 #![tactic(auto)]
 
+mod cells;
 mod kinds;
+mod note;
 mod rule;
 mod steps;
+mod words;
+mod writer;
+
+pub use cells::TileCells;
+pub use note::Note;
+pub use writer::TileWriter;
