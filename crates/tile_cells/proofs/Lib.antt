@@ -1,4 +1,6 @@
+pub mod Lists
 pub mod Opening
 pub mod Keeps
 pub mod Packing
 pub mod Writing
+pub mod Views

@@ -5,11 +5,15 @@
 mod cells;
 mod kinds;
 mod note;
+mod reader;
 mod rule;
+mod snapshot;
 mod steps;
 mod words;
 mod writer;
 
 pub use cells::TileCells;
 pub use note::Note;
+pub use reader::TileReader;
+pub use snapshot::Snapshot;
 pub use writer::TileWriter;
