@@ -4,3 +4,4 @@ pub mod Keeps
 pub mod Packing
 pub mod Writing
 pub mod Views
+pub mod Areas

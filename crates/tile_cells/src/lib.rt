@@ -6,6 +6,7 @@ mod cells;
 mod kinds;
 mod note;
 mod reader;
+mod reading;
 mod rule;
 mod snapshot;
 mod steps;
