@@ -1,13 +1,11 @@
 -- Tiles that a reader has read, one more at a time.
-use Rattle.std.proofs.Common.{◌≡◌, ⊎_elim, ℕ, ◌+◌, ◌*◌, ◌/◌, ◌%◌, ◌<◌, ◌≤◌, List, Bool, true, false, ◌&&◌, ◌||◌, nat_eq, nat_lt, length, set, refl, sym, ap, ◌∙◌, subst, arith}
+use Rattle.std.proofs.Common.{◌≡◌, ⊎_elim, ℕ, ◌+◌, ◌*◌, ◌/◌, ◌%◌, ◌<◌, ◌≤◌, Bool, true, false, ◌&&◌, ◌||◌, nat_eq, nat_lt, length, refl, sym, ap, ◌∙◌, subst, arith}
 use Rattle.std.specs.Prelude.{slice_index, slice_set}
-use Rattle.std.specs.Cmp.{both_ways}
 use Rattle.std.proofs.Math.Nat.{div-add-mod}
 use Rattle.std.proofs.lemmas.Bool.{cases_eq}
 use Rattle.std.proofs.lemmas.Bool.Decides.{nat_tests}
 use Rattle.std.proofs.lemmas.List.{get_or-set_same, get_or-set_other}
-use Rattle.cull_base.specs.Rectangle.{meets}
-use Rattle.cull_base.specs.Screen.{Dimensions, tile_columns_of, tile_rows_of, tile_count_of, tile_place, tile_rect_of}
+use Rattle.cull_base.specs.Screen.{Dimensions, tile_columns_of, tile_rows_of, tile_count_of, tile_place}
 use Rattle.cull_base.specs.Span.{has_tile, is_between, HasTilesOf, IsSpan}
 use Rattle.cull_base.specs.Tiles.{PieceList, tile_list}
 use Rattle.cull_base.specs.declared.rect.Rect.{Rect}
@@ -15,9 +13,9 @@ use Rattle.cull_base.specs.declared.tile_span.TileSpan.{TileSpan}
 use Rattle.masked_update.specs.Grid.{is_in_rows}
 use Rattle.masked_update.specs.TileOf.{TileOf, tile_at, no_tile}
 use Rattle.masked_update.specs.Taken.{standing_at}
-use Rattle.masked_update.proofs.Grid.{place, number_below, before, last_between, grows_elsewhere, none_between}
+use Rattle.masked_update.proofs.Grid.{place, number_below, grows_elsewhere}
 use Rattle.tile_cells.specs.Cells.{Reading}
-use Rattle.tile_cells.specs.Snapshots.{SnapshotOf, HoldsExactly, ReadIf, ReadMet, ReadOnce, ReadWhere, Unread, is_held}
+use Rattle.tile_cells.specs.Snapshots.{SnapshotOf, HoldsExactly, ReadIf, ReadOnce, ReadWhere, Unread}
 
 -- ---- tests
 
@@ -189,5 +187,5 @@ pub columns_read : (old mid new : Reading) (was then now : SnapshotOf) (columns 
     → ReadWhere (is_in_rows columns row (row + 1) first column) old mid was then → ReadWhere (λ t. nat_eq t n) mid new then now → ReadWhere (is_in_rows columns row (row + 1) first (column + 1)) old new was now
 columns_read old mid new was then now columns row first column n lt le is p q =
     read_also (is_in_rows columns row (row + 1) first column) (λ t. nat_eq t (row * columns + column)) (is_in_rows columns row (row + 1) first (column + 1)) old mid new was then now p
-        (subst (λ z. ReadWhere (λ t. nat_eq t z) mid new then now) is q)
-        (λ t. column_apart columns row first column t lt le) (λ t. column_more columns row first column t lt le)
+    (subst (λ z. ReadWhere (λ t. nat_eq t z) mid new then now) is q)
+    (λ t. column_apart columns row first column t lt le) (λ t. column_more columns row first column t lt le)

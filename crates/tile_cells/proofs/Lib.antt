@@ -5,3 +5,7 @@ pub mod Packing
 pub mod Writing
 pub mod Views
 pub mod Areas
+pub mod Making
+pub mod Closing
+pub mod Members
+pub mod Standing

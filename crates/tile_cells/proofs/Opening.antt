@@ -1,11 +1,10 @@
 -- An empty tile, and its words.
-use Rattle.std.proofs.Common.{◌≡◌, ℕ, ◌<◌, List, [], ◌∷◌, replicate, refl, sym, ap, ◌∙◌, subst, arith}
+use Rattle.std.proofs.Common.{◌≡◌, ℕ, [], ◌∷◌, refl, sym, ap, ◌∙◌, subst, arith}
 use Rattle.std.proofs.lemmas.List.{get_or-replicate}
-use Rattle.cull_base.specs.State.{State, empty_state}
+use Rattle.cull_base.specs.State.{empty_state}
 use Rattle.cull_base.specs.Tiles.{PieceList}
 use Rattle.masked_update.specs.Packing.{IsSubTile, packed}
-use Rattle.masked_update.specs.SubTile.{seen}
-use Rattle.masked_update.specs.TileOf.{TileOf, empty_tile}
+use Rattle.masked_update.specs.TileOf.{empty_tile}
 use Rattle.masked_update.specs.Taken.{standing_at}
 use Rattle.masked_update.proofs.Packed.{layers_are, packed_seen}
 use Rattle.masked_update.proofs.Steps.{filled_layers}

@@ -1,9 +1,9 @@
 -- The packed subtiles of a tile, by their places among its words.
-use Rattle.std.proofs.Common.{◌≡◌, ℕ, suc, ◌<◌, List, map, length, get_or, sym, ap, ◌∙◌, arith}
+use Rattle.std.proofs.Common.{◌≡◌, ℕ, suc, ◌<◌, List, map, length, sym, ap, ◌∙◌, arith}
 use Rattle.std.specs.Prelude.{slice_index_or}
 use Rattle.std.specs.List.{range_with_len}
 use Rattle.std.proofs.lemmas.List.{get_or-map, length-map}
-use Rattle.cull_base.specs.State.{State, empty_state}
+use Rattle.cull_base.specs.State.{empty_state}
 use Rattle.masked_update.specs.LanesBack.{eight_numbers}
 use Rattle.masked_update.specs.Packing.{packed}
 use Rattle.masked_update.specs.TileOf.{TileOf, sub_at}

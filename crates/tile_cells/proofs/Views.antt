@@ -43,8 +43,8 @@ module _ (ps : List Token) (t : ℕ) (old new : Token) (lt : t < length ps) (is 
       let first : list_of ps ≡ list_of (set ps t new) = sym (list_set ps t new old lt is (ap (λ (v : View). v.list) now)) in
       let was : Reads (list_of ps) t old = subst (Reads (list_of ps) t) (sym is) (r.each t old lt) in
       let mine : Reads (list_of ps) t new =
-          now
-          ∙ (λ i. reader (ap (λ (v : View). v.list) was i) (ap (λ (v : View). v.tile) was i) (ap (λ (v : View). v.number) (sym now) i) (ap (λ (v : View). v.loads) (sym now) i)) in
+      now
+      ∙ (λ i. reader (ap (λ (v : View). v.list) was i) (ap (λ (v : View). v.tile) was i) (ap (λ (v : View). v.number) (sym now) i) (ap (λ (v : View). v.loads) (sym now) i)) in
       record {
         each = subst (λ (l : PieceList). (j : ℕ) (d : Token) → j < length (set ps t new) → Reads l j (slice_index_or (set ps t new) j d)) first
             (λ j d jl. set_each (Reads (list_of ps)) ps t new (length ps) lt (λ e d' el ne. r.each e d' el) mine j d (omega (arith, jl, length-set ps t new)));

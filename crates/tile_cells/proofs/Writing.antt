@@ -58,7 +58,7 @@ module _ (tile : ℕ) (place : Tile) (size : Dimensions) (state : TileOf) (p : T
   next_holds new words is words_are possible =
       let lt = m.within in
       subst (λ t. HoldsAt words t (number_at p + 1) (list_at p)) (sym (ap (λ (v : View). v.tile) w.view))
-          (record { within = omega arith; possible = subst IsTile (next_state new is) possible; words_are = words_are ∙ ap words_of (next_state new is) })
+      (record { within = omega arith; possible = subst IsTile (next_state new is) possible; words_are = words_are ∙ ap words_of (next_state new is) })
 
   pub next_is : (new : TileOf) (q : Token) → new ≡ taken_at size place x state → cell_view q ≡ writer (list_at p) (cell_view p).tile (number_at p + 1) (heard_at p) → IsWriting tile place size new q
   next_is new q is stored =

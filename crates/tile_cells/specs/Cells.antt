@@ -1,7 +1,6 @@
 -- Cells, writers, readers and notes as contracts see them. The cells are the list of their identities, one for each tile.
-use Rattle.std.specs.Prelude.{◌≡◌, ℕ, ◌+◌, ◌<◌, ◌≤◌, List, Bool, true, false, Some, length, slice_get, slice_index, slice_index_or}
+use Rattle.std.specs.Prelude.{◌≡◌, ℕ, ◌<◌, ◌≤◌, List, Some, length, slice_get, slice_index, slice_index_or}
 use Rattle.atomic_table.specs.Seated.{TableId}
-use Rattle.cull_base.specs.Screen.{tile_count_of}
 use Rattle.cull_base.specs.Tiles.{PieceList}
 
 -- the writer of a tile took `count` members of the tile's list, and heard that a reader had seen `heard` of them
@@ -29,11 +28,11 @@ pub record Noted : Type 0 where
 abbrev pub IsAt : List TableId → ℕ → TableId → Type 0
 IsAt cells tile id = slice_get cells tile ≡ Some id
 
--- the writers of these cells in tile order, before the first member of this list
-pub record AreFresh (cells : List TableId) (list : PieceList) (ws : List Writing) : Type 0 where
-  pub whole : length ws ≡ length cells
-  pub at : (t : ℕ) (d : Writing) → t < length cells → IsAt cells t (slice_index_or ws t d).cell
-  pub fresh : (t : ℕ) (d : Writing) → t < length cells
+-- the writers of the first n of these cells in tile order, before the first member of this list
+pub record AreFresh (cells : List TableId) (list : PieceList) (n : ℕ) (ws : List Writing) : Type 0 where
+  pub whole : length ws ≡ n
+  pub at : (t : ℕ) (d : Writing) → t < n → IsAt cells t (slice_index_or ws t d).cell
+  pub fresh : (t : ℕ) (d : Writing) → t < n
       → slice_index_or ws t d ≡ record { cell = (slice_index_or ws t d).cell; list = list; tile = t; count = 0; heard = 0 }
 
 -- a reader of these cells and this list that has seen nothing
@@ -54,3 +53,7 @@ pub record AreWriters (cells : List TableId) (ws : List Writing) : Type 0 where
 pub record IsReaderOf (cells : List TableId) (ws : List Writing) (r : Reading) : Type 0 where
   pub of : r.cells ≡ cells
   pub list_is : (t : ℕ) (d : Writing) → t < length cells → (slice_index_or ws t d).list ≡ r.list
+
+-- no count is below what was seen of the tile, for the first n tiles
+abbrev pub CoversSeen : ℕ → List Writing → Reading → Type 0
+CoversSeen n ws r = (t : ℕ) (d : Writing) → t < n → slice_index r.seen t ≤ (slice_index_or ws t d).count

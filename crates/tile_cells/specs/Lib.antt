@@ -3,3 +3,4 @@ pub mod Rule
 pub mod Cells
 pub mod Passes
 pub mod Snapshots
+pub mod Standing

@@ -10,7 +10,7 @@ use Rattle.cull_base.specs.declared.place.Tile.{Tile}
 use Rattle.masked_update.specs.TileOf.{TileOf}
 use Rattle.masked_update.specs.Taken.{standing_at}
 use Rattle.tile_cells.specs.declared.rule.View.{View}
-use Rattle.tile_cells.specs.Rule.{no_list, writer, reader, IsWriter}
+use Rattle.tile_cells.specs.Rule.{no_list, writer, reader}
 use Rattle.tile_cells.specs.Cells.{Writing, Reading, IsAt}
 
 abbrev pub Token : Type 0

@@ -3,7 +3,7 @@ use Rattle.std.specs.Prelude.{◌≡◌, ℕ, ◌+◌, ◌<◌, ◌≤◌, List,
 use Rattle.cull_base.specs.Rectangle.{meets}
 use Rattle.cull_base.specs.Screen.{Dimensions, tile_count_of, tile_place, tile_rect_of}
 use Rattle.cull_base.specs.Span.{has_tile}
-use Rattle.cull_base.specs.Tiles.{PieceList, tile_list}
+use Rattle.cull_base.specs.Tiles.{tile_list}
 use Rattle.cull_base.specs.declared.rect.Rect.{Rect}
 use Rattle.cull_base.specs.declared.tile_span.TileSpan.{TileSpan}
 use Rattle.masked_update.specs.TileOf.{TileOf, tile_at}

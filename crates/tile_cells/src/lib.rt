@@ -3,7 +3,9 @@
 #![tactic(auto)]
 
 mod cells;
+mod close;
 mod kinds;
+mod make;
 mod note;
 mod reader;
 mod reading;

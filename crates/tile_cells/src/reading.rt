@@ -40,13 +40,7 @@ impl TileReader {
     }
 
     // Reads the tiles of a span.
-    fn read_span<R: Wait>(
-        &mut self,
-        rt: &R,
-        cells: &TileCells,
-        span: TileSpan,
-        into: &mut Snapshot,
-    )
+    fn read_span<R: Wait>(&mut self, rt: &R, cells: &TileCells, span: TileSpan, into: &mut Snapshot)
         requires of { self.old.cells ≡ cells.now }
         requires size { into.old.size ≡ self.old.list.size }
         requires span { IsSpan into.old.size span }

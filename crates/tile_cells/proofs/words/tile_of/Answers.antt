@@ -1,7 +1,7 @@
 use Rattle.std.proofs.Common.{◌≡◌, ℕ, suc, ◌<◌, List, [], ◌∷◌, refl, sym, ap, ◌∙◌, arith}
 use Rattle.std.specs.Prelude.{slice_index_or}
 use Rattle.masked_update.specs.Packing.{packed}
-use Rattle.masked_update.specs.TileOf.{TileOf, sub_at}
+use Rattle.masked_update.specs.TileOf.{sub_at}
 use Rattle.masked_update.proofs.Merging.{eight_of}
 use Rattle.tile_cells.proofs.Packing.{word_at, word_is}
 use Rattle.tile_cells.proofs.words.tile_of.Goals as goal

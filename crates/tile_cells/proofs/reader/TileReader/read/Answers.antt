@@ -3,7 +3,6 @@ use Rattle.std.specs.Prelude.{slice_index, slice_set}
 use Rattle.cull_base.specs.Tiles.{tile_list}
 use Rattle.masked_update.specs.TileOf.{TileOf}
 use Rattle.masked_update.specs.Taken.{standing_at}
-use Rattle.tile_cells.specs.Passes.{number_at}
 use Rattle.tile_cells.proofs.Views.{after_load, loaded, pass_at, seen_at, still_reading, still_seen, within}
 use Rattle.tile_cells.proofs.reader.TileReader.read.Goals as goal
 
@@ -14,9 +13,10 @@ invariant_of-self g c =
     let at = c.index_mut-pass.ensures.value in
     let lt = within ps c.args.self.now c.args.tile c.self.invariant.0 c.self.view_is c.requires.tile in
     let tile = loaded ps c.args.tile old c.load.result c.tile_of-state.result c.args.self.now (pass_at ps c.args.tile old c.self.invariant.0 at lt) c.self.view_is c.load.ensures.holds c.tile_of-state.ensures in
-    let count : c.count.result ≡ slice_index c.load.result 0 = c.count.ensures ∙ ap (λ (t : TileOf). t.count) tile.0 in
-    (still_reading ps c.args.tile old c.load.new.pass lt at c.load.ensures.own.0 _ _ c.self.invariant.0 c.load.ensures.seen,
-      still_seen ps c.args.tile old c.load.new.pass lt at c.load.ensures.own.0 c.self.inside.seen.items _ c.count.result _ c.self.invariant.1 count c.load.ensures.seen)
+    let count : c.count.result ≡ slice_index c.load.result 0 = c.count.ensures ∙ ap (λ (t : TileOf). t.count) tile.0 in (
+      still_reading ps c.args.tile old c.load.new.pass lt at c.load.ensures.own.0 _ _ c.self.invariant.0 c.load.ensures.seen,
+      still_seen ps c.args.tile old c.load.new.pass lt at c.load.ensures.own.0 c.self.inside.seen.items _ c.count.result _ c.self.invariant.1 count c.load.ensures.seen,
+    )
 
 pub returns-clause-read : goal.returns-clause-read
 returns-clause-read g c =

@@ -1,5 +1,4 @@
-use Rattle.std.proofs.Common.{◌≡◌, ◌≤◌, length, arith, subst, sym}
-use Rattle.cull_base.specs.Screen.{Dimensions, tile_place}
+use Rattle.std.proofs.Common.{◌≤◌, length, arith}
 use Rattle.tile_cells.proofs.Writing.{first_is}
 use Rattle.tile_cells.proofs.writer.TileWriter.first.Goals as goal
 

@@ -1,5 +1,4 @@
-use Rattle.std.proofs.Common.{◌≡◌, ◌<◌, Some, length, sym, subst}
-use Rattle.std.specs.Prelude.{slice_get}
+use Rattle.std.proofs.Common.{sym, subst}
 use Rattle.std.proofs.lemmas.Option.{slice_get_within}
 use Rattle.masked_update.specs.Taken.{IsMember}
 use Rattle.tile_cells.specs.Cells.{Writing, IsAt}
@@ -20,10 +19,10 @@ pub store-requires-clause-next : goal.store-requires-clause-next
 store-requires-clause-next g c =
     let s = c.self.inside in
     next_holds s.tile s.place s.size s.state s.pass c.args.piece.now c.self.invariant (subst (λ (w : Writing). IsMember w.tile w.count w.list c.args.piece.now) (sym c.self.view_is) c.requires.next)
-        _ _ c.take_at.ensures c.words_of-words.ensures.value c.words_of-words.ensures.possible
+    _ _ c.take_at.ensures c.words_of-words.ensures.value c.words_of-words.ensures.possible
 
 pub invariant_of-self : goal.invariant_of-self
 invariant_of-self g c =
     let s = c.self.inside in
     next_is s.tile s.place s.size s.state s.pass c.args.piece.now c.self.invariant (subst (λ (w : Writing). IsMember w.tile w.count w.list c.args.piece.now) (sym c.self.view_is) c.requires.next)
-        _ _ c.take_at.ensures c.store.ensures.stored
+    _ _ c.take_at.ensures c.store.ensures.stored
