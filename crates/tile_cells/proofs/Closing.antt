@@ -3,9 +3,10 @@ use Rattle.std.proofs.Common.{◌≡◌, ⊎_elim, ℕ, zero, suc, ◌+◌, ◌<
 use lib.Seq.{take-append_seam}
 use Rattle.std.specs.Prelude.{slice_get, slice_index, slice_index_or}
 use Rattle.std.proofs.lemmas.List.{get_or-set_same, get_or-set_other, get_or-map, length-map, take_more}
-use Rattle.std.proofs.lemmas.Option.{slice_get-get_or}
+use Rattle.std.proofs.lemmas.Option.{slice_get-get_or, same_Some}
 use Rattle.std.proofs.lemmas.Bool.{cases_eq}
 use Rattle.atomic_table.specs.Seated.{TableId}
+use Rattle.cull_base.specs.Tiles.{PieceList}
 use Rattle.masked_update.specs.TileOf.{TileOf, tile_at, no_tile}
 use Rattle.masked_update.specs.Taken.{standing_at}
 use Rattle.tile_cells.specs.Cells.{Writing, Reading, IsAt, AreWriters, IsReaderOf, CoversSeen}
@@ -33,6 +34,27 @@ pass_on cells r ps t p ys reads is of e =
       ap (λ (x : Reading). slice_index x.seen t) (sym is) ∙ get_or-map (λ (q : Token). number_at q) ps t p 0 f.2 ∙ ap (λ (q : Token). number_at q) (sym f.1),
       lt,
     )
+
+-- the pass in turn, and the writer of its tile after some ends
+pub record IsTurn (cells : List TableId) (r : Reading) (t : ℕ) (p : Token) (w : Writing) : Type 0 where
+  pub on_screen : t < length cells
+  pub at : IsAt cells w.tile w.cell
+  pub cell : p.table_id ≡ w.cell
+  pub reads : Reads w.list w.tile p
+  pub seen : slice_index r.seen t ≡ number_at p
+
+pub in_turn : (cells : List TableId) (r : Reading) (ps all left : List Token) (t : ℕ) (p : Token) (ys : List Token) (old now : List Writing) (d : Writing) → AreReading ps → reading ps ≡ r → AreWriters cells old → IsReaderOf cells old r → Hears old now
+    → all ≡ ps → left ≡ drop t all → left ≡ p ∷ ys → IsTurn cells r t p (slice_index_or now t d)
+in_turn cells r ps all left t p ys old now d reads is writers of h same rest turn =
+    let x = pass_on cells r ps t p ys reads is of.of (ap (λ l. drop t l) (sym same) ∙ sym rest ∙ turn) in
+    let s = stands_on cells r old now t d writers of h x.3 in
+    record {
+      on_screen = x.3;
+      at = subst (λ k. IsAt cells k (slice_index_or now t d).cell) (sym s.2) s.0;
+      cell = same_Some _ _ (sym x.0 ∙ s.0);
+      reads = subst (λ (l : PieceList). Reads l (slice_index_or now t d).tile p) (sym s.1) (subst (λ k. Reads r.list k p) (sym s.2) x.1);
+      seen = x.2;
+    }
 
 above_left : (a b : ℕ) → a ≤ max a b
 above_left a b = omega arith

@@ -105,3 +105,12 @@ named_below ps s cells t is of lt = omega (arith, lists.length-map ps (λ (q : T
 pub seen_beside : (ps : List Token) (t : ℕ) (p : Token) (seen : List ℕ) (n : ℕ) → t < length ps → p ≡ slice_index_or ps t p → seen ≡ seen_of ps → n ≡ slice_index_or seen t n → n ≡ number_at p
 seen_beside ps t p seen n lt at same is =
     is ∙ same_at seen t n 0 (omega (arith, lt, ap length same, lists.length-map ps (λ (q : Token). number_at q))) ∙ ap (λ l. slice_index l t) same ∙ seen_here ps t p lt at
+
+-- a load of a reader's pass at its place
+pub load_at : (ps : List Token) (t : ℕ) (p : Token) (words : List ℕ) (state : TileOf) (s : Reading) → AreReading ps → reading ps ≡ s → t < tile_count_of s.list.size → p ≡ slice_index_or ps t p
+    → HoldsAt words (cell_view p).tile (slice_index words 0) (cell_view p).list → ((x : TileOf) → IsTile x → words ≡ words_of x → state ≡ x)
+    → (t < length ps) × (state ≡ standing_at t (slice_index words 0) s.list) × (slice_index words 0 ≤ length (tile_list t s.list))
+load_at ps t p words state s r is on at holds only =
+    let lt = within ps s t r is on in
+    let l = loaded ps t p words state s (pass_at ps t p r at lt) is holds only in
+    (lt, l.0, l.1)

@@ -12,6 +12,8 @@ mod reading;
 mod rule;
 mod snapshot;
 mod steps;
+#[cfg(test)]
+mod tests;
 mod words;
 mod writer;
 

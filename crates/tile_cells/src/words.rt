@@ -39,6 +39,7 @@ fn subtile_of(word: u64) -> SubTile
 }
 
 /// The tile that has these words. Condition: there is one.
+#[tactic(auto, using(crate::proofs::Packing::word_packed))]
 #[inline(always)]
 pub(crate) fn tile_of(words: &[u64; 9]) -> TileState
     requires { AreTileWords words.now }

@@ -3,32 +3,8 @@ use Rattle.std.specs.Prelude.{slice_index_or}
 use Rattle.masked_update.specs.Packing.{packed}
 use Rattle.masked_update.specs.TileOf.{sub_at}
 use Rattle.masked_update.proofs.Merging.{eight_of}
-use Rattle.tile_cells.proofs.Packing.{word_at, word_is}
+use Rattle.tile_cells.proofs.Packing.{word_is}
 use Rattle.tile_cells.proofs.words.tile_of.Goals as goal
-
-pub subtile_of-requires : goal.subtile_of-requires
-subtile_of-requires c = word_at c.args.words.now 0 c.requires (omega arith)
-
-pub subtile_of-requires-2 : goal.subtile_of-requires-2
-subtile_of-requires-2 c = word_at c.args.words.now 1 c.requires (omega arith)
-
-pub subtile_of-requires-3 : goal.subtile_of-requires-3
-subtile_of-requires-3 c = word_at c.args.words.now 2 c.requires (omega arith)
-
-pub subtile_of-requires-4 : goal.subtile_of-requires-4
-subtile_of-requires-4 c = word_at c.args.words.now 3 c.requires (omega arith)
-
-pub subtile_of-requires-5 : goal.subtile_of-requires-5
-subtile_of-requires-5 c = word_at c.args.words.now 4 c.requires (omega arith)
-
-pub subtile_of-requires-6 : goal.subtile_of-requires-6
-subtile_of-requires-6 c = word_at c.args.words.now 5 c.requires (omega arith)
-
-pub subtile_of-requires-7 : goal.subtile_of-requires-7
-subtile_of-requires-7 c = word_at c.args.words.now 6 c.requires (omega arith)
-
-pub subtile_of-requires-8 : goal.subtile_of-requires-8
-subtile_of-requires-8 c = word_at c.args.words.now 7 c.requires (omega arith)
 
 pub returns : goal.returns
 returns c t is e =
