@@ -1,4 +1,5 @@
 pub mod Steps
+pub mod Packed
 pub mod Hiding
 pub mod Unchanged
 pub mod Fractions

@@ -1,4 +1,5 @@
 pub mod SubTile
+pub mod Packing
 pub mod Fields
 pub mod Setup
 pub mod Lanes

@@ -6,6 +6,9 @@ mod canvas;
 mod coverage;
 mod draw;
 mod member;
+mod packing;
+#[cfg(test)]
+mod packing_tests;
 mod piece_setup;
 mod sub_span;
 mod sub_tile;

@@ -1,0 +1,11 @@
+pub mod Lists
+pub mod Opening
+pub mod Keeps
+pub mod Packing
+pub mod Writing
+pub mod Views
+pub mod Areas
+pub mod Making
+pub mod Closing
+pub mod Members
+pub mod Standing

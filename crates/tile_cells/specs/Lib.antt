@@ -1,0 +1,6 @@
+pub mod Words
+pub mod Rule
+pub mod Cells
+pub mod Passes
+pub mod Snapshots
+pub mod Standing

@@ -1,0 +1,84 @@
+//! How cells are closed.
+ghost use Rattle.std.specs.Prelude.{◌≡◌, ℕ, ◌<◌, ◌≤◌, [], map, length, All, slice_index_or, vec_len, vec_capacity};
+ghost use Rattle.masked_update.specs.TileOf.{tile_at};
+ghost use Rattle.masked_update.specs.Taken.{standing_at};
+ghost use Rattle.tile_cells.specs.Cells.{AreWriters, CoversSeen, IsAt, IsReaderOf, Writing};
+ghost use Rattle.tile_cells.specs.Passes.{HeardBelow, Hears};
+
+use crate::cells::TileCells;
+use crate::reader::TileReader;
+use crate::rule::Cell;
+use crate::writer::TileWriter;
+use masked_update::TileState;
+use std::sync::Wait;
+
+// Ends the views of a reader in those of the writers.
+fn end_reader(cells: &TileCells, writers: &mut [TileWriter], reader: TileReader)
+    requires writers { AreWriters cells.now writers.old }
+    requires reader { IsReaderOf cells.now writers.old reader }
+    ensures same { Hears writers.old writers.new }
+    ensures heard { HeardBelow (length cells.now) reader.seen writers.new }
+{
+    let mut tile = 0usize;
+    for pass in reader.into_passes() {
+        writers[tile].end(cells, pass);
+        tile += 1;
+    }
+}
+
+// Ends the views of all readers.
+fn end_readers(cells: &TileCells, writers: &mut [TileWriter], readers: Vec<TileReader>)
+    requires writers { AreWriters cells.now writers.old }
+    requires readers { All (IsReaderOf cells.now writers.old) readers.items }
+    ensures same { Hears writers.old writers.new }
+    ensures heard { All (λ r. HeardBelow (length cells.now) r.seen writers.new) readers.items }
+{
+    let mut done = 0usize;
+    for reader in readers {
+        end_reader(cells, writers, reader);
+        done += 1;
+    }
+}
+
+// The tile of each cell, read once, into the room.
+fn check_all<R: Wait>(
+    rt: &R,
+    cells: &[Cell],
+    mut writers: Vec<TileWriter>,
+    mut room: Vec<TileState>,
+) -> Vec<TileState>
+    requires whole { vec_len writers ≡ length cells.now }
+    requires room { (room.items ≡ []) × (length cells.now ≤ vec_capacity room) }
+    requires at { (t : ℕ) (d : Writing) → t < length cells.now → IsAt (map (λ c. c.table.shared.table_id) cells.now) t (slice_index_or writers.items t d).cell }
+    ensures whole { length result.items ≡ vec_len writers }
+    ensures states { (t : ℕ) (d : Writing) → t < vec_len writers → tile_at result.items t ≡ standing_at (slice_index_or writers.items t d).tile (slice_index_or writers.items t d).count (slice_index_or writers.items t d).list }
+    ensures heard { (t : ℕ) (d : Writing) → t < vec_len writers → (slice_index_or writers.items t d).heard ≤ (slice_index_or writers.items t d).count }
+{
+    for tile in 0..writers.len() {
+        let state = writers[tile].check(rt, &cells[tile]);
+        room.push_reserved(state);
+    }
+    room
+}
+
+impl TileCells {
+    /// Each tile after its writer's count, read from its cell. No reader had seen more of it. Conditions: these are the
+    /// writers of these cells, in tile order, and readers of the cells, of the writers' list.
+    pub fn close<R: Wait>(
+        self,
+        rt: &R,
+        writers: Vec<TileWriter>,
+        readers: Vec<TileReader>,
+    ) -> Vec<TileState>
+        requires writers { AreWriters self writers.items }
+        requires readers { All (IsReaderOf self writers.items) readers.items }
+        ensures whole { length result.items ≡ length self }
+        ensures states { (t : ℕ) (d : Writing) → t < length self → tile_at result.items t ≡ standing_at t (slice_index_or writers.items t d).count (slice_index_or writers.items t d).list }
+        ensures seen { All (CoversSeen (length self) writers.items) readers.items }
+    {
+        let mut writers = writers;
+        end_readers(&self, writers.as_mut_slice(), readers);
+        let (cells, room) = self.into_parts();
+        check_all(rt, cells.as_slice(), writers, room)
+    }
+}
