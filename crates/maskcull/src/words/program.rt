@@ -76,90 +76,6 @@ fn option<'a>(
         .help(help)
 }
 
-fn workers_option<'a>(alloc: Global) -> Arg<'a>
-    ensures rule { rule_of result ≡ rule_for workers }
-    ensures local { result.global ≡ false }
-{
-    option(
-        alloc,
-        "workers",
-        1,
-        64,
-        "1",
-        "How many workers draw side by side, 1 to 64",
-    )
-}
-
-fn bins_x_option<'a>(alloc: Global) -> Arg<'a>
-    ensures rule { rule_of result ≡ rule_for bins_x }
-    ensures local { result.global ≡ false }
-{
-    option(
-        alloc,
-        "bins-x",
-        1,
-        8,
-        "1",
-        "Into how many columns of bins the screen is cut, 1 to 8",
-    )
-}
-
-fn bins_y_option<'a>(alloc: Global) -> Arg<'a>
-    ensures rule { rule_of result ≡ rule_for bins_y }
-    ensures local { result.global ≡ false }
-{
-    option(
-        alloc,
-        "bins-y",
-        1,
-        8,
-        "1",
-        "Into how many rows of bins the screen is cut, 1 to 8",
-    )
-}
-
-fn batch_option<'a>(alloc: Global) -> Arg<'a>
-    ensures rule { rule_of result ≡ rule_for batch }
-    ensures local { result.global ≡ false }
-{
-    option(
-        alloc,
-        "batch",
-        1,
-        4096,
-        "64",
-        "How many pieces a batch has at least, 1 to 4096",
-    )
-}
-
-fn seed_option<'a>(alloc: Global) -> Arg<'a>
-    ensures rule { rule_of result ≡ rule_for seed }
-    ensures local { result.global ≡ false }
-{
-    option(
-        alloc,
-        "seed",
-        0,
-        u32::MAX,
-        "1",
-        "The number that makes the scene, 0 to 4294967295",
-    )
-}
-
-fn triangles_option<'a>(alloc: Global) -> Arg<'a>
-    ensures rule { rule_of result ≡ rule_for triangles }
-    ensures local { result.global ≡ false }
-{
-    option(
-        alloc,
-        "triangles",
-        0,
-        65536,
-        "20000",
-        "How many triangles the scene has, 0 to 65536",
-    )
-}
-
 // A command whose frames are cut and shared by options.
 fn sharing<'a>(
     alloc: Global,
@@ -174,10 +90,38 @@ fn sharing<'a>(
     let command = Command::new(alloc, name).about(about).after_help(more);
     Ok(
         command
-            .arg(workers_option(alloc))?
-            .arg(bins_x_option(alloc))?
-            .arg(bins_y_option(alloc))?
-            .arg(batch_option(alloc))?,
+            .arg(option(
+                alloc,
+                "workers",
+                1,
+                64,
+                "1",
+                "How many workers draw side by side, 1 to 64",
+            ))?
+            .arg(option(
+                alloc,
+                "bins-x",
+                1,
+                8,
+                "1",
+                "Into how many columns of bins the screen is cut, 1 to 8",
+            ))?
+            .arg(option(
+                alloc,
+                "bins-y",
+                1,
+                8,
+                "1",
+                "Into how many rows of bins the screen is cut, 1 to 8",
+            ))?
+            .arg(option(
+                alloc,
+                "batch",
+                1,
+                4096,
+                "64",
+                "How many pieces a batch has at least, 1 to 4096",
+            ))?,
     )
 }
 
@@ -196,8 +140,22 @@ fn demo<'a>(alloc: Global) -> Result<Command<'a>, Error>
 {
     Ok(
         sharing(alloc, "demo", DEMO_ABOUT, DEMO_MORE)?
-            .arg(seed_option(alloc))?
-            .arg(triangles_option(alloc))?,
+            .arg(option(
+                alloc,
+                "seed",
+                0,
+                u32::MAX,
+                "1",
+                "The number that makes the scene, 0 to 4294967295",
+            ))?
+            .arg(option(
+                alloc,
+                "triangles",
+                0,
+                65536,
+                "20000",
+                "How many triangles the scene has, 0 to 65536",
+            ))?,
     )
 }
 
