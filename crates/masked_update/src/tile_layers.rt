@@ -57,7 +57,8 @@ fn least_of_four(numbers: [u32; 4]) -> u32
     ensures { (j : ℕ) → j < 4 → result ≤ slice_index_or numbers j 0 }
 {
     let [a, b, c, d] = numbers;
-    a.min(b).min(c.min(d))
+    let [least, other, ..] = least_of_pairs([a, b, c, d], [c, d, a, b]);
+    least.min(other)
 }
 
 impl TileLayers {

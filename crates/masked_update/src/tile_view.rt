@@ -1,6 +1,7 @@
 //! Tiles as a query sees them, wherever they are held.
-ghost use Rattle.std.specs.Prelude.{◌≡◌, ℕ, Bool, true};
-ghost use Rattle.masked_update.specs.TileOf.{TileOf};
+ghost use Rattle.std.specs.Prelude.{◌≡◌, ℕ, ◌<◌, ◌≤◌, Bool, true};
+ghost use Rattle.cull_base.specs.Fold.{IsLayered};
+ghost use Rattle.masked_update.specs.TileOf.{TileOf, sub_at};
 
 use crate::tile_state::TileState;
 
@@ -17,6 +18,15 @@ pub trait TileView {
     fn state(&self, tile: u32) -> TileState
         requires { held self.now tile ≡ true }
         ensures { result ≡ tile_of self.now tile };
+
+    /// A nearness that no reference of the tile is below. Condition as for `state`.
+    fn least_reference(&self, tile: u32) -> u32
+        requires { held self.now tile ≡ true }
+        ensures least { (j : ℕ) → j < 8 → result ≤ (sub_at (tile_of self.now tile) j).reference }
+        ensures layered { (j : ℕ) → j < 8 → IsLayered (sub_at (tile_of self.now tile) j) }
+    {
+        self.state(tile).least_reference()
+    }
 }
 
 /// The tiles of a slice, by their places in it.
@@ -47,5 +57,10 @@ impl<'a> TileView for PlainView<'a> {
 
     fn state(&self, tile: u32) -> TileState {
         self.states[tile as usize]
+    }
+
+    #[inline(always)]
+    fn least_reference(&self, tile: u32) -> u32 {
+        self.states[tile as usize].least_reference()
     }
 }

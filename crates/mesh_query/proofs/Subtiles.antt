@@ -15,7 +15,9 @@ use Rattle.cull_base.proofs.Bits.{zero_has, some_has}
 use Rattle.cull_base.proofs.HiddenObjects.{below_reference}
 use Rattle.cull_base.proofs.Pixels.{sample_below, sample_is_middle, sample_of_sample, column_of_sample, row_of_sample}
 use Rattle.masked_update.specs.SubTile.{AllHide}
-use Rattle.mesh_query.specs.Asked.{Asked, SomeShows, TouchedIn, InSub}
+use Rattle.masked_update.specs.TileOf.{TileOf, sub_at}
+use Rattle.cull_base.specs.declared.place.Tile.{Tile}
+use Rattle.mesh_query.specs.Asked.{Asked, SomeShows, TouchedIn, InSub, InTile, states_of}
 use Rattle.mesh_query.proofs.Asking.{asked_none}
 
 -- the subtile of a pixel that is in one
@@ -66,6 +68,21 @@ by_reference size t u s known is layered lt = record {
   some = λ e. inl is;
   none = λ e. absurd cc;
 }
+
+-- each reference of a tile alone hides the piece
+pub by_references : (size : Dimensions) (t : Piece) (place : Tile) (tile : TileOf) (least : ℕ) (known : Bool) → known ≡ true → ((j : ℕ) → j < 8 → least ≤ (sub_at tile j).reference)
+    → ((j : ℕ) → j < 8 → IsLayered (sub_at tile j)) → greatest_nearness t < least → Asked (states_of tile) (TouchedIn size t (InTile place)) known true
+by_references size t place tile least known is references layered lt = record {
+  hidden = λ v px py (e, inside, touch).
+      let j = 4 * (py / 4 % 2) + px / 8 % 4 in let below = of_eight px py in
+      let high : high_of v (sub_of_pixel px py) ≤ greatest_nearness t = rw e (high-le t (sub_of_pixel px py)) in
+      below_reference (sub_at tile j) (sample_of_pixel px py) (high_of v (sub_of_pixel px py)) (layered j below) (omega (arith, high, lt, references j below));
+  some = λ e. inl is;
+  none = λ e. absurd cc;
+}
+  where
+    of_eight : (px py : ℕ) → 4 * (py / 4 % 2) + px / 8 % 4 < 8
+    of_eight px py = omega arith
 
 -- the mask is empty
 pub by_empty_mask : (size : Dimensions) (t : Piece) (u : Sub) (s : State) (mask : ℕ) (known : Bool) → samples_of mask ≡ touched t u → mask ≡ 0 → Asked (λ _. s) (TouchedIn size t (InSub u)) known known

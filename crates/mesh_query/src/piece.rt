@@ -93,8 +93,8 @@ impl MeshPiece {
         None
     }
 
-    // Asks a tile. The subtiles that an edge rejects whole, and those beside the screen, aren't asked.
-    fn ask_tile(&self, state: &TileState, size: Size, place: Tile, known: bool) -> Option<bool>
+    // Asks the subtiles of a tile. Those that an edge rejects whole, and those beside the screen, aren't asked.
+    fn ask_subtiles(&self, state: &TileState, size: Size, place: Tile, known: bool) -> Option<bool>
         requires sized { IsSize size.width size.height }
         requires column { place.column < 64 }
         requires row { place.row < 256 }
@@ -115,6 +115,28 @@ impl MeshPiece {
             }
         }
         Some(touched)
+    }
+
+    // Asks a tile. Once a sample is known to be touched, no subtile is asked where each reference hides the piece.
+    #[inline(always)]
+    fn ask_tile<V: TileView>(
+        &self,
+        view: &V,
+        tile: u32,
+        size: Size,
+        place: Tile,
+        known: bool,
+    ) -> Option<bool>
+        requires sized { IsSize size.width size.height }
+        requires column { place.column < 64 }
+        requires row { place.row < 256 }
+        requires holds { V.held view.now tile ≡ true }
+        ensures { Answers (states_of (V.tile_of view.now tile)) (TouchedIn size self.now (InTile place)) known result }
+    {
+        if known && self.nearest < view.least_reference(tile) {
+            return Some(true);
+        }
+        self.ask_subtiles(&view.state(tile), size, place, known)
     }
 
     // Asks the tiles of a row, in the columns of a span.
@@ -142,7 +164,7 @@ impl MeshPiece {
                 column: column as u16,
                 row: row as u16,
             };
-            touched = self.ask_tile(&view.state(first + column), size, place, touched)?;
+            touched = self.ask_tile(view, first + column, size, place, touched)?;
         }
         Some(touched)
     }

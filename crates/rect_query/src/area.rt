@@ -65,8 +65,8 @@ impl Area {
         }
     }
 
-    // The samples of the subtile in a column and a row that are in the area.
-    #[inline(always)]
+    // The samples of the subtile in a column and a row that are in the area. Not inlined, since few subtiles ask.
+    #[inline(never)]
     fn samples_in(&self, column: u32, row: u32) -> u32
         requires area { self.now.x0 ≤ self.now.x1 }
         requires column { column < 256 }
@@ -111,16 +111,14 @@ fn is_row_of_tile_hiding(state: &TileState, column: u32, row: u32, area: &Area, 
     true
 }
 
-// The same for a tile. No subtile is asked where each reference hides q.
-fn is_tile_hiding(state: &TileState, column: u32, row: u32, area: &Area, q: u32) -> bool
+// The same for a tile. Not inlined, so that a walk over tiles whose references decide keeps its registers.
+#[inline(never)]
+fn are_subtiles_hiding(state: &TileState, column: u32, row: u32, area: &Area, q: u32) -> bool
     requires area { area.now.x0 ≤ area.now.x1 }
     requires column { column < 64 }
     requires row { row < 256 }
     ensures { IsTrue result ↔ TileHides state.now column row area.now q }
 {
-    if q < state.least_reference() {
-        return true;
-    }
     let first = (row * 2).max(area.y0 / 4);
     let end = (row * 2 + 2).min(area.y1.div_ceil(4));
     for r in first..end {
@@ -129,6 +127,25 @@ fn is_tile_hiding(state: &TileState, column: u32, row: u32, area: &Area, q: u32)
         }
     }
     true
+}
+
+// The same. No subtile is asked where each reference hides q.
+#[inline(always)]
+fn is_tile_hiding<V: TileView>(
+    view: &V,
+    tile: u32,
+    column: u32,
+    row: u32,
+    area: &Area,
+    q: u32,
+) -> bool
+    requires area { area.now.x0 ≤ area.now.x1 }
+    requires column { column < 64 }
+    requires row { row < 256 }
+    requires holds { V.held view.now tile ≡ true }
+    ensures { IsTrue result ↔ TileHides (V.tile_of view.now tile) column row area.now q }
+{
+    q < view.least_reference(tile) || are_subtiles_hiding(&view.state(tile), column, row, area, q)
 }
 
 // The same for the tiles of a row.
@@ -141,7 +158,7 @@ fn is_row_hiding<V: TileView>(view: &V, size: Size, row: u32, area: &Area, q: u3
 {
     for column in area.x0 / 32..area.x1.div_ceil(32) {
         let tile = row * size.tile_columns() + column;
-        if !is_tile_hiding(&view.state(tile), column, row, area, q) {
+        if !is_tile_hiding(view, tile, column, row, area, q) {
             return false;
         }
     }

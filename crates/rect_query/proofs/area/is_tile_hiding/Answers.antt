@@ -8,11 +8,11 @@ of_eight : (px py : ℕ) → 4 * (py / 4 % 2) + px / 8 % 4 < 8
 of_eight px py = omega arith
 
 pub returns-then-q-least_reference : goal.returns-then-q-least_reference
-returns-then-q-least_reference c = (
+returns-then-q-least_reference g c = (
   (λ t px py inside column row.
       let j = 4 * (py / 4 % 2) + px / 8 % 4 in
       let lt = of_eight px py in
       let le = c.least_reference.ensures.least j lt in
-      below_reference (sub_at c.args.state.now j) (sample_of_pixel px py) c.args.q (c.least_reference.ensures.layered j lt) (omega (arith, le, c.if-q-least_reference.true))),
+      below_reference (sub_at (g.V.TileView.tile_of c.args.view.now c.args.tile) j) (sample_of_pixel px py) c.args.q (c.least_reference.ensures.layered j lt) (omega (arith, le, c.if-q-least_reference.true))),
   (λ h. search rules),
 )
