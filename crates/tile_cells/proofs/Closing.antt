@@ -10,7 +10,7 @@ use Rattle.cull_base.specs.Tiles.{PieceList}
 use Rattle.masked_update.specs.TileOf.{TileOf, tile_at, no_tile}
 use Rattle.masked_update.specs.Taken.{standing_at}
 use Rattle.tile_cells.specs.Cells.{Writing, Reading, IsAt, AreWriters, IsReaderOf, CoversSeen}
-use Rattle.tile_cells.specs.Passes.{Token, Reads, AreReading, names_of, number_at, reading, Hears, HearsOne, HeardBelow}
+use Rattle.tile_cells.specs.Passes.{AreChecked, HearWithin, Token, Reads, AreReading, names_of, number_at, reading, Hears, HearsOne, HeardBelow}
 use Rattle.tile_cells.proofs.Lists.{turn, pushed_at, set_each, same_at}
 
 -- the writer in place t, after some ends
@@ -133,15 +133,8 @@ all_readers m rs n ws is f = subst (λ (l : List Reading). (k : ℕ) (d : Readin
     take_all zero (r ∷ rs) is = absurd (omega arith)
     take_all (suc n) (r ∷ rs) is = ap (λ l. r ∷ l) (take_all n rs (omega arith))
 
--- the tiles of the first n writers' cells
-abbrev pub CheckedTo : ℕ → List Writing → List TileOf → Type 0
-CheckedTo n ws room = (t : ℕ) (d : Writing) → t < n → tile_at room t ≡ standing_at (slice_index_or ws t d).tile (slice_index_or ws t d).count (slice_index_or ws t d).list
-
-abbrev pub HeardTo : ℕ → List Writing → Type 0
-HeardTo n ws = (t : ℕ) (d : Writing) → t < n → (slice_index_or ws t d).heard ≤ (slice_index_or ws t d).count
-
 pub checked_more : (ws now : List Writing) (room : List TileOf) (n : ℕ) (w : Writing) (state : TileOf) → now ≡ ws → length room ≡ n → n < length ws → w ≡ slice_index_or now n w → state ≡ standing_at w.tile w.count w.list → w.heard ≤ w.count
-    → CheckedTo n ws room → HeardTo n ws → CheckedTo (n + 1) ws (room ++ state ∷ []) × HeardTo (n + 1) ws
+    → AreChecked n ws room → HearWithin n ws → AreChecked (n + 1) ws (room ++ state ∷ []) × HearWithin (n + 1) ws
 checked_more ws now room n w state same len lt is shown heard f h = (
   λ t d tl. pushed_at (λ k (x : TileOf). x ≡ standing_at (slice_index_or ws k d).tile (slice_index_or ws k d).count (slice_index_or ws k d).list) n room state len
       (λ k x kl. same_at room k x no_tile (omega arith) ∙ f k d kl)
@@ -154,13 +147,13 @@ checked_more ws now room n w state same len lt is shown heard f h = (
     at d = is ∙ ap (λ l. slice_index_or l n w) same ∙ same_at ws n w d lt
 
 -- what close tells of the writers that it was given
-pub states_on : (cells : List TableId) (old now : List Writing) (room : List TileOf) → AreWriters cells old → Hears old now → CheckedTo (length cells) now room
+pub states_on : (cells : List TableId) (old now : List Writing) (room : List TileOf) → AreWriters cells old → Hears old now → AreChecked (length cells) now room
     → (t : ℕ) (d : Writing) → t < length cells → tile_at room t ≡ standing_at t (slice_index_or old t d).count (slice_index_or old t d).list
 states_on cells old now room w h f t d lt =
     let n = h.each t d (omega (arith, w.whole)) in
     f t d lt ∙ (λ i. standing_at ((n.tile ∙ w.tile t d lt) i) (n.count i) (n.list i))
 
-pub seen_on : (cells : List TableId) (old now : List Writing) (r : Reading) → AreWriters cells old → Hears old now → HeardBelow (length cells) r.seen now → HeardTo (length cells) now → CoversSeen (length cells) old r
+pub seen_on : (cells : List TableId) (old now : List Writing) (r : Reading) → AreWriters cells old → Hears old now → HeardBelow (length cells) r.seen now → HearWithin (length cells) now → CoversSeen (length cells) old r
 seen_on cells old now r w h b f t d lt =
     let n = h.each t d (omega (arith, w.whole)) in
     le_trans (b t d lt) (subst (λ z. (slice_index_or now t d).heard ≤ z) n.count (f t d lt))

@@ -7,7 +7,7 @@ use Rattle.crossbeam_utils.specs.declared.atomic.seq_cell.Doing.{Doing}
 use Rattle.cull_base.specs.Screen.{Dimensions, tile_count_of, tile_place}
 use Rattle.cull_base.specs.Tiles.{PieceList, tile_list}
 use Rattle.cull_base.specs.declared.place.Tile.{Tile}
-use Rattle.masked_update.specs.TileOf.{TileOf}
+use Rattle.masked_update.specs.TileOf.{TileOf, tile_at}
 use Rattle.masked_update.specs.Taken.{standing_at}
 use Rattle.tile_cells.specs.declared.rule.View.{View}
 use Rattle.tile_cells.specs.Rule.{no_list, writer, reader}
@@ -28,6 +28,11 @@ heard_at p = (cell_view p).heard
 
 abbrev pub loads_at : Token → ℕ
 loads_at p = (cell_view p).loads
+
+-- what contracts see of the writer of a tile
+abbrev pub writing : ℕ → Token → Writing
+writing tile p =
+    record { cell = p.table_id; list = list_at p; tile = tile; count = number_at p; heard = heard_at p }
 
 -- the pass is that of a tile's writer, whose state beside it is that after the members that its view counts
 pub record IsWriting (tile : ℕ) (place : Tile) (size : Dimensions) (state : TileOf) (p : Token) : Type 0 where
@@ -77,6 +82,10 @@ pub record AreOpened (list : PieceList) (n : ℕ) (ids : List TableId) (ps : Lis
   pub at : (t : ℕ) (d : Token) → t < n → IsAt ids t (slice_index_or ps t d).table_id
   pub views : (t : ℕ) (d : Token) → t < n → cell_view (slice_index_or ps t d) ≡ writer list t 0 0
 
+-- the tile of a writer
+abbrev pub standing_by : Writing → TileOf
+standing_by w = standing_at w.tile w.count w.list
+
 -- the same writer at the same count, which heard no less
 pub record HearsOne (v w : Writing) : Type 0 where
   pub cell : w.cell ≡ v.cell
@@ -92,3 +101,11 @@ pub record Hears (old new : List Writing) : Type 0 where
 -- below n, what was seen is at most what the writers heard
 abbrev pub HeardBelow : ℕ → List ℕ → List Writing → Type 0
 HeardBelow n seen ws = (t : ℕ) (d : Writing) → t < n → slice_index seen t ≤ (slice_index_or ws t d).heard
+
+-- of the first n writers: each state is that after the members that its writer took
+abbrev pub AreChecked : ℕ → List Writing → List TileOf → Type 0
+AreChecked n ws states = (t : ℕ) (d : Writing) → t < n → tile_at states t ≡ standing_by (slice_index_or ws t d)
+
+-- and heard of no more than those
+abbrev pub HearWithin : ℕ → List Writing → Type 0
+HearWithin n ws = (t : ℕ) (d : Writing) → t < n → (slice_index_or ws t d).heard ≤ (slice_index_or ws t d).count

@@ -34,7 +34,7 @@ FitsAs Writes seat list tile k by v = (by ≡ seat) × (v ≡ writer list tile k
 FitsAs Reads seat list tile k by v = (v ≡ reader list tile v.number v.loads) × (v.number ≤ k)
 FitsAs Spent seat list tile k by v = Unit {0}
 
--- What the rule says of view number `by`. The writer's is number `seat`, its count is k, and what it heard is at most k.
+-- What the rule says of view number `by`. The writer's is number `seat`: its count is k, and what it heard is at most k.
 -- What a reader has seen is at most k.
 abbrev pub Fits : ℕ → PieceList → ℕ → ℕ → ℕ → View → Type 0
 Fits seat list tile k by v = FitsAs v.role seat list tile k by v
@@ -51,13 +51,27 @@ CellRule words views =
     ((words ≡ no_words) × (views ≡ nameless ∷ []))
     ⊎ ((seat : ℕ) × (list : PieceList) × (tile : ℕ) × (k : ℕ) × Running words views seat list tile k)
 
+-- a note of a writer, or a new reader
+abbrev pub note_of : View → View
+note_of v = reader v.list v.tile v.number 0
+
+-- the words are those after one member more than the writer took
+abbrev pub HoldsNext : List ℕ → View → Type 0
+HoldsNext words v = HoldsAt words v.tile (v.number + 1) v.list
+
 -- a store: the writer's count grows by one
+abbrev pub after_store : View → View
+after_store v = writer v.list v.tile (v.number + 1) v.heard
+
 abbrev pub Stored : View → List ℕ → List ℕ → View → Type 0
-Stored v before after w = w ≡ writer v.list v.tile (v.number + 1) v.heard
+Stored v before after w = w ≡ after_store v
 
 -- a load of a reader: what it has seen becomes the cell's count, and its loads grow by one
+abbrev pub after_load : View → ℕ → View
+after_load v k = reader v.list v.tile k (v.loads + 1)
+
 pub record Loaded (v : View) (before after : List ℕ) (w : View) : Type 0 where
-  pub view : w ≡ reader v.list v.tile (slice_index after 0) (v.loads + 1)
+  pub view : w ≡ after_load v (slice_index after 0)
   pub rises : v.number ≤ slice_index after 0
   pub holds : HoldsAt after v.tile (slice_index after 0) v.list
 

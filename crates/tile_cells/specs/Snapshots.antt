@@ -1,11 +1,12 @@
 -- What a snapshot holds, and how a reader takes it.
 use Rattle.std.specs.Prelude.{◌≡◌, ℕ, ◌+◌, ◌<◌, ◌≤◌, List, Bool, true, false, nat_lt, ◌&&◌, length, slice_index}
 use Rattle.cull_base.specs.Rectangle.{meets}
-use Rattle.cull_base.specs.Screen.{Dimensions, tile_count_of, tile_place, tile_rect_of}
+use Rattle.cull_base.specs.Screen.{Dimensions, tile_columns_of, tile_count_of, tile_place, tile_rect_of}
 use Rattle.cull_base.specs.Span.{has_tile}
 use Rattle.cull_base.specs.Tiles.{tile_list}
 use Rattle.cull_base.specs.declared.rect.Rect.{Rect}
 use Rattle.cull_base.specs.declared.tile_span.TileSpan.{TileSpan}
+use Rattle.masked_update.specs.Grid.{is_in_rows}
 use Rattle.masked_update.specs.TileOf.{TileOf, tile_at}
 use Rattle.masked_update.specs.Taken.{standing_at}
 use Rattle.tile_cells.specs.Cells.{Reading}
@@ -18,6 +19,10 @@ pub record SnapshotOf : Type 0 where
 
 abbrev pub is_held : SnapshotOf → ℕ → Bool
 is_held s t = nat_lt t (tile_count_of s.size) && has_tile s.span (tile_place s.size t)
+
+-- the tile stands in a row, in the columns of a span
+abbrev pub is_in_row : Dimensions → TileSpan → ℕ → ℕ → Bool
+is_in_row size span row t = is_in_rows (tile_columns_of size) row (row + 1) span.first_column span.end_column t
 
 -- it holds exactly the tiles whose rectangle meets the area
 abbrev pub HoldsExactly : SnapshotOf → Rect → Type 0

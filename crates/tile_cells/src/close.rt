@@ -1,9 +1,7 @@
 //! How cells are closed.
 ghost use Rattle.std.specs.Prelude.{◌≡◌, ℕ, ◌<◌, ◌≤◌, [], map, length, All, slice_index_or, vec_len, vec_capacity};
-ghost use Rattle.masked_update.specs.TileOf.{tile_at};
-ghost use Rattle.masked_update.specs.Taken.{standing_at};
-ghost use Rattle.tile_cells.specs.Cells.{AreWriters, CoversSeen, IsAt, IsReaderOf, Writing};
-ghost use Rattle.tile_cells.specs.Passes.{HeardBelow, Hears};
+ghost use Rattle.tile_cells.specs.Cells.{AreClosed, AreWriters, CoversSeen, IsAt, IsReaderOf, Writing};
+ghost use Rattle.tile_cells.specs.Passes.{AreChecked, HearWithin, HeardBelow, Hears};
 
 use crate::cells::TileCells;
 use crate::reader::TileReader;
@@ -49,10 +47,11 @@ fn check_all<R: Wait>(
 ) -> Vec<TileState>
     requires whole { vec_len writers ≡ length cells.now }
     requires room { (room.items ≡ []) × (length cells.now ≤ vec_capacity room) }
-    requires at { (t : ℕ) (d : Writing) → t < length cells.now → IsAt (map (λ c. c.table.shared.table_id) cells.now) t (slice_index_or writers.items t d).cell }
+    requires at { (t : ℕ) (d : Writing) → t < length cells.now
+        → IsAt (map (λ c. c.table.shared.table_id) cells.now) t (slice_index_or writers.items t d).cell }
     ensures whole { length result.items ≡ vec_len writers }
-    ensures states { (t : ℕ) (d : Writing) → t < vec_len writers → tile_at result.items t ≡ standing_at (slice_index_or writers.items t d).tile (slice_index_or writers.items t d).count (slice_index_or writers.items t d).list }
-    ensures heard { (t : ℕ) (d : Writing) → t < vec_len writers → (slice_index_or writers.items t d).heard ≤ (slice_index_or writers.items t d).count }
+    ensures states { AreChecked (vec_len writers) writers.items result.items }
+    ensures heard { HearWithin (vec_len writers) writers.items }
 {
     for tile in 0..writers.len() {
         let state = writers[tile].check(rt, &cells[tile]);
@@ -73,7 +72,7 @@ impl TileCells {
         requires writers { AreWriters self writers.items }
         requires readers { All (IsReaderOf self writers.items) readers.items }
         ensures whole { length result.items ≡ length self }
-        ensures states { (t : ℕ) (d : Writing) → t < length self → tile_at result.items t ≡ standing_at t (slice_index_or writers.items t d).count (slice_index_or writers.items t d).list }
+        ensures states { AreClosed (length self) writers.items result.items }
         ensures seen { All (CoversSeen (length self) writers.items) readers.items }
     {
         let mut writers = writers;

@@ -66,11 +66,11 @@ impl Outcome<[u64; 9], View> for Check {
 pub(crate) struct Tell;
 
 impl Split<View> for Tell {
-    ghost use Rattle.tile_cells.specs.Rule.{reader};
+    ghost use Rattle.tile_cells.specs.Rule.{note_of};
 
     ghost left = { λ v. v };
 
-    ghost right = { λ v. reader v.list v.tile v.number 0 };
+    ghost right = { note_of };
 }
 
 /// A note joins a reader.

@@ -15,7 +15,8 @@ use std::sync::Wait;
 
 // A cell for each tile, and the passes of their writers.
 fn open_all(alloc: Global, list: &FrameList) -> Result<(Vec<Cell>, Vec<CellPass>), Memory>
-    ensures { IfOk result (λ r. AreOpened list.now.list (tile_count_of list.now.list.size) (map (λ c. c.table.shared.table_id) r.0.items) r.1.items) }
+    ensures { IfOk result (λ r. AreOpened list.now.list (tile_count_of list.now.list.size)
+        (map (λ c. c.table.shared.table_id) r.0.items) r.1.items) }
 {
     let tiles = list.size().tile_count();
     let mut cells = Vec::with_capacity(alloc, tiles as usize).map_err(|_| Memory)?;

@@ -3,7 +3,7 @@ ghost use Rattle.std.specs.Prelude.{◌≡◌, ◌+◌, ◌<◌, ◌≤◌, max,
 ghost use Rattle.cull_base.specs.Screen.{tile_count_of};
 ghost use Rattle.cull_base.specs.Tiles.{tile_list};
 ghost use Rattle.masked_update.specs.Taken.{standing_at};
-ghost use Rattle.tile_cells.specs.Cells.{IsAt};
+ghost use Rattle.tile_cells.specs.Cells.{IsAt, having_read, learnt};
 ghost use Rattle.tile_cells.specs.Passes.{AreReading, reading, seen_of};
 
 use crate::cells::TileCells;
@@ -66,7 +66,7 @@ impl TileReader {
     pub fn learn<R: Wait>(&mut self, _rt: &R, cells: &TileCells, note: Note)
         requires of { self.old.cells ≡ cells.now }
         requires note { IsAt cells.now note.tile note.cell × (note.list ≡ self.old.list) }
-        ensures { self.new ≡ record self.old { seen = slice_set self.old.seen note.tile (max (slice_index self.old.seen note.tile) note.count) } }
+        ensures { self.new ≡ learnt self.old note }
     {
         let tile = note.tile();
         let count = note.count();
@@ -80,8 +80,9 @@ impl TileReader {
     pub(crate) fn read<R: Wait>(&mut self, rt: &R, cells: &TileCells, tile: u32) -> TileState
         requires of { self.old.cells ≡ cells.now }
         requires tile { tile < tile_count_of self.old.list.size }
-        ensures read { self.new ≡ record self.old { seen = slice_set self.old.seen tile result.count; loads = slice_set self.old.loads tile (slice_index self.old.loads tile + 1) } }
-        ensures whole { (length self.old.seen ≡ tile_count_of self.old.list.size) × (length self.old.loads ≡ tile_count_of self.old.list.size) }
+        ensures read { self.new ≡ having_read self.old tile result.count }
+        ensures seen { length self.old.seen ≡ tile_count_of self.old.list.size }
+        ensures loads { length self.old.loads ≡ tile_count_of self.old.list.size }
         ensures rises { slice_index self.old.seen tile ≤ result.count }
         ensures within { result.count ≤ length (tile_list tile self.old.list) }
         ensures state { result ≡ standing_at tile result.count self.old.list }

@@ -1,9 +1,8 @@
 //! A reader takes a snapshot of an area.
-ghost use Rattle.std.specs.Prelude.{◌≡◌, ◌+◌, ◌<◌};
-ghost use Rattle.cull_base.specs.Screen.{tile_columns_of, tile_place};
+ghost use Rattle.std.specs.Prelude.{◌≡◌, ◌<◌};
+ghost use Rattle.cull_base.specs.Screen.{tile_place};
 ghost use Rattle.cull_base.specs.Span.{IsSpan, has_tile};
-ghost use Rattle.masked_update.specs.Grid.{is_in_rows};
-ghost use Rattle.tile_cells.specs.Snapshots.{HoldsExactly, ReadMet, ReadWhere};
+ghost use Rattle.tile_cells.specs.Snapshots.{HoldsExactly, ReadMet, ReadWhere, is_in_row};
 
 use crate::cells::TileCells;
 use crate::reader::TileReader;
@@ -25,7 +24,7 @@ impl TileReader {
         requires size { into.old.size ≡ self.old.list.size }
         requires span { IsSpan into.old.size span }
         requires row { row < span.end_row }
-        ensures read { ReadWhere (is_in_rows (tile_columns_of into.old.size) row (row + 1) span.first_column span.end_column) self.old self.new into.old into.new }
+        ensures read { ReadWhere (is_in_row into.old.size span row) self.old self.new into.old into.new }
         ensures span { into.new.span ≡ into.old.span }
     {
         let size = into.size();

@@ -1,8 +1,9 @@
 //! The steps on one cell.
-ghost use Rattle.std.specs.Prelude.{◌≡◌, ◌+◌, ◌≤◌, [], slice_index, IfOk};
+ghost use Rattle.std.specs.Prelude.{◌≡◌, ◌≤◌, [], slice_index, IfOk};
 ghost use Rattle.crossbeam_utils.specs.Seq.{IsSamePass, cell_view};
 ghost use Rattle.tile_cells.specs.Words.{HoldsAt};
-ghost use Rattle.tile_cells.specs.Rule.{nameless, writer, reader, learned, ended, IsWriter, IsReader, AreOfOne};
+ghost use Rattle.tile_cells.specs.Rule.{nameless, writer, note_of, after_store, after_load, learned, ended};
+ghost use Rattle.tile_cells.specs.Rule.{HoldsNext, IsWriter, IsReader, AreOfOne};
 
 use crate::kinds::{Check, End, Learn, Load, Move, Name, Naming, Store, Tell};
 use crate::rule::{Cell, CellPass};
@@ -43,7 +44,7 @@ pub(crate) fn tell(cell: &Cell, pass: &mut CellPass) -> CellPass
     requires writes { IsWriter (cell_view pass.old) }
     ensures own { IsSamePass pass.old pass.new × (cell_view pass.new ≡ cell_view pass.old) }
     ensures joinable { (result.table_id ≡ pass.old.table_id) × (result.me.1 ≡ []) }
-    ensures told { cell_view result ≡ reader (cell_view pass.old).list (cell_view pass.old).tile (cell_view pass.old).number 0 }
+    ensures told { cell_view result ≡ note_of (cell_view pass.old) }
 {
     cell.split_pass::<Tell>(pass)
 }
@@ -52,9 +53,9 @@ pub(crate) fn tell(cell: &Cell, pass: &mut CellPass) -> CellPass
 pub(crate) fn store<R: Wait>(rt: &R, cell: &Cell, pass: &mut CellPass, words: [u64; 9])
     requires own { pass.old.table_id ≡ cell.now.table.shared.table_id }
     requires writes { IsWriter (cell_view pass.old) }
-    requires next { HoldsAt words (cell_view pass.old).tile ((cell_view pass.old).number + 1) (cell_view pass.old).list }
+    requires next { HoldsNext words (cell_view pass.old) }
     ensures own { IsSamePass pass.old pass.new }
-    ensures stored { cell_view pass.new ≡ writer (cell_view pass.old).list (cell_view pass.old).tile ((cell_view pass.old).number + 1) (cell_view pass.old).heard }
+    ensures stored { cell_view pass.new ≡ after_store (cell_view pass.old) }
 {
     cell.swap_as::<Store, R>(rt, pass, words);
 }
@@ -64,7 +65,7 @@ pub(crate) fn load<R: Wait>(rt: &R, cell: &Cell, pass: &mut CellPass) -> [u64; 9
     requires own { pass.old.table_id ≡ cell.now.table.shared.table_id }
     requires reads { IsReader (cell_view pass.old) }
     ensures own { IsSamePass pass.old pass.new }
-    ensures seen { cell_view pass.new ≡ reader (cell_view pass.old).list (cell_view pass.old).tile (slice_index result 0) ((cell_view pass.old).loads + 1) }
+    ensures seen { cell_view pass.new ≡ after_load (cell_view pass.old) (slice_index result 0) }
     ensures rises { (cell_view pass.old).number ≤ slice_index result 0 }
     ensures holds { HoldsAt result (cell_view pass.old).tile (slice_index result 0) (cell_view pass.old).list }
 {

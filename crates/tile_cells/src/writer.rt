@@ -3,7 +3,7 @@ ghost use Rattle.std.specs.Prelude.{◌≡◌, ◌+◌, ◌<◌, ◌≤◌, [], 
 ghost use Rattle.crossbeam_utils.specs.Seq.{cell_view};
 ghost use Rattle.cull_base.specs.Screen.{tile_count_of};
 ghost use Rattle.masked_update.specs.Taken.{IsMember, standing_at};
-ghost use Rattle.tile_cells.specs.Cells.{IsAt};
+ghost use Rattle.tile_cells.specs.Cells.{IsAt, first_at, note_of};
 ghost use Rattle.tile_cells.specs.Passes.{Reads, heard_at, list_at, number_at};
 ghost use Rattle.tile_cells.specs.Rule.{reader, writer};
 
@@ -30,11 +30,11 @@ pub struct TileWriter {
 
 impl Model for TileWriter {
     ghost use Rattle.tile_cells.specs.Cells.{Writing};
-    ghost use Rattle.tile_cells.specs.Passes.{IsWriting, heard_at, list_at, number_at};
+    ghost use Rattle.tile_cells.specs.Passes.{IsWriting, writing};
 
     ghost Value = { Writing };
 
-    ghost view = { λ s. record { cell = s.pass.table_id; list = list_at s.pass; tile = s.tile; count = number_at s.pass; heard = heard_at s.pass } };
+    ghost view = { λ s. writing s.tile s.pass };
 
     ghost invariant = { λ s. IsWriting s.tile s.place s.size s.state s.pass };
 }
@@ -44,7 +44,7 @@ impl TileWriter {
     pub(crate) fn first(pass: CellPass, list: &FrameList, tile: u32) -> TileWriter
         requires tile { tile < tile_count_of list.now.list.size }
         requires new { cell_view pass ≡ writer list.now.list tile 0 0 }
-        ensures { result ≡ record { cell = pass.table_id; list = list.now.list; tile = tile; count = 0; heard = 0 } }
+        ensures { result ≡ first_at pass.table_id list.now.list tile }
     {
         // an accessor tells how long a list may be
         let _length = list.len();
@@ -107,7 +107,7 @@ impl TileWriter {
     pub fn note<R: Wait>(&mut self, _rt: &R, cells: &TileCells) -> Note
         requires { IsAt cells.now self.old.tile self.old.cell }
         ensures same { self.new ≡ self.old }
-        ensures noted { result ≡ record { cell = self.old.cell; list = self.old.list; tile = self.old.tile; count = self.old.count } }
+        ensures noted { result ≡ note_of self.old }
     {
         let tile = self.tile;
         let count = self.state.count();

@@ -30,7 +30,7 @@ loop-column-preserved g c =
     let on = subst (λ s. c.args.row * c.tile_columns.result + c.loop-column.column < tile_count_of s) (sym i.0.size)
     (number_on size c.args.span c.args.row c.loop-column.column c.tile_columns.result columns c.requires.span c.requires.row c.loop-column-test.true) in
     let one = one_read c.loop-column.self c.read-state.new.self c.loop-column.into c.put.new.self (c.args.row * c.tile_columns.result + c.loop-column.column) (tile_count_of c.loop-column.self.list.size) c.read-state.result
-    on (ap tile_count_of own) r.whole.0 r.whole.1 c.put.ensures.whole r.read c.put.ensures.value r.rises r.within r.state in (
+    on (ap tile_count_of own) r.seen r.loads c.put.ensures.whole r.read c.put.ensures.value r.rises r.within r.state in (
       columns_read c.args.self.now c.loop-column.self c.read-state.new.self c.args.into.now c.loop-column.into c.put.new.self (tile_columns_of size) c.args.row c.args.span.first_column c.loop-column.column _
           (omega (arith, c.loop-column-test.true, c.requires.span.columns_within)) c.loop-column.auto.column (ap (λ n. c.args.row * n + c.loop-column.column) columns) i.0 one,
       ap (λ (s : SnapshotOf). s.span) c.put.ensures.value ∙ i.1,
