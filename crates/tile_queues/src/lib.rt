@@ -1,8 +1,10 @@
 //! The drawing of a frame by workers side by side, each with bins of its own.
 #![tactic(auto)]
 
+mod keeper;
 mod owned;
 mod part;
+mod plain;
 mod worker;
 
 pub use owned::draw_owned;
