@@ -1,3 +1,4 @@
 pub mod PlacesInTurn
 pub mod Owning
 pub mod Lists
+pub mod Storing

@@ -1,6 +1,7 @@
 //! The drawing of a frame by workers side by side, each with bins of its own.
 #![tactic(auto)]
 
+mod cell_bin;
 mod keeper;
 mod owned;
 mod part;
