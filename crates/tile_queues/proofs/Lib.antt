@@ -2,3 +2,4 @@ pub mod PlacesInTurn
 pub mod Owning
 pub mod Lists
 pub mod Storing
+pub mod Slotting

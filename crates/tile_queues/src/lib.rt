@@ -6,6 +6,7 @@ mod keeper;
 mod owned;
 mod part;
 mod plain;
+mod slots;
 mod worker;
 
 pub use owned::draw_owned;
