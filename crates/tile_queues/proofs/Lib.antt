@@ -3,3 +3,4 @@ pub mod Owning
 pub mod Lists
 pub mod Storing
 pub mod Slotting
+pub mod Handing

@@ -2,6 +2,7 @@
 #![tactic(auto)]
 
 mod cell_bin;
+mod in_cells;
 mod keeper;
 mod owned;
 mod part;
@@ -9,6 +10,7 @@ mod plain;
 mod slots;
 mod worker;
 
+pub use in_cells::draw_owned_in_cells;
 pub use owned::draw_owned;
 
 #[cfg(test)]

@@ -42,6 +42,13 @@ fn empty_bins(
     Ok(bins)
 }
 
+/// How many threads draw a list by so many workers: each is worth its start.
+pub(crate) fn threads_for(list: &FrameList, workers: u32) -> usize
+    ensures { 0 < result }
+{
+    (list.len() / SHARE).min(workers).max(1) as usize
+}
+
 // So many workers with their bins, all tiles empty.
 fn make_workers(
     alloc: Global,
@@ -66,8 +73,8 @@ fn make_workers(
     Ok(all)
 }
 
-// Draws all batches, the workers side by side by at most so many threads.
-fn draw_all<R: Threads + Sync, B: Sync, K: Keeper<B> + Send>(
+/// Draws all batches, the workers side by side by at most so many threads.
+pub(crate) fn draw_all<R: Threads + Sync, B: Sync, K: Keeper<B> + Send>(
     rt: &R,
     all: &mut [Worker<K>],
     beside: &B,
@@ -100,8 +107,8 @@ fn draw_all<R: Threads + Sync, B: Sync, K: Keeper<B> + Send>(
     );
 }
 
-// Whether all workers drew all batches.
-fn are_done<K>(all: &[Worker<K>]) -> bool
+/// Whether all workers drew all batches.
+pub(crate) fn are_done<K>(all: &[Worker<K>]) -> bool
     ensures { result ≡ true → AreDone all.now }
 {
     all.iter().all(|worker| worker.is_done)
@@ -171,7 +178,7 @@ pub fn draw_owned<R: Threads + Sync>(
     if workers == 1 {
         return draw_plain(alloc, list);
     }
-    let threads = (list.len() / SHARE).min(workers).max(1) as usize;
+    let threads = threads_for(list, workers);
     let mut all = make_workers(alloc, list, cut, batch, workers)?;
     draw_all(rt, all.as_mut_slice(), &(), list, cut, batch, workers, threads);
     if !are_done(all.as_slice()) {
