@@ -1,5 +1,5 @@
 -- Workers whose bins stand at the whole list have writers that do, and closed cells hold drawn tiles.
-use Rattle.std.proofs.Common.{◌≡◌, ℕ, ◌+◌, ◌*◌, ◌<◌, List, [], ◌∷◌, All, length, take, arith, ap, ◌∙◌, sym, subst}
+use Rattle.std.proofs.Common.{◌≡◌, ℕ, ◌+◌, ◌*◌, ◌<◌, List, [], ◌∷◌, All, length, arith, ap, ◌∙◌}
 use Rattle.std.specs.Prelude.{slice_index_or}
 use Rattle.std.proofs.Math.Seq.{take-length}
 use Rattle.atomic_table.specs.Seated.{TableId}
@@ -11,7 +11,7 @@ use Rattle.cull_base.specs.Screen.{IsSize, tile_count_of}
 use Rattle.cull_base.specs.Tiles.{PieceList, ArePieces, tile_list, tile_after}
 use Rattle.cull_base.specs.declared.tile_span.TileSpan.{TileSpan}
 use Rattle.masked_update.specs.Canvas.{own_tile}
-use Rattle.masked_update.specs.Drawn.{AreDrawn, IsDrawn}
+use Rattle.masked_update.specs.Drawn.{AreDrawn}
 use Rattle.masked_update.specs.Taken.{standing_at}
 use Rattle.masked_update.specs.TileOf.{TileOf, tile_at}
 use Rattle.masked_update.proofs.TileLists.{drawn_of, tile_with}
@@ -26,7 +26,7 @@ use Rattle.tile_queues.proofs.Slotting.{by_number}
 
 -- what one relation says of keepers, another says too
 module _ {X B C : Type 0} (one : X → B → PieceList → TileSpan → ℕ → Type 0) (other : X → C → PieceList → TileSpan → ℕ → Type 0) (b : B) (c : C)
-  (turned : (x : X) (list : PieceList) (window : TileSpan) (k : ℕ) → one x b list window k → other x c list window k) where
+    (turned : (x : X) (list : PieceList) (window : TileSpan) (k : ℕ) → one x b list window k → other x c list window k) where
   pub ready_as : (list : PieceList) (cut : CutOf) (workers : ℕ) (all : List (Worker X)) → AreReady one b list cut workers all → AreReady other c list cut workers all
   ready_as list cut workers all at = record {
     count = at.count;

@@ -1,5 +1,5 @@
 -- A bin's tiles take the places of a part one after another, and what stands between them misses the bin.
-use Rattle.std.proofs.Common.{◌≡◌, ℕ, ◌+◌, ◌<◌, ◌≤◌, List, length, get_or, sym, subst, ◌∙◌}
+use Rattle.std.proofs.Common.{◌≡◌, ℕ, ◌+◌, ◌<◌, ◌≤◌, List, length, get_or, sym, ◌∙◌}
 use Rattle.cull_base.specs.Piece.{box_of}
 use Rattle.cull_base.specs.Screen.{IsSize}
 use Rattle.cull_base.specs.Tiles.{PieceList}
@@ -26,8 +26,8 @@ pub record IsNextPlace {X B : Type 0} (stands : X → B → PieceList → TileSp
   pub walked : IsWalked (bin_rect_of list.size cut bin) list.members to indices taken (i + 1)
 
 module _ {X B : Type 0} (stands : X → B → PieceList → TileSpan → ℕ → Type 0)
-  (passes : (k : X) (beside : B) (list : PieceList) (window : TileSpan) (m n : ℕ) → MissBetween list window m n → stands k beside list window m → stands k beside list window n)
-  (beside : B) (list : PieceList) (cut : CutOf) (bin : ℕ) (sized : IsSize list.size.width list.size.height) (valid : IsCut cut.columns cut.rows) where
+    (passes : (k : X) (beside : B) (list : PieceList) (window : TileSpan) (m n : ℕ) → MissBetween list window m n → stands k beside list window m → stands k beside list window n)
+    (beside : B) (list : PieceList) (cut : CutOf) (bin : ℕ) (sized : IsSize list.size.width list.size.height) (valid : IsCut cut.columns cut.rows) where
   missed : (a b : ℕ) → a ≤ b → NoneMeets (bin_rect_of list.size cut bin) list.members a b → MissBetween list (bin_span_of list.size cut bin) a b
   missed a b le none = record {
     ordered = le;

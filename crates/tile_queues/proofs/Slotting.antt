@@ -1,5 +1,5 @@
 -- Slots that are filled and emptied, and the tiles of a window by their numbers.
-use Rattle.std.proofs.Common.{◌≡◌, ℕ, zero, suc, ◌+◌, ◌-◌, ◌*◌, ◌/◌, ◌%◌, ◌<◌, ◌≤◌, List, [], ◌∷◌, ◌++◌, Some, None, length, length-set, set, get_or, arith, refl, true, ap, ◌∙◌, sym, subst}
+use Rattle.std.proofs.Common.{◌≡◌, ℕ, zero, suc, ◌+◌, ◌-◌, ◌*◌, ◌/◌, ◌%◌, ◌<◌, List, [], ◌∷◌, ◌++◌, Some, None, length, length-set, set, arith, refl, true, ap, ◌∙◌, sym, subst}
 use Rattle.std.specs.Prelude.{slice_index_or, IfSome}
 use Rattle.std.specs.declared.option.Option.{Option}
 use Rattle.std.proofs.Math.Nat.{mod-lt}
@@ -7,10 +7,9 @@ use Rattle.std.proofs.lemmas.List.{length-append}
 use Rattle.std.proofs.lemmas.Nat.{div-add-mod'}
 use Rattle.std.proofs.lemmas.Option.{slice_get_within}
 use Rattle.atomic_table.specs.Seated.{TableId}
-use Rattle.cull_base.specs.Screen.{Dimensions, tile_columns_of, tile_rows_of, tile_count_of, tile_place}
+use Rattle.cull_base.specs.Screen.{Dimensions, tile_columns_of, tile_rows_of, tile_place}
 use Rattle.cull_base.specs.Span.{IsSpan, columns_in, has_tile, number_in, rows_in, tiles_in}
 use Rattle.cull_base.specs.Tiles.{PieceList}
-use Rattle.cull_base.specs.declared.place.Tile.{Tile}
 use Rattle.cull_base.specs.declared.tile_span.TileSpan.{TileSpan}
 use Rattle.cull_base.proofs.Places.{row_below}
 use Rattle.masked_update.specs.Canvas.{IsInWindow}
@@ -64,7 +63,7 @@ by_tile cells list window k ws span each t d within =
     let lt = number_within window (tile_place list.size t) within.within in
     let at = numbered list.size window n span lt in
     let same : tile_numbered list.size window n ≡ t = same_tile list.size (tile_numbered list.size window n) t
-        (one_place window (tile_place list.size (tile_numbered list.size window n)) (tile_place list.size t) at.within.within within.within at.number) in
+    (one_place window (tile_place list.size (tile_numbered list.size window n)) (tile_place list.size t) at.within.within within.within at.number) in
     subst (λ u. StandsAt cells list k u (slice_index_or ws n d)) same (each n d lt)
 
 -- and the other way round

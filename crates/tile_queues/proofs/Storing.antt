@@ -1,5 +1,5 @@
 -- The writers of a window's tiles, of which one more stores a member.
-use Rattle.std.proofs.Common.{◌≡◌, ℕ, inl, inr, ◌+◌, ◌*◌, ◌<◌, ◌≤◌, ◌||◌, ◌&&◌, Bool, true, false, cond, List, length, length-set, set, get_or, arith, refl, ap, ◌∙◌, sym, subst}
+use Rattle.std.proofs.Common.{◌≡◌, ℕ, inl, inr, ◌+◌, ◌*◌, ◌<◌, ◌≤◌, ◌||◌, ◌&&◌, Bool, true, false, cond, List, length, length-set, set, arith, refl, ap, ◌∙◌, sym, subst}
 use Rattle.std.specs.Prelude.{slice_index_or}
 use Rattle.std.proofs.lemmas.Bool.{and_left, cases_eq}
 use Rattle.std.proofs.lemmas.Bool.Decides.{eqb_tells}
@@ -75,8 +75,8 @@ same_tile size t u e =
     sym (div-add-mod' t c) ∙ ap (λ (p : Tile). p.row * c + p.column) e ∙ div-add-mod' u c
 
 module _ (cells : List TableId) (list : PieceList) (window span : TileSpan) (k row column n : ℕ) (ws : List Writing)
-  (fits : IsSpan list.size window) (part : IsPartOf window span) (from_row : span.first_row ≤ row) (to_row : row < span.end_row) (from : span.first_column ≤ column) (to : column < span.end_column)
-  (is : n ≡ number_in window (tile_with column row)) (stored : HasStored (is_passed span row column) cells list window k ws) where
+    (fits : IsSpan list.size window) (part : IsPartOf window span) (from_row : span.first_row ≤ row) (to_row : row < span.end_row) (from : span.first_column ≤ column) (to : column < span.end_column)
+    (is : n ≡ number_in window (tile_with column row)) (stored : HasStored (is_passed span row column) cells list window k ws) where
   abbrev q : Tile
   q = tile_with column row
 

@@ -1,5 +1,5 @@
 -- Bins while a frame is drawn, and the workers that own them.
-use Rattle.std.specs.Prelude.{◌≡◌, ℕ, ◌+◌, ◌-◌, ◌*◌, ◌/◌, ◌<◌, Bool, true, List, length, slice_index_or}
+use Rattle.std.specs.Prelude.{◌≡◌, ℕ, ◌+◌, ◌-◌, ◌*◌, ◌/◌, ◌<◌, true, List, length, slice_index_or}
 use Rattle.cull_base.specs.Screen.{Dimensions}
 use Rattle.cull_base.specs.Tiles.{PieceList}
 use Rattle.cull_base.specs.declared.tile_span.TileSpan.{TileSpan}

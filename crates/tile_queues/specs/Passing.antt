@@ -1,5 +1,5 @@
 -- Writers pass over members that miss their window.
-use Rattle.std.proofs.Common.{◌≡◌, ℕ, zero, suc, inl, inr, ◌+◌, ◌-◌, ◌<◌, ◌≤◌, List, [], length, get_or, arith, ap, ◌∙◌, sym, subst}
+use Rattle.std.proofs.Common.{◌≡◌, ℕ, zero, suc, inl, inr, ◌+◌, ◌-◌, ◌<◌, ◌≤◌, List, [], length, get_or, arith, ap, ◌∙◌, sym}
 use Rattle.std.proofs.lemmas.Bool.{cases_lt}
 use Rattle.std.proofs.lemmas.List.{get_or_default, take_all}
 use Rattle.atomic_table.specs.Seated.{TableId}
@@ -7,8 +7,7 @@ use Rattle.cull_base.specs.Piece.{Piece}
 use Rattle.cull_base.specs.Tiles.{PieceList, tile_list}
 use Rattle.cull_base.specs.declared.tile_span.TileSpan.{TileSpan}
 use Rattle.masked_update.specs.Canvas.{IsInWindow, MissBetween}
-use Rattle.tile_cells.specs.Cells.{Writing}
-use Rattle.tile_cells.specs.Standing.{StandsAt, rank}
+use Rattle.tile_cells.specs.Standing.{rank}
 use Rattle.tile_cells.proofs.Members.{rank_missed}
 use Rattle.tile_queues.specs.declared.cell_bin.CellBin.{CellBin}
 use Rattle.tile_queues.specs.CellBins.{AreWritersAt}

@@ -34,7 +34,7 @@ fn draw_cells<R: Threads + Wait + Sync>(
     requires ready { AreReady StandsInCells cells.now list.now.list cut.now workers all.old }
     ensures { AreWorkersAt StandsInCells cells.now list.now.list cut.now workers (length list.now.list.members) all.new }
 {
-    let threads = threads_for(list, workers);
+    let threads = threads_for(list.len(), workers);
     let beside = InCells { rt, cells };
     draw_all(rt, all, &beside, list, cut, size, workers, threads);
 }

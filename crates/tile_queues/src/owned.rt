@@ -42,11 +42,11 @@ fn empty_bins(
     Ok(bins)
 }
 
-/// How many threads draw a list by so many workers: each is worth its start.
-pub(crate) fn threads_for(list: &FrameList, workers: u32) -> usize
+/// How many threads draw so many pieces by so many workers: each is worth its start.
+pub(crate) fn threads_for(pieces: u32, workers: u32) -> usize
     ensures { 0 < result }
 {
-    (list.len() / SHARE).min(workers).max(1) as usize
+    (pieces / SHARE).min(workers).max(1) as usize
 }
 
 // So many workers with their bins, all tiles empty.
@@ -115,7 +115,13 @@ pub(crate) fn are_done<K>(all: &[Worker<K>]) -> bool
 }
 
 // A tile as its bin's worker hands it back.
-fn tile_of(all: &[Worker<Canvas>], list: &FrameList, cut: &Cut, workers: u32, tile: u32) -> TileState
+fn tile_of(
+    all: &[Worker<Canvas>],
+    list: &FrameList,
+    cut: &Cut,
+    workers: u32,
+    tile: u32,
+) -> TileState
     requires some { 0 < workers }
     requires tile { tile < tile_count_of list.now.list.size }
     requires done { AreDone all.now }
@@ -178,9 +184,18 @@ pub fn draw_owned<R: Threads + Sync>(
     if workers == 1 {
         return draw_plain(alloc, list);
     }
-    let threads = threads_for(list, workers);
+    let threads = threads_for(list.len(), workers);
     let mut all = make_workers(alloc, list, cut, batch, workers)?;
-    draw_all(rt, all.as_mut_slice(), &(), list, cut, batch, workers, threads);
+    draw_all(
+        rt,
+        all.as_mut_slice(),
+        &(),
+        list,
+        cut,
+        batch,
+        workers,
+        threads,
+    );
     if !are_done(all.as_slice()) {
         return Err(Memory);
     }

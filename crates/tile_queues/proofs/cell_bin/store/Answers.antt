@@ -1,4 +1,4 @@
-use Rattle.std.proofs.Common.{◌≡◌, ℕ, ◌+◌, refl, sym, ap, ◌∙◌, subst}
+use Rattle.std.proofs.Common.{ℕ, ◌+◌, refl, sym, ap, ◌∙◌, subst}
 use Rattle.cull_base.specs.Tiles.{PieceList}
 use Rattle.masked_update.specs.Taken.{IsMember}
 use Rattle.tile_cells.specs.Cells.{Writing, IsAt}

@@ -4,8 +4,8 @@ use Rattle.cull_base.specs.Rectangle.{meets}
 use Rattle.cull_base.specs.Screen.{tile_rect_of}
 use Rattle.masked_update.proofs.Walks.{row_number}
 use Rattle.tile_cells.specs.Cells.{Writing}
-use Rattle.tile_queues.specs.CellBins.{HasStored, Stands, is_passed}
-use Rattle.tile_queues.proofs.Storing.{inside, stands_here, met_here, stored_more}
+use Rattle.tile_queues.specs.CellBins.{Stands}
+use Rattle.tile_queues.proofs.Storing.{stands_here, met_here, stored_more}
 use Rattle.tile_queues.proofs.cell_bin.store_in_row.Goals as goal
 
 pub store-requires-clause-met : goal.store-requires-clause-met

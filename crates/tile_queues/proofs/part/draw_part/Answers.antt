@@ -1,4 +1,4 @@
-use Rattle.std.proofs.Common.{◌+◌, get_or, arith, subst, sym, ◌∙◌}
+use Rattle.std.proofs.Common.{◌+◌, get_or, arith, subst}
 use Rattle.cull_base.specs.Screen.{Dimensions, IsSize}
 use Rattle.binning.proofs.BinSpans.{bin_is_span}
 use Rattle.tile_queues.proofs.PlacesInTurn.{first_turn, next_turn, last_turn}

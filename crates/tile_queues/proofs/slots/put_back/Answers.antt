@@ -1,4 +1,4 @@
-use Rattle.std.proofs.Common.{◌≡◌, ◌<◌, Some, length, length-set, arith, sym, ◌∙◌, subst}
+use Rattle.std.proofs.Common.{◌<◌, Some, length, length-set, arith, sym, ◌∙◌, subst}
 use Rattle.tile_cells.specs.Standing.{StandsAt}
 use Rattle.tile_cells.proofs.Lists.{turn}
 use Rattle.tile_queues.specs.CellBins.{Stands}

@@ -1,4 +1,4 @@
-use Rattle.std.proofs.Common.{◌≡◌, length, All, arith, sym, ◌∙◌, subst}
+use Rattle.std.proofs.Common.{length, All, arith, sym, ◌∙◌, subst}
 use Rattle.tile_cells.proofs.Lists.{turn}
 use Rattle.tile_queues.specs.declared.cell_bin.CellBin.{CellBin}
 use Rattle.tile_queues.specs.CellBins.{Stands}

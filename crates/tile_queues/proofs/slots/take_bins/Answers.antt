@@ -1,7 +1,6 @@
-use Rattle.std.proofs.Common.{◌≡◌, ◌+◌, ◌*◌, ◌∷◌, [], List, length, get_or, arith, ap, sym, ◌∙◌, subst}
+use Rattle.std.proofs.Common.{◌+◌, ◌*◌, ◌∷◌, [], List, length, get_or, arith, ap, sym, ◌∙◌, subst}
 use Rattle.std.proofs.lemmas.List.{length-append}
 use Rattle.cull_base.specs.Screen.{Dimensions}
-use Rattle.cull_base.specs.Span.{IsSpan}
 use Rattle.cull_base.specs.declared.tile_span.TileSpan.{TileSpan}
 use Rattle.binning.specs.Bins.{bin_span_of}
 use Rattle.tile_queues.specs.declared.cell_bin.CellBin.{CellBin}

@@ -2,7 +2,6 @@ use Rattle.std.proofs.Common.{◌≡◌, ℕ, ◌+◌, List, length, rules, refl
 use Rattle.std.proofs.lemmas.List.{with_items_is}
 use Rattle.std.specs.Prelude.{slice_index_or}
 use Rattle.binning.specs.Bins.{bin_span_of}
-use Rattle.cull_base.specs.Piece.{Piece}
 use Rattle.cull_base.specs.Screen.{Dimensions, tile_place}
 use Rattle.cull_base.specs.Span.{HasTilesOf, number_in, tiles_in}
 use Rattle.cull_base.specs.declared.tile_span.TileSpan.{TileSpan}
