@@ -9,9 +9,12 @@ use Rattle.masked_update.specs.Canvas.{CanvasOf, tile_in}
 use Rattle.masked_update.specs.Drawn.{IsDrawn}
 use Rattle.masked_update.proofs.Canvases.{drawn_in}
 use Rattle.binning.specs.Cut.{CutOf, IsCut, bin_count_of}
-use Rattle.binning.specs.Bins.{bin_of}
+use Rattle.binning.specs.Bins.{bin_of, bin_span_of}
 use Rattle.binning.proofs.BinSpans.{in_span}
-use Rattle.tile_queues.specs.Bins.{IsBinAt, IsWorkerAt, AreDone, AreWorkersAt, WorkerOf, bins_owned}
+use Rattle.cull_base.specs.declared.tile_span.TileSpan.{TileSpan}
+use Rattle.tile_queues.specs.declared.worker.Worker.{Worker}
+use Rattle.tile_queues.specs.Bins.{IsBinAt, IsWorkerAt, AreDone, AreWorkersAt, bins_owned}
+use Rattle.tile_queues.specs.Plain.{IsPlainAt, StandsPlain}
 
 more : (j workers : ℕ) → (j + 1) * workers ≡ j * workers + workers
 more j workers = omega arith
@@ -35,23 +38,29 @@ pub record Held (list : PieceList) (tile : ℕ) (c : CanvasOf) : Type 0 where
   pub within : has_tile c.window (tile_place list.size tile) ≡ true
   pub drawn : IsDrawn list tile (tile_in list.size c tile)
 
--- Where all workers stand at the whole list, each tile is drawn in the canvas of its bin, which is that of the worker to
--- which the bin belongs.
+-- where all workers stand at the first k members, so does the bin of a screen that is the worker's to which it belongs
+pub held_bin : {X B : Type 0} (stands : X → B → PieceList → TileSpan → ℕ → Type 0) (beside : B) (list : PieceList) (cut : CutOf) (workers k bin : ℕ) → 0 < workers → bin < bin_count_of cut
+    → (all : List (Worker X)) → AreDone all → AreWorkersAt stands beside list cut workers k all
+    → (own : Worker X) → own ≡ get_or all (bin % workers) own → (c : X) → c ≡ get_or own.bins.items (bin / workers) c → IsBinAt stands beside list cut k bin c
+held_bin {X} {B} stands beside list cut workers k bin some below all done at own of c is =
+    let mine = mod_below bin workers some in
+    let count = at.count in
+    let there : bin % workers < length all = omega (arith, count, mine) in
+    let w : IsWorkerAt stands beside list cut workers k (bin % workers) own.bins.items =
+    subst (λ (x : Worker X). IsWorkerAt stands beside list cut workers k (bin % workers) x.bins.items) (sym of) (at.each (bin % workers) own there (done (bin % workers) own there)) in
+    let owned = w.count in
+    let inside = belongs (bin_count_of cut) workers bin some below in
+    let b : IsBinAt stands beside list cut k (bin / workers * workers + bin % workers) c = subst (IsBinAt stands beside list cut k (bin / workers * workers + bin % workers)) (sym is) (w.each (bin / workers) c (omega (arith, owned, inside))) in
+    subst (λ n. IsBinAt stands beside list cut k n c) (div-add-mod' bin workers) b
+
+-- where they stand at the whole list, each tile is drawn in the canvas of its bin
 pub held_tile : (list : PieceList) (cut : CutOf) (workers tile bin : ℕ) → IsSize list.size.width list.size.height → IsCut cut.columns cut.rows → 0 < workers → tile < tile_count_of list.size
     → bin ≡ bin_of list.size cut tile → bin < bin_count_of cut → ArePieces list.members
-    → (all : List WorkerOf) → AreDone all → AreWorkersAt list cut workers (length list.members) all
-    → (worker : WorkerOf) → worker ≡ get_or all (bin % workers) worker → (c : CanvasOf) → c ≡ get_or worker.bins (bin / workers) c → Held list tile c
-held_tile list cut workers tile bin sized valid some lt is below pieces all done stands worker of c at =
-    let mine = mod_below bin workers some in
-    let count = stands.count in
-    let there : bin % workers < length all = omega (arith, count, mine) in
-    let w : IsWorkerAt list cut workers (length list.members) (bin % workers) worker.bins =
-    subst (λ (x : WorkerOf). IsWorkerAt list cut workers (length list.members) (bin % workers) x.bins) (sym of) (stands.each (bin % workers) worker there (done (bin % workers) worker there)) in
-    let own = w.count in
-    let inside = belongs (bin_count_of cut) workers bin some below in
-    let b : IsBinAt list cut (length list.members) (bin / workers * workers + bin % workers) c = subst (IsBinAt list cut (length list.members) (bin / workers * workers + bin % workers)) (sym at) (w.each (bin / workers) c (omega (arith, own, inside))) in
-    let k : IsBinAt list cut (length list.members) bin c = subst (λ n. IsBinAt list cut (length list.members) n c) (div-add-mod' bin workers) b in
-    let on : has_tile c.window (tile_place list.size tile) ≡ true = subst (λ win. has_tile win (tile_place list.size tile) ≡ true) (sym k.window) (in_span list.size cut bin tile sized valid lt (sym is)) in
+    → (all : List (Worker CanvasOf)) → AreDone all → AreWorkersAt StandsPlain (tt {0}) list cut workers (length list.members) all
+    → (own : Worker CanvasOf) → own ≡ get_or all (bin % workers) own → (c : CanvasOf) → c ≡ get_or own.bins.items (bin / workers) c → Held list tile c
+held_tile list cut workers tile bin sized valid some lt is below pieces all done stands own of c at =
+    let k : IsPlainAt list (bin_span_of list.size cut bin) (length list.members) c = held_bin StandsPlain (tt {0}) list cut workers (length list.members) bin some below all done stands own of c at in
+    let on : has_tile c.window (tile_place list.size tile) ≡ true = subst (λ win. has_tile win (tile_place list.size tile) ≡ true) (sym k.window_is) (in_span list.size cut bin tile sized valid lt (sym is)) in
     record {
       within = on;
       drawn = drawn_in list c sized pieces k.stands tile (record { on_screen = lt; within = on });

@@ -1,1 +1,4 @@
 pub mod Bins
+pub mod Plain
+pub mod CellBins
+pub mod Passing

@@ -3,19 +3,51 @@ ghost use Rattle.std.specs.Prelude.{◌≡◌, ◌≤◌, ◌<◌, ◌+◌, ◌*
 ghost use Rattle.cull_base.specs.Screen.{IsSize, tile_count_of};
 ghost use Rattle.cull_base.specs.Tiles.{ArePieces};
 ghost use Rattle.masked_update.specs.Drawn.{AreDrawn, IsDrawn};
+ghost use Rattle.binning.specs.Cut.{bin_count_of};
 ghost use Rattle.binning.specs.Parts.{batch_count_of};
+ghost use Rattle.tile_queues.specs.Plain.{StandsPlain};
 ghost use Rattle.tile_queues.specs.Bins.{AreDone, AreReady, AreRoomsOf, AreWorkersAt, IsWorkerAt};
 
-use crate::worker::Worker;
-use binning::{Cut, bin_of_tile};
+use crate::keeper::Keeper;
+use crate::worker::{Worker, draw_worker, make_rooms};
+use binning::{Cut, bin_of_tile, bin_span};
 use cull_base::{FrameList, Memory};
-use masked_update::{TileState, draw_plain};
+use masked_update::{Canvas, TileState, draw_plain};
 use side_by_side::for_each_share;
 use std::alloc::Global;
 use std::thread::Threads;
 
 /// A thread is worth its start for so many pieces.
 const SHARE: u32 = 512;
+
+// The tiles of a worker's bins, all empty.
+fn empty_bins(
+    alloc: Global,
+    list: &FrameList,
+    cut: &Cut,
+    workers: u32,
+    worker: u32,
+) -> Result<Vec<Canvas>, Memory>
+    requires worker { worker < workers }
+    requires few { workers ≤ 64 }
+    ensures { IfOk result (λ v. IsWorkerAt StandsPlain (tt {0}) list.now.list cut.now workers 0 worker v.items) }
+{
+    let count = (cut.bins() + workers - 1 - worker) / workers;
+    let mut bins = Vec::with_capacity(alloc, count as usize).map_err(|_| Memory)?;
+    for j in 0..count {
+        let window = bin_span(list.size(), cut, j * workers + worker);
+        let canvas = Canvas::empty(alloc, window)?;
+        bins.push_reserved(canvas);
+    }
+    Ok(bins)
+}
+
+/// How many threads draw so many pieces by so many workers: each is worth its start.
+pub(crate) fn threads_for(pieces: u32, workers: u32) -> usize
+    ensures { 0 < result }
+{
+    (pieces / SHARE).min(workers).max(1) as usize
+}
 
 // So many workers with their bins, all tiles empty.
 fn make_workers(
@@ -24,22 +56,28 @@ fn make_workers(
     cut: &Cut,
     size: u32,
     workers: u32,
-) -> Result<Vec<Worker>, Memory>
+) -> Result<Vec<Worker<Canvas>>, Memory>
     requires { workers ≤ 64 }
-    ensures { IfOk result (λ v. AreReady list.now.list cut.now workers v.items) }
+    ensures { IfOk result (λ v. AreReady StandsPlain (tt {0}) list.now.list cut.now workers v.items) }
 {
     let mut all = Vec::with_capacity(alloc, workers as usize).map_err(|_| Memory)?;
     for worker in 0..workers {
-        let made = Worker::with_bins(alloc, list, cut, size, workers, worker)?;
-        all.push_reserved(made);
+        let bins = empty_bins(alloc, list, cut, workers, worker)?;
+        let rooms = make_rooms(alloc, list, cut, size, workers, worker)?;
+        all.push_reserved(Worker {
+            bins,
+            rooms,
+            is_done: false,
+        });
     }
     Ok(all)
 }
 
-// Draws all batches, the workers side by side by at most so many threads.
-fn draw_all<R: Threads + Sync>(
+/// Draws all batches, the workers side by side by at most so many threads.
+pub(crate) fn draw_all<R: Threads + Sync, B: Sync, K: Keeper<B> + Send>(
     rt: &R,
-    all: &mut [Worker],
+    all: &mut [Worker<K>],
+    beside: &B,
     list: &FrameList,
     cut: &Cut,
     size: u32,
@@ -49,61 +87,66 @@ fn draw_all<R: Threads + Sync>(
     requires size { 1 ≤ size }
     requires few { workers ≤ 64 }
     requires threads { 0 < threads }
-    requires ready { AreReady list.now.list cut.now workers all.old }
-    ensures { AreWorkersAt list.now.list cut.now workers (length list.now.list.members) all.new }
+    requires ready { AreReady K.stands beside.now list.now.list cut.now workers all.old }
+    ensures { AreWorkersAt K.stands beside.now list.now.list cut.now workers (length list.now.list.members) all.new }
 {
     for_each_share(
         rt,
         all,
         threads,
-        &|w: usize, worker: &mut Worker|
+        &|w: usize, own: &mut Worker<K>|
             requires size { 1 ≤ size }
             requires worker { w < workers }
             requires few { workers ≤ 64 }
-            requires rooms { AreRoomsOf list.now.list.size cut.now workers w worker.old.rooms }
-            requires bins { IsWorkerAt list.now.list cut.now workers 0 w worker.old.bins }
+            requires rooms { AreRoomsOf list.now.list.size cut.now workers w own.old.rooms.items }
+            requires bins { IsWorkerAt K.stands beside.now list.now.list cut.now workers 0 w own.old.bins.items }
             ensures { let drawn = length list.entry.now.list.members in
-                worker.new.is_done ≡ true
-                → IsWorkerAt list.entry.now.list cut.entry.now workers drawn w worker.new.bins }
-        { worker.draw(list, cut, size, workers, w as u32) },
+                own.new.is_done ≡ true
+                → IsWorkerAt K.stands beside.entry.now list.entry.now.list cut.entry.now workers drawn w own.new.bins.items }
+        { draw_worker(own, beside, list, cut, size, workers, w as u32) },
     );
 }
 
-// Whether all workers drew all batches.
-fn are_done(all: &[Worker]) -> bool
+/// Whether all workers drew all batches.
+pub(crate) fn are_done<K>(all: &[Worker<K>]) -> bool
     ensures { result ≡ true → AreDone all.now }
 {
-    all.iter().all(|worker| worker.is_done())
+    all.iter().all(|worker| worker.is_done)
 }
 
 // A tile as its bin's worker hands it back.
-fn tile_of(all: &[Worker], list: &FrameList, cut: &Cut, workers: u32, tile: u32) -> TileState
+fn tile_of(
+    all: &[Worker<Canvas>],
+    list: &FrameList,
+    cut: &Cut,
+    workers: u32,
+    tile: u32,
+) -> TileState
     requires some { 0 < workers }
     requires tile { tile < tile_count_of list.now.list.size }
     requires done { AreDone all.now }
-    requires drawn { AreWorkersAt list.now.list cut.now workers (length list.now.list.members) all.now }
+    requires drawn { AreWorkersAt StandsPlain (tt {0}) list.now.list cut.now workers (length list.now.list.members) all.now }
     ensures { IsDrawn list.now.list tile result }
 {
     let size = list.size();
     // accessors tell what is held of a size, of a cut and of a list
     let (_width, _columns, _len) = (size.width(), cut.columns(), list.len());
     let bin = bin_of_tile(size, cut, tile);
-    all[(bin % workers) as usize]
-        .bin(bin / workers)
-        .tile(size.tile_at(tile))
+    let own = &all[(bin % workers) as usize];
+    own.bins[(bin / workers) as usize].tile(size.tile_at(tile))
 }
 
 // All tiles, in order.
 fn gather(
     alloc: Global,
-    all: &[Worker],
+    all: &[Worker<Canvas>],
     list: &FrameList,
     cut: &Cut,
     workers: u32,
 ) -> Result<Vec<TileState>, Memory>
     requires some { 0 < workers }
     requires done { AreDone all.now }
-    requires drawn { AreWorkersAt list.now.list cut.now workers (length list.now.list.members) all.now }
+    requires drawn { AreWorkersAt StandsPlain (tt {0}) list.now.list cut.now workers (length list.now.list.members) all.now }
     ensures tiles { IfOk result (λ v. length v.items ≡ tile_count_of list.now.list.size) }
     ensures drawn { IfOk result (λ v. AreDrawn list.now.list v.items) }
 {
@@ -141,9 +184,18 @@ pub fn draw_owned<R: Threads + Sync>(
     if workers == 1 {
         return draw_plain(alloc, list);
     }
-    let threads = (list.len() / SHARE).min(workers).max(1) as usize;
+    let threads = threads_for(list.len(), workers);
     let mut all = make_workers(alloc, list, cut, batch, workers)?;
-    draw_all(rt, all.as_mut_slice(), list, cut, batch, workers, threads);
+    draw_all(
+        rt,
+        all.as_mut_slice(),
+        &(),
+        list,
+        cut,
+        batch,
+        workers,
+        threads,
+    );
     if !are_done(all.as_slice()) {
         return Err(Memory);
     }

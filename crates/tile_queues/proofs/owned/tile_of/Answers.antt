@@ -15,8 +15,8 @@ tile-requires c =
     let bin = c.bin_of_tile-bin.ensures.value ∙ ap (λ (s : Dimensions). bin_of s cut c.args.tile) c.size-size.ensures in
     let place = c.tile_at.ensures.value ∙ ap (λ (s : Dimensions). tile_place s c.args.tile) c.size-size.ensures in
     let h = held_tile l cut c.args.workers c.args.tile c.bin_of_tile-bin.result sized c.columns-columns.ensures.valid c.requires.some c.requires.tile bin c.bin_of_tile-bin.ensures.within c.len-len.ensures.pieces
-    c.args.all.now c.requires.done c.requires.drawn c.index-all-bin.result c.index-all-bin.is c.bin.result.now c.bin.ensures in
-    subst (λ (p : Tile). has_tile c.bin.result.now.window p ≡ true) (sym place) h.within
+    c.args.all.now c.requires.done c.requires.drawn c.index-all-bin.result c.index-all-bin.is c.index.result.now c.index.ensures in
+    subst (λ (p : Tile). has_tile c.index.result.now.window p ≡ true) (sym place) h.within
 
 pub returns : goal.returns
 returns c =
@@ -25,5 +25,5 @@ returns c =
     let bin = c.bin_of_tile-bin.ensures.value ∙ ap (λ (s : Dimensions). bin_of s cut c.args.tile) c.size-size.ensures in
     let place = c.tile_at.ensures.value ∙ ap (λ (s : Dimensions). tile_place s c.args.tile) c.size-size.ensures in
     let h = held_tile l cut c.args.workers c.args.tile c.bin_of_tile-bin.result sized c.columns-columns.ensures.valid c.requires.some c.requires.tile bin c.bin_of_tile-bin.ensures.within c.len-len.ensures.pieces
-    c.args.all.now c.requires.done c.requires.drawn c.index-all-bin.result c.index-all-bin.is c.bin.result.now c.bin.ensures in
-    subst (IsDrawn l c.args.tile) (sym (c.tile.ensures ∙ ap (tile_on c.bin.result.now) place)) h.drawn
+    c.args.all.now c.requires.done c.requires.drawn c.index-all-bin.result c.index-all-bin.is c.index.result.now c.index.ensures in
+    subst (IsDrawn l c.args.tile) (sym (c.tile.ensures ∙ ap (tile_on c.index.result.now) place)) h.drawn

@@ -4,10 +4,10 @@ use Rattle.tile_queues.specs.Bins.{AreRoomsOf, IsWorkerAt}
 use Rattle.tile_queues.proofs.worker.draw_batches.Given as goal
 
 abbrev pub invariant-loop : goal.invariant-loop
-invariant-loop l =
+invariant-loop g l =
     record {
       from : l.from ≡ min (l.counter * l.size) (length l.list.list.members);
       rooms : AreRoomsOf l.list.list.size l.cut l.workers l.worker l.rooms;
       around : IsAround l.around l.rooms;
-      bins : IsWorkerAt l.list.list l.cut l.workers l.from l.worker l.bins;
+      bins : IsWorkerAt g.K.Keeper.stands l.beside l.list.list l.cut l.workers l.from l.worker l.bins;
     }

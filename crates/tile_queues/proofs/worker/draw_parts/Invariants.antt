@@ -1,12 +1,11 @@
 use Rattle.std.proofs.Common.{◌≡◌, ℕ, ◌+◌, ◌*◌, ◌<◌, ◌≤◌, length, get_or}
-use Rattle.masked_update.specs.Canvas.{CanvasOf}
 use Rattle.tile_queues.specs.Bins.{IsBinAt}
 use Rattle.tile_queues.proofs.worker.draw_parts.Given as goal
 
 abbrev pub invariant-loop-j : goal.invariant-loop-j
-invariant-loop-j l =
+invariant-loop-j g l =
     record {
       count : length l.bins ≡ length l.initial.bins;
-      drawn : (i : ℕ) (d : CanvasOf) → i < l.j → IsBinAt l.list.list l.cut l.to (i * l.workers + l.worker) (get_or l.bins i d);
-      left : (i : ℕ) (d : CanvasOf) → l.j ≤ i → i < length l.bins → IsBinAt l.list.list l.cut l.fn.from (i * l.workers + l.worker) (get_or l.bins i d);
+      drawn : (i : ℕ) (d : g.row.K.Denot) → i < l.j → IsBinAt g.K.Keeper.stands l.beside l.list.list l.cut l.to (i * l.workers + l.worker) (get_or l.bins i d);
+      left : (i : ℕ) (d : g.row.K.Denot) → l.j ≤ i → i < length l.bins → IsBinAt g.K.Keeper.stands l.beside l.list.list l.cut l.fn.from (i * l.workers + l.worker) (get_or l.bins i d);
     }

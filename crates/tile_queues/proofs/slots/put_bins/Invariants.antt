@@ -1,0 +1,13 @@
+use Rattle.std.proofs.Common.{◌≡◌, ◌+◌, drop, length}
+use Rattle.std.specs.Vec.Iter.{into_iter_items, into_iter_len}
+use Rattle.tile_queues.specs.CellBins.{AreSlotsAt}
+use Rattle.tile_queues.proofs.slots.put_bins.Given as goal
+
+abbrev pub invariant-loop-bin : goal.invariant-loop-bin
+invariant-loop-bin l =
+    (goal.iterator-loop-bin).can_next l.bin-iterator ×
+    (goal.iterator-loop-bin).is_finite l.bin-iterator ×
+    (into_iter_items l.bin-iterator ≡ drop l.done l.fn.bins.items) ×
+    (l.done + into_iter_len l.bin-iterator ≡ length l.fn.bins.items) ×
+    (length l.slots ≡ length l.fn.slots) ×
+    AreSlotsAt l.cells l.list.list (length l.list.list.members) l.slots
