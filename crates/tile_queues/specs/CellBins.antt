@@ -1,5 +1,5 @@
 -- The writers of a bin's tiles, and slots from which they are taken and into which they are put back.
-use Rattle.std.specs.Prelude.{◌≡◌, ℕ, ◌+◌, ◌/◌, ◌%◌, ◌*◌, ◌<◌, ◌||◌, Bool, cond, List, length, slice_index_or, IfSome}
+use Rattle.std.specs.Prelude.{◌≡◌, ℕ, ◌+◌, ◌/◌, ◌%◌, ◌*◌, ◌<◌, ◌||◌, Bool, cond, List, length, slice_index_or, All, IfSome}
 use Rattle.std.specs.declared.option.Option.{Option}
 use Rattle.atomic_table.specs.Seated.{TableId}
 use Rattle.cull_base.specs.Piece.{Piece, box_of}
@@ -14,16 +14,20 @@ use Rattle.masked_update.specs.Walk.{is_in_row}
 use Rattle.tile_cells.specs.Cells.{Writing}
 use Rattle.tile_cells.specs.Standing.{StandsAt}
 use Rattle.tile_queues.specs.declared.cell_bin.CellBin.{CellBin}
+use Rattle.tile_queues.specs.declared.worker.Worker.{Worker}
 
 -- The writers of the tiles of a window, row by row. Each took those of the list's first k members that are its own, and
 -- one more where the test holds.
-pub record HasStored (test : Tile → Bool) (cells : List TableId) (list : PieceList) (window : TileSpan) (k : ℕ) (ws : List Writing) : Type 0 where
+pub record HasStored (test : Tile → Bool) (cells : List TableId) (list : PieceList) (window : TileSpan) (k : ℕ)
+    (ws : List Writing) : Type 0 where
   pub whole : length ws ≡ tiles_in window
   pub each : (t : ℕ) (d : Writing) → IsInWindow list.size window t
-      → StandsAt cells list (cond (test (tile_place list.size t)) (k + 1) k) t (slice_index_or ws (number_in window (tile_place list.size t)) d)
+      → let p = tile_place list.size t in
+      StandsAt cells list (cond (test p) (k + 1) k) t (slice_index_or ws (number_in window p) d)
 
 -- and none took one more
-pub record AreWritersAt (cells : List TableId) (list : PieceList) (window : TileSpan) (k : ℕ) (bin : CellBin) : Type 0 where
+pub record AreWritersAt (cells : List TableId) (list : PieceList) (window : TileSpan) (k : ℕ)
+    (bin : CellBin) : Type 0 where
   pub window_is : bin.window ≡ window
   pub whole : length bin.writers.items ≡ tiles_in window
   pub each : (t : ℕ) (d : Writing) → IsInWindow list.size window t
@@ -35,11 +39,13 @@ StandsInCells bin cells list window k = AreWritersAt cells list window k bin
 
 -- the places of a span that stand before a row, or in it and before a column
 abbrev pub is_passed : TileSpan → ℕ → ℕ → Tile → Bool
-is_passed span row column p = has_tile (record span { end_row = row }) p || is_in_row (record span { end_column = column }) row p
+is_passed span row column p =
+    has_tile (record span { end_row = row }) p || is_in_row (record span { end_column = column }) row p
 
 -- of a window's tiles, the span has those that the piece's box meets
 abbrev pub HasMet : Dimensions → TileSpan → TileSpan → Piece → Type 0
-HasMet size window span x = (t : ℕ) → IsInWindow size window t → has_tile span (tile_place size t) ≡ meets (box_of x) (tile_rect_of size t)
+HasMet size window span x =
+    (t : ℕ) → IsInWindow size window t → has_tile span (tile_place size t) ≡ meets (box_of x) (tile_rect_of size t)
 
 -- the screen's tile at a number of a window, whose tiles are numbered row by row
 abbrev pub tile_numbered : Dimensions → TileSpan → ℕ → ℕ
@@ -50,6 +56,16 @@ tile_numbered size window n =
 abbrev pub Stands : List TableId → PieceList → ℕ → Writing → Type 0
 Stands cells list k w = StandsAt cells list k w.tile w
 
+-- and so did all writers of these bins
+abbrev pub BinsStand : List TableId → PieceList → ℕ → List CellBin → Type 0
+BinsStand cells list k bins = All (λ (b : CellBin). All (Stands cells list k) b.writers.items) bins
+
+-- and of all bins of these workers
+abbrev pub WorkersStand : List TableId → PieceList → ℕ → List (Worker CellBin) → Type 0
+WorkersStand cells list k all = All (λ (w : Worker CellBin). BinsStand cells list k w.bins.items) all
+
 -- slots for all tiles: what a tile's slot holds is the tile's writer, at the first k members
 abbrev pub AreSlotsAt : List TableId → PieceList → ℕ → List (Option Writing) → Type 0
-AreSlotsAt cells list k slots = (t : ℕ) (d : Option Writing) → t < length slots → IfSome (slice_index_or slots t d) (λ w. StandsAt cells list k t w)
+AreSlotsAt cells list k slots =
+    (t : ℕ) (d : Option Writing) → t < length slots
+    → IfSome (slice_index_or slots t d) (λ w. StandsAt cells list k t w)

@@ -16,7 +16,8 @@ no_piece : Piece
 no_piece = record { xs = []; ys = []; qs = [] }
 
 -- a tile of the window has as many of the first members
-same_rank : (list : PieceList) (window : TileSpan) (m n t : ℕ) → MissBetween list window m n → IsInWindow list.size window t → rank t list n ≡ rank t list m
+same_rank : (list : PieceList) (window : TileSpan) (m n t : ℕ)
+    → MissBetween list window m n → IsInWindow list.size window t → rank t list n ≡ rank t list m
 same_rank list window m n t miss within =
     let e : m + (n - m) ≡ n = (let le = miss.ordered in omega (arith, le)) in
     ap (rank t list) (sym e) ∙ by (n - m) (omega (arith, e))
@@ -36,7 +37,8 @@ same_rank list window m n t miss within =
         let e : m + suc d ≡ m + d + 1 = omega arith in
         ap (rank t list) e ∙ passed (m + d) (omega arith) (omega (arith, le)) ∙ by d (omega (arith, le))
 
-pub writers_pass : (cells : List TableId) (list : PieceList) (window : TileSpan) (m n : ℕ) (bin : CellBin) → MissBetween list window m n → AreWritersAt cells list window m bin → AreWritersAt cells list window n bin
+pub writers_pass : (cells : List TableId) (list : PieceList) (window : TileSpan) (m n : ℕ) (bin : CellBin)
+    → MissBetween list window m n → AreWritersAt cells list window m bin → AreWritersAt cells list window n bin
 writers_pass cells list window m n bin miss at = record {
   window_is = at.window_is;
   whole = at.whole;

@@ -15,7 +15,8 @@ abbrev pub StandsPlain : {B : Type 0} → CanvasOf → B → PieceList → TileS
 StandsPlain {B} c beside list window k = IsPlainAt list window k c
 
 -- they pass over members that miss the window
-pub plain_passes : {B : Type 0} → (c : CanvasOf) (beside : B) (list : PieceList) (window : TileSpan) (m n : ℕ) → MissBetween list window m n → StandsPlain c beside list window m → StandsPlain c beside list window n
+pub plain_passes : {B : Type 0} → (c : CanvasOf) (beside : B) (list : PieceList) (window : TileSpan) (m n : ℕ)
+    → MissBetween list window m n → StandsPlain c beside list window m → StandsPlain c beside list window n
 plain_passes {B} c beside list window m n miss at = record {
   window_is = at.window_is;
   stands = stands_on list m n c (subst (λ (w : TileSpan). MissBetween list w m n) (sym at.window_is) miss) at.stands;

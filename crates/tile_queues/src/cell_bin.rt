@@ -65,8 +65,10 @@ fn store_in_row<R: Wait>(
     requires part { IsPartOf window span }
     requires met { HasMet list.now.list.size window span piece.now }
     requires row { (span.first_row ≤ row) × (row < span.end_row) }
-    requires stored { HasStored (is_passed span row span.first_column) beside.now.cells.now list.now.list window index writers.old }
-    ensures { HasStored (is_passed span row span.end_column) beside.now.cells.now list.now.list window index writers.new }
+    requires stored { HasStored (is_passed span row span.first_column)
+        beside.now.cells.now list.now.list window index writers.old }
+    ensures { HasStored (is_passed span row span.end_column)
+        beside.now.cells.now list.now.list window index writers.new }
 {
     let start = window.row_start(row);
     for column in span.first_column..span.end_column {
@@ -90,7 +92,8 @@ fn store_in_span<R: Wait>(
     requires window { IsSpan list.now.list.size window }
     requires part { IsPartOf window span }
     requires met { HasMet list.now.list.size window span piece.now }
-    requires stored { HasStored (is_passed span span.first_row span.first_column) beside.now.cells.now list.now.list window index writers.old }
+    requires stored { HasStored (is_passed span span.first_row span.first_column)
+        beside.now.cells.now list.now.list window index writers.old }
     ensures { HasStored (has_tile span) beside.now.cells.now list.now.list window index writers.new }
 {
     for row in span.first_row..span.end_row {

@@ -32,7 +32,8 @@ fn draw_cells<R: Threads + Wait + Sync>(
     requires size { 1 ≤ size }
     requires few { workers ≤ 64 }
     requires ready { AreReady StandsInCells cells.now list.now.list cut.now workers all.old }
-    ensures { AreWorkersAt StandsInCells cells.now list.now.list cut.now workers (length list.now.list.members) all.new }
+    ensures { let drawn = length list.now.list.members in
+        AreWorkersAt StandsInCells cells.now list.now.list cut.now workers drawn all.new }
 {
     let threads = threads_for(list.len(), workers);
     let beside = InCells { rt, cells };

@@ -88,7 +88,8 @@ pub(crate) fn draw_all<R: Threads + Sync, B: Sync, K: Keeper<B> + Send>(
     requires few { workers ≤ 64 }
     requires threads { 0 < threads }
     requires ready { AreReady K.stands beside.now list.now.list cut.now workers all.old }
-    ensures { AreWorkersAt K.stands beside.now list.now.list cut.now workers (length list.now.list.members) all.new }
+    ensures { let drawn = length list.now.list.members in
+        AreWorkersAt K.stands beside.now list.now.list cut.now workers drawn all.new }
 {
     for_each_share(
         rt,
@@ -102,7 +103,8 @@ pub(crate) fn draw_all<R: Threads + Sync, B: Sync, K: Keeper<B> + Send>(
             requires bins { IsWorkerAt K.stands beside.now list.now.list cut.now workers 0 w own.old.bins.items }
             ensures { let drawn = length list.entry.now.list.members in
                 own.new.is_done ≡ true
-                → IsWorkerAt K.stands beside.entry.now list.entry.now.list cut.entry.now workers drawn w own.new.bins.items }
+                → IsWorkerAt K.stands beside.entry.now list.entry.now.list cut.entry.now workers drawn w
+                own.new.bins.items }
         { draw_worker(own, beside, list, cut, size, workers, w as u32) },
     );
 }
@@ -125,7 +127,8 @@ fn tile_of(
     requires some { 0 < workers }
     requires tile { tile < tile_count_of list.now.list.size }
     requires done { AreDone all.now }
-    requires drawn { AreWorkersAt StandsPlain (tt {0}) list.now.list cut.now workers (length list.now.list.members) all.now }
+    requires drawn { let drawn = length list.now.list.members in
+        AreWorkersAt StandsPlain (tt {0}) list.now.list cut.now workers drawn all.now }
     ensures { IsDrawn list.now.list tile result }
 {
     let size = list.size();
@@ -146,7 +149,8 @@ fn gather(
 ) -> Result<Vec<TileState>, Memory>
     requires some { 0 < workers }
     requires done { AreDone all.now }
-    requires drawn { AreWorkersAt StandsPlain (tt {0}) list.now.list cut.now workers (length list.now.list.members) all.now }
+    requires drawn { let drawn = length list.now.list.members in
+        AreWorkersAt StandsPlain (tt {0}) list.now.list cut.now workers drawn all.now }
     ensures tiles { IfOk result (λ v. length v.items ≡ tile_count_of list.now.list.size) }
     ensures drawn { IfOk result (λ v. AreDrawn list.now.list v.items) }
 {

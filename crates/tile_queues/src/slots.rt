@@ -6,7 +6,8 @@ ghost use Rattle.cull_base.specs.Span.{IsSpan, tiles_in};
 ghost use Rattle.tile_cells.specs.Cells.{AreFresh};
 ghost use Rattle.tile_cells.specs.Standing.{AreStanding, StandsAt};
 ghost use Rattle.tile_queues.specs.Bins.{AreReady, IsWorkerAt};
-ghost use Rattle.tile_queues.specs.CellBins.{AreSlotsAt, AreWritersAt, Stands, StandsInCells, tile_numbered};
+ghost use Rattle.tile_queues.specs.CellBins.{AreSlotsAt, AreWritersAt, BinsStand, Stands, StandsInCells};
+ghost use Rattle.tile_queues.specs.CellBins.{WorkersStand, tile_numbered};
 
 use crate::cell_bin::CellBin;
 use crate::worker::{Worker, make_rooms};
@@ -108,7 +109,8 @@ fn take_bins(
     requires slots { AreSlotsAt cells.now list.now.list 0 slots.old }
     ensures whole { length slots.new ≡ length slots.old }
     ensures slots { OnOk result (AreSlotsAt cells.now list.now.list 0 slots.new) }
-    ensures bins { IfOk result (λ v. IsWorkerAt StandsInCells cells.now list.now.list cut.now workers 0 worker v.items) }
+    ensures bins { IfOk result (λ v.
+        IsWorkerAt StandsInCells cells.now list.now.list cut.now workers 0 worker v.items) }
 {
     let count = (cut.bins() + workers - 1 - worker) / workers;
     // an accessor tells what is held of a cut
@@ -180,7 +182,7 @@ fn put_bins(
 )
     requires whole { length slots.old ≡ length cells.now }
     requires slots { AreSlotsAt cells.now list.now.list (length list.now.list.members) slots.old }
-    requires own { All (λ b. All (Stands cells.now list.now.list (length list.now.list.members)) b.writers.items) bins.items }
+    requires own { BinsStand cells.now list.now.list (length list.now.list.members) bins.items }
     ensures whole { length slots.new ≡ length slots.old }
     ensures slots { AreSlotsAt cells.now list.now.list (length list.now.list.members) slots.new }
 {
@@ -200,7 +202,7 @@ fn put_workers(
 )
     requires whole { length slots.old ≡ length cells.now }
     requires slots { AreSlotsAt cells.now list.now.list (length list.now.list.members) slots.old }
-    requires own { All (λ w. All (λ b. All (Stands cells.now list.now.list (length list.now.list.members)) b.writers.items) w.bins.items) all.items }
+    requires own { WorkersStand cells.now list.now.list (length list.now.list.members) all.items }
     ensures whole { length slots.new ≡ length slots.old }
     ensures slots { AreSlotsAt cells.now list.now.list (length list.now.list.members) slots.new }
 {
@@ -238,7 +240,7 @@ pub(crate) fn hand_back(
     all: Vec<Worker<CellBin>>,
 ) -> Result<Vec<TileWriter>, Memory>
     requires whole { length cells.now ≡ tile_count_of list.now.list.size }
-    requires own { All (λ w. All (λ b. All (Stands cells.now list.now.list (length list.now.list.members)) b.writers.items) w.bins.items) all.items }
+    requires own { WorkersStand cells.now list.now.list (length list.now.list.members) all.items }
     ensures { IfOk result (λ v. AreStanding cells.now list.now.list (length list.now.list.members) v.items) }
 {
     let mut slots = empty_slots(alloc, cells, list)?;

@@ -67,8 +67,8 @@ fn threads_draw_what_one_draws(rt: HostRuntime) -> Result<(), Fail> {
     Ok(())
 }
 
-// A few pieces on a screen of 7 by 8 tiles, the last of each cut: one over all of it, and smaller ones at the corners and
-// in the middle, some behind those before.
+// A few pieces on a screen of 7 by 8 tiles, the last of each cut: one over half of it, and smaller ones at the corners
+// and in the middle, one behind another.
 fn few(rt: &HostRuntime) -> Result<FrameList, Fail> {
     let size = Size::new(200, 60).ok_or("a size")?;
     let mut list = FrameList::with_room(rt.alloc(), size, 6)?;

@@ -125,7 +125,8 @@ fn draw_batches<B, K: Keeper<B>>(
     requires few { workers ≤ 64 }
     requires rooms { AreRoomsOf list.now.list.size cut.now workers worker rooms.old }
     requires bins { IsWorkerAt K.stands beside.now list.now.list cut.now workers 0 worker bins.old }
-    ensures { OnOk result (IsWorkerAt K.stands beside.now list.now.list cut.now workers (length list.now.list.members) worker bins.new) }
+    ensures { let drawn = length list.now.list.members in
+        OnOk result (IsWorkerAt K.stands beside.now list.now.list cut.now workers drawn worker bins.new) }
 {
     let len = list.len();
     let around = rect_around(rooms);
@@ -155,8 +156,9 @@ pub(crate) fn draw_worker<B, K: Keeper<B>>(
     requires few { workers ≤ 64 }
     requires rooms { AreRoomsOf list.now.list.size cut.now workers worker own.old.rooms.items }
     requires bins { IsWorkerAt K.stands beside.now list.now.list cut.now workers 0 worker own.old.bins.items }
-    ensures { own.new.is_done ≡ true
-        → IsWorkerAt K.stands beside.now list.now.list cut.now workers (length list.now.list.members) worker own.new.bins.items }
+    ensures { let drawn = length list.now.list.members in
+        own.new.is_done ≡ true
+        → IsWorkerAt K.stands beside.now list.now.list cut.now workers drawn worker own.new.bins.items }
 {
     let bins = own.bins.as_mut_slice();
     let rooms = own.rooms.as_mut_slice();
