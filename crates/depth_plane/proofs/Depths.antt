@@ -1,5 +1,5 @@
 -- The bounds of a subtile hold at each sample that the piece touches.
-use Rattle.std.proofs.Common.{◌≡◌, ℕ, ℤ, pos, negsuc, ◌≤◌, ◌<◌, ◌*ℤ◌, ◌≤ℤ◌, ◌<ℤ◌, arith, refl, true, false, cond, int_lt}
+use Rattle.std.proofs.Common.{◌≡◌, ℕ, ℤ, pos, negsuc, ◌≤◌, ◌<◌, ◌*ℤ◌, ◌≤ℤ◌, ◌<ℤ◌, arith, refl, true, false, cond, int_lt, max, ap, ◌∙◌}
 use Rattle.std.specs.Int.{int_min, int_max}
 use Rattle.std.proofs.lemmas.Int.{ints, clamps}
 use Rattle.std.proofs.lemmas.List.Elements.{All-get_or}
@@ -95,3 +95,20 @@ unfolding high_of
 high_of-computed t u v q r x l d f m ev eq ex el ed ef em er =
     let s = each_sample-plane_of t u in let n = area-plane_of t in
     rw (er, em, ef, ex, eq, el, ed, ev, s, n) refl
+
+-- a floor is cut to the range first, and raised then
+raised : (l : ℕ) (z : ℤ) → l ≤ HELD_TOP → max l (cut_to_range HELD_TOP (int_max (pos 0) z)) ≡ cut_to_range HELD_TOP (int_max (pos l) z)
+raised l (pos n) le =
+    let a : int_max (pos 0) (pos n) ≡ pos n = omega (arith, ints, clamps) in
+    let b : int_max (pos l) (pos n) ≡ pos (max l n) = omega (arith, ints, clamps) in
+    rw (a, b) (omega (arith, le))
+raised l (negsuc n) le = omega (arith, le)
+
+pub low_of-raised : (t : Piece) (u : Sub) (v : Coefficients) (r : ℕ) → v ≡ plane_of t → IsPiece t → r ≡ low_from v 0 u → max (least_nearness t) r ≡ low_of t u
+low_of-raised t u v r ev piece er =
+    let a = nearness_small t 0 piece (omega arith) in
+    let b = nearness_small t 1 piece (omega arith) in
+    let c = nearness_small t 2 piece (omega arith) in
+    let le : least_nearness t ≤ HELD_TOP = omega (arith, a) in
+    ap (max (least_nearness t)) er ∙ raised (least_nearness t) (floor_of (least_of (each_sample (λ k. numerator_at v (sample u k)))) v.area) le
+    ∙ low_of-computed t u v (least_nearness t) (low_from v (least_nearness t) u) ev refl refl

@@ -1,6 +1,6 @@
 //! The plane of a piece's depth.
-ghost use Rattle.std.specs.Prelude.{◌≡◌, ℕ, ℤ, pos, true, ◌<◌, ◌≤◌, ◌^◌, ◌<ℤ◌, IsTrue, ◌↔◌, ◌+◌, ◌*◌, ◌/◌, ◌%◌, IfSome};
-ghost use Rattle.cull_base.specs.Piece.{least_of, greatest_of, IsPiece, Point, sample, each_sample};
+ghost use Rattle.std.specs.Prelude.{◌≡◌, ℕ, ℤ, pos, max, true, ◌<◌, ◌≤◌, ◌^◌, ◌<ℤ◌, IsTrue, ◌↔◌, ◌+◌, ◌*◌, ◌/◌, ◌%◌, IfSome};
+ghost use Rattle.cull_base.specs.Piece.{least_of, greatest_of, IsPiece, Piece, Point, sample, each_sample};
 ghost use Rattle.std.specs.Int.{int_max};
 ghost use Rattle.cull_base.specs.Depth.{floor_of, least_nearness, greatest_nearness, numerator, denominator, low_of, high_of};
 ghost use Rattle.cull_base.specs.Bounds.{Bounded};
@@ -128,22 +128,24 @@ impl Plane {
         first + self.rises[j as usize]
     }
 
-    /// The low bound of subtile j of a tile, by the least numerator over the first, as `low` gives it. Conditions: the
-    /// plane is the piece's, the tile lies within 2048 by 2048 pixels, and j is below 8.
+    /// The floor of the least depth over subtile j of a tile, from 0 to the top that pieces hold, by the least numerator
+    /// over the first. The greater of it and the piece's least nearness is the low bound. Conditions: the tile lies
+    /// within 2048 by 2048 pixels, and j is below 8.
     #[inline(always)]
-    pub fn low_in_tile(&self, tri: &ScreenTri, tile: Tile, first: Option<i64>, j: u32) -> u32
-        requires plane { self.now ≡ plane_of tri.now }
+    pub fn floor_in_tile(&self, tile: Tile, first: Option<i64>, j: u32) -> u32
         requires column { tile.column < 64 }
         requires row { tile.row < 256 }
         requires first { IfSome first (IsTileFirst self.now tile) }
         requires j { j < 8 }
-        ensures value { result ≡ low_of tri.now (sub_in tile j) }
+        ensures value { result ≡ low_from self.now 0 (sub_in tile j) }
         ensures within { result ≤ HELD_TOP }
+        ensures raised { (x : Piece) → self.now ≡ plane_of x → IsPiece x
+            → max (least_nearness x) result ≡ low_of x (sub_in tile j) }
     {
-        self.low_in_tile_above(tri.least_nearness(), tile, first, j)
+        self.low_in_tile_above(0, tile, first, j)
     }
 
-    // The same for a piece whose least nearness is this.
+    // The same, but no less than a nearness.
     #[inline(always)]
     fn low_in_tile_above(&self, nearness: u32, tile: Tile, first: Option<i64>, j: u32) -> u32
         requires column { tile.column < 64 }

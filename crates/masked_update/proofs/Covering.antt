@@ -1,5 +1,5 @@
 -- The wanted subtiles of a tile, covered one after the other from the lowest bit.
-use Rattle.std.proofs.Common.{◌≡◌, ◌≢◌, ℕ, ◌*◌, ◌%◌, ◌<◌, ◌≤◌, ◌^◌, List, length, arith, refl, ap, ◌∙◌, sym, subst, inl, inr, bit_and, w32, set, slice_index_or}
+use Rattle.std.proofs.Common.{◌≡◌, ◌≢◌, ℕ, ◌*◌, ◌%◌, ◌<◌, ◌≤◌, ◌^◌, List, length, arith, refl, ap, ◌∙◌, sym, subst, inl, inr, bit_and, w32, max, set, slice_index_or}
 use Rattle.std.specs.Int.{bit_at, bit_not, trailing_zeros}
 use Rattle.std.proofs.lemmas.Bool.{cases_eq, cases_lt}
 use Rattle.std.proofs.lemmas.Nat.{and_le_l}
@@ -7,7 +7,7 @@ use Rattle.std.proofs.lemmas.Nat.Bits.{bit_at_above, bit_at-trailing_zeros, bit_
 use Rattle.std.proofs.lemmas.Grind.{get_or-set_at}
 use Rattle.std.proofs.lemmas.List.{length-set, get_or-set_other}
 use Rattle.cull_base.specs.declared.nearness.TheConstants.{HELD_TOP}
-use Rattle.cull_base.specs.Depth.{low_of}
+use Rattle.cull_base.specs.Depth.{least_nearness, low_of}
 use Rattle.cull_base.specs.State.{samples_of}
 use Rattle.cull_base.specs.Piece.{Piece, covered}
 use Rattle.cull_base.specs.declared.place.Tile.{Tile}
@@ -74,7 +74,7 @@ next_visited place x wanted left j old new lt one v at = record {
 -- one subtile more is covered, whose bound is written where its mask isn't empty
 module _ (place : Tile) (x : Piece) (j mask : ℕ) (old : Coverage) (lt : j < 8) (m : IsMergeable old) (is : samples_of mask ≡ covered x (sub_of place j)) where
   covered_at : (lows : List ℕ) → length lows ≡ 8 → ((k : ℕ) → k < 8 → slice_index_or lows k 0 ≤ HELD_TOP) → ((k : ℕ) → k < 8 → k ≢ j → slice_index_or lows k 0 ≡ low_at old k)
-      → (mask ≢ 0 → slice_index_or lows j 0 ≡ low_of x (sub_of place j)) → CoveredAt place x j old (record { lows = lows; masks = set old.masks j mask })
+      → (mask ≢ 0 → max (least_nearness x) (slice_index_or lows j 0) ≡ low_of x (sub_of place j)) → CoveredAt place x j old (record { lows = lows; masks = set old.masks j mask })
   covered_at lows eight within stays bound =
       let here = get_or-set_at old.masks j j mask 0 refl (omega (arith, lt, m.eight_masks)) in
       record {
@@ -87,11 +87,11 @@ module _ (place : Tile) (x : Piece) (j mask : ℕ) (old : Coverage) (lt : j < 8)
   pub cover_none : mask ≡ 0 → CoveredAt place x j old (record { lows = old.lows; masks = set old.masks j mask })
   cover_none none = covered_at old.lows m.eight_lows m.within (λ k below ne. refl) (λ some. absurd (some none))
 
-  pub cover_some : (low : ℕ) → low ≡ low_of x (sub_of place j) → low ≤ HELD_TOP → CoveredAt place x j old (record { lows = set old.lows j low; masks = set old.masks j mask })
+  pub cover_some : (low : ℕ) → max (least_nearness x) low ≡ low_of x (sub_of place j) → low ≤ HELD_TOP → CoveredAt place x j old (record { lows = set old.lows j low; masks = set old.masks j mask })
   cover_some low bound top = covered_at (set old.lows j low) (length-set old.lows j low ∙ m.eight_lows)
       (λ k below. elim (cases_eq k j) [
         | inl e ↦ let now = get_or-set_at old.lows j k low 0 e (omega (arith, lt, m.eight_lows)) in omega (arith, now, top)
         | inr ne ↦ let now = get_or-set_other old.lows j k low 0 ne in omega (arith, now, m.within k below)
       ])
       (λ k below ne. get_or-set_other old.lows j k low 0 ne)
-      (λ some. get_or-set_at old.lows j j low 0 refl (omega (arith, lt, m.eight_lows)) ∙ bound)
+      (λ some. ap (max (least_nearness x)) (get_or-set_at old.lows j j low 0 refl (omega (arith, lt, m.eight_lows))) ∙ bound)

@@ -1,5 +1,5 @@
 -- A piece merged into a tile's subtiles, one after the other.
-use Rattle.std.proofs.Common.{◌≡◌, ℕ, ◌<◌, List, length, Bool, true, false, cond, map, arith, refl, ap, ◌∙◌, sym, slice_index_or, ◌⊎◌, inl, inr}
+use Rattle.std.proofs.Common.{◌≡◌, ℕ, ◌<◌, List, length, Bool, true, false, cond, map, arith, refl, ap, ◌∙◌, sym, slice_index_or, max, ◌⊎◌, inl, inr}
 use Rattle.std.specs.Int.{bit_at}
 use Rattle.std.proofs.lemmas.Bool.{cases_eq, cond-true}
 use Rattle.std.proofs.lemmas.Nat.Bits.{bit_at-lt, bit_at-zero}
@@ -9,7 +9,7 @@ use Rattle.std.proofs.lemmas.List.FromFn.{length-map-range_with_len, get_or-map-
 use Rattle.cull_base.specs.State.{State, empty_state, samples_of, step_with}
 use Rattle.cull_base.specs.Fold.{step}
 use Rattle.cull_base.specs.Piece.{Piece, IsPiece}
-use Rattle.cull_base.specs.Depth.{greatest_nearness, low_of}
+use Rattle.cull_base.specs.Depth.{greatest_nearness, least_nearness, low_of}
 use Rattle.cull_base.specs.Screen.{Dimensions, is_on_screen}
 use Rattle.cull_base.specs.declared.place.Sub.{Sub}
 use Rattle.cull_base.specs.declared.place.Tile.{Tile}
@@ -19,7 +19,7 @@ use Rattle.masked_update.specs.Taken.{merged_tile}
 use Rattle.masked_update.specs.Least.{NoneBelow}
 use Rattle.masked_update.specs.Merged.{merged_at, merged_by}
 use Rattle.masked_update.specs.Lanes.{low_at, mask_at, AreSteps}
-use Rattle.masked_update.specs.Coverage.{IsCovered, IsCoverage, AreWanted}
+use Rattle.masked_update.specs.Coverage.{IsCovered, IsCoverage, IsRaised, AreWanted}
 use Rattle.masked_update.specs.declared.coverage.Coverage.{Coverage}
 use Rattle.masked_update.proofs.Unchanged.{step_behind, step_empty, step_with-none}
 
@@ -31,6 +31,10 @@ pub eight_of : (f : ℕ → State) (subs : List State) → length subs ≡ 8 →
 eight_of f subs eight each = ext_get_or empty_state subs (map f (range_with_len 0 8)) (eight ∙ sym (length-map-range_with_len f 0 8))
     (λ j h. let h' : j < 8 = omega (arith, h, eight) in each j h' ∙ sym (one_of_eight f j h'))
 
+pub eight_merged : (size : Dimensions) (place : Tile) (x : Piece) (subs : List State) → length (merged_by size place x subs) ≡ 8
+unfolding merged_by
+eight_merged size place x subs = length-map-range_with_len (merged_at size place x subs) 0 8
+
 -- a subtile that isn't wanted stays
 left_out : (size : Dimensions) (place : Tile) (x : Piece) (old : List State) (bits j : ℕ) → j < 8 → AreWanted size place x old bits → bit_at bits j ≡ 0 → slice_index_or old j empty_state ≡ merged_at size place x old j
 left_out size place x old bits j h wanted clear = by (is_on_screen size (sub_of place j)) refl
@@ -40,21 +44,24 @@ left_out size place x old bits j h wanted clear = by (is_on_screen size (sub_of 
     by false off = rw off
 
 -- a bound and a mask of the piece give its step
-covered_step : (u : Sub) (s : State) (x : Piece) (low mask : ℕ) → IsCovered u x low mask → step_with s low (samples_of mask) ≡ step u s x
+covered_step : (u : Sub) (s : State) (x : Piece) (low mask : ℕ) → IsCovered u x low mask → step_with s (max (least_nearness x) low) (samples_of mask) ≡ step u s x
 covered_step u s x low mask is = elim (cases_eq mask 0) [
-  | inl none ↦ ap (λ m. step_with s low (samples_of m)) none ∙ step_with-none s low ∙ sym (step_empty u s x mask is.samples none)
+  | inl none ↦ ap (λ m. step_with s (max (least_nearness x) low) (samples_of m)) none ∙ step_with-none s (max (least_nearness x) low) ∙ sym (step_empty u s x mask is.samples none)
   | inr some ↦ ap (λ t. step_with s t (samples_of mask)) (is.bound some) ∙ ap (step_with s (low_of x u)) is.samples
 ]
 
 -- where the piece is merged into the wanted subtiles by their bounds and masks, the whole tile has it merged
-pub merged_all : (size : Dimensions) (place : Tile) (x : Piece) (bits : ℕ) (c : Coverage) (old new : List State) → AreWanted size place x old bits → IsCoverage place x bits c → AreSteps c old new → new ≡ merged_by size place x old
+pub merged_all : (size : Dimensions) (place : Tile) (x : Piece) (bits : ℕ) (c raised : Coverage) (old new : List State) → AreWanted size place x old bits → IsCoverage place x bits c → IsRaised (least_nearness x) c raised → AreSteps raised old new → new ≡ merged_by size place x old
 unfolding merged_by
-merged_all size place x bits c old new wanted is s = eight_of (merged_at size place x old) new s.eight (λ j h. s.steps j h ∙ by j h (cases_eq (bit_at bits j) 0))
+merged_all size place x bits c raised old new wanted is r s = eight_of (merged_at size place x old) new s.eight (λ j h. s.steps j h ∙ lane j h ∙ by j h (cases_eq (bit_at bits j) 0))
   where
-    by : (j : ℕ) → j < 8 → (bit_at bits j ≡ 0) ⊎ (bit_at bits j ≡ 0 → ⊥) → step_with (slice_index_or old j empty_state) (low_at c j) (samples_of (mask_at c j)) ≡ merged_at size place x old j
+    lane : (j : ℕ) → j < 8 → step_with (slice_index_or old j empty_state) (low_at raised j) (samples_of (mask_at raised j)) ≡ step_with (slice_index_or old j empty_state) (max (least_nearness x) (low_at c j)) (samples_of (mask_at c j))
+    lane j h = ap (λ t. step_with (slice_index_or old j empty_state) t (samples_of (mask_at raised j))) (r.lows j h) ∙ ap (λ ms. step_with (slice_index_or old j empty_state) (max (least_nearness x) (low_at c j)) (samples_of (slice_index_or ms j 0))) r.masks
+
+    by : (j : ℕ) → j < 8 → (bit_at bits j ≡ 0) ⊎ (bit_at bits j ≡ 0 → ⊥) → step_with (slice_index_or old j empty_state) (max (least_nearness x) (low_at c j)) (samples_of (mask_at c j)) ≡ merged_at size place x old j
     by j h (inl clear) =
-        ap (λ m. step_with (slice_index_or old j empty_state) (low_at c j) (samples_of m)) (is.others j h clear)
-        ∙ step_with-none (slice_index_or old j empty_state) (low_at c j)
+        ap (λ m. step_with (slice_index_or old j empty_state) (max (least_nearness x) (low_at c j)) (samples_of m)) (is.others j h clear)
+        ∙ step_with-none (slice_index_or old j empty_state) (max (least_nearness x) (low_at c j))
         ∙ left_out size place x old bits j h wanted clear
     by j h (inr set) =
         let one : bit_at bits j ≡ 1 = omega (arith, set, bit_at-lt bits j) in

@@ -7,7 +7,7 @@ use Rattle.cull_base.specs.Span.{is_between}
 use Rattle.masked_update.specs.Grid.{is_in_rows}
 
 -- the ones from a first bit to before an end
-ones_at : (first end i : ℕ) → bit_at (2 ^ end - 2 ^ first) i ≡ cond (is_between first end i) 1 0
+pub ones_at : (first end i : ℕ) → bit_at (2 ^ end - 2 ^ first) i ≡ cond (is_between first end i) 1 0
 ones_at first end i = by (nat_le first i) refl (nat_lt i end) refl
   where
     by : (a : Bool) → nat_le first i ≡ a → (b : Bool) → nat_lt i end ≡ b → bit_at (2 ^ end - 2 ^ first) i ≡ cond (nat_le first i && nat_lt i end) 1 0

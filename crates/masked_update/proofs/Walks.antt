@@ -1,6 +1,6 @@
 -- Tiles of a canvas that change, one place more at a time.
 use Rattle.std.proofs.Common.{◌≡◌, inl, inr, ℕ, ◌+◌, ◌-◌, ◌<◌, ◌≤◌, ◌&&◌, Bool, true, false, nat_eq, length, set, cond, arith, refl, ap, ◌∙◌, sym, subst}
-use Rattle.std.proofs.lemmas.Bool.{and_parts, and_from, and_left, and_right, cond-false, cases_eq, eq-eqb, eqb-true}
+use Rattle.std.proofs.lemmas.Bool.{and_parts, and_from, and_left, and_right, cond-false, cond-true, cases_eq, eq-eqb, eqb-true}
 use Rattle.std.proofs.lemmas.Bool.Decides.{eqb_tells}
 use Rattle.std.proofs.lemmas.List.{get_or-set_other, length-set}
 use Rattle.std.proofs.lemmas.Grind.{get_or-set_at}
@@ -13,9 +13,9 @@ use Rattle.cull_base.specs.Span.{IsPartOf, HasTilesOf, is_between, has_tile, has
 use Rattle.cull_base.specs.declared.place.Tile.{Tile}
 use Rattle.cull_base.specs.declared.tile_span.TileSpan.{TileSpan}
 use Rattle.masked_update.specs.TileOf.{TileOf, tile_at, no_tile}
-use Rattle.masked_update.specs.Taken.{taken_at, counted_tile, taken_where}
-use Rattle.masked_update.specs.Canvas.{CanvasOf, IsCanvas, IsInWindow, TookMet, with_tile, tile_on, tile_in}
-use Rattle.masked_update.specs.Walk.{ChangedWhere, CountedWhere, HoldsWhere, NoneBelowWhere, is_in_row}
+use Rattle.masked_update.specs.Taken.{counted_tile, counted_where, merged_tile, merged_where}
+use Rattle.masked_update.specs.Canvas.{CanvasOf, CountedMet, IsCanvas, IsInWindow, MergedMet, with_tile, tile_on, tile_in}
+use Rattle.masked_update.specs.Walk.{ChangedWhere, HoldsWhere, NoneBelowWhere, is_in_row}
 use Rattle.masked_update.proofs.Merging.{merged_behind}
 use Rattle.masked_update.proofs.Grid.{grows_elsewhere, before, last_between, none_between}
 use Rattle.masked_update.proofs.Tiles.{tile_with, same_place, has, number_within, one_place, between}
@@ -163,20 +163,28 @@ row_within span row p le lt on =
     let e = eqb-true p.row row rows in
     and_from (has_row span p.row) (has_column span p.column) (between span.first_row span.end_row p.row (omega (arith, le, e)) (omega (arith, lt, e))) columns
 
--- tiles that only counted a piece took it, where it stands behind them
-pub counted_behind : (test : Tile → Bool) (size : Dimensions) (x : Piece) (old new : CanvasOf) → IsPiece x → NoneBelowWhere (greatest_nearness x) test old → CountedWhere test old new → ChangedWhere test (λ p t. taken_at size p x t) old new
-counted_behind test size x old new piece behind c = record { window = c.window; whole = c.whole; tiles = λ p h. c.tiles p h ∙ taken p h (test p) refl }
+-- a piece that stands behind tiles is merged into them where nothing changes
+pub merged_where_behind : (test : Tile → Bool) (size : Dimensions) (x : Piece) (c : CanvasOf) → IsPiece x → IsCanvas c → NoneBelowWhere (greatest_nearness x) test c → ChangedWhere test (λ p t. merged_tile size p x t) c c
+merged_where_behind test size x c piece whole behind = record { window = refl; whole = whole; tiles = λ p h. stays p h (test p) refl }
   where
-    taken : (p : Tile) → has_tile old.window p ≡ true → (b : Bool) → test p ≡ b → cond (test p) (counted_tile (tile_on old p)) (tile_on old p) ≡ cond (test p) (taken_at size p x (tile_on old p)) (tile_on old p)
-    taken p h true e = ap (λ (t : TileOf). cond (test p) (counted_tile t) (tile_on old p)) (sym (merged_behind size p x (tile_on old p) piece (behind p h e)))
-    taken p h false e = rw e refl
+    stays : (p : Tile) → has_tile c.window p ≡ true → (b : Bool) → test p ≡ b → tile_on c p ≡ cond (test p) (merged_tile size p x (tile_on c p)) (tile_on c p)
+    stays p h true e = sym (cond-true _ _ _ e ∙ merged_behind size p x (tile_on c p) piece (behind p h e))
+    stays p h false e = sym (cond-false _ _ _ e)
 
--- the tiles of the span took a piece, which are those of the window that its box meets
-pub took_met : (span : TileSpan) (size : Dimensions) (x : Piece) (old new : CanvasOf) → ((t : ℕ) → IsInWindow size old.window t → has_tile span (tile_place size t) ≡ meets (box_of x) (tile_rect_of size t))
-    → ChangedWhere (has_tile span) (λ p t. taken_at size p x t) old new → TookMet size x old new
-took_met span size x old new tests took = record {
-  window = took.window;
-  tiles = λ t within. took.tiles (tile_place size t) within.within ∙ ap (λ b. taken_where b size t x (tile_in size old t)) (tests t within);
+-- a piece is merged into the tiles of the span, which are those of the window that its box meets
+pub merged_met : (span : TileSpan) (size : Dimensions) (x : Piece) (old new : CanvasOf) → ((t : ℕ) → IsInWindow size old.window t → has_tile span (tile_place size t) ≡ meets (box_of x) (tile_rect_of size t))
+    → ChangedWhere (has_tile span) (λ p t. merged_tile size p x t) old new → MergedMet size x old new
+merged_met span size x old new tests changed = record {
+  window = changed.window;
+  tiles = λ t within. changed.tiles (tile_place size t) within.within ∙ ap (λ b. merged_where b size t x (tile_in size old t)) (tests t within);
+}
+
+-- and so it is counted
+pub counted_met : (span : TileSpan) (size : Dimensions) (x : Piece) (old new : CanvasOf) → ((t : ℕ) → IsInWindow size old.window t → has_tile span (tile_place size t) ≡ meets (box_of x) (tile_rect_of size t))
+    → ChangedWhere (has_tile span) (λ p t. counted_tile t) old new → CountedMet size x old new
+counted_met span size x old new tests changed = record {
+  window = changed.window;
+  tiles = λ t within. changed.tiles (tile_place size t) within.within ∙ ap (λ b. counted_where b (tile_in size old t)) (tests t within);
 }
 
 -- a place of the row that the walk is at stands in the window

@@ -8,8 +8,8 @@ use Rattle.cull_base.specs.Tiles.{PieceList, tile_list}
 use Rattle.cull_base.specs.declared.place.Tile.{Tile}
 use Rattle.cull_base.specs.declared.tile_span.TileSpan.{TileSpan}
 use Rattle.masked_update.specs.TileOf.{TileOf, tile_at, empty_tile}
-use Rattle.masked_update.specs.Taken.{tile_of, taken_where}
-use Rattle.masked_update.specs.Drawn.{IsDrawn}
+use Rattle.masked_update.specs.Taken.{tile_of, merged_where, counted_where}
+use Rattle.masked_update.specs.Drawn.{HasStates}
 
 pub record CanvasOf : Type 0 where
   pub window : TileSpan
@@ -46,13 +46,18 @@ first_of k list = record { size = list.size; members = take k list.members }
 abbrev pub own_tile : PieceList → ℕ → TileOf
 own_tile list tile = tile_of list.size tile (tile_list tile list)
 
--- each tile of the window took those of the list's first k members that are its own, in order
+-- The subtiles of each tile of the window are those of a tile that took those of the list's first k members that are its
+-- own, in order. Of counts nothing is said.
 pub record StandsAt (list : PieceList) (k : ℕ) (c : CanvasOf) : Type 0 where
-  pub tiles : (t : ℕ) → IsInWindow list.size c.window t → tile_in list.size c t ≡ own_tile (first_of k list) t
+  pub tiles : (t : ℕ) → IsInWindow list.size c.window t → (tile_in list.size c t).subs ≡ (own_tile (first_of k list) t).subs
 
--- each tile of the window is drawn
+-- each tile of the window counts those of the list's first k members that are its own
+pub record CountsAt (list : PieceList) (k : ℕ) (c : CanvasOf) : Type 0 where
+  pub tiles : (t : ℕ) → IsInWindow list.size c.window t → (tile_in list.size c t).count ≡ (own_tile (first_of k list) t).count
+
+-- each tile of the window has the states after the whole list
 abbrev pub AreDrawnIn : PieceList → CanvasOf → Type 0
-AreDrawnIn list c = (t : ℕ) → IsInWindow list.size c.window t → IsDrawn list t (tile_in list.size c t)
+AreDrawnIn list c = (t : ℕ) → IsInWindow list.size c.window t → HasStates list t (tile_in list.size c t)
 
 -- the piece's box meets no tile of the window
 abbrev pub MissesWindow : Dimensions → TileSpan → Piece → Type 0
@@ -64,8 +69,14 @@ pub record MissBetween (list : PieceList) (window : TileSpan) (a b : ℕ) : Type
   pub members : (i : ℕ) (x : Piece) → a ≤ i → i < b → i < length list.members → slice_index_or list.members i x ≡ x
       → MissesWindow list.size window x
 
--- each tile of the window that the piece's box meets took it, and the others stay
-pub record TookMet (size : Dimensions) (x : Piece) (old new : CanvasOf) : Type 0 where
+-- the piece is merged into each tile of the window that its box meets, and the others stay
+pub record MergedMet (size : Dimensions) (x : Piece) (old new : CanvasOf) : Type 0 where
   pub window : new.window ≡ old.window
   pub tiles : (t : ℕ) → IsInWindow size old.window t
-      → tile_in size new t ≡ taken_where (meets (box_of x) (tile_rect_of size t)) size t x (tile_in size old t)
+      → tile_in size new t ≡ merged_where (meets (box_of x) (tile_rect_of size t)) size t x (tile_in size old t)
+
+-- the piece is counted in each tile of the window that its box meets, and the others stay
+pub record CountedMet (size : Dimensions) (x : Piece) (old new : CanvasOf) : Type 0 where
+  pub window : new.window ≡ old.window
+  pub tiles : (t : ℕ) → IsInWindow size old.window t
+      → tile_in size new t ≡ counted_where (meets (box_of x) (tile_rect_of size t)) (tile_in size old t)

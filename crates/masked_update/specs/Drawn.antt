@@ -20,6 +20,12 @@ pub record IsDrawn (list : PieceList) (tile : ℕ) (t : TileOf) : Type 0 where
   pub layered : EachOnScreen list.size tile (λ j u. IsLayered (sub_at t j))
   pub own_list : EachOnScreen list.size tile (λ j u. after u (tile_list tile list) ≡ after u list.members)
 
+-- The states are those of the list, and each subtile on the screen is sound and layered. Of the count nothing is said.
+pub record HasStates (list : PieceList) (tile : ℕ) (t : TileOf) : Type 0 where
+  pub states : t.subs ≡ tile_after list.size tile list.members
+  pub sound : EachOnScreen list.size tile (λ j u. IsSound u list.members (sub_at t j))
+  pub layered : EachOnScreen list.size tile (λ j u. IsLayered (sub_at t j))
+
 -- each tile of the screen is drawn
 abbrev pub AreDrawn : PieceList → List TileOf → Type 0
 AreDrawn list tiles = (t : ℕ) → t < tile_count_of list.size → IsDrawn list t (tile_at tiles t)

@@ -26,6 +26,14 @@ taken_by size tile x t = taken_at size (tile_place size tile) x t
 abbrev pub taken_where : Bool → Dimensions → ℕ → Piece → TileOf → TileOf
 taken_where b size tile x t = cond b (taken_by size tile x t) t
 
+-- the piece is merged into the tile where the test holds, and the tile stays elsewhere
+abbrev pub merged_where : Bool → Dimensions → ℕ → Piece → TileOf → TileOf
+merged_where b size tile x t = cond b (merged_tile size (tile_place size tile) x t) t
+
+-- one piece more is counted in the tile where the test holds, and the tile stays elsewhere
+abbrev pub counted_where : Bool → TileOf → TileOf
+counted_where b t = cond b (counted_tile t) t
+
 -- an empty tile that took these pieces
 abbrev pub tile_of : Dimensions → ℕ → List Piece → TileOf
 tile_of size tile pieces = record { subs = tile_after size tile pieces; count = length pieces }

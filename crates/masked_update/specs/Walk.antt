@@ -1,18 +1,24 @@
 -- Tiles of a canvas of which those of a span change, row by row.
-use Rattle.std.specs.Prelude.{ℕ, ◌≡◌, ◌<◌, ◌&&◌, nat_eq, Bool, true, cond}
+use Rattle.std.specs.Prelude.{ℕ, ◌≡◌, ◌-◌, ◌<◌, ◌&&◌, nat_eq, nat_le, Bool, true, cond}
+use Rattle.std.specs.Int.{bit_at}
 use Rattle.cull_base.specs.Piece.{Piece}
 use Rattle.cull_base.specs.Screen.{Dimensions}
 use Rattle.cull_base.specs.Span.{has_tile, has_column}
 use Rattle.cull_base.specs.declared.place.Tile.{Tile}
 use Rattle.cull_base.specs.declared.tile_span.TileSpan.{TileSpan}
 use Rattle.masked_update.specs.TileOf.{TileOf}
-use Rattle.masked_update.specs.Taken.{counted_tile, taken_at}
+use Rattle.masked_update.specs.Taken.{counted_tile, merged_tile}
 use Rattle.masked_update.specs.Least.{NoneBelow}
 use Rattle.masked_update.specs.Canvas.{CanvasOf, IsCanvas, tile_on}
 
 -- the place stands in the row, in the columns of the span
 abbrev pub is_in_row : TileSpan → ℕ → Tile → Bool
 is_in_row span row place = nat_eq place.row row && has_column span place.column
+
+-- the place stands in the row, and its bit is set: that of the column is bit 0, and those of the next ones follow
+abbrev pub is_marked : ℕ → ℕ → ℕ → Tile → Bool
+is_marked row column bits place =
+    nat_eq place.row row && (nat_le column place.column && nat_eq (bit_at bits (place.column - column)) 1)
 
 -- what holds of the tile at each place of the window where the test holds
 abbrev pub HoldsWhere : (Tile → Bool) → (TileOf → Type 0) → CanvasOf → Type 0
@@ -34,5 +40,5 @@ pub record ChangedWhere (test : Tile → Bool) (f : Tile → TileOf → TileOf) 
 abbrev pub CountedWhere : (Tile → Bool) → CanvasOf → CanvasOf → Type 0
 CountedWhere test old new = ChangedWhere test (λ p t. counted_tile t) old new
 
-abbrev pub TakenWhere : (Tile → Bool) → Dimensions → Piece → CanvasOf → CanvasOf → Type 0
-TakenWhere test size x old new = ChangedWhere test (λ p t. taken_at size p x t) old new
+abbrev pub MergedWhere : (Tile → Bool) → Dimensions → Piece → CanvasOf → CanvasOf → Type 0
+MergedWhere test size x old new = ChangedWhere test (λ p t. merged_tile size p x t) old new

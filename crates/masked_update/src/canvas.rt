@@ -1,13 +1,14 @@
 //! Tiles of a window that are drawn into, with a table that tells where a piece changes nothing.
-ghost use Rattle.std.specs.Prelude.{◌≡◌, ◌<◌, true, length, IfOk};
+ghost use Rattle.std.specs.Prelude.{◌≡◌, ℕ, ◌+◌, ◌<◌, ◌^◌, true, length, IfOk};
+ghost use Rattle.std.specs.Int.{bit_at};
 ghost use Rattle.cull_base.specs.Piece.{box_of};
 ghost use Rattle.cull_base.specs.Screen.{tile_columns_of, tile_rows_of};
 ghost use Rattle.cull_base.specs.Span.{has_tile, tiles_in};
 ghost use Rattle.cull_base.specs.Tiles.{PieceList};
-ghost use Rattle.masked_update.specs.Canvas.{IsCanvas, StandsAt, empty_canvas, with_tile, tile_on};
+ghost use Rattle.masked_update.specs.Canvas.{CountsAt, IsCanvas, StandsAt, empty_canvas, with_tile, tile_on};
 ghost use Rattle.masked_update.specs.Least.{NoneBelow};
 ghost use Rattle.masked_update.specs.Merged.{IsSubBox};
-ghost use Rattle.masked_update.specs.Taken.{counted_tile, merged_tile, taken_at};
+ghost use Rattle.masked_update.specs.Taken.{counted_tile, merged_tile};
 ghost use Rattle.masked_update.specs.TileOf.{tile_at};
 
 use crate::piece_setup::PieceSetup;
@@ -16,6 +17,7 @@ use crate::tile_state::TileState;
 use cull_base::{Memory, Tile, TileSpan};
 use std::alloc::Global;
 use std::marker::Model;
+use std::simd::prelude::*;
 
 /// The tiles of a window of the screen, row by row. The table has, for each tile, a nearness that none of its
 /// references is below.
@@ -44,10 +46,11 @@ impl Canvas {
     pub fn empty(alloc: Global, window: TileSpan) -> Result<Canvas, Memory>
         ensures value { IfOk result (λ c. c ≡ empty_canvas window) }
         ensures stands { IfOk result (λ c. (list : PieceList) → StandsAt list 0 c) }
+        ensures counts { IfOk result (λ c. (list : PieceList) → CountsAt list 0 c) }
     {
         let count = window.columns() as usize * window.rows() as usize;
         let tiles = vec![in alloc; TileState::empty(); count].map_err(|_| Memory)?;
-        let least = vec![in alloc; 0u32; count].map_err(|_| Memory)?;
+        let least = vec![in alloc; 0u32; count + 8].map_err(|_| Memory)?;
         Ok(Canvas {
             window,
             tiles,
@@ -74,16 +77,21 @@ impl Canvas {
         self.tiles[start + (u32::from(place.column) - self.window.first_column) as usize]
     }
 
-    /// Whether no reference of a tile is below a nearness, by the table. A piece that is nowhere nearer changes none of
-    /// the tile's subtiles. Condition: there is such a tile.
+    /// The tiles that a piece may change, of eight from a number on, by the table: bit i is clear only where no reference
+    /// of tile number + i is below a nearness. A piece that is nowhere nearer changes none of its subtiles. Condition:
+    /// there is the first of them.
     #[inline(always)]
-    pub(crate) fn has_none_below(&self, number: usize, nearest: u32) -> bool
+    pub(crate) fn may_change(&self, number: usize, nearest: u32) -> u32
         requires { number < length self.now.tiles }
-        ensures { result ≡ true → NoneBelow nearest (tile_at self.now.tiles number) }
+        ensures behind { (i : ℕ) → i < 8 → number + i < length self.now.tiles → bit_at result i ≡ 0
+            → NoneBelow nearest (tile_at self.now.tiles (number + i)) }
+        ensures byte { result < 2 ^ 8 }
     {
-        // an accessor tells that a tile has eight subtiles
-        let _first = self.tiles[number].sub(0);
-        nearest <= self.least[number]
+        // an accessor tells how many tiles there are
+        let _tiles = self.tiles.len();
+        u32x8::from_slice(&self.least[number..])
+            .simd_lt(u32x8::splat(nearest))
+            .to_bitmask() as u32
     }
 
     /// Counts a piece in the tile of a number. Conditions: there is such a tile, and its count is below 131,072.
@@ -97,6 +105,7 @@ impl Canvas {
 
     /// Merges a piece into the tile of a number, and counts nothing. Conditions: there is such a tile, the column and
     /// the row are below the screen's, and what is reached on it is what the piece reaches.
+    #[inline(always)]
     pub(crate) fn merge(&mut self, number: usize, piece: &PieceSetup, reached: &SubBox, place: Tile)
         requires reached { IsSubBox (box_of piece.now) reached.now }
         requires tile { number < length self.old.tiles }
@@ -105,27 +114,10 @@ impl Canvas {
         ensures { self.new ≡ with_tile self.old number
             (merged_tile reached.now.size place piece.now (tile_at self.old.tiles number)) }
     {
-        if !self.has_none_below(number, piece.nearest()) {
-            let changed = self.tiles[number].merge(piece, reached, place);
-            if changed {
-                self.least[number] = self.tiles[number].least_reference();
-            }
+        let changed = self.tiles[number].merge(piece, reached, place);
+        if changed {
+            self.least[number] = self.tiles[number].least_reference();
         }
-    }
-
-    /// Counts a piece in the tile of a number and merges it there. Conditions: those of `count` and `merge`.
-    #[inline(always)]
-    pub(crate) fn take(&mut self, number: usize, piece: &PieceSetup, reached: &SubBox, place: Tile)
-        requires reached { IsSubBox (box_of piece.now) reached.now }
-        requires tile { number < length self.old.tiles }
-        requires count { (tile_at self.old.tiles number).count < 131072 }
-        requires column { place.column < tile_columns_of reached.now.size }
-        requires row { place.row < tile_rows_of reached.now.size }
-        ensures { self.new ≡ with_tile self.old number
-            (taken_at reached.now.size place piece.now (tile_at self.old.tiles number)) }
-    {
-        self.count(number);
-        self.merge(number, piece, reached, place);
     }
 
     /// Its tiles, row by row.

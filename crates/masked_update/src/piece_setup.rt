@@ -80,7 +80,7 @@ impl PieceSetup {
         SubBox::of(&self.reached, size)
     }
 
-    // Subtile j of the tile: its covered samples, and its bound if there are any.
+    // Subtile j of the tile: its covered samples, and if there are any, its bound but for the least nearness.
     #[inline(always)]
     fn cover(
         &self,
@@ -103,7 +103,7 @@ impl PieceSetup {
         let mask = edges.mask_beside(whole, j);
         coverage.masks[j as usize] = mask;
         if mask != 0 {
-            coverage.lows[j as usize] = self.plane.low_in_tile(&self.tri, place, first, j);
+            coverage.lows[j as usize] = self.plane.floor_in_tile(place, first, j);
         }
     }
 
@@ -163,7 +163,10 @@ impl PieceSetup {
         if met == 0 {
             return false;
         }
-        layers.merge(self.coverage(&edges, place, met));
+        layers.merge(
+            self.coverage(&edges, place, met)
+                .raised(self.tri.least_nearness()),
+        );
         true
     }
 }

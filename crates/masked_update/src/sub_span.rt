@@ -40,9 +40,9 @@ fn past(number: u32, start: u32, most: u32) -> u32
     number.saturating_sub(start).min(most)
 }
 
-// The ones from a first bit to before an end.
+/// The ones from a first bit to before an end. Conditions: the first isn't after the end, and the end is at most 8.
 #[inline(always)]
-fn ones_between(first: u32, end: u32) -> u32
+pub(crate) fn ones_between(first: u32, end: u32) -> u32
     requires ordered { first ≤ end }
     requires within { end ≤ 8 }
     ensures value { result ≡ 2 ^ end - 2 ^ first }

@@ -112,6 +112,7 @@ impl TileState {
         requires row { place.row < tile_rows_of reached.now.size }
         ensures merged { self.new ≡ merged_tile reached.now.size place piece.now self.old }
         ensures same { result ≡ false → self.new ≡ self.old }
+        ensures eight { length self.new.subs ≡ 8 }
     {
         piece.merge_into(&mut self.layers, reached, place)
     }

@@ -1,16 +1,40 @@
 //! A piece is drawn into the tiles of a canvas that its box reaches.
-ghost use Rattle.std.specs.Prelude.{◌≡◌, ℕ, ◌<◌, ◌≤◌, true};
+ghost use Rattle.std.specs.Prelude.{◌≡◌, ℕ, ◌+◌, ◌<◌, ◌≤◌, ◌^◌, true};
+ghost use Rattle.std.specs.Int.{bit_at};
 ghost use Rattle.cull_base.specs.Piece.{IsPiece, box_of};
 ghost use Rattle.cull_base.specs.Screen.{IsSize, tile_rows_of};
 ghost use Rattle.cull_base.specs.Span.{IsPartOf, IsSpan, has_tile};
-ghost use Rattle.masked_update.specs.Canvas.{IsInWindow, TookMet, tile_in};
+ghost use Rattle.masked_update.specs.Canvas.{CountedMet, IsInWindow, MergedMet, tile_in, tile_on};
+ghost use Rattle.masked_update.specs.Least.{NoneBelow};
 ghost use Rattle.masked_update.specs.Merged.{IsSubBox};
-ghost use Rattle.masked_update.specs.Walk.{CountedWhere, MayCount, TakenWhere, NoneBelowWhere, is_in_row};
+ghost use Rattle.masked_update.specs.Walk.{CountedWhere, MayCount, MergedWhere, NoneBelowWhere, is_in_row, is_marked};
 
 use crate::canvas::Canvas;
 use crate::piece_setup::PieceSetup;
-use crate::sub_span::SubBox;
+use crate::sub_span::{SubBox, ones_between};
 use cull_base::{ScreenTri, Size, Tile, TileSpan};
+
+/// So many tiles of a row are asked at once.
+const AT_ONCE: u32 = 8;
+
+// The tiles of a row that a piece may change, of so many from a column on: bit i is that of the tile in column + i.
+#[inline(always)]
+fn marks(canvas: &Canvas, span: TileSpan, row: u32, column: u32, count: u32, nearest: u32) -> u32
+    requires part { IsPartOf canvas.now.window span }
+    requires row { (span.first_row ≤ row) × (row < span.end_row) }
+    requires column { span.first_column ≤ column }
+    requires some { 1 ≤ count }
+    requires few { count ≤ 8 }
+    requires within { column + count ≤ span.end_column }
+    ensures among { (i : ℕ) → i < 8 → bit_at result i ≡ 1 → i < count }
+    ensures behind { (i : ℕ) → i < count → bit_at result i ≡ 0
+        → NoneBelow nearest (tile_on canvas.now (record { column = column + i; row = row })) }
+    ensures byte { result < 2 ^ 8 }
+{
+    let window = canvas.window();
+    let number = window.row_start(row) + (column - window.first_column) as usize;
+    canvas.may_change(number, nearest) & ones_between(0, count)
+}
 
 // Whether a piece stands behind all tiles of one row, in the columns of a span.
 #[inline(always)]
@@ -19,12 +43,13 @@ fn is_behind_in_row(canvas: &Canvas, span: TileSpan, row: u32, nearest: u32) -> 
     requires row { (span.first_row ≤ row) × (row < span.end_row) }
     ensures { result ≡ true → NoneBelowWhere nearest (is_in_row span row) canvas.now }
 {
-    let window = canvas.window();
-    let start = window.row_start(row);
-    for column in span.first_column..span.end_column {
-        if !canvas.has_none_below(start + (column - window.first_column) as usize, nearest) {
+    let mut column = span.first_column;
+    while column < span.end_column {
+        let count = (span.end_column - column).min(AT_ONCE);
+        if marks(canvas, span, row, column, count, nearest) != 0 {
             return false;
         }
+        column += count;
     }
     true
 }
@@ -70,74 +95,116 @@ fn count_in_span(canvas: &mut Canvas, span: TileSpan)
     }
 }
 
-// Has the tiles of one row take a piece, in the columns of a span.
-fn take_in_row(canvas: &mut Canvas, piece: &PieceSetup, reached: &SubBox, span: TileSpan, row: u32)
+// Merges a piece into the tiles of a row that are marked, from a column on.
+#[inline(always)]
+fn merge_marked(
+    canvas: &mut Canvas,
+    piece: &PieceSetup,
+    reached: &SubBox,
+    span: TileSpan,
+    row: u32,
+    column: u32,
+    bits: u32,
+)
     requires part { IsPartOf canvas.old.window span }
     requires reached { IsSubBox (box_of piece.now) reached.now }
     requires span { IsSpan reached.now.size span }
     requires row { (span.first_row ≤ row) × (row < span.end_row) }
     requires small { row < 256 }
-    requires counts { MayCount (is_in_row span row) canvas.old }
-    ensures { TakenWhere (is_in_row span row) reached.now.size piece.now canvas.old canvas.new }
+    requires column { span.first_column ≤ column }
+    requires within { (i : ℕ) → i < 8 → bit_at bits i ≡ 1 → column + i < span.end_column }
+    requires byte { bits < 2 ^ 8 }
+    ensures { MergedWhere (is_marked row column bits) reached.now.size piece.now canvas.old canvas.new }
 {
     let window = canvas.window();
     let start = window.row_start(row);
     // an accessor tells how many columns there may be
     let _columns = reached.size.tile_columns();
-    for column in span.first_column..span.end_column {
+    let mut left = bits;
+    while left != 0 {
+        let j = left.trailing_zeros();
         let place = Tile {
-            column: column as u16,
+            column: (column + j) as u16,
             row: row as u16,
         };
-        canvas.take(
-            start + (column - window.first_column) as usize,
+        canvas.merge(
+            start + (column + j - window.first_column) as usize,
             piece,
             reached,
             place,
         );
+        left &= !(1 << j);
     }
 }
 
-// Has the tiles of a span take a piece.
-fn take_in_span(canvas: &mut Canvas, piece: &PieceSetup, reached: &SubBox, span: TileSpan)
+// Merges a piece into the tiles of one row, in the columns of a span. One that it stands behind stays.
+#[inline(always)]
+fn merge_in_row(canvas: &mut Canvas, piece: &PieceSetup, reached: &SubBox, span: TileSpan, row: u32)
+    requires part { IsPartOf canvas.old.window span }
+    requires reached { IsSubBox (box_of piece.now) reached.now }
+    requires span { IsSpan reached.now.size span }
+    requires row { (span.first_row ≤ row) × (row < span.end_row) }
+    requires small { row < 256 }
+    ensures { MergedWhere (is_in_row span row) reached.now.size piece.now canvas.old canvas.new }
+{
+    // accessors tell what is held of a canvas and of a piece
+    let _window = canvas.window();
+    let nearest = piece.nearest();
+    let mut column = span.first_column;
+    while column < span.end_column {
+        let count = (span.end_column - column).min(AT_ONCE);
+        let bits = marks(canvas, span, row, column, count, nearest);
+        merge_marked(canvas, piece, reached, span, row, column, bits);
+        column += count;
+    }
+}
+
+// Merges a piece into the tiles of a span.
+fn merge_in_span(canvas: &mut Canvas, piece: &PieceSetup, reached: &SubBox, span: TileSpan)
     requires part { IsPartOf canvas.old.window span }
     requires reached { IsSubBox (box_of piece.now) reached.now }
     requires span { IsSpan reached.now.size span }
     requires sized { IsSize reached.now.size.width reached.now.size.height }
-    requires counts { MayCount (has_tile span) canvas.old }
-    ensures { TakenWhere (has_tile span) reached.now.size piece.now canvas.old canvas.new }
+    ensures { MergedWhere (has_tile span) reached.now.size piece.now canvas.old canvas.new }
 {
     // an accessor tells what is held of a canvas
     let _window = canvas.window();
     for row in span.first_row..span.end_row {
-        take_in_row(canvas, piece, reached, span, row);
+        merge_in_row(canvas, piece, reached, span, row);
     }
 }
 
-// Sets a piece up, and has the tiles of a span take it.
+// Sets a piece up, and merges it into the tiles of a span.
 #[inline(always)]
-fn take_piece(canvas: &mut Canvas, tri: &ScreenTri, size: Size, span: TileSpan)
+fn merge_piece(canvas: &mut Canvas, tri: &ScreenTri, size: Size, span: TileSpan)
     requires part { IsPartOf canvas.old.window span }
     requires span { IsSpan size span }
     requires sized { IsSize size.width size.height }
-    requires counts { MayCount (has_tile span) canvas.old }
-    ensures { TakenWhere (has_tile span) size tri.now canvas.old canvas.new }
+    ensures { MergedWhere (has_tile span) size tri.now canvas.old canvas.new }
 {
     let piece = PieceSetup::of(tri);
-    take_in_span(canvas, &piece, &piece.reached_on(size), span);
+    merge_in_span(canvas, &piece, &piece.reached_on(size), span);
 }
 
-/// Draws a piece into the tiles of the canvas that its box reaches. One that stands behind all of them is counted and
-/// not set up. Conditions: the window is of the screen, and the counts are below 131,072.
+/// Merges a piece into the tiles of the canvas that its box reaches, and counts it nowhere. One that stands behind all
+/// of them changes nothing and isn't set up. Condition: the window is of the screen.
 pub fn draw_piece(canvas: &mut Canvas, tri: &ScreenTri, size: Size)
     requires window { IsSpan size canvas.old.window }
-    requires counts { (t : ℕ) → IsInWindow size canvas.old.window t → (tile_in size canvas.old t).count < 131072 }
-    ensures { TookMet size tri.now canvas.old canvas.new }
+    ensures { MergedMet size tri.now canvas.old canvas.new }
 {
     let span = TileSpan::of(&tri.boxed(), size).cut(&canvas.window());
-    if is_behind_in_span(canvas, span, tri.greatest_nearness()) {
-        count_in_span(canvas, span);
-    } else {
-        take_piece(canvas, tri, size, span);
+    if !is_behind_in_span(canvas, span, tri.greatest_nearness()) {
+        merge_piece(canvas, tri, size, span);
     }
+}
+
+/// Counts a piece in the tiles of the canvas that its box reaches, and merges it nowhere. Conditions: the window is of
+/// the screen, and the counts are below 131,072.
+pub fn count_piece(canvas: &mut Canvas, tri: &ScreenTri, size: Size)
+    requires window { IsSpan size canvas.old.window }
+    requires counts { (t : ℕ) → IsInWindow size canvas.old.window t → (tile_in size canvas.old t).count < 131072 }
+    ensures { CountedMet size tri.now canvas.old canvas.new }
+{
+    let span = TileSpan::of(&tri.boxed(), size).cut(&canvas.window());
+    count_in_span(canvas, span);
 }

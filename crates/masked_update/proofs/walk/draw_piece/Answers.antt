@@ -1,39 +1,23 @@
-use Rattle.std.proofs.Common.{◌<◌, ℕ, Bool, subst}
-use Rattle.cull_base.specs.Screen.{Dimensions}
-use Rattle.cull_base.specs.Span.{IsSpan, has_tile}
-use Rattle.cull_base.specs.declared.place.Tile.{Tile}
-use Rattle.masked_update.specs.Canvas.{CanvasOf, IsInWindow, tile_in, tile_on}
-use Rattle.masked_update.specs.Walk.{MayCount, NoneBelowWhere}
-use Rattle.masked_update.proofs.Tiles.{on_screen}
-use Rattle.masked_update.proofs.Walks.{counted_behind, took_met, met_in_cut}
+use Rattle.std.proofs.Common.{subst}
+use Rattle.cull_base.specs.Span.{has_tile}
+use Rattle.masked_update.specs.Walk.{NoneBelowWhere}
+use Rattle.masked_update.proofs.Walks.{merged_where_behind, merged_met, met_in_cut}
 use Rattle.masked_update.proofs.walk.draw_piece.Goals as goal
 
-few : (size : Dimensions) (canvas : CanvasOf) (test : Tile → Bool) → IsSpan size canvas.window
-    → ((t : ℕ) → IsInWindow size canvas.window t → (tile_in size canvas t).count < 131072) → MayCount test canvas
-few size canvas test window counts p h on =
-    let at = on_screen size canvas.window p window h in
-    subst (λ (q : Tile). (tile_on canvas q).count < 131072) at.2 (counts at.0 at.1)
-
-pub take_piece-requires-clause-counts : goal.take_piece-requires-clause-counts
-take_piece-requires-clause-counts c = few c.args.size c.args.canvas.now (has_tile c.cut-span.result) c.requires.window c.requires.counts
-
-pub count_in_span-requires-clause-counts : goal.count_in_span-requires-clause-counts
-count_in_span-requires-clause-counts c = few c.args.size c.args.canvas.now (has_tile c.cut-span.result) c.requires.window c.requires.counts
-
-pub returns-else-is_behind_in_span : goal.returns-else-is_behind_in_span
-returns-else-is_behind_in_span c =
+pub returns-then-not-is_behind_in_span : goal.returns-then-not-is_behind_in_span
+returns-then-not-is_behind_in_span c =
     let old = c.args.canvas.now in
     let x = c.args.tri.now in
-    took_met c.cut-span.result c.args.size x old c.take_piece.new.canvas
+    merged_met c.cut-span.result c.args.size x old c.merge_piece.new.canvas
     (met_in_cut c.args.size x old.window c.window.result c.of.result c.cut-span.result c.boxed.result c.window.ensures.value c.boxed.ensures c.of.ensures.tiles c.cut-span.ensures.tiles)
-    c.take_piece.ensures
+    c.merge_piece.ensures
 
-pub returns-then-is_behind_in_span : goal.returns-then-is_behind_in_span
-returns-then-is_behind_in_span c =
+pub returns-else-not-is_behind_in_span : goal.returns-else-not-is_behind_in_span
+returns-else-not-is_behind_in_span c =
     let old = c.args.canvas.now in
     let x = c.args.tri.now in
     let test = has_tile c.cut-span.result in
-    let behind = subst (λ q. NoneBelowWhere q test old) c.greatest_nearness.ensures.value (c.is_behind_in_span.ensures c.if-is_behind_in_span.true) in
-    took_met c.cut-span.result c.args.size x old c.count_in_span.new.canvas
+    let behind = subst (λ q. NoneBelowWhere q test old) c.greatest_nearness.ensures.value (c.is_behind_in_span.ensures c.if-not-is_behind_in_span.false) in
+    merged_met c.cut-span.result c.args.size x old old
     (met_in_cut c.args.size x old.window c.window.result c.of.result c.cut-span.result c.boxed.result c.window.ensures.value c.boxed.ensures c.of.ensures.tiles c.cut-span.ensures.tiles)
-    (counted_behind test c.args.size x old c.count_in_span.new.canvas c.greatest_nearness.ensures.valid behind c.count_in_span.ensures)
+    (merged_where_behind test c.args.size x old c.greatest_nearness.ensures.valid c.window.ensures.whole behind)

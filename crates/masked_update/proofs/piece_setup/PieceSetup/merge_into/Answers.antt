@@ -1,9 +1,11 @@
-use Rattle.std.proofs.Common.{◌≡◌, ◌∙◌, ℕ, ap}
+use Rattle.std.proofs.Common.{◌≡◌, ◌∙◌, ℕ, ap, subst}
+use Rattle.cull_base.specs.Depth.{least_nearness}
 use Rattle.cull_base.specs.Piece.{Piece, covered}
 use Rattle.edge_lanes.specs.Inside.{inside_of, sub_of}
 use Rattle.edge_lanes.specs.Tiles.{inside_at}
 use Rattle.edge_lanes.specs.declared.tile_edges.TileEdges.{TileEdges}
 use Rattle.cull_base.specs.declared.place.Tile.{Tile}
+use Rattle.masked_update.specs.Coverage.{IsRaised}
 use Rattle.masked_update.specs.Merged.{AreEdgesOf}
 use Rattle.masked_update.specs.Setup.{IsSetUp}
 use Rattle.masked_update.specs.declared.piece_setup.PieceSetup.TheInside.{Inside}
@@ -29,6 +31,6 @@ pub returns-clause-merged : goal.returns-clause-merged
 returns-clause-merged c =
     let x = c.args.self.now in
     let edges = edges_are c.self.inside x c.at_tile-edges.result c.args.place c.self.invariant c.self.view_is c.at_tile-edges.ensures in
-    merged_all c.args.reached.now.size c.args.place x _ c.coverage.result c.args.layers.now c.merge.new.self
+    merged_all c.args.reached.now.size c.args.place x _ c.coverage.result c.raised.result c.args.layers.now c.merge.new.self
     (met_of c.args.reached.now.size c.args.place x c.args.layers.now c.at_tile-edges.result c.subtiles_behind-behind.result c.candidates.result edges c.candidates.ensures.clear c.subtiles_behind-behind.ensures.wanted)
-    c.coverage.ensures c.merge.ensures
+    c.coverage.ensures (subst (λ q. IsRaised q c.coverage.result c.raised.result) (c.least_nearness.ensures.value ∙ ap (λ (t : Piece). least_nearness t) c.self.view_is) c.raised.ensures) c.merge.ensures
