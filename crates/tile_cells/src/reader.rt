@@ -53,6 +53,14 @@ impl TileReader {
         passes
     }
 
+    /// How many tiles it reads: those of its list's screen, each by a cell.
+    pub fn len(&self) -> usize
+        ensures value { result ≡ tile_count_of self.now.list.size }
+        ensures cells { length self.now.cells ≡ tile_count_of self.now.list.size }
+    {
+        self.passes.len()
+    }
+
     /// How many members of a tile's list it has seen. Condition: the tile is below the tile count.
     pub fn seen(&self, tile: u32) -> u32
         requires { tile < tile_count_of self.now.list.size }

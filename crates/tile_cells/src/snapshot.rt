@@ -30,13 +30,14 @@ pub struct Snapshot {
 impl Model for Snapshot {
     ghost use Rattle.std.specs.Prelude.{◌≡◌, length};
     ghost use Rattle.cull_base.specs.Screen.{tile_count_of};
+    ghost use Rattle.cull_base.specs.Span.{IsSpan};
     ghost use Rattle.tile_cells.specs.Snapshots.{SnapshotOf};
 
     ghost Value = { SnapshotOf };
 
     ghost view = { λ s. record { size = s.size; span = s.span; tiles = s.tiles.items } };
 
-    ghost invariant = { λ s. length s.tiles.items ≡ tile_count_of s.size };
+    ghost invariant = { λ s. (length s.tiles.items ≡ tile_count_of s.size) × IsSpan s.size s.span };
 }
 
 fn is_in(span: &TileSpan, place: Tile) -> bool
@@ -71,6 +72,14 @@ impl Snapshot {
         ensures { result ≡ self.now.size }
     {
         self.size
+    }
+
+    /// The columns and rows of the tiles that it holds.
+    pub fn span(&self) -> TileSpan
+        ensures value { result ≡ self.now.span }
+        ensures within { IsSpan self.now.size result }
+    {
+        self.span
     }
 
     /// How many members of a tile's list the tile had taken. Condition: the snapshot holds the tile.

@@ -1,6 +1,9 @@
+pub mod Counting
 pub mod PlacesInTurn
 pub mod Owning
 pub mod Lists
 pub mod Storing
 pub mod Slotting
 pub mod Handing
+pub mod OneBin
+pub mod Fullness

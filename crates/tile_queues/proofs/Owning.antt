@@ -4,9 +4,8 @@ use Rattle.std.proofs.Math.Nat.{le-div_iff_mul-le}
 use Rattle.std.proofs.lemmas.Nat.{div-add-mod', mod_below}
 use Rattle.cull_base.specs.Screen.{IsSize, tile_count_of, tile_place}
 use Rattle.cull_base.specs.Span.{has_tile}
-use Rattle.cull_base.specs.Tiles.{PieceList, ArePieces}
+use Rattle.cull_base.specs.Tiles.{PieceList, ArePieces, tile_after}
 use Rattle.masked_update.specs.Canvas.{CanvasOf, tile_in}
-use Rattle.masked_update.specs.Drawn.{IsDrawn}
 use Rattle.masked_update.proofs.Canvases.{drawn_in}
 use Rattle.binning.specs.Cut.{CutOf, IsCut, bin_count_of}
 use Rattle.binning.specs.Bins.{bin_of, bin_span_of}
@@ -33,10 +32,10 @@ belongs bins workers bin some lt =
     let le : bin / workers + 1 ≤ bins_owned bins workers (bin % workers) = (le-div_iff_mul-le some).1 (omega (arith, is, below, lt, more (bin / workers) workers)) in
     omega (arith, le)
 
--- a tile stands in a canvas and is drawn there
+-- a tile stands in a canvas and has the states after the whole list there
 pub record Held (list : PieceList) (tile : ℕ) (c : CanvasOf) : Type 0 where
   pub within : has_tile c.window (tile_place list.size tile) ≡ true
-  pub drawn : IsDrawn list tile (tile_in list.size c tile)
+  pub states : (tile_in list.size c tile).subs ≡ tile_after list.size tile list.members
 
 -- where all workers stand at the first k members, so does the bin of a screen that is the worker's to which it belongs
 pub held_bin : {X B : Type 0} (stands : X → B → PieceList → TileSpan → ℕ → Type 0) (beside : B) (list : PieceList) (cut : CutOf) (workers k bin : ℕ) → 0 < workers → bin < bin_count_of cut
@@ -53,7 +52,7 @@ held_bin {X} {B} stands beside list cut workers k bin some below all done at own
     let b : IsBinAt stands beside list cut k (bin / workers * workers + bin % workers) c = subst (IsBinAt stands beside list cut k (bin / workers * workers + bin % workers)) (sym is) (w.each (bin / workers) c (omega (arith, owned, inside))) in
     subst (λ n. IsBinAt stands beside list cut k n c) (div-add-mod' bin workers) b
 
--- where they stand at the whole list, each tile is drawn in the canvas of its bin
+-- where they stand at the whole list, each tile has its states in the canvas of its bin
 pub held_tile : (list : PieceList) (cut : CutOf) (workers tile bin : ℕ) → IsSize list.size.width list.size.height → IsCut cut.columns cut.rows → 0 < workers → tile < tile_count_of list.size
     → bin ≡ bin_of list.size cut tile → bin < bin_count_of cut → ArePieces list.members
     → (all : List (Worker CanvasOf)) → AreDone all → AreWorkersAt StandsPlain (tt {0}) list cut workers (length list.members) all
@@ -63,5 +62,5 @@ held_tile list cut workers tile bin sized valid some lt is below pieces all done
     let on : has_tile c.window (tile_place list.size tile) ≡ true = subst (λ win. has_tile win (tile_place list.size tile) ≡ true) (sym k.window_is) (in_span list.size cut bin tile sized valid lt (sym is)) in
     record {
       within = on;
-      drawn = drawn_in list c sized pieces k.stands tile (record { on_screen = lt; within = on });
+      states = (drawn_in list c sized pieces k.stands tile (record { on_screen = lt; within = on })).states;
     }

@@ -1,5 +1,5 @@
 -- Bins while a frame is drawn, and the workers that own them.
-use Rattle.std.specs.Prelude.{◌≡◌, ℕ, ◌+◌, ◌-◌, ◌*◌, ◌/◌, ◌<◌, true, List, length, slice_index_or}
+use Rattle.std.specs.Prelude.{◌≡◌, ℕ, ◌+◌, ◌-◌, ◌*◌, ◌/◌, ◌<◌, true, List, length, slice_index, slice_index_or}
 use Rattle.cull_base.specs.Screen.{Dimensions}
 use Rattle.cull_base.specs.Tiles.{PieceList}
 use Rattle.cull_base.specs.declared.tile_span.TileSpan.{TileSpan}
@@ -38,6 +38,15 @@ HavePlaces list cut workers worker from to rooms =
     (j : ℕ) (r : RoomOf) → j < length rooms
     → (slice_index_or rooms j r).indices ≡ indices_in list cut from to (j * workers + worker)
 
+-- how many of the list's first k members meet a bin
+abbrev pub drawn_of : PieceList → CutOf → ℕ → ℕ → ℕ
+drawn_of list cut k bin = length (indices_in list cut 0 k bin)
+
+-- of each of a worker's bins, how many of the list's first k members meet it
+pub record HaveTaken (list : PieceList) (cut : CutOf) (workers k worker : ℕ) (taken : List ℕ) : Type 0 where
+  pub count : length taken ≡ bins_owned (bin_count_of cut) workers worker
+  pub each : (j : ℕ) → j < length taken → slice_index taken j ≡ drawn_of list cut k (j * workers + worker)
+
 -- so many workers that are about to draw, whose bins stand at no member
 pub record AreReady {X B : Type 0} (stands : X → B → PieceList → TileSpan → ℕ → Type 0) (beside : B)
     (list : PieceList) (cut : CutOf) (workers : ℕ) (all : List (Worker X)) : Type 0 where
@@ -46,6 +55,8 @@ pub record AreReady {X B : Type 0} (stands : X → B → PieceList → TileSpan 
       → IsWorkerAt stands beside list cut workers 0 w (slice_index_or all w d).bins.items
   pub rooms : (w : ℕ) (d : Worker X) → w < length all
       → AreRoomsOf list.size cut workers w (slice_index_or all w d).rooms.items
+  pub taken : (w : ℕ) (d : Worker X) → w < length all
+      → HaveTaken list cut workers 0 w (slice_index_or all w d).taken.items
 
 -- of so many workers those that are done have bins that stand at the first k members
 pub record AreWorkersAt {X B : Type 0} (stands : X → B → PieceList → TileSpan → ℕ → Type 0) (beside : B)

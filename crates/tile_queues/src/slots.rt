@@ -1,16 +1,18 @@
 //! The writers of all tiles, each in the slot of its tile, from which bins get them and into which they hand them back.
-ghost use Rattle.std.specs.Prelude.{◌≡◌, ℕ, ◌≤◌, ◌<◌, ◌+◌, ◌*◌, [], length, vec_len, vec_capacity, IfOk, OnOk, All};
+ghost use Rattle.std.specs.Prelude.{◌≡◌, ℕ, ◌≤◌, ◌<◌, ◌+◌, ◌*◌, ◌%◌, [], length, vec_len, vec_capacity, IfOk, OnOk, All};
+ghost use Rattle.binning.specs.Bins.{bin_span_of};
 ghost use Rattle.binning.specs.Cut.{bin_count_of};
 ghost use Rattle.cull_base.specs.Screen.{tile_count_of, tile_columns_of};
 ghost use Rattle.cull_base.specs.Span.{IsSpan, tiles_in};
 ghost use Rattle.tile_cells.specs.Cells.{AreFresh};
 ghost use Rattle.tile_cells.specs.Standing.{AreStanding, StandsAt};
-ghost use Rattle.tile_queues.specs.Bins.{AreReady, IsWorkerAt};
+ghost use Rattle.tile_queues.specs.Bins.{AreDone, AreReady, AreWorkersAt, IsWorkerAt, bins_owned};
 ghost use Rattle.tile_queues.specs.CellBins.{AreSlotsAt, AreWritersAt, BinsStand, Stands, StandsInCells};
 ghost use Rattle.tile_queues.specs.CellBins.{WorkersStand, tile_numbered};
+ghost use Rattle.tile_queues.specs.Slots.{BinsHaveSlots, HasBin, HaveSlots, IsFull, WorkersHaveSlots};
 
 use crate::cell_bin::CellBin;
-use crate::worker::{Worker, make_rooms};
+use crate::worker::{Worker, ready_worker};
 use binning::{Cut, bin_span};
 use cull_base::{FrameList, Memory, Size, TileSpan};
 use std::alloc::Global;
@@ -26,6 +28,7 @@ pub(crate) fn fill_slots(
     requires { AreFresh _cells.now _list.now.list (length _cells.now) writers.items }
     ensures whole { IfOk result (λ v. length v.items ≡ length _cells.now) }
     ensures slots { IfOk result (λ v. AreSlotsAt _cells.now _list.now.list 0 v.items) }
+    ensures full { IfOk result (λ v. (t : ℕ) → t < length v.items → IsFull v.items t) }
 {
     let mut slots = Vec::with_capacity(alloc, writers.len()).map_err(|_| Memory)?;
     for writer in writers {
@@ -67,27 +70,36 @@ fn tile_at_number(size: Size, window: TileSpan, number: usize) -> usize
     row * size.tile_columns() as usize + column
 }
 
-// The writers of a window's tiles, from their slots. Err where memory gave out; no two bins have a tile in common, so
-// that each slot is full.
+// The writers of a bin's tiles, from their slots. No two bins have a tile in common, so that the slots of the others
+// are left full.
 fn take_bin(
     alloc: Global,
     slots: &mut [Option<TileWriter>],
     _cells: &TileCells,
     list: &FrameList,
+    cut: &Cut,
+    _bin: u32,
     window: TileSpan,
 ) -> Result<CellBin, Memory>
     requires window { IsSpan list.now.list.size window }
+    requires bin { window ≡ bin_span_of list.now.list.size cut.now _bin }
     requires whole { length slots.old ≡ tile_count_of list.now.list.size }
     requires slots { AreSlotsAt _cells.now list.now.list 0 slots.old }
+    requires full { HasBin list.now.list.size cut.now slots.old _bin }
     ensures whole { length slots.new ≡ length slots.old }
     ensures slots { OnOk result (AreSlotsAt _cells.now list.now.list 0 slots.new) }
+    ensures left { OnOk result ((other : ℕ) → (other ≡ _bin → ⊥)
+        → HasBin list.now.list.size cut.now slots.old other → HasBin list.now.list.size cut.now slots.new other) }
     ensures bin { IfOk result (AreWritersAt _cells.now list.now.list window 0) }
 {
+    let size = list.size();
+    // accessors tell what is held of a size and of a cut
+    let (_width, _columns) = (size.width(), cut.columns());
     let count = window.columns() as usize * window.rows() as usize;
     let mut writers = Vec::with_capacity(alloc, count).map_err(|_| Memory)?;
     for number in 0..count {
-        let tile = tile_at_number(list.size(), window, number);
-        let writer = slots[tile].take().ok_or(Memory)?;
+        let tile = tile_at_number(size, window, number);
+        let writer = slots[tile].take().unwrap();
         writers.push_reserved(writer);
     }
     Ok(CellBin { window, writers })
@@ -107,8 +119,12 @@ fn take_bins(
     requires few { workers ≤ 64 }
     requires whole { length slots.old ≡ tile_count_of list.now.list.size }
     requires slots { AreSlotsAt cells.now list.now.list 0 slots.old }
+    requires full { (j : ℕ) → j < bins_owned (bin_count_of cut.now) workers worker
+        → HasBin list.now.list.size cut.now slots.old (j * workers + worker) }
     ensures whole { length slots.new ≡ length slots.old }
     ensures slots { OnOk result (AreSlotsAt cells.now list.now.list 0 slots.new) }
+    ensures left { OnOk result ((other : ℕ) → (other % workers ≡ worker → ⊥)
+        → HasBin list.now.list.size cut.now slots.old other → HasBin list.now.list.size cut.now slots.new other) }
     ensures bins { IfOk result (λ v.
         IsWorkerAt StandsInCells cells.now list.now.list cut.now workers 0 worker v.items) }
 {
@@ -117,8 +133,9 @@ fn take_bins(
     let _columns = cut.columns();
     let mut bins = Vec::with_capacity(alloc, count as usize).map_err(|_| Memory)?;
     for j in 0..count {
-        let window = bin_span(list.size(), cut, j * workers + worker);
-        let bin = take_bin(alloc, slots, cells, list, window)?;
+        let number = j * workers + worker;
+        let window = bin_span(list.size(), cut, number);
+        let bin = take_bin(alloc, slots, cells, list, cut, number, window)?;
         bins.push_reserved(bin);
     }
     Ok(bins)
@@ -137,17 +154,14 @@ pub(crate) fn take_workers(
     requires few { workers ≤ 64 }
     requires whole { length slots.old ≡ tile_count_of list.now.list.size }
     requires slots { AreSlotsAt cells.now list.now.list 0 slots.old }
+    requires full { (bin : ℕ) → HasBin list.now.list.size cut.now slots.old bin }
     ensures { IfOk result (λ v. AreReady StandsInCells cells.now list.now.list cut.now workers v.items) }
 {
     let mut all = Vec::with_capacity(alloc, workers as usize).map_err(|_| Memory)?;
     for worker in 0..workers {
         let bins = take_bins(alloc, slots, cells, list, cut, workers, worker)?;
-        let rooms = make_rooms(alloc, list, cut, size, workers, worker)?;
-        all.push_reserved(Worker {
-            bins,
-            rooms,
-            is_done: false,
-        });
+        let own = ready_worker(alloc, bins, list, cut, size, workers, worker)?;
+        all.push_reserved(own);
     }
     Ok(all)
 }
@@ -163,6 +177,8 @@ fn put_back(
     requires slots { AreSlotsAt _cells.now _list.now.list (length _list.now.list.members) slots.old }
     requires own { All (Stands _cells.now _list.now.list (length _list.now.list.members)) writers.items }
     ensures whole { length slots.new ≡ length slots.old }
+    ensures kept { (t : ℕ) → IsFull slots.old t → IsFull slots.new t }
+    ensures full { HaveSlots slots.new writers.items }
     ensures slots { AreSlotsAt _cells.now _list.now.list (length _list.now.list.members) slots.new }
 {
     let mut done = 0usize;
@@ -184,6 +200,8 @@ fn put_bins(
     requires slots { AreSlotsAt cells.now list.now.list (length list.now.list.members) slots.old }
     requires own { BinsStand cells.now list.now.list (length list.now.list.members) bins.items }
     ensures whole { length slots.new ≡ length slots.old }
+    ensures kept { (t : ℕ) → IsFull slots.old t → IsFull slots.new t }
+    ensures full { BinsHaveSlots slots.new bins.items }
     ensures slots { AreSlotsAt cells.now list.now.list (length list.now.list.members) slots.new }
 {
     let mut done = 0usize;
@@ -204,6 +222,7 @@ fn put_workers(
     requires slots { AreSlotsAt cells.now list.now.list (length list.now.list.members) slots.old }
     requires own { WorkersStand cells.now list.now.list (length list.now.list.members) all.items }
     ensures whole { length slots.new ≡ length slots.old }
+    ensures full { WorkersHaveSlots slots.new all.items }
     ensures slots { AreSlotsAt cells.now list.now.list (length list.now.list.members) slots.new }
 {
     let mut done = 0usize;
@@ -213,7 +232,7 @@ fn put_workers(
     }
 }
 
-// The writers of all slots, in tile order. Err where memory gave out; each tile is in a bin, so that each slot is full.
+// The writers of all slots, in tile order.
 fn empty_into_order(
     alloc: Global,
     slots: &mut [Option<TileWriter>],
@@ -222,11 +241,12 @@ fn empty_into_order(
 ) -> Result<Vec<TileWriter>, Memory>
     requires whole { length slots.old ≡ length _cells.now }
     requires slots { AreSlotsAt _cells.now _list.now.list (length _list.now.list.members) slots.old }
+    requires full { (t : ℕ) → t < length slots.old → IsFull slots.old t }
     ensures { IfOk result (λ v. AreStanding _cells.now _list.now.list (length _list.now.list.members) v.items) }
 {
     let mut writers = Vec::with_capacity(alloc, slots.len()).map_err(|_| Memory)?;
     for tile in 0..slots.len() {
-        let writer = slots[tile].take().ok_or(Memory)?;
+        let writer = slots[tile].take().unwrap();
         writers.push_reserved(writer);
     }
     Ok(writers)
@@ -237,13 +257,21 @@ pub(crate) fn hand_back(
     alloc: Global,
     cells: &TileCells,
     list: &FrameList,
+    cut: &Cut,
+    _workers: u32,
     all: Vec<Worker<CellBin>>,
 ) -> Result<Vec<TileWriter>, Memory>
     requires whole { length cells.now ≡ tile_count_of list.now.list.size }
-    requires own { WorkersStand cells.now list.now.list (length list.now.list.members) all.items }
+    requires some { 1 ≤ _workers }
+    requires done { AreDone all.items }
+    requires drawn { let drawn = length list.now.list.members in
+        AreWorkersAt StandsInCells cells.now list.now.list cut.now _workers drawn all.items }
     ensures { IfOk result (λ v. AreStanding cells.now list.now.list (length list.now.list.members) v.items) }
 {
+    // accessors tell what is held of a size and of a cut
+    let (_width, _columns) = (list.size().width(), cut.columns());
     let mut slots = empty_slots(alloc, cells, list)?;
-    put_workers(slots.as_mut_slice(), cells, list, all);
-    empty_into_order(alloc, slots.as_mut_slice(), cells, list)
+    let slice = slots.as_mut_slice();
+    put_workers(slice, cells, list, all);
+    empty_into_order(alloc, slice, cells, list)
 }

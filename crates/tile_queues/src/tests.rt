@@ -1,14 +1,19 @@
-//! Frames drawn by workers have the tiles of the plain drawing.
-ghost use Rattle.std.specs.Prelude.{◌≡◌, ◌*◌, ◌≤◌, length, IfOk};
+//! Frames drawn by workers have the tiles of the plain drawing, and ask their gate once for each member of a bin.
+ghost use Rattle.std.specs.Prelude.{◌≡◌, ◌*◌, ◌<◌, ◌≤◌, length, IfOk};
+ghost use Rattle.binning.specs.Cut.{bin_count_of};
+ghost use Rattle.binning.specs.Parts.{batch_count_of};
+ghost use Rattle.tile_queues.specs.Callers.{Follows};
 
-use crate::{draw_owned, draw_owned_in_cells};
-use binning::{Cut, batch_size};
-use cull_base::{FrameList, ScreenTri, Size};
-use masked_update::{TileState, draw_plain};
+use crate::{Caller, Gate, OpenGate, draw_frame, draw_plain_frame};
+use binning::{Cut, batch_size, bin_rect};
+use cull_base::{FrameList, Memory, ScreenTri, Size};
+use masked_update::{TileState, TileView, draw_plain};
 use std::alloc::Global;
 use std::sync::Wait;
+use std::sync::atomic::{AtomicU32, Ordering};
 use std::test::Fail;
 use std::thread::Threads;
+use tile_cells::{Snapshot, TileCells, TileReader};
 
 // So many times three pieces with boxes in x from 0 to 10, from 20 to 40 and from 33 to 50, each time nearer.
 fn threes(rt: &HostRuntime, times: u32) -> Result<FrameList, Fail>
@@ -28,26 +33,216 @@ fn threes(rt: &HostRuntime, times: u32) -> Result<FrameList, Fail>
     Ok(list)
 }
 
-fn are_alike(one: &TileState, other: &TileState) -> bool {
+fn have_same_states(one: &TileState, other: &TileState) -> bool {
     (0..8).all(|j| {
         let (a, b) = (one.sub(j), other.sub(j));
         a.reference() == b.reference() && a.working() == b.working() && a.mask() == b.mask()
-    }) && one.count() == other.count()
+    })
+}
+
+fn are_alike(tiles: &[TileState], others: &[TileState]) -> bool {
+    tiles.len() == others.len() && (0..tiles.len()).all(|t| have_same_states(&tiles[t], &others[t]))
+}
+
+// Takes a snapshot of the whole screen.
+fn look<R: Wait>(rt: &R, cells: &TileCells, reader: &mut TileReader, snapshot: &mut Snapshot)
+    requires of { reader.old.cells ≡ cells.now }
+    requires size { snapshot.old.size ≡ reader.old.list.size }
+    ensures { Follows reader.old reader.new }
+{
+    // an accessor tells that there is a cell for each tile
+    let _tiles = reader.len();
+    let screen = snapshot.size().screen();
+    reader.snapshot(rt, cells, screen, snapshot);
+}
+
+fn count_of_first(snapshot: &Snapshot) -> Option<u32> {
+    if snapshot.holds(0) {
+        Some(snapshot.count(0))
+    } else {
+        None
+    }
+}
+
+// Takes one snapshot of the whole screen, and keeps the count of tile 0.
+#[derive(Drop)]
+struct Looker {
+    snapshot: Snapshot,
+    count: Option<u32>,
+}
+
+impl Caller for Looker {
+    ghost use Rattle.std.specs.Prelude.{◌≡◌, ⊤};
+
+    ghost ready = { λ s list. s.snapshot.size ≡ list.size };
+
+    ghost done = { λ s list reader. ⊤ };
+
+    fn beside<R: Threads + Wait + Sync>(
+        &mut self,
+        rt: &R,
+        cells: &TileCells,
+        reader: &mut TileReader,
+    ) {
+        look(rt, cells, reader, &mut self.snapshot);
+        self.count = count_of_first(&self.snapshot);
+    }
+}
+
+// The tiles that cells hold when a list is drawn through them, and the count of tile 0 in a snapshot of them meanwhile.
+fn drawn_in_cells<R: Threads + Wait + Sync, G: Gate>(
+    rt: &R,
+    alloc: Global,
+    list: &FrameList,
+    cut: &Cut,
+    workers: u32,
+    batch: u32,
+    gate: &G,
+) -> Result<(Vec<TileState>, Option<u32>), Memory>
+    requires some { 1 ≤ workers }
+    requires most { workers ≤ 64 }
+    requires batch { 1 ≤ batch }
+    requires few { batch_count_of (length list.now.list.members) batch ≤ 2048 }
+{
+    let mut looker = Looker {
+        snapshot: Snapshot::with_room(alloc, list.size())?,
+        count: None,
+    };
+    let (cells, writers, mut readers) = TileCells::make(rt, alloc, list, 1)?;
+    let reader = &mut readers[0];
+    let writers = draw_frame(
+        rt,
+        alloc,
+        list,
+        &cells,
+        writers,
+        reader,
+        cut,
+        workers,
+        batch,
+        gate,
+        &mut looker,
+    )?;
+    Ok((cells.close(rt, writers, readers), looker.count))
+}
+
+// How often a gate was asked before each member of each bin, for so many members of a bin at most.
+#[derive(Drop)]
+struct Questions {
+    most: u32,
+    asked: Vec<AtomicU32>,
+    others: AtomicU32,
+}
+
+impl Questions {
+    fn with_room(alloc: Global, bins: u32, most: u32) -> Result<Questions, Fail> {
+        let places = bins as usize * most as usize;
+        let mut asked = Vec::new(alloc);
+        for _ in 0..places {
+            asked.push(AtomicU32::new(0))?;
+        }
+        Ok(Questions {
+            most,
+            asked,
+            others: AtomicU32::new(0),
+        })
+    }
+
+    // What counts the questions of a bin with a number.
+    fn counter(&self, bin: u32, taken: u32) -> &AtomicU32 {
+        let place = bin as usize * self.most as usize + taken as usize;
+        if taken < self.most && place < self.asked.len() {
+            &self.asked[place]
+        } else {
+            &self.others
+        }
+    }
+
+    // Whether a bin was asked once with each number below so many, and with no other.
+    fn are_below(&self, bin: u32, met: u32) -> bool {
+        (0..self.most).all(|number| {
+            self.counter(bin, number).load(Ordering::SeqCst) == u32::from(number < met)
+        })
+    }
+
+    // Whether each bin of a cut was asked once for each of the list's members that meet it, in their order.
+    fn are_those_of(&self, list: &FrameList, cut: &Cut) -> bool {
+        for bin in 0..cut.bins() {
+            if !self.are_below(bin, met_by(list, cut, bin)) {
+                return false;
+            }
+        }
+        self.others.load(Ordering::SeqCst) == 0
+    }
+}
+
+impl Gate for Questions {
+    fn before(&self, bin: u32, taken: u32) {
+        self.counter(bin, taken).fetch_add(1, Ordering::SeqCst);
+    }
+}
+
+// How many members of a list meet a bin.
+fn met_by(list: &FrameList, cut: &Cut, bin: u32) -> u32
+    requires { bin < bin_count_of cut.now }
+{
+    let rect = bin_rect(list.size(), cut, bin);
+    let mut met = 0u32;
+    for index in 0..list.len() {
+        if list.get(index).boxed().meets(&rect) {
+            met = met.saturating_add(1);
+        }
+    }
+    met
+}
+
+// Whether so many workers, of a screen cut into so many columns and rows of bins, draw in both forms the states that
+// one draws, and ask once for each member of each bin.
+fn both_are_alike<R: Threads + Wait + Sync>(
+    rt: &R,
+    alloc: Global,
+    list: &FrameList,
+    workers: u32,
+    columns: u8,
+    rows: u8,
+    asked: u32,
+) -> Result<bool, Fail>
+    requires some { 1 ≤ workers }
+    requires most { workers ≤ 64 }
+    requires asked { 1 ≤ asked }
+{
+    let cut = Cut::new(columns, rows).ok_or("a cut")?;
+    let batch = batch_size(list.len(), asked);
+    let states = draw_plain(alloc, list)?;
+    let plain = Questions::with_room(alloc, cut.bins(), list.len())?;
+    let tiles = draw_plain_frame(rt, alloc, list, &cut, workers, batch, &plain)?;
+    let in_cells = Questions::with_room(alloc, cut.bins(), list.len())?;
+    let (held, seen) = drawn_in_cells(rt, alloc, list, &cut, workers, batch, &in_cells)?;
+    Ok(
+        are_alike(tiles.as_slice(), states.as_slice())
+            && are_alike(held.as_slice(), states.as_slice())
+            && plain.are_those_of(list, &cut)
+            && in_cells.are_those_of(list, &cut)
+            && seen.is_some(),
+    )
 }
 
 #[test]
 fn two_workers_draw_what_one_draws(rt: HostRuntime) -> Result<(), Fail> {
     let list = threes(&rt, 1)?;
     let cut = Cut::new(2, 1).ok_or("a cut")?;
-    let plain = draw_plain(rt.alloc(), &list)?;
+    let states = draw_plain(rt.alloc(), &list)?;
     let batch = batch_size(list.len(), 2);
-    let owned = draw_owned(&rt, rt.alloc(), &list, &cut, 2, batch)?;
     assert_eq!(rt; batch, 2);
-    assert_eq!(rt; owned.len(), 2);
-    assert_eq!(rt; owned[0].count(), 2);
-    assert_eq!(rt; owned[1].count(), 2);
-    assert!(rt; are_alike(&owned[0], &plain[0]));
-    assert!(rt; are_alike(&owned[1], &plain[1]));
+    let tiles = draw_plain_frame(&rt, rt.alloc(), &list, &cut, 2, batch, &OpenGate)?;
+    assert_eq!(rt; tiles.len(), 2);
+    assert!(rt; are_alike(tiles.as_slice(), states.as_slice()));
+    let (held, seen) = drawn_in_cells(&rt, rt.alloc(), &list, &cut, 2, batch, &OpenGate)?;
+    assert_eq!(rt; held.len(), 2);
+    assert!(rt; are_alike(held.as_slice(), states.as_slice()));
+    assert_eq!(rt; held[0].count(), 2);
+    assert_eq!(rt; held[1].count(), 2);
+    assert!(rt; seen.is_some_and(|count| count <= 2));
     Ok(())
 }
 
@@ -55,15 +250,8 @@ fn two_workers_draw_what_one_draws(rt: HostRuntime) -> Result<(), Fail> {
 #[test]
 fn threads_draw_what_one_draws(rt: HostRuntime) -> Result<(), Fail> {
     let list = threes(&rt, 500)?;
-    let cut = Cut::new(8, 8).ok_or("a cut")?;
-    let plain = draw_plain(rt.alloc(), &list)?;
-    let batch = batch_size(list.len(), 7);
-    let owned = draw_owned(&rt, rt.alloc(), &list, &cut, 64, batch)?;
-    assert_eq!(rt; owned.len(), 2);
-    assert_eq!(rt; owned[0].count(), 1000);
-    assert_eq!(rt; owned[1].count(), 1000);
-    assert!(rt; are_alike(&owned[0], &plain[0]));
-    assert!(rt; are_alike(&owned[1], &plain[1]));
+    assert!(rt; both_are_alike(&rt, rt.alloc(), &list, 64, 8, 8, 7)?);
+    assert!(rt; both_are_alike(&rt, rt.alloc(), &list, 7, 2, 1, 1)?);
     Ok(())
 }
 
@@ -88,48 +276,16 @@ fn few(rt: &HostRuntime) -> Result<FrameList, Fail> {
     Ok(list)
 }
 
-// Whether so many workers, of a screen cut into so many columns and rows of bins, draw in cells what one draws in plain
-// tiles, piece by piece.
-fn cells_are_alike<R: Threads + Wait + Sync>(
-    rt: &R,
-    alloc: Global,
-    list: &FrameList,
-    plain: &[TileState],
-    workers: u32,
-    columns: u8,
-    rows: u8,
-) -> Result<bool, Fail>
-    requires some { 1 ≤ workers }
-    requires most { workers ≤ 64 }
-{
-    let cut = Cut::new(columns, rows).ok_or("a cut")?;
-    let batch = batch_size(list.len(), 1);
-    let tiles = draw_owned_in_cells(rt, alloc, list, &cut, workers, batch)?;
-    Ok(tiles.len() == plain.len() && (0..plain.len()).all(|t| are_alike(&tiles[t], &plain[t])))
-}
-
+// Whatever the cut and the number of workers, also with more workers than bins.
 #[test]
-fn cells_hold_what_plain_tiles_hold(rt: HostRuntime) -> Result<(), Fail> {
+fn each_cut_is_drawn_and_asks_once_for_each_member(rt: HostRuntime) -> Result<(), Fail> {
     let list = few(&rt)?;
     assert_eq!(rt; list.len(), 6);
-    assert_eq!(rt; batch_size(list.len(), 1), 1);
-    let plain = draw_plain(rt.alloc(), &list)?;
-    assert_eq!(rt; plain.len(), 56);
-    let tiles = plain.as_slice();
-    assert!(rt; cells_are_alike(&rt, rt.alloc(), &list, tiles, 1, 1, 1)?);
-    assert!(rt; cells_are_alike(&rt, rt.alloc(), &list, tiles, 7, 1, 1)?);
-    assert!(rt; cells_are_alike(&rt, rt.alloc(), &list, tiles, 64, 1, 1)?);
-    assert!(rt; cells_are_alike(&rt, rt.alloc(), &list, tiles, 1, 8, 8)?);
-    assert!(rt; cells_are_alike(&rt, rt.alloc(), &list, tiles, 7, 8, 8)?);
-    assert!(rt; cells_are_alike(&rt, rt.alloc(), &list, tiles, 64, 8, 8)?);
-    Ok(())
-}
-
-// So many pieces are worth a second thread.
-#[test]
-fn threads_draw_in_cells_what_one_draws(rt: HostRuntime) -> Result<(), Fail> {
-    let list = threes(&rt, 500)?;
-    let plain = draw_plain(rt.alloc(), &list)?;
-    assert!(rt; cells_are_alike(&rt, rt.alloc(), &list, plain.as_slice(), 7, 8, 8)?);
+    assert!(rt; both_are_alike(&rt, rt.alloc(), &list, 1, 1, 1, 1)?);
+    assert!(rt; both_are_alike(&rt, rt.alloc(), &list, 7, 1, 1, 1)?);
+    assert!(rt; both_are_alike(&rt, rt.alloc(), &list, 64, 1, 1, 1)?);
+    assert!(rt; both_are_alike(&rt, rt.alloc(), &list, 1, 8, 8, 1)?);
+    assert!(rt; both_are_alike(&rt, rt.alloc(), &list, 7, 8, 8, 1)?);
+    assert!(rt; both_are_alike(&rt, rt.alloc(), &list, 64, 8, 8, 1)?);
     Ok(())
 }

@@ -1,10 +1,14 @@
-use Rattle.std.proofs.Common.{◌≡◌, ◌+◌, ◌∷◌, [], Some, drop, length, arith, ap, sym, ◌∙◌, subst}
+use Rattle.std.proofs.Common.{◌≡◌, ℕ, ◌+◌, ◌<◌, ◌∷◌, [], List, Some, drop, length, arith, ap, sym, ◌∙◌, subst}
+use Rattle.std.specs.declared.option.Option.{Option}
 use Rattle.std.specs.Vec.Iter.{into_iter_items}
 use Rattle.std.proofs.lemmas.List.{length-append}
+use Rattle.tile_cells.specs.Cells.{Writing}
 use Rattle.tile_cells.specs.Standing.{StandsAt}
 use Rattle.tile_cells.proofs.Lists.{turn}
 use Rattle.tile_cells.proofs.Standing.{fresh_stands}
 use Rattle.tile_queues.specs.CellBins.{AreSlotsAt}
+use Rattle.tile_queues.specs.Slots.{IsFull}
+use Rattle.tile_queues.proofs.Fullness.{full_pushed}
 use Rattle.tile_queues.proofs.Slotting.{slot_filled}
 use Rattle.tile_queues.proofs.slots.fill_slots.Goals as goal
 
@@ -28,4 +32,5 @@ loop-writer-preserved c =
       omega (arith, i.3, s.1, more),
       subst (AreSlotsAt cells list 0) (sym items) (slot_filled cells list 0 slots i.4 w at),
       omega (arith, i.5, c.push_reserved.ensures.capacity),
+      subst (λ (os : List (Option Writing)). (t : ℕ) → t < length os → IsFull os t) (sym items) (full_pushed slots w i.6),
     )

@@ -1,6 +1,7 @@
-use Rattle.std.proofs.Common.{◌≡◌, ◌≤◌, ◌+◌, drop, length, vec_capacity}
+use Rattle.std.proofs.Common.{◌≡◌, ℕ, ◌<◌, ◌≤◌, ◌+◌, drop, length, vec_capacity}
 use Rattle.std.specs.Vec.Iter.{into_iter_items, into_iter_len}
 use Rattle.tile_queues.specs.CellBins.{AreSlotsAt}
+use Rattle.tile_queues.specs.Slots.{IsFull}
 use Rattle.tile_queues.proofs.slots.fill_slots.Given as goal
 
 abbrev pub invariant-loop-writer : goal.invariant-loop-writer
@@ -10,4 +11,5 @@ invariant-loop-writer l =
     (into_iter_items l.writer-iterator ≡ drop (length l.slots.items) l.fn.writers.items) ×
     (length l.slots.items + into_iter_len l.writer-iterator ≡ length l.fn.writers.items) ×
     AreSlotsAt l._cells l._list.list 0 l.slots.items ×
-    (length l.fn.writers.items ≤ vec_capacity l.slots)
+    (length l.fn.writers.items ≤ vec_capacity l.slots) ×
+    ((t : ℕ) → t < length l.slots.items → IsFull l.slots.items t)

@@ -2,6 +2,7 @@ use Rattle.std.proofs.Common.{◌<◌, Some, length, length-set, arith, sym, ◌
 use Rattle.tile_cells.specs.Standing.{StandsAt}
 use Rattle.tile_cells.proofs.Lists.{turn}
 use Rattle.tile_queues.specs.CellBins.{Stands}
+use Rattle.tile_queues.proofs.Fullness.{full_put, put_more}
 use Rattle.tile_queues.proofs.Slotting.{slot_put, tile_within}
 use Rattle.tile_queues.proofs.slots.put_back.Goals as goal
 
@@ -25,4 +26,6 @@ loop-writer-preserved c =
       omega (arith, i.3, s.1),
       length-set c.loop-writer.slots c.tile-tile.result (Some w) ∙ i.4,
       slot_put cells list k c.loop-writer.slots i.5 c.tile-tile.result w lt at,
+      λ t full. full_put c.loop-writer.slots c.tile-tile.result t w lt (i.6 t full),
+      put_more c.loop-writer.slots c.args.writers.items c.loop-writer.done c.tile-tile.result w lt tile t.2 t.1 i.7,
     )

@@ -1,0 +1,29 @@
+use Rattle.std.proofs.Common.{◌∷◌, [], List, length, get_or, arith, ap, sym, subst}
+use Rattle.std.proofs.lemmas.List.{length-append}
+use Rattle.masked_update.specs.Canvas.{CanvasOf}
+use Rattle.tile_queues.specs.declared.worker.Worker.{Worker}
+use Rattle.tile_queues.specs.Bins.{AreRoomsOf, HaveTaken, IsWorkerAt}
+use Rattle.tile_queues.specs.Plain.{StandsPlain}
+use Rattle.tile_queues.proofs.Lists.{pushed_at}
+use Rattle.tile_queues.proofs.plain_frame.make_workers.Goals as goal
+
+pub loop-worker-preserved : goal.loop-worker-preserved
+loop-worker-preserved c =
+    let l = c.args.list.now.list in
+    let cut = c.args.cut.now in
+    let n = c.args.workers in
+    let old = c.loop-worker.invariant in
+    let items = c.push_reserved.ensures.items in
+    let made = c.in_ok-own.own in
+    let is = c.in_ok-own.ensures in
+    let stand = subst (λ (xs : List CanvasOf). IsWorkerAt StandsPlain (tt {0}) l cut n 0 c.loop-worker.worker xs) (λ i. (sym is.bins i).items) c.in_ok-bins.ensures in
+    record {
+      made = (let m = ap length items in omega (arith, m, length-append c.loop-worker.all.items (made ∷ []), old.made));
+      bins = λ w d lt. subst (λ (xs : List (Worker CanvasOf)). IsWorkerAt StandsPlain (tt {0}) l cut n 0 w (get_or xs w d).bins.items) (sym items)
+          (pushed_at (λ k (x : Worker CanvasOf). IsWorkerAt StandsPlain (tt {0}) l cut n 0 k x.bins.items) c.loop-worker.worker c.loop-worker.all.items made old.made old.bins stand w d lt);
+      rooms = λ w d lt. subst (λ (xs : List (Worker CanvasOf)). AreRoomsOf l.size cut n w (get_or xs w d).rooms.items) (sym items)
+          (pushed_at (λ k (x : Worker CanvasOf). AreRoomsOf l.size cut n k x.rooms.items) c.loop-worker.worker c.loop-worker.all.items made old.made old.rooms is.rooms w d lt);
+      taken = λ w d lt. subst (λ (xs : List (Worker CanvasOf)). HaveTaken l cut n 0 w (get_or xs w d).taken.items) (sym items)
+          (pushed_at (λ k (x : Worker CanvasOf). HaveTaken l cut n 0 k x.taken.items) c.loop-worker.worker c.loop-worker.all.items made old.made old.taken is.taken w d lt);
+      room = omega (arith, old.room, c.push_reserved.ensures.capacity);
+    }
