@@ -22,7 +22,7 @@ Agrees size f g = (px py : ℕ) → px < size.width → py < size.height → f (
 agrees_back : (size : Dimensions) (f g : Sub → State) → Agrees size f g → Agrees size g f
 agrees_back size f g same px py x y = sym (same px py x y)
 
-hidden_at_alike : (f g : Sub → State) (shape : Shape) (px py : ℕ) → f (sub_of_pixel px py) ≡ g (sub_of_pixel px py) → is_hidden_at f shape px py ≡ is_hidden_at g shape px py
+pub hidden_at_alike : (f g : Sub → State) (shape : Shape) (px py : ℕ) → f (sub_of_pixel px py) ≡ g (sub_of_pixel px py) → is_hidden_at f shape px py ≡ is_hidden_at g shape px py
 hidden_at_alike f g AlwaysOutside px py e = refl
 hidden_at_alike f g AlwaysVisible px py e = refl
 hidden_at_alike f g (Flat r q) px py e = ap (λ (s : State). hides s (sample_of_pixel px py) q) e

@@ -3,3 +3,9 @@ pub mod Agreement
 pub mod TileStates
 pub mod Occluders
 pub mod Forms
+pub mod LiveHiding
+pub mod LiveTexts
+pub mod LiveSnapshots
+pub mod HeldTiles
+pub mod LiveFields
+pub mod LineRoom

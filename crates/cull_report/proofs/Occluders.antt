@@ -39,7 +39,7 @@ use Rattle.cull_report.specs.Scene.{frame_pieces, frame_verdicts, frame_clips, s
 use Rattle.cull_report.specs.Hiding.{HidesObject, HidesTruly}
 use Rattle.cull_report.proofs.TileStates.{state_after}
 
-below : (m n : ℕ) → nat_lt m n ≡ true → m < n
+pub below : (m n : ℕ) → nat_lt m n ≡ true → m < n
 below m n e = grind (arith, nat_tests)
 
 -- the object at a place, and the verdict there
@@ -81,7 +81,7 @@ answer_has_pieces size (At r q) = by (meets r (screen_of size))
     by true = tt
     by false = tt
 
-object_has_pieces : (s : Parts) (frame : ℕ) (x : Object) → IsScene s → HasPieces (object_shape s frame x)
+pub object_has_pieces : (s : Parts) (frame : ℕ) (x : Object) → IsScene s → HasPieces (object_shape s frame x)
 unfolding object_shape
 object_has_pieces s frame (Area r w) scene = rectangle_has_pieces GRADE_TOP s.near (size_of s) r w
 object_has_pieces s frame (Block low high) scene = answer_has_pieces (size_of s) (box_answer GRADE_TOP s.near (size_of s) _)
@@ -99,7 +99,7 @@ hides_truly s scene all = record {
 }
 
 -- each sample of a shape in the screen is one of its area
-sample_in_area : (size : Dimensions) (shape : Shape) (px py : ℕ) → HasPieces shape → px < size.width → py < size.height → has_sample shape px py ≡ true → HasPixel (area_of size shape) (pos px) (pos py)
+pub sample_in_area : (size : Dimensions) (shape : Shape) (px py : ℕ) → HasPieces shape → px < size.width → py < size.height → has_sample shape px py ≡ true → HasPixel (area_of size shape) (pos px) (pos py)
 sample_in_area size AlwaysOutside px py good x y has = absurd cc
 sample_in_area size AlwaysVisible px py good x y has = absurd cc
 sample_in_area size (Flat r q) px py good x y has = (cut_pixels r (screen_of size) (pos px) (pos py)).1 (held r px py has, on_screen size px py x y)

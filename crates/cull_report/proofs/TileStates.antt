@@ -16,7 +16,7 @@ use Rattle.masked_update.specs.Views.{state_in}
 use Rattle.cull_report.proofs.Agreement.{Agrees}
 
 -- the number of a pixel's subtile in its tile
-abbrev place_in_tile : ℕ → ℕ → ℕ
+abbrev pub place_in_tile : ℕ → ℕ → ℕ
 place_in_tile px py = 4 * (py / 4 % 2) + px / 8 % 4
 
 -- the subtile of a pixel, as that of its tile

@@ -3,3 +3,5 @@ pub mod Text
 pub mod Scene
 pub mod Forms
 pub mod Hiding
+pub mod Live
+pub mod LivePieces

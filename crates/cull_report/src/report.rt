@@ -39,7 +39,7 @@ fn frame_line(frame: u32, pieces: u32) -> Line
     line
 }
 
-fn word_of(verdict: Verdict) -> &'static [u8]
+pub(crate) fn word_of(verdict: Verdict) -> &'static [u8]
     ensures value { result.now ≡ verdict_word verdict }
     ensures short { length result.now ≤ 8 }
 {

@@ -96,6 +96,12 @@ impl<const ROOM: usize> Text<ROOM> {
         self.push(b"\n");
     }
 
+    pub fn clear(&mut self)
+        ensures { self.new ≡ [] }
+    {
+        self.bytes.clear();
+    }
+
     pub fn as_slice(&self) -> &[u8]
         ensures { result.now ≡ self.now }
     {

@@ -1,4 +1,4 @@
-use Rattle.std.proofs.Common.{◌≡◌, rules, length, map, arith, sym, ◌∙◌, pos}
+use Rattle.std.proofs.Common.{◌≡◌, length, map, arith, sym, ◌∙◌, pos}
 use Rattle.std.proofs.lemmas.List.{ext_get_or, length-map, get_or-map}
 use Rattle.cull_base.specs.declared.scene_types.Object.{Object}
 use Rattle.cull_base.specs.declared.scene_types.Object.TheVariants.{Area}

@@ -1,9 +1,7 @@
-use Rattle.std.proofs.Common.{◌≡◌, ℕ, ◌<◌, length, get_or, sym, pos}
+use Rattle.std.proofs.Common.{pos}
 use Rattle.std.proofs.lemmas.Option.{slice_get-get_or}
 use Rattle.cull_base.specs.declared.scene_types.Object.{Object}
 use Rattle.cull_base.specs.declared.scene_types.Object.TheVariants.{Area}
-use Rattle.cull_report.specs.Scene.{verdict_in}
-use Rattle.cull_report.proofs.Forms.{from_place}
 use Rattle.cull_report.proofs.objects.verdict_at.Goals as goal
 
 some_object : Object

@@ -1,0 +1,186 @@
+//! Lines that are filled from snapshots, and their texts.
+ghost use Rattle.std.specs.Prelude.{◌≡◌, ◌<◌, length, All, IfOk};
+ghost use Rattle.cull_base.specs.Screen.{tile_count_of};
+ghost use Rattle.tile_cells.specs.Standing.{AreStanding, IsReading, StandsAt};
+
+use crate::{LiveLine, write_live};
+use cull_base::{
+    BytesSink, FrameList, Memory, NO_PIXELS, Rect, ScreenTri, SinkError, Size, SureSink, Verdict,
+};
+use std::alloc::Global;
+use std::sync::Wait;
+use std::test::Fail;
+use tile_cells::{Snapshot, TileCells, TileReader, TileWriter};
+
+// One piece on a screen of this size, with corners in sixteenths of a pixel.
+fn one_piece(
+    alloc: Global,
+    width: u16,
+    height: u16,
+    xs: [i32; 3],
+    ys: [i32; 3],
+) -> Result<FrameList, Fail>
+    ensures { IfOk result (λ l. 0 < length l.list.members) }
+{
+    let size = Size::new(width, height).ok_or("a size")?;
+    let piece = ScreenTri::new(xs, ys, [32767, 32767, 32767]).ok_or("a piece")?;
+    let mut list = FrameList::with_room(alloc, size, 1)?;
+    list.push(piece);
+    Ok(list)
+}
+
+// Cells of a list with their writers and one reader.
+#[tactic(auto, using(tile_cells::proofs::Standing::new_reads))]
+fn opened<R: Wait>(
+    rt: &R,
+    alloc: Global,
+    list: &FrameList,
+) -> Result<(TileCells, Vec<TileWriter>, Vec<TileReader>), Memory>
+    ensures cells { IfOk result (λ r. length r.0 ≡ tile_count_of list.now.list.size) }
+    ensures writers { IfOk result (λ r. AreStanding r.0 list.now.list 0 r.1.items) }
+    ensures count { IfOk result (λ r. length r.2.items ≡ 1) }
+    ensures readers { IfOk result (λ r. All (IsReading r.0 list.now.list) r.2.items) }
+{
+    let (cells, writers, readers) = TileCells::make(rt, alloc, list, 1)?;
+    Ok((cells, writers, readers))
+}
+
+// Lets a writer take the first member if it is its tile's.
+fn offer<R: Wait>(rt: &R, cells: &TileCells, writer: &mut TileWriter, list: &FrameList, _tile: u32)
+    requires tile { _tile < tile_count_of list.now.list.size }
+    requires some { 0 < length list.now.list.members }
+    requires stands { StandsAt cells.now list.now.list 0 _tile writer.old }
+{
+    let piece = list.get(0);
+    if piece.boxed().meets(&list.size().tile_rect(writer.tile())) {
+        writer.take_next(rt, cells, piece);
+    }
+}
+
+// Draws the first member into a tile.
+fn draw<R: Wait>(
+    rt: &R,
+    cells: &TileCells,
+    writers: &mut Vec<TileWriter>,
+    list: &FrameList,
+    tile: u32,
+)
+    requires whole { length cells.now ≡ tile_count_of list.now.list.size }
+    requires some { 0 < length list.now.list.members }
+    requires stand { AreStanding cells.now list.now.list 0 writers.old.items }
+{
+    if tile < list.size().tile_count() {
+        offer(rt, cells, &mut writers[tile as usize], list, tile);
+    }
+}
+
+// What the first reader sees of an area.
+fn look<R: Wait>(
+    rt: &R,
+    alloc: Global,
+    cells: &TileCells,
+    readers: &mut Vec<TileReader>,
+    list: &FrameList,
+    area: Rect,
+) -> Result<Snapshot, Memory>
+    requires some { 0 < length readers.old.items }
+    requires read { All (IsReading cells.now list.now.list) readers.old.items }
+{
+    let mut snapshot = Snapshot::with_room(alloc, list.size())?;
+    readers[0].snapshot(rt, cells, area, &mut snapshot);
+    Ok(snapshot)
+}
+
+// A snapshot of an area, once the list's piece is drawn into one tile.
+fn seen<R: Wait>(
+    rt: &R,
+    alloc: Global,
+    list: &FrameList,
+    tile: u32,
+    area: Rect,
+) -> Result<Snapshot, Memory>
+    requires { 0 < length list.now.list.members }
+{
+    let (cells, mut writers, mut readers) = opened(rt, alloc, list)?;
+    draw(rt, &cells, &mut writers, list, tile);
+    look(rt, alloc, &cells, &mut readers, list, area)
+}
+
+// A line of a snapshot.
+#[tactic(auto, using(crate::proofs::LineRoom::few_on_screen))]
+fn line_of(
+    alloc: Global,
+    frame: u32,
+    round: u32,
+    object: u32,
+    verdict: Verdict,
+    view: &Snapshot,
+) -> Result<LiveLine, Memory> {
+    let mut line = LiveLine::with_room(alloc, view.size().tile_count())?;
+    line.fill(frame, round, object, verdict, view);
+    Ok(line)
+}
+
+// The text of a line.
+fn written(alloc: Global, line: &LiveLine) -> Result<SureSink, SinkError> {
+    let mut sink = SureSink::new(alloc);
+    write_live(&mut sink, line)?;
+    Ok(sink)
+}
+
+fn pixels(x0: i32, y0: i32, x1: i32, y1: i32) -> Rect {
+    Rect { x0, y0, x1, y1 }
+}
+
+#[test]
+fn one_tile_after_one_piece(rt: HostRuntime) -> Result<(), Fail> {
+    let list = one_piece(rt.alloc(), 32, 8, [0, 512, 512], [0, 0, 128])?;
+    let view = seen(&rt, rt.alloc(), &list, 0, pixels(0, 0, 32, 8))?;
+    let line = line_of(rt.alloc(), 0, 1, 0, Verdict::Visible, &view)?;
+    assert_eq!(rt; line.round(), 1);
+    assert_eq!(rt; line.len(), 1);
+    let text = written(rt.alloc(), &line)?;
+    assert_eq!(rt; text.held(), b"live 0 1 0 visible 0:1\n".as_slice());
+    Ok(())
+}
+
+#[test]
+fn tiles_of_the_area_in_order(rt: HostRuntime) -> Result<(), Fail> {
+    // two columns and two rows of tiles, and a piece in the last of them
+    let list = one_piece(rt.alloc(), 40, 12, [512, 640, 640], [128, 128, 192])?;
+    let whole = seen(&rt, rt.alloc(), &list, 3, pixels(0, 0, 40, 12))?;
+    let line = line_of(rt.alloc(), 12, 0, 5, Verdict::Occluded, &whole)?;
+    let text = written(rt.alloc(), &line)?;
+    assert_eq!(rt;
+        text.held(),
+        b"live 12 0 5 occluded 0:0 1:0 2:0 3:1\n".as_slice()
+    );
+    let corner = seen(&rt, rt.alloc(), &list, 3, pixels(32, 8, 64, 64))?;
+    let line = line_of(rt.alloc(), 0, 0, 1, Verdict::Occluded, &corner)?;
+    let text = written(rt.alloc(), &line)?;
+    assert_eq!(rt; text.held(), b"live 0 0 1 occluded 3:1\n".as_slice());
+    Ok(())
+}
+
+#[test]
+fn line_without_tiles_ends_after_its_verdict(rt: HostRuntime) -> Result<(), Fail> {
+    let list = one_piece(rt.alloc(), 40, 12, [512, 640, 640], [128, 128, 192])?;
+    let view = seen(&rt, rt.alloc(), &list, 3, NO_PIXELS)?;
+    let line = line_of(rt.alloc(), 0, 0, 2, Verdict::Outside, &view)?;
+    assert_eq!(rt; line.len(), 0);
+    let text = written(rt.alloc(), &line)?;
+    assert_eq!(rt; text.held(), b"live 0 0 2 outside\n".as_slice());
+    Ok(())
+}
+
+#[test]
+fn failed_write_leaves_a_front(rt: HostRuntime) -> Result<(), Fail> {
+    let list = one_piece(rt.alloc(), 32, 8, [0, 512, 512], [0, 0, 128])?;
+    let view = seen(&rt, rt.alloc(), &list, 0, pixels(0, 0, 32, 8))?;
+    let line = line_of(rt.alloc(), 0, 1, 0, Verdict::Visible, &view)?;
+    let second = Vec::from_slice(rt.alloc(), &[2u64])?;
+    let mut sink = BytesSink::new(rt.alloc(), 7, second);
+    assert_eq!(rt; write_live(&mut sink, &line), Err(SinkError::Failed));
+    assert_eq!(rt; sink.held(), b"live 0 ".as_slice());
+    Ok(())
+}
