@@ -1,14 +1,15 @@
 -- What the builders' steps make of the command.
-use Rattle.std.proofs.Common.{◌≡◌, ◌∙◌, ◌||◌, ◌⊎◌, ⊎_elim, length, arith, inl, inr, false, sym, ap, ap₂, List, [], ◌∷◌, Result, Ok, Err, IfErr}
+use Rattle.std.proofs.Common.{◌≡◌, ◌∙◌, ◌||◌, ◌⊎◌, ⊎_elim, length, arith, inl, inr, true, false, sym, ap, ap₂, List, [], ◌∷◌, Result, Ok, Err, IfOk, IfErr}
 use Rattle.std.proofs.lemmas.Bool.{ne_eqb}
 use Rattle.std.specs.Fmt.{decimal}
 use Rattle.maskcull.specs.App.{Numbered, rule_for}
-use Rattle.clap.specs.Words.{AddsArg, App, FailsBy, HasKind, Kinds, Rule, Text, app_of, fault_of, kind_of, rule_of, with_rule}
+use Rattle.clap.specs.Words.{AddsArg, AddsSubcommand, App, FailsBy, HasKind, HasMatchesOf, Kinds, Rule, Shape, Text, app_of, fault_of, is_simple, kind_of, rule_of, subcommand_of, subcommand_rows_of, with_rule, with_subcommand}
 use Rattle.clap.specs.Walk.{is_empty}
 use Rattle.clap.specs.declared.error.Error.{Error}
 use Rattle.clap.specs.declared.error.kind.ErrorKind.TheVariants.{OutOfMemory}
 use Rattle.clap.specs.declared.builder.arg.Arg.{Arg}
 use Rattle.clap.specs.declared.builder.command.Command.{Command}
+use Rattle.clap.specs.declared.parser.matches.ArgMatches.{ArgMatches}
 use Rattle.clap.specs.declared.builder.command.Command.TheViews.{out-Command}
 
 pub arg_added : (old new : Command) (a : Arg) (app : App) (r : Rule) → AddsArg old a new → a.global ≡ false → rule_of a ≡ r → app_of old ≡ app → app_of new ≡ with_rule app r
@@ -22,6 +23,20 @@ option_added old new a app o default adds local rule text is =
 
 pub arg_local : (old new : Command) (a : Arg) → AddsArg old a new → a.global ≡ false → (out-Command old).has_globals ≡ false → (out-Command new).has_globals ≡ false
 arg_local old new a adds local is = adds.globals ∙ ap₂ (λ x y. x || y) is local
+
+pub subcommand_added : (old sub new : Command) (app : App) (s : Shape) → AddsSubcommand old sub new → (out-Command sub).has_globals ≡ false
+    → app_of sub ≡ record { top = s; subs = [] } → app_of old ≡ app → app_of new ≡ with_subcommand app s
+subcommand_added old sub new app s adds local shape is = adds.shape local ∙ ap₂ with_subcommand is (ap (λ (a : App). a.top) shape)
+
+-- words that are taken have no fault
+pub passed : {T : Type 0} (r : Result T Error) (kinds : Kinds) → FailsBy kinds r → IfOk r (λ _. kinds ≡ [])
+passed (Ok x) kinds fails = fails
+passed (Err e) kinds fails = tt
+
+-- and enter the command that they name
+pub matched : (r : Result ArgMatches Error) (app : App) (words : List Text) → is_simple app ≡ true → IfOk r (HasMatchesOf app words) → IfOk r (λ m. subcommand_rows_of m ≡ subcommand_of app words)
+matched (Ok m) app words simple has = (has simple).1
+matched (Err e) app words simple has = tt
 
 -- an error is for want of memory, or the words have a fault
 pub refused : {T : Type 0} (r : Result T Error) (app : App) (words : List Text) → FailsBy (fault_of app words) r → IfErr r (λ e. (kind_of e ≡ OutOfMemory) ⊎ (is_empty (fault_of app words) ≡ false))

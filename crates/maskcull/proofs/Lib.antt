@@ -13,3 +13,9 @@ pub mod Ranges
 pub mod FrameByFrame
 pub mod Draws
 pub mod DemoScene
+pub mod ClosedCells
+pub mod LiveLooks
+pub mod LiveTexts
+pub mod LiveEnds
+pub mod RunEnds
+pub mod RunStatus

@@ -13,7 +13,7 @@ use Rattle.clap.specs.Kinds.{Kinds, or_else, check_kinds}
 use Rattle.clap.proofs.CutLemmas.{Lacks}
 use Rattle.clap.proofs.FaultLemmas.{stopped_fault}
 use Rattle.clap.proofs.WalkLemmas.{both, walk_stopped}
-use Rattle.maskcull.specs.App.{Numbered, cull_options, demo_options, the_app}
+use Rattle.maskcull.specs.App.{Numbered, cull_options, live_options, demo_options, the_app}
 use Rattle.maskcull.specs.Words.{AreApart, AreUses, Use, number_in, stated, words_of_use}
 use Rattle.maskcull.proofs.OptionRules.{is_no, IsOf, of_contained, rules_for, same_option}
 use Rattle.maskcull.proofs.UseRows.{neither, row_for}
@@ -118,6 +118,9 @@ fine_options (x ∷ rest) e o of =
 pub cull_fine : AreFine cull_options
 cull_fine = record { apart = refl; each = fine_options cull_options refl }
 
+pub live_fine : AreFine live_options
+live_fine = record { apart = refl; each = fine_options live_options refl }
+
 pub demo_fine : AreFine demo_options
 demo_fine = record { apart = refl; each = fine_options demo_options refl }
 
@@ -157,6 +160,10 @@ record IsCommand (name : Text) (shape : Shape) : Type 0 where
 cull_is : IsCommand (codes "cull") (leaf (codes "cull") cull_options)
 unfolding walked
 cull_is = record { walks = refl; passes = refl; found = refl; same = refl }
+
+live_is : IsCommand (codes "live") (leaf (codes "live") live_options)
+unfolding walked
+live_is = record { walks = refl; passes = refl; found = refl; same = refl }
 
 demo_is : IsCommand (codes "demo") (leaf (codes "demo") demo_options)
 unfolding walked
@@ -217,6 +224,9 @@ taken name program options fine is uses are =
 
 pub cull_taken : (program : Text) (uses : List Use) → AreUses cull_options uses → AreTaken (program ∷ codes "cull" ∷ flat_map words_of_use uses) (codes "cull") cull_options uses
 cull_taken program uses are = taken (codes "cull") program cull_options cull_fine cull_is uses are
+
+pub live_taken : (program : Text) (uses : List Use) → AreUses live_options uses → AreTaken (program ∷ codes "live" ∷ flat_map words_of_use uses) (codes "live") live_options uses
+live_taken program uses are = taken (codes "live") program live_options live_fine live_is uses are
 
 pub demo_taken : (program : Text) (uses : List Use) → AreUses demo_options uses → AreTaken (program ∷ codes "demo" ∷ flat_map words_of_use uses) (codes "demo") demo_options uses
 demo_taken program uses are = taken (codes "demo") program demo_options demo_fine demo_is uses are

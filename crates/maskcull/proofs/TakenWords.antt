@@ -18,11 +18,11 @@ use Rattle.clap.specs.declared.builder.value_parser.ValueParser.TheVariants.{Sig
 use Rattle.clap.specs.declared.parser.matches.ValueSource.TheVariants.{CommandLine}
 use Rattle.clap.specs.declared.error.kind.ErrorKind.{ErrorKind}
 use Rattle.clap.specs.declared.error.kind.ErrorKind.TheVariants.{ArgumentConflict, DisplayHelp, TooManyValues, ValueValidation}
-use Rattle.maskcull.specs.App.{Numbered, cull_options, demo_options, the_app}
-use Rattle.maskcull.specs.Words.{HasNumber, IsEntered}
+use Rattle.maskcull.specs.App.{Numbered, cull_options, live_options, demo_options, the_app}
+use Rattle.maskcull.specs.Words.{HasNumber, HasNumbers, IsEntered}
 use Rattle.maskcull.proofs.DecimalWords.{number_accepted}
 use Rattle.maskcull.proofs.UseDefaults.{default_row, found_last}
-use Rattle.maskcull.proofs.PlainWords.{cull_fine, demo_fine, fault_behind, names, program_built, start, top}
+use Rattle.maskcull.proofs.PlainWords.{cull_fine, live_fine, demo_fine, fault_behind, names, program_built, start, top}
 use Rattle.clap.specs.Lexer.{without_minus}
 use Rattle.clap.specs.Values.{IsSignedIn, read_as}
 use Rattle.clap.proofs.ValueTestLemmas.{accepts-Accepts}
@@ -318,6 +318,12 @@ each_of P (x ∷ rest) each = (each x (inl refl), each_of P rest (λ o of. each 
 abbrev help_leaf : Shape
 help_leaf = built_leaf (inherited (with_leaf_noted the_app.top) help_shape)
 
+-- the command that a word names, by whether it is the name of the first, the second, the third or of help
+abbrev named : Bool → Bool → Bool → Bool → Option Shape
+named a b c d =
+    cond a (Some (leaf (codes "cull") cull_options)) (cond b (Some (leaf (codes "live") live_options))
+    (cond c (Some (leaf (codes "demo") demo_options)) (cond d (Some help_leaf) None)))
+
 -- the words that a program takes enter a command whose options have their numbers
 pub entered_numbers : (words : List Text) → fault_of the_app words ≡ [] → IfSome (subcommand_of the_app words) (λ p. IsEntered p.0 p.1)
 entered_numbers words e =
@@ -326,14 +332,21 @@ entered_numbers words e =
     let later = none_first (walk_fault top names start arguments) (or_else (entered_fault program_built end.stopped) (fault_behind end)) e in
     go end.stopped (none_first (entered_fault program_built end.stopped) (fault_behind end) later.1).0
   where
-    one : (p : Text × List Text) (a b d : Bool)
-        → option_map_or (λ t. level_fault t [] nothing_held p.1 false []) (cond a (Some (leaf (codes "cull") cull_options)) (cond b (Some (leaf (codes "demo") demo_options)) (cond d (Some help_leaf) None))) [] ≡ []
-        → IfSome (option_map (λ t. rows_at t p.1) (cond a (Some (leaf (codes "cull") cull_options)) (cond b (Some (leaf (codes "demo") demo_options)) (cond d (Some help_leaf) None)))) (λ q. IsEntered q.0 q.1)
-    one p true b d e = record { cull = λ _. each_of _ cull_options (level_numbers (codes "cull") cull_options cull_fine p.1 e); demo = λ same. absurd (true≢false (sym same)) }
-    one p false true d e = record { cull = λ same. absurd (true≢false (sym same)); demo = λ _. each_of _ demo_options (level_numbers (codes "demo") demo_options demo_fine p.1 e) }
-    one p false false true e = record { cull = λ same. absurd (true≢false (sym same)); demo = λ same. absurd (true≢false (sym same)) }
-    one p false false false e = tt
+    other : {A : Type 0} → false ≡ true → A
+    other same = absurd (true≢false (sym same))
+
+    numbers : (name : Text) (options : List Numbered) (fine : AreFine options) (words : List Text)
+        → level_fault (leaf name options) [] nothing_held words false [] ≡ [] → HasNumbers options (rows_after (rules_for options) [] words)
+    numbers name options fine words e = each_of _ options (level_numbers name options fine words e)
+
+    one : (words : List Text) (a b c d : Bool) → option_map_or (λ t. level_fault t [] nothing_held words false []) (named a b c d) [] ≡ []
+        → IfSome (option_map (λ t. rows_at t words) (named a b c d)) (λ q. IsEntered q.0 q.1)
+    one words true b c d e = record { cull = λ _. numbers (codes "cull") cull_options cull_fine words e; live = other; demo = other }
+    one words false true c d e = record { cull = other; live = λ _. numbers (codes "live") live_options live_fine words e; demo = other }
+    one words false false true d e = record { cull = other; live = other; demo = λ _. numbers (codes "demo") demo_options demo_fine words e }
+    one words false false false true e = record { cull = other; live = other; demo = other }
+    one words false false false false e = tt
 
     go : (stop : Option (Text × List Text)) → entered_fault program_built stop ≡ [] → IfSome (entered program_built stop) (λ p. IsEntered p.0 p.1)
     go None e = tt
-    go (Some p) e = one p (answers_to p.0 (codes "cull", [])) (answers_to p.0 (codes "demo", [])) (answers_to p.0 (codes "help", [])) e
+    go (Some p) e = one p.1 (answers_to p.0 (codes "cull", [])) (answers_to p.0 (codes "live", [])) (answers_to p.0 (codes "demo", [])) (answers_to p.0 (codes "help", [])) e

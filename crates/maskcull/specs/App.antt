@@ -24,6 +24,12 @@ bins_y = record { name = codes "bins-y"; least = 1; most = 8; default = 1 }
 abbrev pub batch : Numbered
 batch = record { name = codes "batch"; least = 1; most = 4096; default = 64 }
 
+abbrev pub rounds : Numbered
+rounds = record { name = codes "rounds"; least = 1; most = 8; default = 1 }
+
+abbrev pub watch : Numbered
+watch = record { name = codes "watch"; least = 1; most = 8; default = 1 }
+
 abbrev pub seed : Numbered
 seed = record { name = codes "seed"; least = 0; most = 4294967295; default = 1 }
 
@@ -36,6 +42,9 @@ sharing_options = workers ∷ bins_x ∷ bins_y ∷ batch ∷ []
 
 abbrev pub cull_options : List Numbered
 cull_options = sharing_options
+
+abbrev pub live_options : List Numbered
+live_options = sharing_options ++ rounds ∷ watch ∷ []
 
 abbrev pub demo_options : List Numbered
 demo_options = sharing_options ++ seed ∷ triangles ∷ []
@@ -55,5 +64,5 @@ command_shape name options = record (new_shape name) { rules = map rule_for opti
 -- the program: one of its commands must be named
 abbrev pub the_app : App
 the_app =
-    with_subcommand (with_subcommand (on_top (λ s. record s { subcommand_required = true }) (new_app (codes "maskcull")))
-    (command_shape (codes "cull") cull_options)) (command_shape (codes "demo") demo_options)
+    with_subcommand (with_subcommand (with_subcommand (on_top (λ s. record s { subcommand_required = true }) (new_app (codes "maskcull")))
+    (command_shape (codes "cull") cull_options)) (command_shape (codes "live") live_options)) (command_shape (codes "demo") demo_options)

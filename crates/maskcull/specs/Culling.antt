@@ -7,7 +7,7 @@ use Rattle.maskcull.specs.Demo.{demo_of}
 use Rattle.maskcull.specs.Summary.{summary_text}
 use Rattle.maskcull.specs.Words.{request_of}
 use Rattle.maskcull.specs.declared.request.Command.{Command}
-use Rattle.maskcull.specs.declared.request.Command.TheVariants.{Cull, Demo}
+use Rattle.maskcull.specs.declared.request.Command.TheVariants.{Cull, Live, Demo}
 use Rattle.maskcull.specs.declared.request.Request.{Request}
 use Rattle.clap.specs.Words.{Text}
 use Rattle.cull_report.specs.Hiding.{HidesTruly}
@@ -20,6 +20,7 @@ use Rattle.cull_report.specs.Scene.{size_of, frame_pieces, report_text}
 use Rattle.maskcull.specs.declared.failure.Failure.{Failure}
 use Rattle.maskcull.specs.declared.failure.Status.{Status}
 use Rattle.maskcull.specs.declared.failure.Status.TheVariants as statuses
+use Rattle.maskcull.specs.declared.failure.Failure.TheVariants as failures
 use Rattle.maskcull.specs.declared.failure.Failure.TheVariants.{Scene, ReadFault, ReportFault, Memory}
 
 -- the bytes are the layout of the scene s
@@ -53,13 +54,14 @@ pub record Reports (before after : SinkSays) (result : Result (Unit {0}) Failure
 
 -- the failure is none after which part of the report may stand
 abbrev pub IsBeforeReport : Failure → Type 0
-IsBeforeReport f = (f ≡ Memory → ⊥) × (f ≡ ReportFault → ⊥)
+IsBeforeReport f = (f ≡ Memory → ⊥) × (f ≡ ReportFault → ⊥) × (f ≡ failures.NotesFault → ⊥)
 
 -- the failure is one that comes of an input alone
 abbrev pub IsOfInput : Failure → Type 0
 IsOfInput (Scene e) = Unit {0}
 IsOfInput ReadFault = Unit {0}
 IsOfInput ReportFault = ⊥
+IsOfInput failures.NotesFault = ⊥
 IsOfInput Memory = ⊥
 
 -- the status is one after which part of the report may stand
@@ -122,8 +124,20 @@ Asks words P = (r : Request) × (request_of words ≡ Some r) × P r.command
 abbrev pub IfAsked : List Text → (Command → Type 0) → Type 0
 IfAsked words P = IfSome (request_of words) (λ r. P r.command)
 
-abbrev pub IsCull : Command → Type 0
-IsCull command = command ≡ Cull
+-- the command reads a scene, and writes its report
+abbrev pub ReadsScene : Command → Type 0
+ReadsScene Cull = Unit {0}
+ReadsScene (Live rounds watch) = Unit {0}
+ReadsScene (Demo seed m) = ⊥
+
+abbrev pub IsLive : Command → Type 0
+IsLive command = (rounds : ℕ) × (watch : ℕ) × (command ≡ Live rounds watch)
+
+-- a fact of the rounds and of how many objects are watched, if the command looks at objects while frames are drawn
+abbrev pub IfLive : Command → (ℕ → ℕ → Type 0) → Type 0
+IfLive Cull P = Unit {0}
+IfLive (Live rounds watch) P = P rounds watch
+IfLive (Demo seed m) P = Unit {0}
 
 abbrev pub IsDemo : Command → Type 0
 IsDemo command = (seed : ℕ) × (m : ℕ) × (command ≡ Demo seed m)
@@ -131,10 +145,12 @@ IsDemo command = (seed : ℕ) × (m : ℕ) × (command ≡ Demo seed m)
 -- the command did its work: the whole report of a scene was written, or the whole summary; and what it calls occluded is hidden
 abbrev pub IsDone : Command → SourceSays → SourceSays → SinkSays → SinkSays → Type 0
 IsDone Cull before after report_before report_after = IsCulled before after report_before report_after
+IsDone (Live rounds watch) before after report_before report_after = IsCulled before after report_before report_after
 IsDone (Demo seed m) before after report_before report_after =
     Appends report_before report_after (summary_text seed m) × HidesTruly (demo_of seed m)
 
 -- the report gained a front of what the command writes
 abbrev pub GainsFrontOf : Command → SourceSays → SinkSays → SinkSays → Type 0
 GainsFrontOf Cull source before after = GainsFront source before after
+GainsFrontOf (Live rounds watch) source before after = GainsFront source before after
 GainsFrontOf (Demo seed m) source before after = AppendsPrefix before after (summary_text seed m)

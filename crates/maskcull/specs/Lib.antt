@@ -3,6 +3,9 @@ pub mod Words
 pub mod Demo
 pub mod Summary
 pub mod Frames
+pub mod LiveFrames
 pub mod Notes
 pub mod Outcome
 pub mod Culling
+pub mod LiveRuns
+pub mod LiveScenes

@@ -1,5 +1,5 @@
 -- What is noted of a run that isn't done.
-use Rattle.std.specs.Prelude.{ℕ, ◌⊎◌, List, [], ◌∷◌, ◌++◌, map, codes}
+use Rattle.std.specs.Prelude.{ℕ, ◌≤◌, ◌⊎◌, List, [], ◌∷◌, ◌++◌, map, length, take, codes}
 use Rattle.std.specs.Fmt.{decimal}
 use Rattle.scene_reader.specs.declared.error.SceneError.{SceneError}
 use Rattle.scene_reader.specs.declared.error.SceneError.TheVariants.{Truncated, BadMagic, BadVersion, BadSize, BadNear, BadWinding, BadReserved, BadCount, Trailing, BadVertex, BadIndex, BadKind, BadObject, BadCamera}
@@ -9,7 +9,7 @@ use Rattle.cull_report.specs.Lines.{line}
 use Rattle.maskcull.specs.declared.failure.Failure.{Failure}
 use Rattle.maskcull.specs.declared.failure.Status.{Status}
 use Rattle.maskcull.specs.declared.failure.Status.TheVariants as statuses
-use Rattle.maskcull.specs.declared.failure.Failure.TheVariants.{Scene, ReadFault, ReportFault, Memory}
+use Rattle.maskcull.specs.declared.failure.Failure.TheVariants.{Scene, ReadFault, ReportFault, NotesFault, Memory}
 
 -- a refusal's number, and the numbers that tell where the fault is
 abbrev pub refusal_numbers : SceneError → List ℕ
@@ -41,6 +41,7 @@ abbrev pub note_text : Failure → List ℕ
 note_text (Scene e) = refusal_text e
 note_text ReadFault = codes "read fault" ++ 10 ∷ []
 note_text ReportFault = codes "report fault" ++ 10 ∷ []
+note_text NotesFault = []
 note_text Memory = codes "out of memory" ++ 10 ∷ []
 
 -- what is noted of a status that needs no numbers
@@ -50,6 +51,7 @@ status_text statuses.Usage = usage_text
 status_text statuses.Scene = []
 status_text statuses.ReadFault = note_text ReadFault
 status_text statuses.ReportFault = note_text ReportFault
+status_text statuses.NotesFault = note_text NotesFault
 status_text statuses.Memory = note_text Memory
 
 -- the text was appended and more behind it, or a front of it where one of the sink's counts rose
@@ -57,3 +59,10 @@ abbrev pub IsNotedFirst : SinkSays → SinkSays → List ℕ → Type 0
 IsNotedFirst before after text =
     ((more : List ℕ) × Appends before after (text ++ more))
     ⊎ (AppendsPrefix before after text × (Rose before.faults after.faults ⊎ Rose before.refusals after.refusals))
+
+-- the front was appended and the text behind it, or a front of the text where one of the sink's counts rose
+abbrev pub IsNotedBehind : SinkSays → SinkSays → List ℕ → List ℕ → Type 0
+IsNotedBehind before after front text =
+    Appends before after (front ++ text)
+    ⊎ ((n : ℕ) × (n ≤ length text) × Appends before after (front ++ take n text)
+    × (Rose before.faults after.faults ⊎ Rose before.refusals after.refusals))

@@ -24,7 +24,13 @@ abbrev pub status_of : Failure → Status
 status_of (failures.Scene e) = statuses.Scene
 status_of failures.ReadFault = statuses.ReadFault
 status_of failures.ReportFault = statuses.ReportFault
+status_of failures.NotesFault = statuses.NotesFault
 status_of failures.Memory = statuses.Memory
+
+-- what becomes of lines that couldn't be noted
+abbrev pub notes_failure : SinkError → Failure
+notes_failure sink.Failed = failures.NotesFault
+notes_failure sink.Memory = failures.Memory
 
 -- the process's exit status
 abbrev pub code_of : Status → ℕ
@@ -33,4 +39,5 @@ code_of statuses.Usage = 2
 code_of statuses.Scene = 3
 code_of statuses.ReadFault = 4
 code_of statuses.ReportFault = 5
+code_of statuses.NotesFault = 6
 code_of statuses.Memory = 7

@@ -8,11 +8,11 @@ use Rattle.std.specs.Str.Parse.{digits_value, without_leading_plus}
 use Rattle.clap.specs.Walk.{is_empty}
 use Rattle.clap.specs.Words.{IsSignedIn, Row, Text, one_of, without_minus, subcommand_of, fault_of}
 use Rattle.binning.specs.Cut.{cut_into}
-use Rattle.maskcull.specs.App.{Numbered, workers, bins_x, bins_y, batch, seed, triangles, cull_options, demo_options, the_app}
+use Rattle.maskcull.specs.App.{Numbered, workers, bins_x, bins_y, batch, rounds, watch, seed, triangles, cull_options, live_options, demo_options, the_app}
 use Rattle.maskcull.specs.declared.failure.Status.{Status}
 use Rattle.maskcull.specs.declared.failure.Status.TheVariants as statuses
 use Rattle.maskcull.specs.declared.request.Command.{Command}
-use Rattle.maskcull.specs.declared.request.Command.TheVariants.{Cull, Demo}
+use Rattle.maskcull.specs.declared.request.Command.TheVariants.{Cull, Live, Demo}
 use Rattle.maskcull.specs.declared.request.Request.{Request}
 use Rattle.maskcull.specs.declared.settings.Settings.{Settings}
 use Rattle.maskcull.specs.declared.words.Refusal.{Refusal}
@@ -25,10 +25,11 @@ pub record AreInRange (s : Settings) : Type 0 where
   pub some_batch : 1 ≤ s.batch
   pub small_batch : s.batch ≤ 4096
 
--- so many triangles can be asked for
-abbrev pub HasFewTriangles : Command → Type 0
-HasFewTriangles (Demo s m) = m ≤ 65536
-HasFewTriangles Cull = Unit {0}
+-- so many triangles, rounds and watched objects can be asked for
+abbrev pub IsWithinLimits : Command → Type 0
+IsWithinLimits Cull = Unit {0}
+IsWithinLimits (Live rounds watch) = ((1 ≤ rounds) × (rounds ≤ 8)) × ((1 ≤ watch) × (watch ≤ 8))
+IsWithinLimits (Demo _ m) = m ≤ 65536
 
 -- the words are refused, and memory isn't wanted
 abbrev pub AreWords : Refusal → Type 0
@@ -57,8 +58,9 @@ settings_by number = record { workers = number workers; cut = cut_into (number b
 abbrev pub request_by : Text → (Numbered → ℕ) → Option Request
 request_by name number =
     if bytes_eq name (codes "cull") then Some (record { command = Cull; settings = settings_by number })
+    else (if bytes_eq name (codes "live") then Some (record { command = Live (number rounds) (number watch); settings = settings_by number })
     else (if bytes_eq name (codes "demo") then Some (record { command = Demo (number seed) (number triangles); settings = settings_by number })
-    else None)
+    else None))
 
 -- what the words ask for; none where `clap` refuses them
 unfoldable pub request_of : List Text → Option Request
@@ -83,6 +85,7 @@ HasNumbers options rows = AllByRecursion (HasNumber rows) options
 -- a command's name, and each of its options with a number in its range
 pub record IsEntered (name : Text) (rows : List Row) : Type 0 where
   pub cull : bytes_eq name (codes "cull") ≡ true → HasNumbers cull_options rows
+  pub live : bytes_eq name (codes "live") ≡ true → HasNumbers live_options rows
   pub demo : bytes_eq name (codes "demo") ≡ true → HasNumbers demo_options rows
 
 -- ---- plain words: the command, and options with numbers in their ranges, each at most once, in any order
@@ -128,4 +131,5 @@ pub record ArePlainFor (name : Text) (options : List Numbered) (words : List Tex
 
 -- plain words, and what they ask for
 abbrev pub ArePlain : List Text → Request → Type 0
-ArePlain words r = ArePlainFor (codes "cull") cull_options words r ⊎ ArePlainFor (codes "demo") demo_options words r
+ArePlain words r = ArePlainFor (codes "cull") cull_options words r ⊎ ArePlainFor (codes "live") live_options words r
+    ⊎ ArePlainFor (codes "demo") demo_options words r

@@ -16,30 +16,33 @@ use scene_reader::{Scene, read_scene};
 use std::alloc::Global;
 use std::sync::Wait;
 use std::thread::Threads;
+use tile_queues::Gate;
 
 // Draws a scene and writes its report.
-fn report_scene<R: Threads + Wait + Sync, W: Sink>(
+fn report_scene<R: Threads + Wait + Sync, W: Sink, G: Gate>(
     rt: &R,
     alloc: Global,
     settings: &Settings,
     scene: &Scene,
     report: &mut W,
+    gate: &G,
 ) -> Result<(), Failure>
     requires settings { AreInRange settings.now }
     ensures reported { Reports (W.says report.old) (W.says report.new) result (report_text scene.now) }
     ensures hidden { OnOk result (HidesTruly scene.now) }
 {
     write_header(report, scene)?;
-    report_frames(rt, alloc, settings, FrameLines::Report, scene, report)
+    report_frames(rt, alloc, settings, FrameLines::Report, scene, report, gate)
 }
 
 /// Reads a scene, draws it and writes its report.
-pub fn cull<R: Threads + Wait + Sync, S: Source, W: Sink>(
+pub fn cull<R: Threads + Wait + Sync, S: Source, W: Sink, G: Gate>(
     rt: &R,
     alloc: Global,
     settings: &Settings,
     input: &mut S,
     report: &mut W,
+    gate: &G,
 ) -> Result<(), Failure>
     requires settings { AreInRange settings.now }
     ensures done { OnOk result (
@@ -48,6 +51,7 @@ pub fn cull<R: Threads + Wait + Sync, S: Source, W: Sink>(
     ensures scene { IfErr result (λ f. IfScene f (HasFault (S.says input.old))) }
     ensures read { IsErrOf result Failure.ReadFault → Rose (S.says input.old).faults (S.says input.new).faults }
     ensures report { IsErrOf result Failure.ReportFault → Rose (W.says report.old).faults (W.says report.new).faults }
+    ensures no_notes { IsErrOf result Failure.NotesFault → ⊥ }
 
     // What comes of bytes that are refused, and of a scene's.
     ensures refused { EachFault (S.says input.old) (λ e. EndsAs result (Failure.Scene e)) }
@@ -59,5 +63,5 @@ pub fn cull<R: Threads + Wait + Sync, S: Source, W: Sink>(
     ensures nothing { WithoutScene (S.says input.old) (report.new ≡ report.old) }
 {
     let scene = read_scene(alloc, input)?;
-    report_scene(rt, alloc, settings, &scene, report)
+    report_scene(rt, alloc, settings, &scene, report, gate)
 }

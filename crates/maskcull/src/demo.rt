@@ -15,15 +15,17 @@ use cull_base::Sink;
 use std::alloc::Global;
 use std::sync::Wait;
 use std::thread::Threads;
+use tile_queues::Gate;
 
 /// Makes the scene of a seed, draws it and writes its summary. Condition: at most 65,536 triangles.
-pub fn demo<R: Threads + Wait + Sync, W: Sink>(
+pub fn demo<R: Threads + Wait + Sync, W: Sink, G: Gate>(
     rt: &R,
     alloc: Global,
     settings: &Settings,
     seed: u32,
     triangles: u32,
     report: &mut W,
+    gate: &G,
 ) -> Result<(), Failure>
     requires settings { AreInRange settings.now }
     requires few { triangles ≤ 65536 }
@@ -32,5 +34,13 @@ pub fn demo<R: Threads + Wait + Sync, W: Sink>(
 {
     let scene = demo_scene(alloc, u64::from(seed), triangles)?;
     write_demo_line(report, seed, triangles)?;
-    report_frames(rt, alloc, settings, FrameLines::Summary, &scene, report)
+    report_frames(
+        rt,
+        alloc,
+        settings,
+        FrameLines::Summary,
+        &scene,
+        report,
+        gate,
+    )
 }

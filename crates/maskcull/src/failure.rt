@@ -18,6 +18,8 @@ pub enum Status {
     ReadFault,
     /// The report couldn't be written.
     ReportFault,
+    /// The lines of `live` couldn't be noted.
+    NotesFault,
     /// Memory was wanted.
     Memory,
 }
@@ -28,6 +30,7 @@ pub enum Failure {
     Scene(SceneError),
     ReadFault,
     ReportFault,
+    NotesFault,
     Memory,
 }
 
@@ -81,6 +84,7 @@ impl Status {
             Status::Scene => 3,
             Status::ReadFault => 4,
             Status::ReportFault => 5,
+            Status::NotesFault => 6,
             Status::Memory => 7,
         }
     }
@@ -108,6 +112,7 @@ impl Failure {
             Failure::Scene(_) => Status::Scene,
             Failure::ReadFault => Status::ReadFault,
             Failure::ReportFault => Status::ReportFault,
+            Failure::NotesFault => Status::NotesFault,
             Failure::Memory => Status::Memory,
         }
     }
@@ -119,6 +124,8 @@ impl Failure {
             Failure::Scene(error) => refusal_line(error),
             Failure::ReadFault => line_of(b"read fault"),
             Failure::ReportFault => line_of(b"report fault"),
+            // there is nowhere to note it
+            Failure::NotesFault => Line::empty(),
             Failure::Memory => line_of(b"out of memory"),
         }
     }
@@ -127,6 +134,7 @@ impl Failure {
     pub fn end<E: Sink>(&self, notes: &mut E) -> Status
         ensures value { result ≡ status_of self.now }
         ensures noted { IsNoted (E.says notes.old) (E.says notes.new) (note_text self.now) }
+        ensures faults_stay { (E.says notes.old).faults ≤ (E.says notes.new).faults }
     {
         // What can't be noted is lost: the status tells it still.
         let _ = self.line().write_to(notes);

@@ -22,7 +22,7 @@ use snap_setup::frame_list_by_workers;
 use std::alloc::{AllocError, Global};
 use std::sync::Wait;
 use std::thread::Threads;
-use tile_queues::draw_owned;
+use tile_queues::{Gate, draw_plain_frame};
 
 /// In bytes, above half of what a frame takes at any time.
 const LARGE: usize = 0x100_0000;
@@ -38,9 +38,9 @@ pub enum FrameLines {
 
 /// What a frame's lines tell.
 #[derive(Drop)]
-struct Frame {
-    pieces: u32,
-    verdicts: Vec<Verdict>,
+pub struct Frame {
+    pub pieces: u32,
+    pub verdicts: Vec<Verdict>,
 }
 
 // So many marks, none of them set.
@@ -69,8 +69,8 @@ pub fn clip_frame<R: Threads + Wait + Sync>(
     clip_into(rt, &camera, scene.vertices(), clips);
 }
 
-// The verdicts over tiles that have taken the whole frame.
-fn verdicts_over<R: Threads + Sync>(
+/// The verdicts over tiles that have taken the whole frame.
+pub fn verdicts_over<R: Threads + Sync>(
     rt: &R,
     alloc: Global,
     scene: &Scene,
@@ -125,13 +125,14 @@ pub fn pieces_of<R: Threads + Sync>(
 
 // Draws a frame and tests the objects, by workers as the settings ask: what each tile takes, and in which order, is as
 // by one thread that merges all pieces in order.
-fn draw<R: Threads + Sync>(
+fn draw<R: Threads + Sync, G: Gate>(
     rt: &R,
     alloc: Global,
     settings: &Settings,
     scene: &Scene,
     frame: u32,
     clips: &[ClipVertex],
+    gate: &G,
 ) -> Result<Frame, Memory>
     requires settings { AreInRange settings.now }
     requires frame { frame < length scene.now.cameras }
@@ -143,7 +144,7 @@ fn draw<R: Threads + Sync>(
     let workers = settings.workers;
     let list = pieces_of(rt, alloc, scene, frame, clips, workers)?;
     let batch = batch_size(list.len(), settings.batch);
-    let states = draw_owned(rt, alloc, &list, &settings.cut, workers, batch)?;
+    let states = draw_plain_frame(rt, alloc, &list, &settings.cut, workers, batch, gate)?;
     let verdicts = verdicts_over(rt, alloc, scene, frame, clips, &states, workers)?;
     Ok(Frame {
         pieces: list.len(),
@@ -151,8 +152,8 @@ fn draw<R: Threads + Sync>(
     })
 }
 
-// Writes a frame's lines.
-fn write_lines<W: Sink>(
+/// Writes a frame's lines. Failed and Memory are the sink's.
+pub fn write_lines<W: Sink>(
     report: &mut W,
     lines: FrameLines,
     frame: u32,
@@ -168,7 +169,7 @@ fn write_lines<W: Sink>(
 }
 
 // Draws a frame and writes its lines.
-fn report_frame<R: Threads + Wait + Sync, W: Sink>(
+fn report_frame<R: Threads + Wait + Sync, W: Sink, G: Gate>(
     rt: &R,
     alloc: Global,
     settings: &Settings,
@@ -177,6 +178,7 @@ fn report_frame<R: Threads + Wait + Sync, W: Sink>(
     frame: u32,
     clips: &mut [ClipVertex],
     report: &mut W,
+    gate: &G,
 ) -> Result<(), Failure>
     requires settings { AreInRange settings.now }
     requires frame { frame < length scene.now.cameras }
@@ -186,7 +188,7 @@ fn report_frame<R: Threads + Wait + Sync, W: Sink>(
     ensures places { length clips.new ≡ length clips.old }
 {
     clip_frame(rt, scene, frame, clips);
-    let drawn = draw(rt, alloc, settings, scene, frame, clips)?;
+    let drawn = draw(rt, alloc, settings, scene, frame, clips, gate)?;
     write_lines(report, lines, frame, &drawn)?;
     Ok(())
 }
@@ -200,13 +202,14 @@ fn keep_freed_memory(alloc: Global) {
 }
 
 /// Draws frame after frame, and writes the lines of each before the next begins.
-pub fn report_frames<R: Threads + Wait + Sync, W: Sink>(
+pub fn report_frames<R: Threads + Wait + Sync, W: Sink, G: Gate>(
     rt: &R,
     alloc: Global,
     settings: &Settings,
     lines: FrameLines,
     scene: &Scene,
     report: &mut W,
+    gate: &G,
 ) -> Result<(), Failure>
     requires settings { AreInRange settings.now }
     ensures reported { Reports (W.says report.old) (W.says report.new) result
@@ -218,7 +221,9 @@ pub fn report_frames<R: Threads + Wait + Sync, W: Sink>(
     let nowhere = ClipVertex { x: 0, y: 0, w: 0 };
     let mut clips = vec![in alloc; nowhere; scene.vertices().len()].map_err(|_| Failure::Memory)?;
     for frame in 0..scene.cameras().len() as u32 {
-        report_frame(rt, alloc, settings, lines, scene, frame, &mut clips, report)?;
+        report_frame(
+            rt, alloc, settings, lines, scene, frame, &mut clips, report, gate,
+        )?;
     }
     Ok(())
 }

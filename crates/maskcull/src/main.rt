@@ -8,6 +8,9 @@ mod demo_scene;
 mod failure;
 mod frames;
 mod generator;
+mod live;
+mod live_caller;
+mod live_frame;
 mod request;
 mod run;
 mod settings;
@@ -23,6 +26,7 @@ use std::alloc::Global;
 use std::env;
 use std::io::{BufReader, ErrorKind, Stdin};
 use std::process::ExitCode;
+use tile_queues::OpenGate;
 
 // The words that the program was started with; none where one isn't UTF-8, which is no command.
 fn words_of(rt: &HostRuntime, alloc: Global) -> Result<Vec<String>, Memory> {
@@ -48,7 +52,15 @@ fn main(rt: HostRuntime) -> ExitCode {
     let status = match open(&rt, alloc) {
         Ok((words, mut input)) => {
             let mut report = Output::new(rt.stdout());
-            run(&rt, alloc, &words, &mut input, &mut report, &mut notes)
+            run(
+                &rt,
+                alloc,
+                &words,
+                &mut input,
+                &mut report,
+                &mut notes,
+                &OpenGate,
+            )
         }
         Err(Memory) => Failure::Memory.end(&mut notes),
     };

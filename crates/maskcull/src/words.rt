@@ -5,7 +5,7 @@ ghost use Rattle.clap.specs.Words.{fault_of, found_of, kind_of, rows_of, subcomm
 ghost use Rattle.cull_base.specs.Stream.{IsNoted};
 ghost use Rattle.maskcull.specs.App.{sharing_options, the_app};
 ghost use Rattle.maskcull.specs.Notes.{IsNotedFirst, status_text, usage_text};
-ghost use Rattle.maskcull.specs.Words.{AreInRange, ArePlain, AreWords, HasFewTriangles, HasNumbers, IsEntered, IsNumbered, number_in, number_named, refusal_status, request_by, request_of, settings_by};
+ghost use Rattle.maskcull.specs.Words.{AreInRange, ArePlain, AreWords, HasNumbers, IsEntered, IsNumbered, IsWithinLimits, number_in, number_named, refusal_status, request_by, request_of, settings_by};
 
 mod program;
 
@@ -107,11 +107,18 @@ fn request_by(name: &str, matches: &ArgMatches<'_>) -> Option<Request>
     requires { IsEntered name.now (rows_of (found_of matches.now)) }
     ensures value { result ≡ request_by name.now (number_in (rows_of (found_of matches.now))) }
     ensures range { IfSome result (λ r. AreInRange r.settings) }
-    ensures few { IfSome result (λ r. HasFewTriangles r.command) }
+    ensures limits { IfSome result (λ r. IsWithinLimits r.command) }
 {
     match name {
         "cull" => Some(Request {
             command: Command::Cull,
+            settings: settings_of(matches),
+        }),
+        "live" => Some(Request {
+            command: Command::Live {
+                rounds: number(matches, "rounds"),
+                watch: number(matches, "watch"),
+            },
             settings: settings_of(matches),
         }),
         "demo" => Some(Request {
@@ -129,7 +136,7 @@ fn request_by(name: &str, matches: &ArgMatches<'_>) -> Option<Request>
 pub fn request_of(alloc: Global, words: &[String]) -> Result<Request, Refusal>
     ensures some { IfOk result (λ r. request_of (map string_bytes words.now) ≡ Some r) }
     ensures range { IfOk result (λ r. AreInRange r.settings) }
-    ensures few { IfOk result (λ r. HasFewTriangles r.command) }
+    ensures limits { IfOk result (λ r. IsWithinLimits r.command) }
     ensures none { IfErr result (λ e. AreWords e → request_of (map string_bytes words.now) ≡ None) }
     ensures plain { (r : Request) → ArePlain (map string_bytes words.now) r
         → request_of (map string_bytes words.now) ≡ Some r }

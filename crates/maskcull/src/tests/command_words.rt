@@ -10,6 +10,7 @@ use std::process::Abort;
 use std::sync::Wait;
 use std::test::*;
 use std::thread::Threads;
+use tile_queues::OpenGate;
 
 // The four options with these values.
 fn options<'a>(
@@ -36,7 +37,15 @@ fn assert_usage<R: Threads + Wait + Sync + Abort>(
     let mut report = SureSink::new(alloc);
     let mut notes = SureSink::new(alloc);
     let words = words(alloc, given)?;
-    let status = run(rt, alloc, &words, &mut input, &mut report, &mut notes);
+    let status = run(
+        rt,
+        alloc,
+        &words,
+        &mut input,
+        &mut report,
+        &mut notes,
+        &OpenGate,
+    );
     assert_eq!(rt; status.code(), 2);
     assert!(rt; notes.held().starts_with(b"usage refused\n"));
     assert_eq!(rt; report.held().len(), 0);
@@ -52,7 +61,7 @@ fn words_that_are_no_command_are_refused(rt: HostRuntime) -> Result<(), Fail> {
         [].as_slice(),
         &["maskcull"],
         &["maskcull", "draw"],
-        &["maskcull", "live"],
+        &["maskcull", "live", "x"],
         &["maskcull", "cull", "x"],
         &["maskcull", "cull", "--early"],
         &["maskcull", "cull", "--seed", "1"],
@@ -61,6 +70,13 @@ fn words_that_are_no_command_are_refused(rt: HostRuntime) -> Result<(), Fail> {
         &["maskcull", "cull", "--workers=1", "--workers=1"],
         &["maskcull", "demo", "--triangles", "65537"],
         &["maskcull", "demo", "--seed=4294967296"],
+        &["maskcull", "demo", "--watch", "1"],
+        &["maskcull", "cull", "--rounds", "2"],
+        &["maskcull", "live", "--seed", "1"],
+        &["maskcull", "live", "--rounds", "0"],
+        &["maskcull", "live", "--rounds", "9"],
+        &["maskcull", "live", "--watch", "0"],
+        &["maskcull", "live", "--watch=9"],
         &options("0", "1", "1", "1"),
         &options("65", "1", "1", "1"),
         &options("1", "9", "1", "1"),
@@ -97,36 +113,61 @@ fn settings_change_no_byte(rt: HostRuntime) -> Result<(), Fail> {
     Ok(())
 }
 
-// The workers, columns, rows and batch that some words ask for, and the seed and the triangles of a scene that is made.
+// The workers, columns, rows and batch that some words ask for, the command, and the two numbers of its own.
 fn asked(
     rt: &impl Abort,
     alloc: Global,
     given: &[&str],
-) -> Result<([u32; 4], Option<(u32, u32)>), Fail> {
+) -> Result<([u32; 4], &'static str, Option<(u32, u32)>), Fail> {
     let words = words(alloc, given)?;
     let request = request_of(alloc, &words)
         .ok()
         .expect(rt, "words are refused");
     let settings = &request.settings;
-    let made = match request.command {
-        Command::Cull => None,
-        Command::Demo { seed, triangles } => Some((seed, triangles)),
+    let (command, own) = match request.command {
+        Command::Cull => ("cull", None),
+        Command::Live { rounds, watch } => ("live", Some((rounds, watch))),
+        Command::Demo { seed, triangles } => ("demo", Some((seed, triangles))),
     };
     let (columns, rows) = (settings.cut.columns(), settings.cut.rows());
-    Ok(([settings.workers, columns, rows, settings.batch], made))
+    let sharing = [settings.workers, columns, rows, settings.batch];
+    Ok((sharing, command, own))
 }
 
 #[test]
 fn defaults_stand_where_no_option_is_given(rt: HostRuntime) -> Result<(), Fail> {
     let alloc = rt.alloc();
-    assert_eq!(rt;
-        asked(&rt, alloc, &["maskcull", "cull"])?,
-        ([1, 1, 1, 64], None)
-    );
-    assert_eq!(rt;
-        asked(&rt, alloc, &["maskcull", "demo"])?,
-        ([1, 1, 1, 64], Some((1, 20000)))
-    );
+    for (command, own) in [
+        ("cull", None),
+        ("live", Some((1, 1))),
+        ("demo", Some((1, 20000))),
+    ] {
+        assert_eq!(rt;
+            asked(&rt, alloc, &["maskcull", command])?,
+            ([1, 1, 1, 64], command, own)
+        );
+    }
+    Ok(())
+}
+
+#[test]
+fn live_asks_for_rounds_and_watched_objects(rt: HostRuntime) -> Result<(), Fail> {
+    let alloc = rt.alloc();
+    for (given, workers, own) in [
+        (["--rounds=8", "--watch", "8", "--workers", "2"], 2, (8, 8)),
+        (
+            ["--watch=2", "--workers", "64", "--rounds", "5"],
+            64,
+            (5, 2),
+        ),
+    ] {
+        let [first, second, third, fourth, fifth] = given;
+        let given = ["maskcull", "live", first, second, third, fourth, fifth];
+        assert_eq!(rt;
+            asked(&rt, alloc, &given)?,
+            ([workers, 1, 1, 64], "live", Some(own))
+        );
+    }
     Ok(())
 }
 
@@ -147,7 +188,7 @@ fn options_come_in_any_order_and_in_both_spellings(rt: HostRuntime) -> Result<()
     ];
     assert_eq!(rt;
         asked(&rt, alloc, &given)?,
-        ([9, 1, 3, 5], Some((4294967295, 0)))
+        ([9, 1, 3, 5], "demo", Some((4294967295, 0)))
     );
     Ok(())
 }
@@ -157,14 +198,21 @@ fn help_tells_options_and_statuses(rt: HostRuntime) -> Result<(), Fail> {
     let alloc = rt.alloc();
     let all = assert_usage(&rt, alloc, &["maskcull", "--help"])?;
     let cull = assert_usage(&rt, alloc, &["maskcull", "cull", "--help"])?;
+    let live = assert_usage(&rt, alloc, &["maskcull", "live", "--help"])?;
     let demo = assert_usage(&rt, alloc, &["maskcull", "demo", "--help"])?;
     for (page, wanted) in [
         (&all, "cull"),
+        (&all, "live"),
         (&all, "demo"),
+        (&all, "6  the notes couldn't be written"),
         (&all, "7  memory was wanted"),
         (&cull, "--workers <workers>"),
         (&cull, "[default: 64]"),
         (&cull, "3  the input is no scene"),
+        (&live, "--rounds <rounds>"),
+        (&live, "--watch <watch>"),
+        (&live, "TILE:COUNT"),
+        (&live, "6  the notes couldn't be written"),
         (&demo, "--triangles <triangles>"),
         (&demo, "[default: 20000]"),
         (&demo, "2  the words were refused, or help was asked for"),

@@ -4,6 +4,7 @@ use crate::run::run;
 use crate::tests::scenes::{FIRST, assert_refused, changed, two_frames, words};
 use cull_base::{BytesSink, BytesSource, SureSink};
 use std::test::*;
+use tile_queues::OpenGate;
 
 #[test]
 fn a_refused_scene_is_noted_with_its_numbers(rt: HostRuntime) -> Result<(), Fail> {
@@ -76,7 +77,15 @@ fn a_report_that_fails_stands_in_front(rt: HostRuntime) -> Result<(), Fail> {
     let mut report = BytesSink::new(alloc, 1000, Vec::from_slice(alloc, &[2])?);
     let mut notes = SureSink::new(alloc);
     let words = words(alloc, &["maskcull", "cull"])?;
-    let status = run(&rt, alloc, &words, &mut input, &mut report, &mut notes);
+    let status = run(
+        &rt,
+        alloc,
+        &words,
+        &mut input,
+        &mut report,
+        &mut notes,
+        &OpenGate,
+    );
     assert_eq!(rt; status.code(), 5);
     assert_eq!(rt; report.held(), b"msoc-report 1 32 8 1 1\n".as_slice());
     assert_eq!(rt; notes.held(), b"report fault\n".as_slice());
@@ -92,7 +101,15 @@ fn an_input_that_fails_is_noted(rt: HostRuntime) -> Result<(), Fail> {
         let mut report = SureSink::new(alloc);
         let mut notes = SureSink::new(alloc);
         let words = words(alloc, &["maskcull", "cull"])?;
-        let status = run(&rt, alloc, &words, &mut input, &mut report, &mut notes);
+        let status = run(
+            &rt,
+            alloc,
+            &words,
+            &mut input,
+            &mut report,
+            &mut notes,
+            &OpenGate,
+        );
         assert_eq!(rt; status.code(), 4);
         assert_eq!(rt; report.held(), b"".as_slice());
         assert_eq!(rt; notes.held(), b"read fault\n".as_slice());
@@ -108,7 +125,15 @@ fn frames_before_a_report_fault_stand_whole(rt: HostRuntime) -> Result<(), Fail>
     let mut report = BytesSink::new(alloc, 4096, vec![in alloc; 6u64]?);
     let mut notes = SureSink::new(alloc);
     let words = words(alloc, &["maskcull", "cull"])?;
-    let status = run(&rt, alloc, &words, &mut input, &mut report, &mut notes);
+    let status = run(
+        &rt,
+        alloc,
+        &words,
+        &mut input,
+        &mut report,
+        &mut notes,
+        &OpenGate,
+    );
     assert_eq!(rt; status, Status::ReportFault);
     let front = concat!(
         "msoc-report 1 32 8 2 2\n",

@@ -7,6 +7,7 @@ use std::process::Abort;
 use std::sync::Wait;
 use std::test::*;
 use std::thread::Threads;
+use tile_queues::OpenGate;
 
 /// The first scene: a screen of 32 by 8, a quad at distance 2 and the rectangle of the whole screen at distance 3.
 pub const FIRST: [u8; 177] = [
@@ -118,7 +119,15 @@ pub fn run_with<R: Threads + Wait + Sync>(
     let mut report = SureSink::new(alloc);
     let mut notes = SureSink::new(alloc);
     let words = words(alloc, given)?;
-    let status = run(rt, alloc, &words, &mut input, &mut report, &mut notes);
+    let status = run(
+        rt,
+        alloc,
+        &words,
+        &mut input,
+        &mut report,
+        &mut notes,
+        &OpenGate,
+    );
     Ok(Ended {
         status,
         report: Vec::from_slice(alloc, report.held())?,

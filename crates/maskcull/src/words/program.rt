@@ -3,7 +3,7 @@ ghost use Rattle.std.specs.Prelude.{◌≡◌, pos, IfOk, IfErr, Some, [], ◌�
 ghost use Rattle.clap.specs.Words.{app_of, kind_of, new_rule, rule_of};
 ghost use Rattle.clap.specs.declared.builder.Command.TheViews.{out-Command as fields_of};
 ghost use Rattle.clap.specs.declared.builder.value_parser.ValueParser.TheVariants.{Signed};
-ghost use Rattle.maskcull.specs.App.{rule_for, workers, bins_x, bins_y, batch, seed, triangles, sharing_options, cull_options, demo_options, command_shape, the_app};
+ghost use Rattle.maskcull.specs.App.{rule_for, workers, bins_x, bins_y, batch, rounds, watch, seed, triangles, sharing_options, cull_options, live_options, demo_options, command_shape, the_app};
 
 use clap::error::ErrorKind;
 use clap::{Arg, Command, Error, value_parser};
@@ -19,6 +19,7 @@ Exit status:
   3  the input is no scene
   4  the input couldn't be read
   5  the report couldn't be written
+  6  the notes couldn't be written
   7  memory was wanted";
 
 const CULL_ABOUT: &str =
@@ -36,6 +37,30 @@ Exit status:
   4  the input couldn't be read
   5  the report couldn't be written
   7  memory was wanted";
+
+const LIVE_ABOUT: &str =
+    "Reads a scene and writes its report, as cull does, and notes looks at its objects while it is drawn";
+
+const LIVE_MORE: &str = "Reads the bytes of a scene from standard input, to their end.
+Writes to standard output the report, as cull does. No option changes a byte of it.
+While a frame is drawn, its first objects are looked at in turn, --watch of them or all where there are fewer, --rounds
+times over. After the frame's lines of the report, each look has a line on standard error: live, the frame, the round,
+the object, its verdict at the look, and TILE:COUNT for each tile of the object's area, where COUNT says from how many
+pieces of that tile's list the verdict was found.
+Notes on standard error why a run isn't done.
+
+Exit status:
+  0  done: the input was read, the report written and each look noted
+  2  the words were refused, or help was asked for
+  3  the input is no scene
+  4  the input couldn't be read
+  5  the report couldn't be written
+  6  the notes couldn't be written
+  7  memory was wanted";
+
+const ROUNDS_HELP: &str = "How often the objects are looked at in each frame, 1 to 8";
+
+const WATCH_HELP: &str = "How many of the first objects are looked at, 1 to 8";
 
 const DEMO_ABOUT: &str =
     "Makes a scene from a number and writes a summary of its report to standard output";
@@ -133,6 +158,18 @@ fn cull<'a>(alloc: Global) -> Result<Command<'a>, Error>
     sharing(alloc, "cull", CULL_ABOUT, CULL_MORE)
 }
 
+fn live<'a>(alloc: Global) -> Result<Command<'a>, Error>
+    ensures memory { IfErr result (λ e. kind_of e ≡ ErrorKind.OutOfMemory) }
+    ensures app { IfOk result (λ c. app_of c ≡ record { top = command_shape (codes "live") live_options; subs = [] }) }
+    ensures local { IfOk result (λ c. (fields_of c).has_globals ≡ false) }
+{
+    Ok(
+        sharing(alloc, "live", LIVE_ABOUT, LIVE_MORE)?
+            .arg(option(alloc, "rounds", 1, 8, "1", ROUNDS_HELP))?
+            .arg(option(alloc, "watch", 1, 8, "1", WATCH_HELP))?,
+    )
+}
+
 fn demo<'a>(alloc: Global) -> Result<Command<'a>, Error>
     ensures memory { IfErr result (λ e. kind_of e ≡ ErrorKind.OutOfMemory) }
     ensures app { IfOk result (λ c. app_of c ≡ record { top = command_shape (codes "demo") demo_options; subs = [] }) }
@@ -168,5 +205,10 @@ pub fn program<'a>(alloc: Global) -> Result<Command<'a>, Error>
         .about(ABOUT)
         .after_help(MORE)
         .subcommand_required(true);
-    Ok(program.subcommand(cull(alloc)?)?.subcommand(demo(alloc)?)?)
+    Ok(
+        program
+            .subcommand(cull(alloc)?)?
+            .subcommand(live(alloc)?)?
+            .subcommand(demo(alloc)?)?,
+    )
 }

@@ -1,7 +1,7 @@
 use Rattle.std.proofs.Common.{◌≡◌, length, subst, ap, ◌∙◌}
 use Rattle.cull_base.specs.Tiles.{PieceList, ArePieces}
 use Rattle.cull_base.specs.Screen.{tile_count_of}
-use Rattle.masked_update.specs.Drawn.{AreDrawn}
+use Rattle.tile_queues.specs.Frames.{HaveStates}
 use Rattle.cull_report.specs.Scene.{frame_list}
 use Rattle.maskcull.proofs.frames.draw.Goals as goal
 
@@ -13,9 +13,9 @@ verdicts_over-requires-clause-tiles g c =
 pub verdicts_over-requires-clause-drawn : goal.verdicts_over-requires-clause-drawn
 unfolding frame_list
 verdicts_over-requires-clause-drawn g c =
-    let drawn : AreDrawn (frame_list c.args.scene.now c.args.frame) c.deref.result.now =
-    rw c.deref.ensures.value (subst (λ (l : PieceList). AreDrawn l c.in_ok-states.states.items) c.in_ok-list.ensures.list c.in_ok-states.ensures.drawn) in
-    λ lifetimes within t lt. (drawn t lt).states
+    let drawn : HaveStates (frame_list c.args.scene.now c.args.frame) c.deref.result.now =
+    rw c.deref.ensures.value (subst (λ (l : PieceList). HaveStates l c.in_ok-states.states.items) c.in_ok-list.ensures.list c.in_ok-states.ensures.drawn) in
+    λ lifetimes within t lt. drawn t lt
 
 pub returns-clause-pieces : goal.returns-clause-pieces
 returns-clause-pieces g c = c.len-2.ensures.value ∙ ap (λ (l : PieceList). length l.members) c.in_ok-list.ensures.list

@@ -1,0 +1,30 @@
+use Rattle.std.proofs.Common.{◌≡◌, length, subst, ◌∙◌}
+use Rattle.cull_base.specs.Tiles.{PieceList, ArePieces}
+use Rattle.cull_base.specs.Screen.{tile_count_of}
+use Rattle.tile_queues.specs.Frames.{HaveStates}
+use Rattle.cull_report.specs.Scene.{frame_list}
+use Rattle.maskcull.proofs.LiveTexts.{kept_is_live}
+use Rattle.maskcull.proofs.live_frame.draw_live.Goals as goal
+
+pub returns-clause-live : goal.returns-clause-live
+returns-clause-live g c =
+    let new = c.draw_in_cells.new.caller in
+    let kept = c.in_ok-states.ensures.keeps in
+    let made = c.in_ok-caller.ensures in
+    kept_is_live c.args.scene.now c.args.looks.rounds c.args.looks.watch c.args.frame new.watched.scene.now new.watched.frame new.watched.objects new.lines.items c.in_ok-states.ensures.done.1
+    (kept.0 ∙ made.scene) (kept.1 ∙ made.frame) (kept.2 ∙ made.objects) (kept.3 ∙ made.lines)
+
+pub verdicts_over-requires-clause-tiles : goal.verdicts_over-requires-clause-tiles
+unfolding frame_list
+verdicts_over-requires-clause-tiles g c =
+    λ lifetimes within. rw c.deref.ensures.value (subst (λ (l : PieceList). length c.in_ok-states.states.items ≡ tile_count_of l.size) c.in_ok-list.ensures.list c.in_ok-states.ensures.tiles)
+
+pub verdicts_over-requires-clause-drawn : goal.verdicts_over-requires-clause-drawn
+unfolding frame_list
+verdicts_over-requires-clause-drawn g c =
+    let drawn : HaveStates (frame_list c.args.scene.now c.args.frame) c.deref.result.now =
+    rw c.deref.ensures.value (subst (λ (l : PieceList). HaveStates l c.in_ok-states.states.items) c.in_ok-list.ensures.list c.in_ok-states.ensures.drawn) in
+    λ lifetimes within t lt. drawn t lt
+
+pub returns-clause-valid : goal.returns-clause-valid
+returns-clause-valid g c = subst (λ (l : PieceList). ArePieces l.members) c.in_ok-list.ensures.list c.in_ok-states.ensures.pieces

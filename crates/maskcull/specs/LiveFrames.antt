@@ -1,0 +1,55 @@
+-- The live lines of a frame, as looks at its tiles make them.
+use Rattle.std.specs.Prelude.{ℕ, ◌≡◌, ◌<◌, ◌≤◌, ◌/◌, ◌%◌, List, length, slice_index_or}
+use Rattle.std.specs.List.{flat_map}
+use Rattle.cull_base.specs.declared.clip.ClipVertex.{ClipVertex}
+use Rattle.cull_base.specs.Screen.{Dimensions, tile_count_of}
+use Rattle.cull_base.specs.Tiles.{PieceList, tile_list}
+use Rattle.scene_reader.specs.Layout.{Parts, IsScene}
+use Rattle.tile_cells.specs.Snapshots.{HoldsExactly, SnapshotOf}
+use Rattle.cull_report.specs.Live.{IsRisingIn, IsStated, LiveLineOf, counts_held, frame_live, object_at, object_line, text_of_line}
+use Rattle.cull_report.specs.Scene.{frame_clips, frame_list, object_area, size_of}
+
+-- the parts are a scene's, which has this frame, whose clip vertices these are, and so many objects
+pub record IsWatching (s : Parts) (frame objects : ℕ) (clips : List ClipVertex) : Type 0 where
+  pub scene : IsScene s
+  pub is_frame : frame < length s.cameras
+  pub clips_are : clips ≡ frame_clips s frame
+  pub within : objects ≤ length s.objects
+
+-- room for the tiles that any snapshot of an object's area holds
+abbrev pub RoomFor : Parts → ℕ → ℕ → ℕ → Type 0
+RoomFor s frame o room =
+    (view : SnapshotOf) → view.size ≡ size_of s → HoldsExactly view (object_area s frame (object_at s o)) → length (counts_held view) ≤ room
+
+-- line i of a frame is of object i modulo the number of objects
+abbrev pub HaveRoom : Parts → ℕ → ℕ → List LiveLineOf → Type 0
+HaveRoom s frame objects lines =
+    (i : ℕ) (d : LiveLineOf) → i < length lines → RoomFor s frame (i % objects) (slice_index_or lines i d).room
+
+-- before a frame of this list is drawn: lines with room, and a snapshot of the scene's screen
+pub record IsReady (s : Parts) (frame objects : ℕ) (clips : List ClipVertex) (size : Dimensions) (lines : List LiveLineOf) (list : PieceList) : Type 0 where
+  pub watching : IsWatching s frame objects clips
+  pub list_is : list ≡ frame_list s frame
+  pub size_is : size ≡ size_of s
+  pub some : 0 < length lines → 0 < objects
+  pub few : length lines ≤ 64
+  pub room : HaveRoom s frame objects lines
+
+-- a line tells of an object in a round what was seen then: so many members of each tile's list
+pub record Tells (s : Parts) (frame round o : ℕ) (seen : ℕ → ℕ) (l : LiveLineOf) : Type 0 where
+  pub text : text_of_line l ≡ object_line s frame round o seen
+  pub within : (t : ℕ) → IsStated s frame o t → seen t ≤ length (tile_list t (frame_list s frame))
+
+-- The first k lines of a frame tell of so many objects, round after round. What is seen of a tile never falls from line to line.
+pub record AreLooks (s : Parts) (frame objects : ℕ) (seen : ℕ → ℕ → ℕ) (k : ℕ) (lines : List LiveLineOf) : Type 0 where
+  pub tell : (i : ℕ) (d : LiveLineOf) → i < k → Tells s frame (i / objects) (i % objects) (seen i) (slice_index_or lines i d)
+  pub rises : (i j t : ℕ) → i < j → j < k → t < tile_count_of (size_of s) → seen i t ≤ seen j t
+
+abbrev pub HaveLooked : Parts → ℕ → ℕ → List LiveLineOf → Type 0
+HaveLooked s frame objects lines = (seen : ℕ → ℕ → ℕ) × AreLooks s frame objects seen (length lines) lines
+
+-- the lines are a frame's live text, of counts that rise
+pub record AreLive (s : Parts) (rounds watch frame : ℕ) (lines : List LiveLineOf) : Type 0 where
+  pub counts : ℕ → ℕ → ℕ → ℕ
+  pub rising : IsRisingIn s rounds watch frame counts
+  pub spelled : flat_map text_of_line lines ≡ frame_live s rounds watch counts frame
