@@ -2,18 +2,23 @@
 ghost use Rattle.std.specs.Prelude.{◌≡◌, [], OnOk};
 
 use cull_base::Memory;
+use smallvec::SmallVec;
 use std::alloc::Global;
 use std::marker::Model;
 
-/// The room that a part takes with its first index: small batches then grow no part twice.
+/// So many indices stand in a part itself: most parts of small batches take no memory of their own, which another thread
+/// would have to give back.
 const ROOM: usize = 16;
+
+/// The room that a part takes when it has more: those of small batches grow once.
+const MORE: usize = 48;
 
 /// Of a batch's pieces those that meet a bin, by their indices in the frame list, rising.
 #[derive(Drop)]
 pub struct BinPart {
     bin: u32,
     batch: u32,
-    indices: Vec<u32>,
+    indices: SmallVec<u32, ROOM, Global>,
 }
 
 impl Model for BinPart {
@@ -34,7 +39,7 @@ impl BinPart {
         BinPart {
             bin,
             batch,
-            indices: Vec::new(alloc),
+            indices: SmallVec::new(alloc),
         }
     }
 
@@ -43,8 +48,8 @@ impl BinPart {
     pub(crate) fn push(&mut self, index: u32) -> Result<(), Memory>
         ensures { OnOk result (self.new ≡ with_index index self.old) }
     {
-        if self.indices.is_empty() {
-            self.indices.reserve(ROOM).map_err(|_| Memory)?;
+        if self.indices.len() == ROOM {
+            self.indices.reserve(MORE).map_err(|_| Memory)?;
         }
         self.indices.push(index).map_err(|_| Memory)
     }
