@@ -1,5 +1,5 @@
 -- How many members a bin has drawn, one place more at a time.
-use Rattle.std.proofs.Common.{◌≡◌, ℕ, zero, suc, ◌+◌, ◌*◌, ◌≤◌, List, [], ◌∷◌, ◌++◌, length, Bool, true, false, cond, arith, get_or, replicate, refl, ap, ◌∙◌, sym, subst}
+use Rattle.std.proofs.Common.{◌≡◌, ℕ, zero, suc, ◌+◌, ◌≤◌, List, [], ◌∷◌, ◌++◌, length, Bool, true, false, cond, arith, get_or, replicate, refl, ap, ◌∙◌, sym, subst}
 use Rattle.std.proofs.lemmas.List.{append-nil, get_or-replicate, length-append}
 use Rattle.std.proofs.Math.ListN.{length-replicate}
 use Rattle.cull_base.specs.Tiles.{PieceList}
@@ -7,7 +7,7 @@ use Rattle.binning.specs.Cut.{CutOf, bin_count_of}
 use Rattle.binning.specs.Bins.{bin_rect_of}
 use Rattle.binning.specs.Places.{NoneMeets, meets_at, places_in}
 use Rattle.binning.proofs.Places.{places_in-append, places_in-next, places_in-nil, places_in-none}
-use Rattle.tile_queues.specs.Bins.{HaveTaken, bins_owned, drawn_of}
+use Rattle.tile_queues.specs.Bins.{HaveTaken, drawn_of}
 
 module _ (list : PieceList) (cut : CutOf) (bin : ℕ) where
   pub drawn_none : drawn_of list cut 0 bin ≡ 0
@@ -52,11 +52,11 @@ module _ (list : PieceList) (cut : CutOf) (bin : ℕ) where
       let one = at_most_one (meets_at (bin_rect_of list.size cut bin) list.members n) in
       subst (λ k. drawn_of list cut k bin ≤ k) (sym e) (omega (arith, next, rest, one))
 
--- none of a worker's bins has drawn any
-pub none_taken : (list : PieceList) (cut : CutOf) (workers worker n : ℕ) (taken : List ℕ) → taken ≡ replicate n 0 → n ≡ bins_owned (bin_count_of cut) workers worker → HaveTaken list cut workers 0 worker taken
-none_taken list cut workers worker n taken is count =
+-- no bin has drawn any
+pub none_taken : (list : PieceList) (cut : CutOf) (n : ℕ) (taken : List ℕ) → taken ≡ replicate n 0 → n ≡ bin_count_of cut → HaveTaken list cut 0 taken
+none_taken list cut n taken is count =
     let long : length taken ≡ n = ap length is ∙ length-replicate n 0 in
     record {
       count = long ∙ count;
-      each = λ j lt. ap (λ (ks : List ℕ). get_or ks j 0) is ∙ get_or-replicate n j 0 0 (omega (arith, lt, long)) ∙ sym (drawn_none list cut (j * workers + worker));
+      each = λ b lt. ap (λ (ks : List ℕ). get_or ks b 0) is ∙ get_or-replicate n b 0 0 (omega (arith, lt, long)) ∙ sym (drawn_none list cut b);
     }

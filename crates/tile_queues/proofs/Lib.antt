@@ -4,6 +4,15 @@ pub mod Owning
 pub mod Lists
 pub mod Storing
 pub mod Slotting
-pub mod Handing
 pub mod OneBin
-pub mod Fullness
+pub mod QueueKeeps
+pub mod NumberKeeps
+pub mod Intaking
+pub mod Submitting
+pub mod Taking
+pub mod Making
+pub mod Returning
+pub mod Dealing
+pub mod Draining
+pub mod Ending
+pub mod Keeping

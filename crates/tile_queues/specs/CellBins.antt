@@ -1,6 +1,5 @@
 -- The writers of a bin's tiles, and slots from which they are taken and into which they are put back.
-use Rattle.std.specs.Prelude.{◌≡◌, ℕ, ◌+◌, ◌/◌, ◌%◌, ◌*◌, ◌<◌, ◌||◌, Bool, cond, List, length, slice_index_or, All, IfSome}
-use Rattle.std.specs.declared.option.Option.{Option}
+use Rattle.std.specs.Prelude.{◌≡◌, ℕ, ◌+◌, ◌/◌, ◌%◌, ◌*◌, ◌||◌, Bool, cond, List, length, slice_index_or}
 use Rattle.atomic_table.specs.Seated.{TableId}
 use Rattle.cull_base.specs.Piece.{Piece, box_of}
 use Rattle.cull_base.specs.Rectangle.{meets}
@@ -14,7 +13,6 @@ use Rattle.masked_update.specs.Walk.{is_in_row}
 use Rattle.tile_cells.specs.Cells.{Writing}
 use Rattle.tile_cells.specs.Standing.{StandsAt}
 use Rattle.tile_queues.specs.declared.cell_bin.CellBin.{CellBin}
-use Rattle.tile_queues.specs.declared.worker.Worker.{Worker}
 
 -- The writers of the tiles of a window, row by row. Each took those of the list's first k members that are its own, and
 -- one more where the test holds.
@@ -55,17 +53,3 @@ tile_numbered size window n =
 -- the writer took those of the list's first k members that are its tile's
 abbrev pub Stands : List TableId → PieceList → ℕ → Writing → Type 0
 Stands cells list k w = StandsAt cells list k w.tile w
-
--- and so did all writers of these bins
-abbrev pub BinsStand : List TableId → PieceList → ℕ → List CellBin → Type 0
-BinsStand cells list k bins = All (λ (b : CellBin). All (Stands cells list k) b.writers.items) bins
-
--- and of all bins of these workers
-abbrev pub WorkersStand : List TableId → PieceList → ℕ → List (Worker CellBin) → Type 0
-WorkersStand cells list k all = All (λ (w : Worker CellBin). BinsStand cells list k w.bins.items) all
-
--- slots for all tiles: what a tile's slot holds is the tile's writer, at the first k members
-abbrev pub AreSlotsAt : List TableId → PieceList → ℕ → List (Option Writing) → Type 0
-AreSlotsAt cells list k slots =
-    (t : ℕ) (d : Option Writing) → t < length slots
-    → IfSome (slice_index_or slots t d) (λ w. StandsAt cells list k t w)

@@ -4,4 +4,11 @@ pub mod CellBins
 pub mod Passing
 pub mod Callers
 pub mod Frames
-pub mod Slots
+pub mod QueueParts
+pub mod QueueRule
+pub mod NumberRule
+pub mod Tasks
+pub mod Intakes
+pub mod Submitters
+pub mod Owners
+pub mod Shares

@@ -105,6 +105,8 @@ impl<'a, R: Wait> Keeper<InCells<'a, R>> for CellBin {
     ghost use Rattle.tile_queues.specs.CellBins.{AreWritersAt};
     ghost use Rattle.tile_queues.specs.Passing.{writers_pass};
 
+    ghost cells = { λ beside. beside.cells.now };
+
     ghost stands = { λ k beside list window n. AreWritersAt beside.cells.now list window n k };
 
     fn draw_member(

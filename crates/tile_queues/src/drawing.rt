@@ -1,66 +1,420 @@
-//! The drawing by all workers, side by side.
-ghost use Rattle.std.specs.Prelude.{◌≡◌, ◌≤◌, ◌<◌, true, length};
-ghost use Rattle.tile_queues.specs.Bins.{AreDone, AreReady, AreRoomsOf, AreWorkersAt, HaveTaken, IsWorkerAt};
+//! The drawing of all batches: binned, submitted and drained at once, and drained to the end.
+ghost use Rattle.std.specs.Prelude.{◌≡◌, ◌≤◌, ◌<◌, length, OnOk};
+ghost use Rattle.binning.specs.Cut.{bin_count_of};
+ghost use Rattle.tile_queues.specs.QueueParts.{batched, batches_in};
+ghost use Rattle.tile_queues.specs.Shares.{AreDealt, AreDrained, AreOutside, AreShares, HoldsFrom, IsDrainedIn, IsShare, IsTaskIn};
+ghost use Rattle.tile_queues.specs.Tasks.{IsSubmitterOf};
 
+use crate::batches::submit_all;
 use crate::gate::Gate;
 use crate::keeper::Keeper;
-use crate::worker::{Worker, draw_worker};
-use binning::Cut;
-use cull_base::FrameList;
+use crate::queues::BinQueues;
+use crate::sender::Sender;
+use crate::share::Share;
+use crate::task::Task;
+use binning::{Cut, batch_count};
+use cull_base::{FrameList, Memory};
 use side_by_side::for_each_share;
-use std::thread::Threads;
+use std::alloc::Global;
+use std::sync::Wait;
+use std::thread::{Threads, join_mut};
 
-/// A thread is worth its start for so many pieces.
-const SHARE: u32 = 512;
-
-/// How many threads draw so many pieces by so many workers: each is worth its start.
-pub(crate) fn threads_for(pieces: u32, workers: u32) -> usize
-    ensures { 0 < result }
+// Draws what is in the queue of a task's bin.
+fn drain_one<R: Wait, B, K: Keeper<B>, G: Gate>(
+    rt: &R,
+    queues: &BinQueues,
+    task: &mut Task<K>,
+    beside: &B,
+    list: &FrameList,
+    _cut: &Cut,
+    _size: u32,
+    _told: u32,
+    _bin: u32,
+    gate: &G,
+)
+    requires { let frame = batched list.now.list _cut.now _size (K.cells beside.now) in
+        IsTaskIn K.stands beside.now queues.now frame _told _bin task.old }
+    ensures { let frame = batched list.now.list _cut.now _size (K.cells beside.now) in
+        IsDrainedIn K.stands beside.now queues.now frame _told _bin task.new }
 {
-    (pieces / SHARE).min(workers).max(1) as usize
+    queues.drain_any(rt, task, beside, list, gate);
 }
 
-/// Draws all batches, the workers side by side by at most so many threads.
-pub(crate) fn draw_all<R: Threads + Sync, B: Sync, K: Keeper<B> + Send, G: Gate>(
+// Draws what is in the queues of some of a worker's bins, bin by bin.
+fn drain_some<R: Wait, B, K: Keeper<B>, G: Gate>(
     rt: &R,
-    all: &mut [Worker<K>],
+    queues: &BinQueues,
+    tasks: &mut [Task<K>],
+    from: usize,
+    to: usize,
+    beside: &B,
+    list: &FrameList,
+    cut: &Cut,
+    size: u32,
+    told: u32,
+    workers: u32,
+    worker: u32,
+    gate: &G,
+)
+    requires within { to ≤ length tasks.old }
+    requires few_tasks { length tasks.old ≤ 64 }
+    requires worker { worker < workers }
+    requires few { workers ≤ 64 }
+    requires tasks { let frame = batched list.now.list cut.now size (K.cells beside.now) in
+        HoldsFrom (IsTaskIn K.stands beside.now queues.now frame told) workers worker from to tasks.old }
+    ensures drained { let frame = batched list.now.list cut.now size (K.cells beside.now) in
+        HoldsFrom (IsDrainedIn K.stands beside.now queues.now frame told) workers worker from to tasks.new }
+    ensures others { AreOutside from to tasks.old tasks.new }
+{
+    for j in from..to {
+        let bin = j as u32 * workers + worker;
+        drain_one(
+            rt,
+            queues,
+            &mut tasks[j],
+            beside,
+            list,
+            cut,
+            size,
+            told,
+            bin,
+            gate,
+        );
+    }
+}
+
+// Draws what is in the queues of a worker's bins: from the middle of the screen on, and then those before. There most is
+// drawn, so that the submitter is ahead when bins come that are drawn faster than it bins.
+fn drain_share<R: Wait, B, K: Keeper<B>, G: Gate>(
+    rt: &R,
+    queues: &BinQueues,
+    tasks: &mut [Task<K>],
+    beside: &B,
+    list: &FrameList,
+    cut: &Cut,
+    size: u32,
+    told: u32,
+    workers: u32,
+    worker: u32,
+    gate: &G,
+)
+    requires worker { worker < workers }
+    requires few { workers ≤ 64 }
+    requires share { let frame = batched list.now.list cut.now size (K.cells beside.now) in
+        IsShare (IsTaskIn K.stands beside.now queues.now frame told) workers (bin_count_of cut.now) worker tasks.old }
+    ensures { let frame = batched list.now.list cut.now size (K.cells beside.now) in
+        IsShare (IsDrainedIn K.stands beside.now queues.now frame told) workers (bin_count_of cut.now) worker
+        tasks.new }
+{
+    let _bins = cut.bins();
+    let count = tasks.len();
+    let middle = count / 2;
+    drain_some(
+        rt, queues, tasks, middle, count, beside, list, cut, size, told, workers, worker, gate,
+    );
+    drain_some(
+        rt, queues, tasks, 0, middle, beside, list, cut, size, told, workers, worker, gate,
+    );
+}
+
+// Draws what is in the queues, the workers side by side in at most so many threads.
+fn drain_all<R: Threads + Wait + Sync, B: Sync, K: Keeper<B> + Send, G: Gate>(
+    rt: &R,
+    queues: &BinQueues,
+    shares: &mut [Share<K>],
+    beside: &B,
+    list: &FrameList,
+    cut: &Cut,
+    size: u32,
+    told: u32,
+    workers: u32,
+    threads: u32,
+    gate: &G,
+)
+    requires some { 0 < workers }
+    requires threads { 0 < threads }
+    requires few { workers ≤ 64 }
+    requires shares { let frame = batched list.now.list cut.now size (K.cells beside.now) in
+        AreShares K.stands beside.now queues.now frame told workers shares.old }
+    ensures { let frame = batched list.now.list cut.now size (K.cells beside.now) in
+        AreDrained K.stands beside.now queues.now frame told workers shares.new }
+{
+    for_each_share(
+        rt,
+        shares,
+        threads as usize,
+        &|w: usize, own: &mut Share<K>|
+            requires worker { w < workers }
+            requires few { workers ≤ 64 }
+            requires share { let frame = batched list.now.list cut.now size (K.cells beside.now) in
+                IsShare (IsTaskIn K.stands beside.now queues.now frame told) workers (bin_count_of cut.now) w
+                own.old.tasks.items }
+            ensures { let frame = batched list.entry.now.list cut.entry.now size (K.cells beside.entry.now) in
+                IsShare (IsDrainedIn K.stands beside.entry.now queues.entry.now frame told) workers
+                (bin_count_of cut.entry.now) w own.new.tasks.items }
+        {
+            drain_share(
+                rt,
+                queues,
+                own.tasks.as_mut_slice(),
+                beside,
+                list,
+                cut,
+                size,
+                told,
+                workers,
+                w as u32,
+                gate,
+            )
+        },
+    );
+}
+
+// Tells a task how many batches were submitted.
+fn tell_one<B, K: Keeper<B>>(
+    queues: &BinQueues,
+    sender: &mut Sender,
+    task: &mut Task<K>,
+    _beside: &B,
+    _list: &FrameList,
+    _cut: &Cut,
+    _size: u32,
+    _batches: u32,
+    _bin: u32,
+)
+    requires sender { IsSubmitterOf queues.now sender.old }
+    requires frame { sender.old.frame ≡ batched _list.now.list _cut.now _size (K.cells _beside.now) }
+    requires all { sender.old.batches ≡ _batches }
+    requires task { IsTaskIn K.stands _beside.now queues.now sender.old.frame 0 _bin task.old }
+    ensures same { sender.new ≡ sender.old }
+    ensures task { IsTaskIn K.stands _beside.now queues.now sender.old.frame _batches _bin task.new }
+{
+    queues.tell(sender, &mut task.intake);
+}
+
+// Tells each task of a worker.
+fn tell_share<B, K: Keeper<B>>(
+    queues: &BinQueues,
+    sender: &mut Sender,
+    tasks: &mut [Task<K>],
+    beside: &B,
+    list: &FrameList,
+    cut: &Cut,
+    size: u32,
+    batches: u32,
+    workers: u32,
+    worker: u32,
+)
+    requires worker { worker < workers }
+    requires few { workers ≤ 64 }
+    requires sender { IsSubmitterOf queues.now sender.old }
+    requires frame { sender.old.frame ≡ batched list.now.list cut.now size (K.cells beside.now) }
+    requires all { sender.old.batches ≡ batches }
+    requires share { IsShare (IsTaskIn K.stands beside.now queues.now sender.old.frame 0) workers
+        (bin_count_of cut.now) worker tasks.old }
+    ensures same { sender.new ≡ sender.old }
+    ensures share { IsShare (IsTaskIn K.stands beside.now queues.now sender.old.frame batches) workers
+        (bin_count_of cut.now) worker tasks.new }
+{
+    let _bins = cut.bins();
+    for j in 0..tasks.len() {
+        let bin = j as u32 * workers + worker;
+        tell_one(
+            queues,
+            sender,
+            &mut tasks[j],
+            beside,
+            list,
+            cut,
+            size,
+            batches,
+            bin,
+        );
+    }
+}
+
+// Tells each task of a worker, which is lent whole.
+fn tell_worker<B, K: Keeper<B>>(
+    queues: &BinQueues,
+    sender: &mut Sender,
+    own: &mut Share<K>,
+    beside: &B,
+    list: &FrameList,
+    cut: &Cut,
+    size: u32,
+    batches: u32,
+    workers: u32,
+    worker: u32,
+)
+    requires worker { worker < workers }
+    requires few { workers ≤ 64 }
+    requires sender { IsSubmitterOf queues.now sender.old }
+    requires frame { sender.old.frame ≡ batched list.now.list cut.now size (K.cells beside.now) }
+    requires all { sender.old.batches ≡ batches }
+    requires share { IsShare (IsTaskIn K.stands beside.now queues.now sender.old.frame 0) workers
+        (bin_count_of cut.now) worker own.old.tasks.items }
+    ensures same { sender.new ≡ sender.old }
+    ensures share { IsShare (IsTaskIn K.stands beside.now queues.now sender.old.frame batches) workers
+        (bin_count_of cut.now) worker own.new.tasks.items }
+{
+    let tasks = own.tasks.as_mut_slice();
+    tell_share(
+        queues, sender, tasks, beside, list, cut, size, batches, workers, worker,
+    );
+}
+
+// Tells the tasks of all workers.
+fn tell_all<B, K: Keeper<B>>(
+    queues: &BinQueues,
+    sender: &mut Sender,
+    shares: &mut [Share<K>],
+    beside: &B,
+    list: &FrameList,
+    cut: &Cut,
+    size: u32,
+    batches: u32,
+    workers: u32,
+)
+    requires few { workers ≤ 64 }
+    requires sender { IsSubmitterOf queues.now sender.old }
+    requires frame { sender.old.frame ≡ batched list.now.list cut.now size (K.cells beside.now) }
+    requires all { sender.old.batches ≡ batches }
+    requires shares { AreDealt (IsTaskIn K.stands beside.now queues.now sender.old.frame 0) workers
+        (bin_count_of cut.now) shares.old }
+    ensures same { sender.new ≡ sender.old }
+    ensures shares { AreDealt (IsTaskIn K.stands beside.now queues.now sender.old.frame batches) workers
+        (bin_count_of cut.now) shares.new }
+{
+    for w in 0..shares.len() {
+        tell_worker(
+            queues,
+            sender,
+            &mut shares[w],
+            beside,
+            list,
+            cut,
+            size,
+            batches,
+            workers,
+            w as u32,
+        );
+    }
+}
+
+// Submits all batches, while the workers drain what is there. Nobody waits for another. The caller submits: so batches
+// are there when the workers have started.
+fn submit_and_drain<R: Threads + Wait + Sync, B: Sync, K: Keeper<B> + Send, G: Gate>(
+    rt: &R,
+    alloc: Global,
+    queues: &BinQueues,
+    sender: &mut Sender,
+    shares: &mut [Share<K>],
     beside: &B,
     list: &FrameList,
     cut: &Cut,
     size: u32,
     workers: u32,
-    threads: usize,
     gate: &G,
-)
+) -> Result<(), Memory>
     requires size { 1 ≤ size }
+    requires some { 0 < workers }
     requires few { workers ≤ 64 }
-    requires threads { 0 < threads }
-    requires ready { AreReady K.stands beside.now list.now.list cut.now workers all.old }
-    ensures { let drawn = length list.now.list.members in
-        AreWorkersAt K.stands beside.now list.now.list cut.now workers drawn all.new }
+    requires sender { IsSubmitterOf queues.now sender.old }
+    requires frame { sender.old.frame ≡ batched list.now.list cut.now size (K.cells beside.now) }
+    requires none { sender.old.batches ≡ 0 }
+    requires shares { let frame = batched list.now.list cut.now size (K.cells beside.now) in
+        AreShares K.stands beside.now queues.now frame 0 workers shares.old }
+    ensures submitted { OnOk result
+        (sender.new ≡ record sender.old { batches = batches_in sender.old.frame }) }
+    ensures shares { let frame = batched list.now.list cut.now size (K.cells beside.now) in
+        AreDrained K.stands beside.now queues.now frame 0 workers shares.new }
 {
-    for_each_share(
+    let ((), submitted) = join_mut(
         rt,
-        all,
-        threads,
-        &|w: usize, own: &mut Worker<K>|
-            requires size { 1 ≤ size }
-            requires worker { w < workers }
+        &mut ||
+            requires some { 0 < workers }
             requires few { workers ≤ 64 }
-            requires rooms { AreRoomsOf list.now.list.size cut.now workers w own.old.rooms.items }
-            requires taken { HaveTaken list.now.list cut.now workers 0 w own.old.taken.items }
-            requires bins { IsWorkerAt K.stands beside.now list.now.list cut.now workers 0 w own.old.bins.items }
-            ensures { let drawn = length list.entry.now.list.members in
-                own.new.is_done ≡ true
-                → IsWorkerAt K.stands beside.entry.now list.entry.now.list cut.entry.now workers drawn w
-                own.new.bins.items }
-        { draw_worker(own, beside, list, cut, size, workers, w as u32, gate) },
+            requires shares { let frame = batched list.now.list cut.now size (K.cells beside.now) in
+                AreShares K.stands beside.now queues.now frame 0 workers shares.now }
+            ensures { let frame = batched list.entry.now.list cut.entry.now size (K.cells beside.entry.now) in
+                AreDrained K.stands beside.entry.now queues.entry.now frame 0 workers shares.exit.now }
+        {
+            drain_all(
+                rt, queues, shares, beside, list, cut, size, 0, workers, workers, gate,
+            )
+        },
+        &mut || -> Result<(), Memory>
+            requires queues { IsSubmitterOf queues.now sender.now }
+            requires list { sender.now.frame.list ≡ list.now.list }
+            requires cut { sender.now.frame.cut ≡ cut.now }
+            requires size { sender.now.frame.size ≡ size }
+            requires some { 1 ≤ size }
+            requires none { sender.now.batches ≡ 0 }
+            ensures { OnOk result
+                (sender.exit.now ≡ record sender.entry.now { batches = batches_in sender.entry.now.frame }) }
+        { submit_all(rt, alloc, queues, sender, list, cut, size, gate) },
     );
+    submitted
 }
 
-/// Whether all workers drew all batches.
-pub(crate) fn are_done<K>(all: &[Worker<K>]) -> bool
-    ensures { result ≡ true → AreDone all.now }
+fn have_drawn<K>(tasks: &[Task<K>], batches: u32) -> bool {
+    tasks.iter().all(|task| task.intake.batches() == batches)
+}
+
+// In how many threads the rest is drained: no other than the caller's where all batches are drawn.
+fn threads_for_rest<K>(shares: &[Share<K>], batches: u32, workers: u32) -> u32
+    requires some { 0 < workers }
+    ensures { 0 < result }
 {
-    all.iter().all(|worker| worker.is_done)
+    if shares
+        .iter()
+        .all(|share| have_drawn(share.tasks.as_slice(), batches))
+    {
+        1
+    } else {
+        workers
+    }
+}
+
+/// Draws all batches. The submitter bins and submits them, while each worker drains each of its bins once; when these
+/// have returned each task is told that all are submitted, and the workers drain to the end. Err where memory gave out.
+/// Conditions: the sender and the tasks are of these queues and of this frame, and nothing is submitted yet.
+pub(crate) fn draw_all<R: Threads + Wait + Sync, B: Sync, K: Keeper<B> + Send, G: Gate>(
+    rt: &R,
+    alloc: Global,
+    queues: &BinQueues,
+    sender: &mut Sender,
+    shares: &mut [Share<K>],
+    beside: &B,
+    list: &FrameList,
+    cut: &Cut,
+    size: u32,
+    workers: u32,
+    gate: &G,
+) -> Result<(), Memory>
+    requires size { 1 ≤ size }
+    requires some { 0 < workers }
+    requires few { workers ≤ 64 }
+    requires sender { IsSubmitterOf queues.now sender.old }
+    requires frame { sender.old.frame ≡ batched list.now.list cut.now size (K.cells beside.now) }
+    requires none { sender.old.batches ≡ 0 }
+    requires shares { let frame = batched list.now.list cut.now size (K.cells beside.now) in
+        AreShares K.stands beside.now queues.now frame 0 workers shares.old }
+    ensures submitted { OnOk result
+        (sender.new ≡ record sender.old { batches = batches_in sender.old.frame }) }
+    ensures drawn { let frame = batched list.now.list cut.now size (K.cells beside.now) in
+        OnOk result (AreDrained K.stands beside.now queues.now frame (batches_in frame) workers shares.new) }
+{
+    submit_and_drain(
+        rt, alloc, queues, sender, shares, beside, list, cut, size, workers, gate,
+    )?;
+    let batches = batch_count(list.len(), size);
+    tell_all(
+        queues, sender, shares, beside, list, cut, size, batches, workers,
+    );
+    let threads = threads_for_rest(shares, batches, workers);
+    drain_all(
+        rt, queues, shares, beside, list, cut, size, batches, workers, threads, gate,
+    );
+    Ok(())
 }

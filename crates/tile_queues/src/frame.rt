@@ -1,20 +1,26 @@
 //! A frame drawn by workers through cells, while a caller reads them.
 ghost use Rattle.std.specs.Prelude.{◌≡◌, ◌≤◌, ◌<◌, length, IfOk, OnOk};
+ghost use Rattle.binning.specs.Cut.{bin_count_of};
 ghost use Rattle.binning.specs.Parts.{batch_count_of};
 ghost use Rattle.cull_base.specs.Screen.{tile_count_of};
 ghost use Rattle.cull_base.specs.Tiles.{ArePieces};
 ghost use Rattle.tile_cells.specs.Cells.{AreFresh};
 ghost use Rattle.tile_cells.specs.Standing.{AreStanding, IsReading};
-ghost use Rattle.tile_queues.specs.Bins.{AreReady, AreWorkersAt};
-ghost use Rattle.tile_queues.specs.Callers.{Follows};
 ghost use Rattle.tile_queues.specs.CellBins.{StandsInCells};
+ghost use Rattle.tile_queues.specs.Callers.{Follows};
+ghost use Rattle.tile_queues.specs.QueueParts.{batched, batches_in};
+ghost use Rattle.tile_queues.specs.Shares.{AreDrained, AreShares};
+ghost use Rattle.tile_queues.specs.Tasks.{IsSubmitterOf};
 
 use crate::caller::Caller;
 use crate::cell_bin::{CellBin, InCells};
-use crate::drawing::{are_done, draw_all, threads_for};
+use crate::cell_shares::{deal, take_tasks};
+use crate::drawing::draw_all;
 use crate::gate::Gate;
-use crate::slots::{fill_slots, hand_back, take_workers};
-use crate::worker::Worker;
+use crate::queues::BinQueues;
+use crate::sender::Sender;
+use crate::share::Share;
+use crate::submitter::Submitter;
 use binning::Cut;
 use cull_base::{FrameList, Memory};
 use std::alloc::Global;
@@ -25,23 +31,35 @@ use tile_cells::{TileCells, TileReader, TileWriter};
 // Draws all batches into the cells.
 fn draw_cells<R: Threads + Wait + Sync, G: Gate>(
     rt: &R,
+    alloc: Global,
+    queues: &BinQueues,
+    sender: &mut Sender,
+    shares: &mut [Share<CellBin>],
     cells: &TileCells,
-    all: &mut [Worker<CellBin>],
     list: &FrameList,
     cut: &Cut,
     size: u32,
     workers: u32,
     gate: &G,
-)
+) -> Result<(), Memory>
     requires size { 1 ≤ size }
+    requires some { 0 < workers }
     requires few { workers ≤ 64 }
-    requires ready { AreReady StandsInCells cells.now list.now.list cut.now workers all.old }
-    ensures { let drawn = length list.now.list.members in
-        AreWorkersAt StandsInCells cells.now list.now.list cut.now workers drawn all.new }
+    requires sender { IsSubmitterOf queues.now sender.old }
+    requires frame { sender.old.frame ≡ batched list.now.list cut.now size cells.now }
+    requires none { sender.old.batches ≡ 0 }
+    requires shares { let frame = batched list.now.list cut.now size cells.now in
+        AreShares StandsInCells cells.now queues.now frame 0 workers shares.old }
+    ensures submitted { OnOk result
+        (sender.new ≡ record sender.old { batches = batches_in sender.old.frame }) }
+    ensures drawn { let frame = batched list.now.list cut.now size cells.now in
+        OnOk result (AreDrained StandsInCells cells.now queues.now frame (batches_in frame) workers shares.new) }
 {
-    let threads = threads_for(list.len(), workers);
     let beside = InCells { rt, cells };
-    draw_all(rt, all, &beside, list, cut, size, workers, threads, gate);
+    draw_all(
+        rt, alloc, queues, sender, shares, &beside, list, cut, size, workers, gate,
+    )?;
+    Ok(())
 }
 
 // The caller reads the cells.
@@ -64,8 +82,11 @@ fn read_cells<R: Threads + Wait + Sync, C: Caller>(
 // Draws all batches into the cells, while the caller reads them. The caller has a thread of its own.
 fn draw_and_read<R: Threads + Wait + Sync, G: Gate, C: Caller>(
     rt: &R,
+    alloc: Global,
+    queues: &BinQueues,
+    sender: &mut Sender,
+    shares: &mut [Share<CellBin>],
     cells: &TileCells,
-    all: &mut [Worker<CellBin>],
     reader: &mut TileReader,
     list: &FrameList,
     cut: &Cut,
@@ -73,19 +94,26 @@ fn draw_and_read<R: Threads + Wait + Sync, G: Gate, C: Caller>(
     workers: u32,
     gate: &G,
     caller: &mut C,
-)
+) -> Result<(), Memory>
     requires size { 1 ≤ size }
+    requires some { 0 < workers }
     requires few { workers ≤ 64 }
-    requires all { AreReady StandsInCells cells.now list.now.list cut.now workers all.old }
+    requires sender { IsSubmitterOf queues.now sender.old }
+    requires frame { sender.old.frame ≡ batched list.now.list cut.now size cells.now }
+    requires none { sender.old.batches ≡ 0 }
+    requires shares { let frame = batched list.now.list cut.now size cells.now in
+        AreShares StandsInCells cells.now queues.now frame 0 workers shares.old }
     requires reader { IsReading cells.now list.now.list reader.old }
     requires ready { C.ready caller.old list.now.list }
-    ensures drawn { let drawn = length list.now.list.members in
-        AreWorkersAt StandsInCells cells.now list.now.list cut.now workers drawn all.new }
+    ensures submitted { OnOk result
+        (sender.new ≡ record sender.old { batches = batches_in sender.old.frame }) }
+    ensures drawn { let frame = batched list.now.list cut.now size cells.now in
+        OnOk result (AreDrained StandsInCells cells.now queues.now frame (batches_in frame) workers shares.new) }
     ensures done { C.done caller.new list.now.list reader.new }
     ensures keeps { C.keeps caller.old caller.new }
     ensures follows { Follows reader.old reader.new }
 {
-    join_mut(
+    let ((), drawn) = join_mut(
         rt,
         &mut ||
             requires reader { IsReading cells.now list.now.list reader.now }
@@ -94,23 +122,38 @@ fn draw_and_read<R: Threads + Wait + Sync, G: Gate, C: Caller>(
             ensures keeps { C.keeps caller.entry.now caller.exit.now }
             ensures follows { Follows reader.entry.now reader.exit.now }
         { read_cells(rt, cells, reader, list, caller) },
-        &mut ||
+        &mut || -> Result<(), Memory>
             requires size { 1 ≤ size }
+            requires some { 0 < workers }
             requires few { workers ≤ 64 }
-            requires all { AreReady StandsInCells cells.now list.now.list cut.now workers all.now }
-            ensures { let drawn = length list.entry.now.list.members in
-                AreWorkersAt StandsInCells cells.entry.now list.entry.now.list cut.entry.now workers drawn all.exit.now }
-        { draw_cells(rt, cells, all, list, cut, size, workers, gate) },
+            requires sender { IsSubmitterOf queues.now sender.now }
+            requires frame { sender.now.frame ≡ batched list.now.list cut.now size cells.now }
+            requires none { sender.now.batches ≡ 0 }
+            requires shares { let frame = batched list.now.list cut.now size cells.now in
+                AreShares StandsInCells cells.now queues.now frame 0 workers shares.now }
+            ensures submitted { OnOk result
+                (sender.exit.now ≡ record sender.entry.now { batches = batches_in sender.entry.now.frame }) }
+            ensures drawn { let frame = batched list.entry.now.list cut.entry.now size cells.entry.now in
+                OnOk result (AreDrained StandsInCells cells.entry.now queues.entry.now frame (batches_in frame) workers
+                shares.exit.now) }
+        {
+            draw_cells(
+                rt, alloc, queues, sender, shares, cells, list, cut, size, workers, gate,
+            )
+        },
     );
+    drawn
 }
 
 /// A frame drawn by workers through cells, while a caller reads them: each member of a tile's list is a store in its
 /// cell. The writers are given back in tile order, each of these cells and at the length of its tile's list, whatever
-/// the cut, the number of workers and the size of batches. Bin b belongs to worker b mod workers. The caller is lent
-/// these cells and this reader, in a thread of its own, and is done afterwards. The gate is asked before a bin draws a
-/// member, with the number that it has drawn. Err where memory gave out: the writers are given up then. Conditions: the
-/// cells are of this list, the writers and the reader are those that were made with them, and no member is drawn; the
-/// caller is ready; 1 to 64 workers, and a batch has at least one piece, so that there are at most 2048.
+/// the cut, the number of workers and the size of batches. Batches are binned and submitted to the queues of bins in
+/// order, while the workers drain these; bin b belongs to worker b mod workers. The caller is lent
+/// these cells and this reader, in a thread of its own, and is done afterwards. The gate is asked before a batch is
+/// binned, and before a bin draws a member, with the number that it has drawn. Err where memory gave out: the writers
+/// are given up then. Conditions: the cells are of this list, the writers and the reader are those that were made with
+/// them, and no member is drawn; the caller is ready; 1 to 64 workers, and a batch has at least one piece, so that
+/// there are at most 2048.
 pub fn draw_frame<R: Threads + Wait + Sync, G: Gate, C: Caller>(
     rt: &R,
     alloc: Global,
@@ -142,15 +185,24 @@ pub fn draw_frame<R: Threads + Wait + Sync, G: Gate, C: Caller>(
     // accessors tell what is held of a cut and of a list
     let (_columns, _len) = (cut.columns(), list.len());
     let workers = workers.min(cut.bins());
-    let mut slots = fill_slots(alloc, cells, list, writers)?;
-    let slice = slots.as_mut_slice();
-    let mut all = take_workers(alloc, slice, cells, list, cut, batch, workers)?;
-    let slice = all.as_mut_slice();
+    let (queues, submitter, tasks) = BinQueues::make(rt, alloc, list, cut, batch, writers)?;
+    let (mut sender, slots, room) = submitter.into_parts();
+    let mut shares = deal(alloc, &queues, tasks, cells, list, cut, batch, workers)?;
     draw_and_read(
-        rt, cells, slice, reader, list, cut, batch, workers, gate, caller,
-    );
-    if !are_done(all.as_slice()) {
-        return Err(Memory);
-    }
-    hand_back(alloc, cells, list, cut, workers, all)
+        rt,
+        alloc,
+        &queues,
+        &mut sender,
+        shares.as_mut_slice(),
+        cells,
+        reader,
+        list,
+        cut,
+        batch,
+        workers,
+        gate,
+        caller,
+    )?;
+    let tasks = take_tasks(alloc, &queues, shares, cells, list, cut, batch, workers)?;
+    Ok(queues.close(Submitter::of(sender, slots, room), tasks))
 }

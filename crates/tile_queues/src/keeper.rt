@@ -4,12 +4,16 @@ use cull_base::FrameList;
 
 /// Keeps the tiles of a bin. B is what lies beside them and is needed to draw.
 pub(crate) trait Keeper<B> {
-    ghost use Rattle.std.specs.Prelude.{◌≡◌, ◌<◌, ◌+◌, ℕ, length};
+    ghost use Rattle.std.specs.Prelude.{◌≡◌, ◌<◌, ◌+◌, ℕ, List, length};
+    ghost use Rattle.atomic_table.specs.Seated.{TableId};
     ghost use Rattle.cull_base.specs.Span.{IsSpan};
     ghost use Rattle.cull_base.specs.Tiles.{PieceList};
     ghost use Rattle.cull_base.specs.declared.tile_span.TileSpan.{TileSpan};
     ghost use Rattle.masked_update.specs.Canvas.{MissBetween};
     ghost use Rattle.binning.specs.Bins.{bin_span_of};
+
+    /// The cells beside, where tiles lie in cells.
+    ghost cells: { B → List TableId };
 
     /// Its tiles are those of a window, and each took those of the list's first members, of so many, that are its own.
     ghost stands: { Self → B → PieceList → TileSpan → ℕ → Type 0 };

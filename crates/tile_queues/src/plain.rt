@@ -8,6 +8,9 @@ use masked_update::Canvas;
 
 impl Keeper<()> for Canvas {
     ghost use Rattle.tile_queues.specs.Plain.{StandsPlain, plain_passes};
+    ghost use Rattle.std.specs.Prelude.{[]};
+
+    ghost cells = { λ beside. [] };
 
     ghost stands = { StandsPlain };
 

@@ -1,120 +1,36 @@
-//! A frame over plain tiles: each worker owns the tiles of its bins, draws them and hands them back.
-ghost use Rattle.std.specs.Prelude.{◌≡◌, ◌≤◌, ◌<◌, ◌+◌, ◌*◌, length, IfOk, OnOk};
+//! A frame over plain tiles, which nobody reads while they are drawn.
+ghost use Rattle.std.specs.Prelude.{◌≡◌, ◌≤◌, ◌<◌, ◌+◌, length, IfOk, OnOk};
 ghost use Rattle.cull_base.specs.Screen.{tile_count_of};
 ghost use Rattle.cull_base.specs.Tiles.{ArePieces, tile_after};
 ghost use Rattle.binning.specs.Cut.{bin_count_of};
 ghost use Rattle.binning.specs.Parts.{batch_count_of};
-ghost use Rattle.tile_queues.specs.Bins.{AreDone, AreReady, AreWorkersAt, IsWorkerAt};
+ghost use Rattle.tile_queues.specs.Bins.{AreBinsAt};
 ghost use Rattle.tile_queues.specs.Frames.{HaveStates};
 ghost use Rattle.tile_queues.specs.Plain.{StandsPlain};
 
-use crate::drawing::{are_done, draw_all, threads_for};
+use crate::drawing::draw_all;
 use crate::gate::Gate;
+use crate::one_worker::draw_batches;
+use crate::plain_shares::{deal_empty, gather};
+use crate::queues::BinQueues;
 use crate::unbinned::draw_unbinned;
-use crate::worker::{Worker, ready_worker};
 use binning::{Cut, bin_of_tile, bin_span};
 use cull_base::{FrameList, Memory};
 use masked_update::{Canvas, TileState};
 use std::alloc::Global;
+use std::sync::Wait;
 use std::thread::Threads;
 
-// The tiles of a worker's bins, all empty.
-fn empty_bins(
-    alloc: Global,
-    list: &FrameList,
-    cut: &Cut,
-    workers: u32,
-    worker: u32,
-) -> Result<Vec<Canvas>, Memory>
-    requires worker { worker < workers }
-    requires few { workers ≤ 64 }
-    ensures { IfOk result (λ v. IsWorkerAt StandsPlain (tt {0}) list.now.list cut.now workers 0 worker v.items) }
-{
-    let count = (cut.bins() + workers - 1 - worker) / workers;
-    let mut bins = Vec::with_capacity(alloc, count as usize).map_err(|_| Memory)?;
-    for j in 0..count {
-        let window = bin_span(list.size(), cut, j * workers + worker);
-        let canvas = Canvas::empty(alloc, window)?;
-        bins.push_reserved(canvas);
-    }
-    Ok(bins)
-}
-
-// So many workers with their bins, all tiles empty.
-fn make_workers(
-    alloc: Global,
-    list: &FrameList,
-    cut: &Cut,
-    size: u32,
-    workers: u32,
-) -> Result<Vec<Worker<Canvas>>, Memory>
-    requires { workers ≤ 64 }
-    ensures { IfOk result (λ v. AreReady StandsPlain (tt {0}) list.now.list cut.now workers v.items) }
-{
-    let mut all = Vec::with_capacity(alloc, workers as usize).map_err(|_| Memory)?;
-    for worker in 0..workers {
-        let bins = empty_bins(alloc, list, cut, workers, worker)?;
-        let own = ready_worker(alloc, bins, list, cut, size, workers, worker)?;
-        all.push_reserved(own);
-    }
-    Ok(all)
-}
-
-// A tile as its bin's worker hands it back.
-fn tile_of(
-    all: &[Worker<Canvas>],
-    list: &FrameList,
-    cut: &Cut,
-    workers: u32,
-    tile: u32,
-) -> TileState
-    requires some { 0 < workers }
-    requires tile { tile < tile_count_of list.now.list.size }
-    requires done { AreDone all.now }
-    requires drawn { let drawn = length list.now.list.members in
-        AreWorkersAt StandsPlain (tt {0}) list.now.list cut.now workers drawn all.now }
-    ensures { result.subs ≡ tile_after list.now.list.size tile list.now.list.members }
-{
-    let size = list.size();
-    // accessors tell what is held of a size, of a cut and of a list
-    let (_width, _columns, _len) = (size.width(), cut.columns(), list.len());
-    let bin = bin_of_tile(size, cut, tile);
-    let own = &all[(bin % workers) as usize];
-    own.bins[(bin / workers) as usize].tile(size.tile_at(tile))
-}
-
-// All tiles, in order.
-fn gather(
-    alloc: Global,
-    all: &[Worker<Canvas>],
-    list: &FrameList,
-    cut: &Cut,
-    workers: u32,
-) -> Result<Vec<TileState>, Memory>
-    requires some { 0 < workers }
-    requires done { AreDone all.now }
-    requires drawn { let drawn = length list.now.list.members in
-        AreWorkersAt StandsPlain (tt {0}) list.now.list cut.now workers drawn all.now }
-    ensures tiles { IfOk result (λ v. length v.items ≡ tile_count_of list.now.list.size) }
-    ensures drawn { IfOk result (λ v. HaveStates list.now.list v.items) }
-{
-    let count = list.size().tile_count();
-    let mut tiles = Vec::with_capacity(alloc, count as usize).map_err(|_| Memory)?;
-    for tile in 0..count {
-        let state = tile_of(all, list, cut, workers, tile);
-        tiles.push_reserved(state);
-    }
-    Ok(tiles)
-}
-
-// All tiles of a screen that is one bin. It needs neither workers nor batches.
+// All tiles of a screen that is one bin. It needs neither workers nor parts.
 fn draw_one_bin<G: Gate>(
     alloc: Global,
     list: &FrameList,
     cut: &Cut,
+    batch: u32,
     gate: &G,
 ) -> Result<Vec<TileState>, Memory>
-    requires { bin_count_of cut.now ≡ 1 }
+    requires one { bin_count_of cut.now ≡ 1 }
+    requires batch { 1 ≤ batch }
     ensures tiles { IfOk result (λ v. length v.items ≡ tile_count_of list.now.list.size) }
     ensures drawn { IfOk result (λ v. HaveStates list.now.list v.items) }
 {
@@ -122,44 +38,120 @@ fn draw_one_bin<G: Gate>(
     // accessors tell what is held of a size, of a cut and of a list
     let (_width, _columns, _len) = (size.width(), cut.columns(), list.len());
     let mut canvas = Canvas::empty(alloc, bin_span(size, cut, 0))?;
-    draw_unbinned(&mut canvas, &(), list, cut, 0, gate);
+    draw_unbinned(&mut canvas, &(), list, cut, 0, batch, gate);
     Ok(canvas.into_tiles())
 }
 
-// All tiles, drawn by so many workers.
-fn draw_by_workers<R: Threads + Sync, G: Gate>(
+// The tiles of all bins, all empty.
+fn empty_bins(alloc: Global, list: &FrameList, cut: &Cut) -> Result<Vec<Canvas>, Memory>
+    ensures { IfOk result (λ v. AreBinsAt StandsPlain (tt {0}) list.now.list cut.now 0 v.items) }
+{
+    let count = cut.bins();
+    let mut bins = Vec::with_capacity(alloc, count as usize).map_err(|_| Memory)?;
+    for bin in 0..count {
+        let window = bin_span(list.size(), cut, bin);
+        let canvas = Canvas::empty(alloc, window)?;
+        bins.push_reserved(canvas);
+    }
+    Ok(bins)
+}
+
+// A tile as it stands in its bin.
+fn tile_of(bins: &[Canvas], list: &FrameList, cut: &Cut, tile: u32) -> TileState
+    requires tile { tile < tile_count_of list.now.list.size }
+    requires drawn { let drawn = length list.now.list.members in
+        AreBinsAt StandsPlain (tt {0}) list.now.list cut.now drawn bins.now }
+    ensures { result.subs ≡ tile_after list.now.list.size tile list.now.list.members }
+{
+    let size = list.size();
+    // accessors tell what is held of a size, of a cut and of a list
+    let (_width, _columns, _len) = (size.width(), cut.columns(), list.len());
+    let bin = bin_of_tile(size, cut, tile);
+    bins[bin as usize].tile(size.tile_at(tile))
+}
+
+// All tiles, in order.
+fn tiles_in_order(
+    alloc: Global,
+    bins: &[Canvas],
+    list: &FrameList,
+    cut: &Cut,
+) -> Result<Vec<TileState>, Memory>
+    requires { let drawn = length list.now.list.members in
+        AreBinsAt StandsPlain (tt {0}) list.now.list cut.now drawn bins.now }
+    ensures tiles { IfOk result (λ v. length v.items ≡ tile_count_of list.now.list.size) }
+    ensures drawn { IfOk result (λ v. HaveStates list.now.list v.items) }
+{
+    let count = list.size().tile_count();
+    let mut tiles = Vec::with_capacity(alloc, count as usize).map_err(|_| Memory)?;
+    for tile in 0..count {
+        let state = tile_of(bins, list, cut, tile);
+        tiles.push_reserved(state);
+    }
+    Ok(tiles)
+}
+
+// All tiles, drawn by one worker.
+fn draw_by_one<G: Gate>(
+    alloc: Global,
+    list: &FrameList,
+    cut: &Cut,
+    batch: u32,
+    gate: &G,
+) -> Result<Vec<TileState>, Memory>
+    requires batch { 1 ≤ batch }
+    ensures tiles { IfOk result (λ v. length v.items ≡ tile_count_of list.now.list.size) }
+    ensures drawn { IfOk result (λ v. HaveStates list.now.list v.items) }
+{
+    let mut bins = empty_bins(alloc, list, cut)?;
+    let slice = bins.as_mut_slice();
+    draw_batches(alloc, slice, &(), list, cut, batch, gate)?;
+    tiles_in_order(alloc, slice, list, cut)
+}
+
+// All tiles, drawn by so many workers while the batches are binned.
+fn draw_by_workers<R: Threads + Wait + Sync, G: Gate>(
     rt: &R,
     alloc: Global,
     list: &FrameList,
     cut: &Cut,
     workers: u32,
-    size: u32,
+    batch: u32,
     gate: &G,
 ) -> Result<Vec<TileState>, Memory>
-    requires some { 1 ≤ workers }
+    requires some { 0 < workers }
     requires few { workers ≤ 64 }
-    requires size { 1 ≤ size }
+    requires batch { 1 ≤ batch }
+    requires batches { batch_count_of (length list.now.list.members) batch ≤ 2048 }
     ensures tiles { IfOk result (λ v. length v.items ≡ tile_count_of list.now.list.size) }
     ensures drawn { IfOk result (λ v. HaveStates list.now.list v.items) }
 {
-    let threads = threads_for(list.len(), workers);
-    let mut all = make_workers(alloc, list, cut, size, workers)?;
-    let slice = all.as_mut_slice();
-    draw_all(rt, slice, &(), list, cut, size, workers, threads, gate);
-    if !are_done(all.as_slice()) {
-        return Err(Memory);
-    }
-    gather(alloc, all.as_slice(), list, cut, workers)
+    let (queues, mut sender, intakes) = BinQueues::open(alloc, list, cut, batch, &[])?;
+    let mut shares = deal_empty(alloc, &queues, intakes, list, cut, batch, workers)?;
+    let slice = shares.as_mut_slice();
+    draw_all(
+        rt,
+        alloc,
+        &queues,
+        &mut sender,
+        slice,
+        &(),
+        list,
+        cut,
+        batch,
+        workers,
+        gate,
+    )?;
+    gather(alloc, slice, &queues, list, cut, batch, workers)
 }
 
 /// A frame over plain tiles, which nobody reads while they are drawn: each tile of the screen has the states after the
 /// whole list, whatever the cut, the number of workers and the size of batches. Of counts nothing is said. Bin b
-/// belongs to worker b mod workers, which owns its tiles while it draws them: of one batch after another, each of so
-/// many pieces, it makes the parts of its own bins and draws them. One bin needs no batches, and no thread is started
-/// for a list that isn't worth one. The gate is asked before a bin draws a member, with the number that it has drawn.
-/// Err where memory gave out. Conditions: 1 to 64 workers, and a batch has at least one piece, so that there are at
-/// most 2048.
-pub fn draw_plain_frame<R: Threads + Sync, G: Gate>(
+/// belongs to worker b mod workers, which owns its tiles while it draws them. Two or more workers draw batches from the
+/// queues of their bins while these are binned; one needs no queue, and one bin no parts. The gate is asked before a
+/// batch is binned, and before a bin draws a member, with the number that it has drawn. Err where memory gave out.
+/// Conditions: 1 to 64 workers, and a batch has at least one piece, so that there are at most 2048.
+pub fn draw_plain_frame<R: Threads + Wait + Sync, G: Gate>(
     rt: &R,
     alloc: Global,
     list: &FrameList,
@@ -179,9 +171,12 @@ pub fn draw_plain_frame<R: Threads + Sync, G: Gate>(
     // accessors tell what is held of a cut and of a list
     let (_columns, _len) = (cut.columns(), list.len());
     let bins = cut.bins();
+    let workers = workers.min(bins);
     if bins == 1 {
-        draw_one_bin(alloc, list, cut, gate)
+        draw_one_bin(alloc, list, cut, batch, gate)
+    } else if workers == 1 {
+        draw_by_one(alloc, list, cut, batch, gate)
     } else {
-        draw_by_workers(rt, alloc, list, cut, workers.min(bins), batch, gate)
+        draw_by_workers(rt, alloc, list, cut, workers, batch, gate)
     }
 }

@@ -1,11 +1,12 @@
-//! Frames drawn by workers have the tiles of the plain drawing, and ask their gate once for each member of a bin.
+//! Frames drawn by workers have the tiles of the plain drawing, and ask their gate once for each member of a bin and
+//! once for each batch.
 ghost use Rattle.std.specs.Prelude.{◌≡◌, ◌*◌, ◌<◌, ◌≤◌, length, IfOk};
 ghost use Rattle.binning.specs.Cut.{bin_count_of};
 ghost use Rattle.binning.specs.Parts.{batch_count_of};
 ghost use Rattle.tile_queues.specs.Callers.{Follows};
 
 use crate::{Caller, Gate, OpenGate, draw_frame, draw_plain_frame};
-use binning::{Cut, batch_size, bin_rect};
+use binning::{Cut, batch_count, batch_size, bin_rect};
 use cull_base::{FrameList, Memory, ScreenTri, Size};
 use masked_update::{TileState, TileView, draw_plain};
 use std::alloc::Global;
@@ -126,11 +127,13 @@ fn drawn_in_cells<R: Threads + Wait + Sync, G: Gate>(
     Ok((cells.close(rt, writers, readers), looker.count))
 }
 
-// How often a gate was asked before each member of each bin, for so many members of a bin at most.
+// How often a gate was asked before each member of each bin, for so many members of a bin at most, and before how many
+// batches, one after another.
 #[derive(Drop)]
 struct Questions {
     most: u32,
     asked: Vec<AtomicU32>,
+    batches: AtomicU32,
     others: AtomicU32,
 }
 
@@ -144,6 +147,7 @@ impl Questions {
         Ok(Questions {
             most,
             asked,
+            batches: AtomicU32::new(0),
             others: AtomicU32::new(0),
         })
     }
@@ -165,20 +169,27 @@ impl Questions {
         })
     }
 
-    // Whether each bin of a cut was asked once for each of the list's members that meet it, in their order.
-    fn are_those_of(&self, list: &FrameList, cut: &Cut) -> bool {
+    // Whether each bin of a cut was asked once for each of the list's members that meet it, in their order, and each of
+    // so many batches once, in order.
+    fn are_those_of(&self, list: &FrameList, cut: &Cut, batches: u32) -> bool {
         for bin in 0..cut.bins() {
             if !self.are_below(bin, met_by(list, cut, bin)) {
                 return false;
             }
         }
-        self.others.load(Ordering::SeqCst) == 0
+        self.batches.load(Ordering::SeqCst) == batches && self.others.load(Ordering::SeqCst) == 0
     }
 }
 
 impl Gate for Questions {
     fn before(&self, bin: u32, taken: u32) {
         self.counter(bin, taken).fetch_add(1, Ordering::SeqCst);
+    }
+
+    fn submits(&self, batch: u32) {
+        if self.batches.fetch_add(1, Ordering::SeqCst) != batch {
+            self.others.fetch_add(1, Ordering::SeqCst);
+        }
     }
 }
 
@@ -197,7 +208,7 @@ fn met_by(list: &FrameList, cut: &Cut, bin: u32) -> u32
 }
 
 // Whether so many workers, of a screen cut into so many columns and rows of bins, draw in both forms the states that
-// one draws, and ask once for each member of each bin.
+// one draws, and ask once for each member of each bin and for each batch.
 fn both_are_alike<R: Threads + Wait + Sync>(
     rt: &R,
     alloc: Global,
@@ -213,6 +224,7 @@ fn both_are_alike<R: Threads + Wait + Sync>(
 {
     let cut = Cut::new(columns, rows).ok_or("a cut")?;
     let batch = batch_size(list.len(), asked);
+    let batches = batch_count(list.len(), batch);
     let states = draw_plain(alloc, list)?;
     let plain = Questions::with_room(alloc, cut.bins(), list.len())?;
     let tiles = draw_plain_frame(rt, alloc, list, &cut, workers, batch, &plain)?;
@@ -221,8 +233,8 @@ fn both_are_alike<R: Threads + Wait + Sync>(
     Ok(
         are_alike(tiles.as_slice(), states.as_slice())
             && are_alike(held.as_slice(), states.as_slice())
-            && plain.are_those_of(list, &cut)
-            && in_cells.are_those_of(list, &cut)
+            && plain.are_those_of(list, &cut, batches)
+            && in_cells.are_those_of(list, &cut, batches)
             && seen.is_some(),
     )
 }

@@ -5,7 +5,7 @@ use Rattle.cull_base.specs.declared.place.Tile.{Tile}
 use Rattle.masked_update.specs.Canvas.{tile_on}
 use Rattle.masked_update.specs.TileOf.{TileOf}
 use Rattle.binning.specs.Bins.{bin_of}
-use Rattle.tile_queues.proofs.Owning.{held_tile}
+use Rattle.tile_queues.proofs.Ending.{held_bin}
 use Rattle.tile_queues.proofs.plain_frame.tile_of.Goals as goal
 
 pub tile-requires : goal.tile-requires
@@ -14,9 +14,8 @@ tile-requires c =
     let sized = subst (λ (s : Dimensions). IsSize s.width s.height) c.size-size.ensures c.width-width.ensures.valid in
     let bin = c.bin_of_tile-bin.ensures.value ∙ ap (λ (s : Dimensions). bin_of s cut c.args.tile) c.size-size.ensures in
     let place = c.tile_at.ensures.value ∙ ap (λ (s : Dimensions). tile_place s c.args.tile) c.size-size.ensures in
-    let h = held_tile l cut c.args.workers c.args.tile c.bin_of_tile-bin.result sized c.columns-columns.ensures.valid c.requires.some c.requires.tile bin c.bin_of_tile-bin.ensures.within c.len-len.ensures.pieces
-    c.args.all.now c.requires.done c.requires.drawn c.index-all-bin.result c.index-all-bin.is c.index.result.now c.index.ensures in
-    subst (λ (p : Tile). has_tile c.index.result.now.window p ≡ true) (sym place) h.within
+    let h = held_bin l cut c.args.tile c.bin_of_tile-bin.result c.args.bins.now c.index-bins-bin.result sized c.columns-columns.ensures.valid c.requires.tile bin c.bin_of_tile-bin.ensures.within c.len-len.ensures.pieces c.requires.drawn c.index-bins-bin.is in
+    subst (λ (p : Tile). has_tile c.index-bins-bin.result.window p ≡ true) (sym place) h.within
 
 pub returns : goal.returns
 returns c =
@@ -24,6 +23,5 @@ returns c =
     let sized = subst (λ (s : Dimensions). IsSize s.width s.height) c.size-size.ensures c.width-width.ensures.valid in
     let bin = c.bin_of_tile-bin.ensures.value ∙ ap (λ (s : Dimensions). bin_of s cut c.args.tile) c.size-size.ensures in
     let place = c.tile_at.ensures.value ∙ ap (λ (s : Dimensions). tile_place s c.args.tile) c.size-size.ensures in
-    let h = held_tile l cut c.args.workers c.args.tile c.bin_of_tile-bin.result sized c.columns-columns.ensures.valid c.requires.some c.requires.tile bin c.bin_of_tile-bin.ensures.within c.len-len.ensures.pieces
-    c.args.all.now c.requires.done c.requires.drawn c.index-all-bin.result c.index-all-bin.is c.index.result.now c.index.ensures in
-    ap (λ (s : TileOf). s.subs) (c.tile.ensures ∙ ap (tile_on c.index.result.now) place) ∙ h.states
+    let h = held_bin l cut c.args.tile c.bin_of_tile-bin.result c.args.bins.now c.index-bins-bin.result sized c.columns-columns.ensures.valid c.requires.tile bin c.bin_of_tile-bin.ensures.within c.len-len.ensures.pieces c.requires.drawn c.index-bins-bin.is in
+    ap (λ (s : TileOf). s.subs) (c.tile.ensures ∙ ap (tile_on c.index-bins-bin.result) place) ∙ h.states

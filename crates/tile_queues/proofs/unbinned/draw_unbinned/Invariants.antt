@@ -1,10 +1,11 @@
-use Rattle.std.proofs.Common.{◌≡◌}
+use Rattle.std.proofs.Common.{◌≡◌, ◌*◌, min, length}
 use Rattle.tile_queues.specs.Bins.{IsBinAt, drawn_of}
 use Rattle.tile_queues.proofs.unbinned.draw_unbinned.Given as goal
 
-abbrev pub invariant-loop-index : goal.invariant-loop-index
-invariant-loop-index g l =
+abbrev pub invariant-loop-batch : goal.invariant-loop-batch
+invariant-loop-batch g l =
     record {
-      taken : l.taken ≡ drawn_of l.list.list l.cut l.index l.bin;
-      stands : IsBinAt g.K.Keeper.stands l.beside l.list.list l.cut l.index l.bin l.keeper;
+      from : l.from ≡ min (l.batch * l.size) (length l.list.list.members);
+      taken : l.taken ≡ drawn_of l.list.list l.cut l.from l.bin;
+      stands : IsBinAt g.K.Keeper.stands l.beside l.list.list l.cut l.from l.bin l.keeper;
     }

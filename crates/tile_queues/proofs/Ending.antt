@@ -1,0 +1,129 @@
+-- Frames whose tasks drew all batches have the tiles of the whole list.
+use Rattle.std.proofs.Common.{◌≡◌, ℕ, ◌+◌, ◌-◌, ◌*◌, ◌/◌, ◌%◌, ◌<◌, ◌≤◌, List, [], length, get_or, option_map, true, arith, ap, ◌∙◌, sym, subst}
+use Rattle.std.proofs.lemmas.List.{length-map}
+use Rattle.std.proofs.lemmas.Nat.{div-add-mod', mod_below}
+use Rattle.std.proofs.lemmas.Option.{slice_get-get_or, slice_get-map}
+use Rattle.atomic_table.specs.Seated.{TableId}
+use Rattle.binning.specs.Bins.{bin_of, bin_span_of}
+use Rattle.binning.specs.Cut.{CutOf, IsCut, bin_count_of}
+use Rattle.binning.proofs.BinSpans.{in_span}
+use Rattle.binning.proofs.Laws.{batches_end}
+use Rattle.cull_base.specs.Screen.{IsSize, tile_count_of, tile_place}
+use Rattle.cull_base.specs.Span.{has_tile}
+use Rattle.cull_base.specs.Tiles.{ArePieces, PieceList, tile_after}
+use Rattle.masked_update.specs.Canvas.{CanvasOf, tile_in}
+use Rattle.masked_update.proofs.Canvases.{drawn_in}
+use Rattle.tile_cells.proofs.Lists.{same_lists}
+use Rattle.tile_cells.specs.Cells.{AreFresh, Writing}
+use Rattle.tile_cells.specs.Standing.{AreStanding, StandsAt}
+use Rattle.tile_queues.specs.Bins.{AreBinsAt}
+use Rattle.tile_queues.specs.CellBins.{StandsInCells}
+use Rattle.tile_queues.specs.declared.cell_bin.CellBin.{CellBin}
+use Rattle.tile_queues.specs.Owners.{AreHandedBack}
+use Rattle.tile_queues.specs.Plain.{IsPlainAt, StandsPlain}
+use Rattle.tile_queues.specs.QueueParts.{BatchedFrame, BinOfFrame, batched, batches_in, bin_of_frame, places_before}
+use Rattle.tile_queues.specs.Shares.{AreDrained, AreWhole, IsDrainedIn}
+use Rattle.tile_queues.specs.Tasks.{HoldsBin, IsTaskOf, QueuesOf, StandsAtBatches, Tasking, cells_of}
+use Rattle.tile_queues.specs.declared.share.Share.{Share}
+use Rattle.tile_queues.specs.declared.task.Task.{Task}
+use Rattle.tile_queues.proofs.Dealing.{one_of}
+use Rattle.tile_queues.proofs.Owning.{belongs}
+
+-- all batches have the whole list
+pub places_end : (frame : BatchedFrame) → 1 ≤ frame.size → places_before frame (batches_in frame) ≡ length frame.list.members
+places_end frame some = batches_end (length frame.list.members) frame.size (omega (arith, some))
+
+-- a tile stands in a canvas and has the states after the whole list there
+pub record Held (list : PieceList) (tile : ℕ) (c : CanvasOf) : Type 0 where
+  pub within : has_tile c.window (tile_place list.size tile) ≡ true
+  pub states : (tile_in list.size c tile).subs ≡ tile_after list.size tile list.members
+
+-- so does one in the canvas of its bin, at the whole list
+pub held_at : (list : PieceList) (cut : CutOf) (tile bin : ℕ) (c : CanvasOf) → IsSize list.size.width list.size.height → IsCut cut.columns cut.rows → tile < tile_count_of list.size → bin ≡ bin_of list.size cut tile → ArePieces list.members
+    → IsPlainAt list (bin_span_of list.size cut bin) (length list.members) c → Held list tile c
+held_at list cut tile bin c sized valid lt is pieces k =
+    let on : has_tile c.window (tile_place list.size tile) ≡ true = subst (λ win. has_tile win (tile_place list.size tile) ≡ true) (sym k.window_is) (in_span list.size cut bin tile sized valid lt (sym is)) in
+    record {
+      within = on;
+      states = (drawn_in list c sized pieces k.stands tile (record { on_screen = lt; within = on })).states;
+    }
+
+-- where the bins of one worker stand at the whole list
+pub held_bin : (list : PieceList) (cut : CutOf) (tile bin : ℕ) (bins : List CanvasOf) (c : CanvasOf) → IsSize list.size.width list.size.height → IsCut cut.columns cut.rows → tile < tile_count_of list.size → bin ≡ bin_of list.size cut tile → bin < bin_count_of cut
+    → ArePieces list.members → AreBinsAt StandsPlain (tt {0}) list cut (length list.members) bins → c ≡ get_or bins bin c → Held list tile c
+held_bin list cut tile bin bins c sized valid lt is below pieces at here =
+    let count = at.count in
+    held_at list cut tile bin c sized valid lt is pieces (subst (IsPlainAt list (bin_span_of list.size cut bin) (length list.members)) (sym here) (at.each bin c (omega (arith, below, count))))
+
+-- the task of a bin is the worker's to which it belongs
+pub held_task : (queues : QueuesOf) (list : PieceList) (cut : CutOf) (size workers bin : ℕ) → 1 ≤ size → 0 < workers → bin < bin_count_of cut → (shares : List (Share CanvasOf))
+    → (let frame = batched list cut size [] in AreDrained StandsPlain (tt {0}) queues frame (batches_in frame) workers shares)
+    → (own : Share CanvasOf) → own ≡ get_or shares (bin % workers) own → (t : Task CanvasOf) → t ≡ get_or own.tasks.items (bin / workers) t → IsPlainAt list (bin_span_of list.size cut bin) (length list.members) t.keeper
+held_task queues list cut size workers bin some any below shares drawn own of t is =
+    let frame = batched list cut size [] in
+    let mine = mod_below bin workers any in
+    let count = drawn.count in
+    let share = drawn.each (bin % workers) own (omega (arith, count, mine)) in
+    let owned = share.count in
+    let same = ap (λ (s : Share CanvasOf). s.tasks.items) of in
+    let inside = belongs (bin_count_of cut) workers bin any below in
+    let there : IsDrainedIn StandsPlain (tt {0}) queues frame (batches_in frame) (bin / workers * workers + bin % workers) (get_or (get_or shares (bin % workers) own).tasks.items (bin / workers) t) = share.each (bin / workers) t (omega (arith, owned, inside)) in
+    let task : IsDrainedIn StandsPlain (tt {0}) queues frame (batches_in frame) bin t = subst (λ (x : ℕ × Task CanvasOf). IsDrainedIn StandsPlain (tt {0}) queues frame (batches_in frame) x.0 x.1) (λ i. (div-add-mod' bin workers i, (ap (λ (l : List (Task CanvasOf)). get_or l (bin / workers) t) (sym same) ∙ sym is) i)) there in
+    let named = task.task.of_is in
+    let whole : t.intake.batches ≡ batches_in frame = task.whole (λ i. batches_in frame) in
+    let at : StandsAtBatches StandsPlain (tt {0}) t.intake t.keeper = task.task.at in
+    let placed : IsPlainAt list (bin_span_of list.size cut bin) (places_before frame t.intake.batches) t.keeper = subst (λ (b : BinOfFrame). IsPlainAt b.frame.list (bin_span_of b.frame.list.size b.frame.cut b.bin) (places_before b.frame t.intake.batches) t.keeper) named at in
+    subst (λ n. IsPlainAt list (bin_span_of list.size cut bin) n t.keeper) (ap (places_before frame) whole ∙ places_end frame some) placed
+
+-- the cells of new writers
+pub fresh_cells : (cells : List TableId) (list : PieceList) (ws : List Writing) → AreFresh cells list (length cells) ws → cells_of ws ≡ cells
+fresh_cells cells list ws fresh =
+    let whole = fresh.whole in
+    let ids : length (cells_of ws) ≡ length ws = length-map ws (λ (w : Writing). w.cell) in
+    same_lists (cells_of ws) cells (ids ∙ whole) (λ t lt.
+    let below : t < length ws = omega (arith, lt, whole) in
+    let d = one_of ws t below in
+    slice_get-map (λ (w : Writing). w.cell) ws t ∙ ap (option_map (λ (w : Writing). w.cell)) (slice_get-get_or ws t d below) ∙ sym (fresh.at t d lt))
+
+-- the writers that are handed back stand at the whole list
+pub standing_back : (queues : QueuesOf) (frame : BatchedFrame) (tasks : List Tasking) (ws : List Writing) → 1 ≤ frame.size → length frame.cells ≡ tile_count_of frame.list.size → AreWhole queues frame tasks → AreHandedBack frame tasks ws
+    → AreStanding frame.cells frame.list (length frame.list.members) ws
+standing_back queues frame tasks ws some cells whole back = record {
+  whole = back.whole ∙ sym cells;
+  each = λ t d lt.
+      let there = back.each t d (omega (arith, lt, cells)) in
+      let i = there.0 in
+      let e = one_of tasks i there.1 in
+      let at : StandsAt frame.cells frame.list (places_before frame (get_or tasks i e).batches) t (get_or ws t d) = (there.2 e).1 in
+      subst (λ n. StandsAt frame.cells frame.list n t (get_or ws t d)) (ap (places_before frame) (whole.whole i e there.1) ∙ places_end frame some) at;
+}
+
+-- the task of a bin that drew all batches
+pub record IsWholeTask (queues : QueuesOf) (frame : BatchedFrame) (bin : ℕ) (t : Tasking) : Type 0 where
+  pub of_is : t.of ≡ bin_of_frame frame bin
+  pub queues_are : IsTaskOf queues t
+  pub whole : t.batches ≡ batches_in frame
+
+pub whole_task : (queues : QueuesOf) (frame : BatchedFrame) (bin : ℕ) (t : Task CellBin) (u : Tasking) → u ≡ t.intake → IsDrainedIn StandsInCells frame.cells queues frame (batches_in frame) bin t → IsWholeTask queues frame bin u
+whole_task queues frame bin t u same at = subst (IsWholeTask queues frame bin) (sym same) (record { of_is = at.task.of_is; queues_are = at.task.queues_are; whole = at.whole (λ i. batches_in frame) })
+
+-- and its bin's writers
+pub holds_whole : (queues : QueuesOf) (frame : BatchedFrame) (bin : ℕ) (t : Task CellBin) → IsDrainedIn StandsInCells frame.cells queues frame (batches_in frame) bin t → HoldsBin t.intake t.keeper
+holds_whole queues frame bin t at =
+    subst (λ (cells : List TableId). StandsAtBatches StandsInCells cells t.intake t.keeper) (ap (λ (b : BinOfFrame). b.frame.cells) (sym at.task.of_is)) at.task.at
+
+-- all tasks, from the last bin's on
+pub all_whole : (queues : QueuesOf) (frame : BatchedFrame) (bins : ℕ) (tasks : List Tasking) → bins ≡ bin_count_of frame.cut → length tasks ≡ bins → ((i : ℕ) (d : Tasking) → i < bins → IsWholeTask queues frame (bins - 1 - i) (get_or tasks i d)) → AreWhole queues frame tasks
+all_whole queues frame bins tasks is count each = record {
+  tasks_are = record {
+    count = count ∙ is;
+    of = λ i d lt. (each i d (omega (arith, lt, count))).queues_are;
+    frame_is = λ i d lt. ap (λ (b : BinOfFrame). b.frame) (each i d (omega (arith, lt, count))).of_is;
+    all = λ b lt.
+        let i = bins - 1 - b in
+        let below : i < bins = omega (arith, lt, is) in
+        let back : bins - 1 - i ≡ b = omega (arith, lt, is) in
+        (i, omega (arith, below, count), λ d. ap (λ (k : BinOfFrame). k.bin) (each i d below).of_is ∙ back);
+  };
+  whole = λ i d lt. (each i d (omega (arith, lt, count))).whole;
+}

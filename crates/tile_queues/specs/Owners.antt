@@ -1,0 +1,97 @@
+-- How writers come to bins' tasks, and how they are handed back.
+use Rattle.std.specs.Prelude.{◌≡◌, ◌⊎◌, ℕ, ◌<◌, ◌≤◌, List, Some, length, slice_index_or, MatchOption}
+use Rattle.std.specs.declared.option.Option.{Option}
+use Rattle.binning.specs.Bins.{bin_of, bin_span_of}
+use Rattle.binning.specs.Cut.{bin_count_of}
+use Rattle.cull_base.specs.Screen.{tile_count_of, tile_place}
+use Rattle.cull_base.specs.Span.{number_in}
+use Rattle.cull_base.specs.Tiles.{PieceList}
+use Rattle.tile_cells.specs.Cells.{Writing, first_at}
+use Rattle.tile_cells.specs.Standing.{StandsAt}
+use Rattle.tile_queues.specs.QueueParts.{BatchedFrame, IsBatched, bin_of_frame, places_before}
+use Rattle.tile_queues.specs.Tasks.{QueuesOf, Tasking, IsTaskOf, first_task}
+
+-- the writers of all tiles in tile order, before the first member of this list
+pub record AreFirst (list : PieceList) (ws : List Writing) : Type 0 where
+  pub whole : length ws ≡ tile_count_of list.size
+  pub each : (t : ℕ) (d : Writing) → t < length ws → slice_index_or ws t d ≡ first_at (slice_index_or ws t d).cell list t
+
+-- tasks of a frame before the first batch, from the first bin on
+pub record AreFirstOf (frame : BatchedFrame) (tasks : List Tasking) : Type 0 where
+  pub bins : (b : ℕ) (d : Tasking) → b < length tasks → (slice_index_or tasks b d).of ≡ bin_of_frame frame b
+  pub first : (b : ℕ) (d : Tasking) → b < length tasks → (slice_index_or tasks b d).batches ≡ 0
+
+-- the tasks of all bins of a frame in order, before the first batch
+pub record AreFirstTasks (queues : QueuesOf) (frame : BatchedFrame) (tasks : List Tasking) : Type 0 where
+  pub count : length tasks ≡ bin_count_of frame.cut
+  pub of : (b : ℕ) (d : Tasking) → b < length tasks → IsTaskOf queues (slice_index_or tasks b d)
+  pub first : (b : ℕ) (d : Tasking) → b < length tasks
+      → let t = slice_index_or tasks b d in t ≡ first_task t.queue t.number (bin_of_frame frame b)
+
+-- a slot has a writer of its tile, which took nothing
+abbrev pub IsFull : BatchedFrame → ℕ → Option Writing → Type 0
+IsFull frame t o = MatchOption o ⊥ (λ w. StandsAt frame.cells frame.list 0 t w)
+
+-- the slots of the tiles of a bin from a number on, and of all bins behind it, are full
+abbrev pub AreLeft : BatchedFrame → ℕ → ℕ → List (Option Writing) → Type 0
+AreLeft frame bin n slots =
+    (t : ℕ) (d : Option Writing) → t < tile_count_of frame.list.size
+    → let b = bin_of frame.list.size frame.cut t in
+    (bin < b) ⊎ ((b ≡ bin) × (n ≤ number_in (bin_span_of frame.list.size frame.cut bin) (tile_place frame.list.size t)))
+    → IsFull frame t (slice_index_or slots t d)
+
+-- the tasks of a frame of this list before the first batch, bin by bin, of which the first n have their writers; those of
+-- the others are in the slots
+pub record MayTake (frame : BatchedFrame) (list : PieceList) (n : ℕ) (tasks : List Tasking)
+    (slots : List (Option Writing)) : Type 0 where
+  pub list_is : frame.list ≡ list
+  pub bins : (b : ℕ) (d : Tasking) → b < length tasks → (slice_index_or tasks b d).of ≡ bin_of_frame frame b
+  pub first : (b : ℕ) (d : Tasking) → b < length tasks → (slice_index_or tasks b d).batches ≡ 0
+  pub left : AreLeft frame n 0 slots
+
+-- tasks of one frame and of these queues, one of each bin, in any order
+pub record AreTasksOf (queues : QueuesOf) (frame : BatchedFrame) (tasks : List Tasking) : Type 0 where
+  pub count : length tasks ≡ bin_count_of frame.cut
+  pub of : (i : ℕ) (d : Tasking) → i < length tasks → IsTaskOf queues (slice_index_or tasks i d)
+  pub frame_is : (i : ℕ) (d : Tasking) → i < length tasks → (slice_index_or tasks i d).of.frame ≡ frame
+  pub all : (b : ℕ) → b < bin_count_of frame.cut
+      → (i : ℕ) × (i < length tasks) × ((d : Tasking) → (slice_index_or tasks i d).of.bin ≡ b)
+
+-- the writer of a tile comes from the task of the tile's bin, and took the tile's members of the batches that it drew
+abbrev pub IsHandedBack : BatchedFrame → List Tasking → ℕ → Writing → Type 0
+IsHandedBack frame tasks t w =
+    (i : ℕ) × (i < length tasks) × ((d : Tasking) →
+    let task = slice_index_or tasks i d in
+    (task.of.bin ≡ bin_of frame.list.size frame.cut t)
+    × StandsAt frame.cells frame.list (places_before frame task.batches) t w)
+
+-- the writers of all tiles, in tile order
+pub record AreHandedBack (frame : BatchedFrame) (tasks : List Tasking) (ws : List Writing) : Type 0 where
+  pub whole : length ws ≡ tile_count_of frame.list.size
+  pub each : (t : ℕ) (d : Writing) → t < tile_count_of frame.list.size
+      → IsHandedBack frame tasks t (slice_index_or ws t d)
+
+-- a slot has one of the first n writers, and it is of this tile
+abbrev pub IsPut : List Writing → ℕ → ℕ → Option Writing → Type 0
+IsPut ws n t o =
+    (m : ℕ) × (m < n) × ((d : Writing) → (o ≡ Some (slice_index_or ws m d)) × ((slice_index_or ws m d).tile ≡ t))
+
+-- the first n writers were put into the slots of their tiles, and the other slots stayed
+pub record ArePut (ws : List Writing) (n : ℕ) (old new : List (Option Writing)) : Type 0 where
+  pub whole : length new ≡ length old
+  pub kept : (t : ℕ) (d : Option Writing) → t < length old
+      → (slice_index_or new t d ≡ slice_index_or old t d) ⊎ IsPut ws n t (slice_index_or new t d)
+  pub put : (m : ℕ) (e : Writing) (d : Option Writing) → m < n
+      → let t = (slice_index_or ws m e).tile in IsPut ws n t (slice_index_or new t d)
+
+-- tasks of the bins of one frame
+pub record AreBinsOf (frame : BatchedFrame) (tasks : List Tasking) : Type 0 where
+  pub batched : IsBatched frame
+  pub frame_is : (i : ℕ) (d : Tasking) → i < length tasks → (slice_index_or tasks i d).of.frame ≡ frame
+
+-- the slots of the tiles of the first n tasks' bins have the writers that are handed back
+abbrev pub AreBackTo : BatchedFrame → List Tasking → ℕ → List (Option Writing) → Type 0
+AreBackTo frame tasks n slots =
+    (t : ℕ) (d : Option Writing) (i : ℕ) → t < tile_count_of frame.list.size → i < n
+    → ((e : Tasking) → (slice_index_or tasks i e).of.bin ≡ bin_of frame.list.size frame.cut t)
+    → MatchOption (slice_index_or slots t d) ⊥ (IsHandedBack frame tasks t)

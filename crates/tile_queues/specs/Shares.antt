@@ -1,0 +1,78 @@
+-- The tasks of a frame's bins, and the workers to which they are dealt.
+use Rattle.std.specs.Prelude.{◌≡◌, ℕ, ◌+◌, ◌*◌, ◌<◌, ◌≤◌, ◌++◌, List, [], ◌∷◌, length, slice_index_or}
+use Rattle.binning.specs.Cut.{bin_count_of}
+use Rattle.cull_base.specs.Tiles.{PieceList}
+use Rattle.cull_base.specs.declared.tile_span.TileSpan.{TileSpan}
+use Rattle.tile_queues.specs.Bins.{bins_owned}
+use Rattle.tile_queues.specs.Owners.{AreTasksOf}
+use Rattle.tile_queues.specs.QueueParts.{BatchedFrame, bin_of_frame, batches_in}
+use Rattle.tile_queues.specs.Tasks.{QueuesOf, Tasking, IsTaskOf, StandsAtBatches}
+use Rattle.tile_queues.specs.declared.share.Share.{Share}
+use Rattle.tile_queues.specs.declared.task.Task.{Task}
+
+-- The task of a bin of this frame and of these queues, which was told of so many batches. Its tiles took the members of
+-- those that it drew.
+pub record IsTaskIn {X B : Type 0} (stands : X → B → PieceList → TileSpan → ℕ → Type 0) (beside : B)
+    (queues : QueuesOf) (frame : BatchedFrame) (told bin : ℕ) (t : Task X) : Type 0 where
+  pub of_is : t.intake.of ≡ bin_of_frame frame bin
+  pub queues_are : IsTaskOf queues t.intake
+  pub told_is : t.intake.told ≡ told
+  pub at : StandsAtBatches stands beside t.intake t.keeper
+
+-- and which drew them all, where it was told of all
+pub record IsDrainedIn {X B : Type 0} (stands : X → B → PieceList → TileSpan → ℕ → Type 0) (beside : B)
+    (queues : QueuesOf) (frame : BatchedFrame) (told bin : ℕ) (t : Task X) : Type 0 where
+  pub task : IsTaskIn stands beside queues frame told bin t
+  pub whole : told ≡ batches_in frame → t.intake.batches ≡ batches_in frame
+
+-- of so many bins a worker has those that are its own: its task j is that of bin j * workers + worker. What holds of the
+-- task of a bin is given.
+pub record IsShare {X : Type 0} (P : ℕ → Task X → Type 0) (workers bins worker : ℕ) (tasks : List (Task X))
+    : Type 0 where
+  pub count : length tasks ≡ bins_owned bins workers worker
+  pub each : (j : ℕ) (t : Task X) → j < length tasks → P (j * workers + worker) (slice_index_or tasks j t)
+
+-- of a worker's tasks the same holds of those from one place to before another
+abbrev pub HoldsFrom : {X : Type 0} → (ℕ → Task X → Type 0) → ℕ → ℕ → ℕ → ℕ → List (Task X) → Type 0
+HoldsFrom {X} P workers worker from to tasks =
+    (j : ℕ) (t : Task X) → from ≤ j → j < to → P (j * workers + worker) (slice_index_or tasks j t)
+
+-- the others stay as they are
+pub record AreOutside {X : Type 0} (from to : ℕ) (old new : List (Task X)) : Type 0 where
+  pub count : length new ≡ length old
+  pub before : (j : ℕ) (t : Task X) → j < from → slice_index_or new j t ≡ slice_index_or old j t
+  pub behind : (j : ℕ) (t : Task X) → to ≤ j → slice_index_or new j t ≡ slice_index_or old j t
+
+-- the tasks of the first bins, of so many, are dealt to so many workers
+pub record AreDealt {X : Type 0} (P : ℕ → Task X → Type 0) (workers bins : ℕ) (shares : List (Share X)) : Type 0 where
+  pub count : length shares ≡ workers
+  pub each : (w : ℕ) (s : Share X) → w < length shares → IsShare P workers bins w (slice_index_or shares w s).tasks.items
+
+-- so many workers with no task
+pub record AreIdle {X : Type 0} (workers : ℕ) (shares : List (Share X)) : Type 0 where
+  pub count : length shares ≡ workers
+  pub none : (w : ℕ) (s : Share X) → w < length shares → (slice_index_or shares w s).tasks.items ≡ []
+
+-- all tasks of a frame are dealt, and each was told of so many batches
+abbrev pub AreShares : {X B : Type 0} → (X → B → PieceList → TileSpan → ℕ → Type 0) → B → QueuesOf → BatchedFrame
+    → ℕ → ℕ → List (Share X) → Type 0
+AreShares {X} {B} stands beside queues frame told workers shares =
+    AreDealt (IsTaskIn stands beside queues frame told) workers (bin_count_of frame.cut) shares
+
+-- and drew them all, where it was told of all
+abbrev pub AreDrained : {X B : Type 0} → (X → B → PieceList → TileSpan → ℕ → Type 0) → B → QueuesOf → BatchedFrame
+    → ℕ → ℕ → List (Share X) → Type 0
+AreDrained {X} {B} stands beside queues frame told workers shares =
+    AreDealt (IsDrainedIn stands beside queues frame told) workers (bin_count_of frame.cut) shares
+
+-- a worker was given one task more, behind its own
+pub record IsGiven {X : Type 0} (worker : ℕ) (task : Task X) (old new : List (Share X)) : Type 0 where
+  pub whole : length new ≡ length old
+  pub here : (s : Share X)
+      → (slice_index_or new worker s).tasks.items ≡ (slice_index_or old worker s).tasks.items ++ (task ∷ [])
+  pub others : (w : ℕ) (s : Share X) → (w ≡ worker → ⊥) → slice_index_or new w s ≡ slice_index_or old w s
+
+-- the tasks of all bins of a frame, in any order, which drew all batches
+pub record AreWhole (queues : QueuesOf) (frame : BatchedFrame) (tasks : List Tasking) : Type 0 where
+  pub tasks_are : AreTasksOf queues frame tasks
+  pub whole : (i : ℕ) (d : Tasking) → i < length tasks → (slice_index_or tasks i d).batches ≡ batches_in frame

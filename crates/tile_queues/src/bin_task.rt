@@ -1,0 +1,103 @@
+//! A bin's task over the cells of its tiles.
+ghost use Rattle.std.specs.Prelude.{◌≡◌, ◌≤◌, ◌<◌};
+ghost use Rattle.binning.specs.Cut.{bin_count_of};
+ghost use Rattle.tile_queues.specs.QueueParts.{batches_in, taken_before};
+ghost use Rattle.tile_queues.specs.Tasks.{GoesOn, HoldsBin, IsAnswer};
+
+use crate::cell_bin::{CellBin, InCells};
+use crate::gate::Gate;
+use crate::intake::Intake;
+use crate::number_rule::Number;
+use crate::queue_rule::Queue;
+use crate::task::{Drained, Task, drain_task};
+use cull_base::FrameList;
+use std::marker::Model;
+use std::sync::Wait;
+use tile_cells::TileCells;
+
+/// Draws the parts of a bin's queue into the cells of the bin's tiles, whose writers it owns. They stand at the members of
+/// the parts that are drawn.
+#[derive(Drop)]
+pub struct BinTask {
+    task: Task<CellBin>,
+}
+
+impl Model for BinTask {
+    ghost use Rattle.tile_queues.specs.Tasks.{Tasking, HoldsBin};
+
+    ghost Value = { Tasking };
+
+    ghost view = { λ s. s.task.intake };
+
+    ghost invariant = { λ s. HoldsBin s.task.intake s.task.keeper };
+}
+
+impl BinTask {
+    pub(crate) fn of(intake: Intake, keeper: CellBin) -> BinTask
+        requires { HoldsBin intake keeper }
+        ensures { result ≡ intake }
+    {
+        BinTask {
+            task: Task { intake, keeper },
+        }
+    }
+
+    /// The bin's number.
+    pub fn bin(&self) -> u32
+        ensures value { result ≡ self.now.of.bin }
+        ensures real { result < bin_count_of self.now.of.frame.cut }
+    {
+        self.task.intake.bin()
+    }
+
+    /// How many batches are drawn.
+    pub fn batches(&self) -> u32
+        ensures value { result ≡ self.now.batches }
+        ensures within { result ≤ batches_in self.now.of.frame }
+    {
+        self.task.intake.batches()
+    }
+
+    /// How many pieces the drawn parts have.
+    pub fn taken(&self) -> u32
+        ensures value { result ≡ self.now.taken }
+        ensures sum { result ≡ taken_before self.now.of self.now.batches }
+    {
+        self.task.intake.taken()
+    }
+
+    /// Draws what is in the queue.
+    pub(crate) fn draw<R: Wait, G: Gate>(
+        &mut self,
+        rt: &R,
+        queue: &Queue,
+        number: &Number,
+        cells: &TileCells,
+        list: &FrameList,
+        gate: &G,
+    ) -> Drained
+        requires queue { self.old.queue ≡ queue.now.table.shared.table_id }
+        requires number { self.old.number ≡ number.now.table.shared.table_id }
+        requires cells { self.old.of.frame.cells ≡ cells.now }
+        requires list { self.old.of.frame.list ≡ list.now.list }
+        ensures on { GoesOn self.old self.new }
+        ensures taken { self.new.taken ≡ taken_before self.new.of self.new.batches }
+        ensures answer { IsAnswer result self.old self.new }
+    {
+        let beside = InCells { rt, cells };
+        let drained = drain_task(rt, queue, number, &mut self.task, &beside, list, gate);
+        // an accessor tells what is held of an intake
+        let _taken = self.task.intake.taken();
+        drained
+    }
+
+    /// The writers of the bin's tiles.
+    pub(crate) fn into_parts(self) -> (Intake, CellBin)
+        ensures intake { result.0 ≡ self }
+        ensures bin { HoldsBin self result.1 }
+    {
+        let BinTask { task } = self;
+        let Task { intake, keeper } = task;
+        (intake, keeper)
+    }
+}

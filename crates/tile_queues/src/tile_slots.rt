@@ -1,0 +1,104 @@
+//! The writers of all tiles, each in the slot of its tile, from which the bins' tasks get them.
+ghost use Rattle.std.specs.Prelude.{◌≡◌, ◌≤◌, ◌<◌, ◌+◌, None, Some, length, map, slice_set, slice_index_or, IfOk, IsSome, OnOk};
+ghost use Rattle.binning.specs.Cut.{bin_count_of};
+ghost use Rattle.cull_base.specs.Screen.{tile_count_of};
+ghost use Rattle.cull_base.specs.Span.{IsSpan, tiles_in};
+ghost use Rattle.tile_queues.specs.CellBins.{tile_numbered};
+ghost use Rattle.tile_queues.specs.Owners.{AreLeft, MayTake};
+ghost use Rattle.tile_queues.specs.QueueParts.{BatchedFrame};
+ghost use Rattle.tile_queues.specs.Tasks.{HoldsBin};
+
+use crate::bin_task::BinTask;
+use crate::cell_bin::CellBin;
+use crate::intake::Intake;
+use binning::bin_span;
+use cull_base::{FrameList, Memory, Size, TileSpan};
+use std::alloc::Global;
+use tile_cells::TileWriter;
+
+/// The slots of writers that come in tile order. Err where memory gave out.
+pub(crate) fn into_slots(
+    alloc: Global,
+    writers: Vec<TileWriter>,
+) -> Result<Vec<Option<TileWriter>>, Memory>
+    ensures { IfOk result (λ v. v.items ≡ map (λ w. Some w) writers.items) }
+{
+    let mut slots = Vec::with_capacity(alloc, writers.len()).map_err(|_| Memory)?;
+    for writer in writers {
+        slots.push_reserved(Some(writer));
+    }
+    Ok(slots)
+}
+
+/// The writer in a slot, which is left empty. Condition: there is one.
+pub(crate) fn take_from(slots: &mut [Option<TileWriter>], tile: usize) -> TileWriter
+    requires within { tile < length slots.old }
+    requires full { IsSome (slice_index_or slots.old tile None) }
+    ensures taken { slice_index_or slots.old tile None ≡ Some result }
+    ensures left { slots.new ≡ slice_set slots.old tile None }
+{
+    slots[tile].take().unwrap()
+}
+
+// The screen's tile at a number of a window.
+fn tile_at_number(size: Size, window: TileSpan, number: usize) -> usize
+    requires window { IsSpan size window }
+    requires number { number < tiles_in window }
+    ensures value { result ≡ tile_numbered size window number }
+    ensures within { result < tile_count_of size }
+{
+    // an accessor tells how many tiles there may be
+    let _count = size.tile_count();
+    let columns = window.columns() as usize;
+    let row = window.first_row as usize + number / columns;
+    let column = window.first_column as usize + number % columns;
+    row * size.tile_columns() as usize + column
+}
+
+// The writers of the tiles of a task's bin. Err where memory gave out.
+fn take_bin(
+    alloc: Global,
+    slots: &mut [Option<TileWriter>],
+    intake: &Intake,
+    list: &FrameList,
+) -> Result<CellBin, Memory>
+    requires list { intake.now.of.frame.list ≡ list.now.list }
+    requires first { intake.now.batches ≡ 0 }
+    requires whole { length slots.old ≡ tile_count_of intake.now.of.frame.list.size }
+    requires left { AreLeft intake.now.of.frame intake.now.of.bin 0 slots.old }
+    ensures whole { length slots.new ≡ length slots.old }
+    ensures left { OnOk result (AreLeft intake.now.of.frame (intake.now.of.bin + 1) 0 slots.new) }
+    ensures bin { IfOk result (λ v. HoldsBin intake.now v) }
+{
+    let size = list.size();
+    // accessors tell what is held of a size and of a cut
+    let (_width, _columns) = (size.width(), intake.cut().columns());
+    let window = bin_span(size, intake.cut(), intake.bin());
+    let count = window.columns() as usize * window.rows() as usize;
+    let mut writers = Vec::with_capacity(alloc, count).map_err(|_| Memory)?;
+    for number in 0..count {
+        let tile = tile_at_number(size, window, number);
+        writers.push_reserved(take_from(slots, tile));
+    }
+    Ok(CellBin { window, writers })
+}
+
+/// The tasks of all bins in order, each with the writers of its bin's tiles. Err where memory gave out.
+pub(crate) fn make_tasks(
+    alloc: Global,
+    intakes: Vec<Intake>,
+    slots: &mut [Option<TileWriter>],
+    list: &FrameList,
+) -> Result<Vec<BinTask>, Memory>
+    requires whole { length slots.old ≡ tile_count_of list.now.list.size }
+    requires first { (frame : BatchedFrame) × MayTake frame list.now.list 0 intakes.items slots.old }
+    ensures whole { length slots.new ≡ length slots.old }
+    ensures tasks { IfOk result (λ v. v.items ≡ intakes.items) }
+{
+    let mut tasks = Vec::with_capacity(alloc, intakes.len()).map_err(|_| Memory)?;
+    for intake in intakes {
+        let keeper = take_bin(alloc, slots, &intake, list)?;
+        tasks.push_reserved(BinTask::of(intake, keeper));
+    }
+    Ok(tasks)
+}
