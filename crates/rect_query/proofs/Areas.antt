@@ -51,7 +51,7 @@ area_is a r cut screen size valid m ec es x0 y0 x1 y1 =
           record { left = h.0; right = h.1; above = v.0; below = v.1 };
     }
 
-held_axis : (a0 a1 : ℤ) (p : ℕ) → (int_le a0 (pos p) && int_lt (pos p) a1) ≡ true → (a0 ≤ℤ pos p) × (pos p <ℤ a1)
+pub held_axis : (a0 a1 : ℤ) (p : ℕ) → (int_le a0 (pos p) && int_lt (pos p) a1) ≡ true → (a0 ≤ℤ pos p) × (pos p <ℤ a1)
 held_axis a0 a1 p t = (grind (arith, ints), grind (arith, ints))
 
 -- a view that holds the tiles that a rectangle meets holds the tile of each pixel of its area

@@ -1,3 +1,5 @@
 pub mod Area
 pub mod Rectangles
 pub mod Boxes
+pub mod References
+pub mod Settled

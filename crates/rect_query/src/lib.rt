@@ -4,8 +4,10 @@
 mod area;
 mod boxes;
 mod rectangle;
+mod settled;
 #[cfg(test)]
 mod tests;
 
 pub use boxes::{BoxAnswer, box_rect};
 pub use rectangle::{rect_near, rect_test};
+pub use settled::{references_never_fall, settled_test};

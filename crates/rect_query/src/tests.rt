@@ -32,12 +32,17 @@ fn answer(low: [i64; 3], high: [i64; 3]) -> Result<BoxAnswer, &'static str> {
     Ok(box_rect(&corners(low, high), 1, size))
 }
 
-// The verdict of a rectangle over a tile of which the first subtile is drawn.
-fn verdict(sub: SubTile, rect: Rect, q: u32) -> Result<Verdict, &'static str> {
-    let size = Size::new(32, 8).ok_or("size")?;
+// A tile of which the first subtile is drawn.
+fn tile_with(sub: SubTile) -> TileState {
     let mut subs = [SubTile::empty(); 8];
     subs[0] = sub;
-    let states = [TileState::of(subs, 1)];
+    TileState::of(subs, 1)
+}
+
+// The verdict of a rectangle over such a tile.
+fn verdict(sub: SubTile, rect: Rect, q: u32) -> Result<Verdict, &'static str> {
+    let size = Size::new(32, 8).ok_or("size")?;
+    let states = [tile_with(sub)];
     Ok(rect_test(&PlainView::new(&states), size, rect, q))
 }
 
@@ -63,6 +68,36 @@ fn a_rectangle_is_hidden_by_a_working_layer_until_it_is_dropped(
     );
     sub.merge(201, 0x10);
     assert_eq!(rt; verdict(sub, FIRST_FOUR, 50)?, Verdict::Visible);
+    Ok(())
+}
+
+// Whether a rectangle is settled over such a tile.
+fn is_settled(sub: SubTile, rect: Rect, q: u32) -> Result<bool, &'static str> {
+    let size = Size::new(32, 8).ok_or("size")?;
+    let states = [tile_with(sub)];
+    Ok(settled_test(&PlainView::new(&states), size, rect, q))
+}
+
+#[test]
+fn a_rectangle_is_settled_by_a_reference_and_by_no_working_layer(
+    rt: HostRuntime,
+) -> Result<(), Fail> {
+    let mut sub = SubTile::empty();
+    sub.merge(100, 0x0F0F_0F0F);
+    assert!(rt; !is_settled(sub, FIRST_FOUR, 50)?);
+    sub.merge(201, 0x10);
+    assert!(rt; !is_settled(sub, FIRST_FOUR, 50)?);
+    let mut whole = SubTile::empty();
+    whole.merge(100, 0xFFFF_FFFF);
+    assert!(rt; is_settled(whole, FIRST_FOUR, 99)?);
+    assert!(rt; !is_settled(whole, FIRST_FOUR, 100)?);
+    let beside = Rect {
+        x0: 32,
+        x1: 40,
+        ..FIRST_FOUR
+    };
+    assert!(rt; !is_settled(whole, beside, 50)?);
+    references_never_fall();
     Ok(())
 }
 
