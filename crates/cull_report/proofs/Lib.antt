@@ -9,3 +9,4 @@ pub mod LiveSnapshots
 pub mod HeldTiles
 pub mod LiveFields
 pub mod LineRoom
+pub mod Settled

@@ -1,16 +1,17 @@
 -- The state of a pixel's subtile among those of tiles that took pieces.
-use Rattle.std.proofs.Common.{◌≡◌, ℕ, ◌+◌, ◌*◌, ◌/◌, ◌%◌, ◌<◌, true, cond, nat_lt, arith, refl, ap, ◌∙◌, List, get_or}
+use Rattle.std.proofs.Common.{◌≡◌, ℕ, ◌+◌, ◌*◌, ◌/◌, ◌%◌, ◌<◌, true, cond, nat_lt, arith, refl, ap, ◌∙◌, subst, List, get_or}
 use Rattle.std.proofs.lemmas.Bool.Decides.{nat_tests}
 use Rattle.std.proofs.lemmas.List.FromFn.{get_or-map-range_with_len}
 use Rattle.cull_base.specs.declared.place.Sub.{Sub}
 use Rattle.cull_base.specs.declared.place.Tile.{Tile}
-use Rattle.cull_base.specs.Screen.{Dimensions, tile_columns_of, tile_count_of, tile_sub, is_on_screen}
+use Rattle.cull_base.specs.Screen.{Dimensions, IsSize, tile_columns_of, tile_count_of, tile_sub, is_on_screen}
 use Rattle.cull_base.specs.Piece.{Piece}
 use Rattle.cull_base.specs.State.{State, empty_state}
 use Rattle.cull_base.specs.Fold.{after}
-use Rattle.cull_base.specs.Tiles.{tile_after}
+use Rattle.cull_base.specs.Tiles.{PieceList, ArePieces, tile_list, tile_after}
 use Rattle.cull_base.specs.Pixels.{sub_of_pixel, tile_of_pixel}
 use Rattle.cull_base.proofs.Pixels.{tile_is, tile_of_pixel-is}
+use Rattle.masked_update.proofs.OwnList.{after-tile_list}
 use Rattle.masked_update.specs.TileOf.{TileOf, sub_at, tile_at}
 use Rattle.masked_update.specs.Views.{state_in}
 use Rattle.cull_report.proofs.Agreement.{Agrees}
@@ -35,6 +36,15 @@ on_screen size px py x y =
     let a : nat_lt (8 * (px / 8)) size.width ≡ true = grind (arith, nat_tests) in
     let b : nat_lt (4 * (py / 4)) size.height ≡ true = grind (arith, nat_tests) in
     rw (a, b) refl
+
+-- after the list of a pixel's tile its subtile is as after the whole list
+pub own_list_at : (list : PieceList) (px py : ℕ) → IsSize list.size.width list.size.height → ArePieces list.members → px < list.size.width → py < list.size.height
+    → after (sub_of_pixel px py) (tile_list (tile_of_pixel list.size px py) list) ≡ after (sub_of_pixel px py) list.members
+own_list_at list px py sized all x y =
+    let t = tile_of_pixel list.size px py in
+    let is = sub_is list.size px py x y in
+    subst (λ (u : Sub). after u (tile_list t list) ≡ after u list.members) is
+    (after-tile_list list t (place_in_tile px py) (λ some. sized) all (omega arith) (ap (is_on_screen list.size) is ∙ on_screen list.size px py x y))
 
 pub state_after : (size : Dimensions) (tile_of : ℕ → TileOf) (pieces : List Piece) (px py : ℕ) → px < size.width → py < size.height
     → (tile_of (tile_of_pixel size px py)).subs ≡ tile_after size (tile_of_pixel size px py) pieces → state_in size tile_of (sub_of_pixel px py) ≡ after (sub_of_pixel px py) pieces

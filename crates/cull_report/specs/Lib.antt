@@ -5,3 +5,4 @@ pub mod Forms
 pub mod Hiding
 pub mod Live
 pub mod LivePieces
+pub mod Settled

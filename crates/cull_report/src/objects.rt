@@ -8,12 +8,13 @@ ghost use Rattle.scene_reader.specs.Layout.{IsObject, IsScene};
 ghost use Rattle.cull_report.specs.Forms.{shape_of_form, range_of, HasTriangles};
 ghost use Rattle.cull_report.specs.Hiding.{HidesObject};
 ghost use Rattle.cull_report.specs.Scene.{IsMarkedRight, size_of, frame_clips, object_area, verdict_in};
+ghost use Rattle.cull_report.specs.Settled.{SettlesObject, is_settled_shape, settled_in};
 
 use crate::form::{Form, form_of};
 use cull_base::{ClipVertex, Memory, NO_PIXELS, Object, Rect, Tri, Verdict};
 use masked_update::TileView;
 use mesh_query::{mesh_area, mesh_test};
-use rect_query::rect_test;
+use rect_query::{rect_test, settled_test};
 use scene_reader::Scene;
 use std::alloc::Global;
 
@@ -92,6 +93,20 @@ fn form_verdict<V: TileView>(
     }
 }
 
+// Whether a form is settled over a view that holds the tiles of its area. Its clauses alone ask for the frame.
+fn is_form_settled<V: TileView>(scene: &Scene, _frame: u32, form: Form, view: &V) -> bool
+    requires holds { HoldsMet (V.held view.now) (size_of scene.now)
+        (area_of (size_of scene.now) (shape_of_form scene.now _frame form)) }
+    ensures { result ≡ is_settled_shape (size_of scene.now) (state_in (size_of scene.now) (V.tile_of view.now))
+        (shape_of_form scene.now _frame form) }
+{
+    match form {
+        Form::Flat { rect, q } => settled_test(view, scene.size(), rect, q),
+        Form::Outside | Form::Visible => false,
+        Form::Mesh { .. } => false,
+    }
+}
+
 /// The pixels of the screen that are looked at for an object in a frame; none where it is outside or visible whatever
 /// the tiles hold. Conditions: there is such a frame, the clip vertices are the frame's, and the object is below the
 /// number of objects.
@@ -127,6 +142,31 @@ pub fn object_verdict<V: TileView>(
 {
     let form = form_of(scene, frame, object_at(scene, object));
     form_verdict(scene, frame, clips, form, view)
+}
+
+/// Whether an object's verdict in a frame is settled over a view: it has one nearness over a rectangle with a pixel in
+/// the screen, and the reference of each such pixel's subtile is strictly nearer. Conditions as for `object_verdict`.
+/// Where the tiles of the object's area have the states after fronts of their lists, whichever, the object is occluded
+/// after the whole frame.
+pub fn object_settled<V: TileView>(
+    scene: &Scene,
+    frame: u32,
+    clips: &[ClipVertex],
+    object: u32,
+    view: &V,
+) -> bool
+    requires frame { frame < length scene.now.cameras }
+    requires clips { clips.now ≡ frame_clips scene.now frame }
+    requires object { object < length scene.now.objects }
+    requires holds { IfSome (slice_get scene.now.objects object)
+        (λ o. HoldsMet (V.held view.now) (size_of scene.now) (object_area scene.now frame o)) }
+    ensures settled { IfSome (slice_get scene.now.objects object)
+        (λ o. result ≡ settled_in scene.now frame (V.tile_of view.now) o) }
+    ensures early { IfSome (slice_get scene.now.objects object)
+        (λ o. SettlesObject scene.now frame (V.tile_of view.now) o result) }
+{
+    let form = form_of(scene, frame, object_at(scene, object));
+    is_form_settled(scene, frame, form, view)
 }
 
 // The verdict of an object. One that is marked as settled isn't tested. Conditions as for `verdicts`.

@@ -1,12 +1,15 @@
-//! Lines that are filled from snapshots, and their texts.
+//! Lines that are filled from snapshots, and their texts. Objects that are settled over a tile.
 ghost use Rattle.std.specs.Prelude.{◌≡◌, ◌<◌, length, All, IfOk};
 ghost use Rattle.cull_base.specs.Screen.{tile_count_of};
 ghost use Rattle.tile_cells.specs.Standing.{AreStanding, IsReading, StandsAt};
 
-use crate::{LiveLine, write_live};
+use crate::{LiveLine, object_settled, write_live};
 use cull_base::{
-    BytesSink, FrameList, Memory, NO_PIXELS, Rect, ScreenTri, SinkError, Size, SureSink, Verdict,
+    BytesSink, FrameList, Memory, NO_PIXELS, Object, Rect, ScreenTri, SinkError, Size, SureSink,
+    Verdict, Winding,
 };
+use masked_update::{PlainView, SubTile, TileState};
+use scene_reader::{Scene, SceneParts};
 use std::alloc::Global;
 use std::sync::Wait;
 use std::test::Fail;
@@ -182,5 +185,54 @@ fn failed_write_leaves_a_front(rt: HostRuntime) -> Result<(), Fail> {
     let mut sink = BytesSink::new(rt.alloc(), 7, second);
     assert_eq!(rt; write_live(&mut sink, &line), Err(SinkError::Failed));
     assert_eq!(rt; sink.held(), b"live 0 ".as_slice());
+    Ok(())
+}
+
+// A scene without vertices, with one frame and the rectangle of the whole screen at two distances.
+fn rectangles_at(alloc: Global, near: i32, far: i32) -> Result<Scene, Fail> {
+    let rect = pixels(0, 0, 32, 8);
+    let parts = SceneParts {
+        width: 32,
+        height: 8,
+        near: 1,
+        winding: Winding::DropCounter,
+        vertices: Vec::new(alloc),
+        occluders: Vec::new(alloc),
+        object_tris: Vec::new(alloc),
+        objects: Vec::from_slice(
+            alloc,
+            &[
+                Object::Area { rect, w: near },
+                Object::Area { rect, w: far },
+            ],
+        )?,
+        cameras: Vec::from_slice(alloc, &[[0; 12]])?,
+    };
+    Ok(Scene::new(parts).ok().ok_or("a scene")?)
+}
+
+// Whether an object of a scene without vertices is settled over the scene's only tile.
+fn is_settled(scene: &Scene, object: u32, tile: TileState) -> Result<bool, &'static str> {
+    if scene.size().tile_count() != 1 || scene.cameras().is_empty() {
+        return Err("a scene of one tile");
+    }
+    if !scene.vertices().is_empty() || object as usize >= scene.objects().len() {
+        return Err("an object of a scene without vertices");
+    }
+    let tiles = [tile];
+    Ok(object_settled(scene, 0, &[], object, &PlainView::new(&tiles)))
+}
+
+// Each subtile of the first scene's tile ends with its reference at half of 65535.
+#[test]
+fn rectangle_behind_the_quad_is_settled_and_one_at_its_distance_is_not(
+    rt: HostRuntime,
+) -> Result<(), Fail> {
+    let mut sub = SubTile::empty();
+    sub.merge(32767, 0xFFFF_FFFF);
+    let tile = TileState::of([sub; 8], 2);
+    let scene = rectangles_at(rt.alloc(), 2, 3)?;
+    assert!(rt; !is_settled(&scene, 0, tile)?);
+    assert!(rt; is_settled(&scene, 1, tile)?);
     Ok(())
 }
