@@ -15,6 +15,7 @@ pub mod Draws
 pub mod DemoScene
 pub mod ClosedCells
 pub mod LiveLooks
+pub mod Marks
 pub mod LiveTexts
 pub mod LiveEnds
 pub mod RunEnds

@@ -1,6 +1,7 @@
--- An option's number, as its text is read.
-use Rattle.std.proofs.Common.{◌≡◌, ◌∙◌, ◌≤◌, ◌==◌, ℕ, Bool, true, false, cond, pos, refl, sym, ap, subst, arith, List, [], ◌∷◌, drop, Option, Some, Result, Ok}
+-- An option's number, as its text is read, and the flag.
+use Rattle.std.proofs.Common.{◌≡◌, ◌∙◌, ◌≤◌, ◌==◌, ℕ, Bool, true, false, cond, pos, refl, sym, ap, subst, inl, inr, arith, List, [], ◌∷◌, codes, drop, Option, Some, Result, Ok}
 use Rattle.std.specs.Option.{IsSome, option_map_or}
+use Rattle.std.specs.Str.{bytes_eq}
 use Rattle.std.specs.Str.Parse.{IsNumeral, ParsesUnsigned, digits_value, without_leading_plus}
 use Rattle.std.proofs.lemmas.Bool.{ne_eqb}
 use Rattle.std.proofs.lemmas.Int.{ints}
@@ -9,7 +10,8 @@ use Rattle.clap.specs.Words.{IsSignedIn, ReadsOne, Row, Text, one_text, rows_of,
 use Rattle.clap.specs.declared.parser.matches.Found.{Found}
 use Rattle.clap.proofs.CallerReads.{signed_reads}
 use Rattle.clap.proofs.WalkLemmas.{one_text-rows}
-use Rattle.maskcull.specs.Words.{IsNumbered, number_named}
+use Rattle.maskcull.specs.App.{early}
+use Rattle.maskcull.specs.Words.{HasFlag, IsNumbered, is_early_in, number_named}
 
 no_plus : (ds : List ℕ) → IsNumeral 10 ds → without_leading_plus ds ≡ ds
 no_plus [] h = refl
@@ -63,3 +65,10 @@ module _ {E : Type 0} (G : List ℕ → Result ℕ E → Type 0) (parses : (u : 
   number_read n given =
       let read : ReadsOne G (without_minus is.text) (Some n) = subst (ReadsOne G (without_minus is.text)) given read_here in
       (parses (without_minus is.text) (Ok n) read).1 ∙ sym (ap (λ o. option_map_or (λ t. digits_value 10 (without_leading_plus t)) o 0) is.is)
+
+-- the flag is what the getter says, where its text is one of the two
+pub flag_read : (f : Found) (r : Bool) → HasFlag (rows_of f) → (one_text f early ≡ Some (codes "true") → r ≡ true) → (one_text f early ≡ Some (codes "false") → r ≡ false) → r ≡ is_early_in (rows_of f)
+flag_read f r has if_true if_false = elim has [
+  | inl is ↦ if_true (one_text-rows f early ∙ is) ∙ sym (ap (λ (o : Option Text). option_map_or (λ t. bytes_eq t (codes "true")) o false) is)
+  | inr is ↦ if_false (one_text-rows f early ∙ is) ∙ sym (ap (λ (o : Option Text). option_map_or (λ t. bytes_eq t (codes "true")) o false) is)
+]

@@ -7,7 +7,7 @@ use Rattle.std.proofs.lemmas.Slice.Eq.{bytes_eq-Decides}
 use Rattle.clap.specs.Walk.{Rule, Text, arg_by_id, arg_by_long}
 use Rattle.clap.specs.Simple.{filled, help_rule, with_index}
 use Rattle.clap.proofs.WalkLemmas.{both}
-use Rattle.maskcull.specs.App.{Numbered, rule_for}
+use Rattle.maskcull.specs.App.{Numbered, early, early_rule, rule_for}
 
 abbrev pub ready : Numbered → Rule
 ready o = with_index 1 (filled (rule_for o))
@@ -15,8 +15,11 @@ ready o = with_index 1 (filled (rule_for o))
 abbrev pub ready_help : Rule
 ready_help = with_index 1 (filled help_rule)
 
+abbrev pub ready_early : Rule
+ready_early = with_index 1 (filled early_rule)
+
 abbrev pub rules_for : List Numbered → List Rule
-rules_for options = map ready options ++ ready_help ∷ []
+rules_for options = map ready options ++ ready_early ∷ ready_help ∷ []
 
 -- no two options have one name
 abbrev pub are_apart : List Numbered → Bool
@@ -76,6 +79,28 @@ found_long options o apart of = found_by _ options o (λ x. or_none (bytes_eq x.
 
 pub found_id : (options : List Numbered) (o : Numbered) → are_apart options ≡ true → IsOf o options → arg_by_id (rules_for options) o.name ≡ Some (ready o)
 found_id options o apart of = found_by _ options o (λ x. refl) apart of
+
+pub differs_back : (a b : Text) → bytes_eq a b ≡ false → bytes_eq b a ≡ false
+differs_back a b differs = go (bytes_eq b a) refl
+  where
+    go : (c : Bool) → bytes_eq b a ≡ c → bytes_eq b a ≡ false
+    go false e = e
+    go true e = absurd (true≢false (sym (same_text a) ∙ ap (bytes_eq a) (sym ((bytes_eq-Decides b a).0 e)) ∙ differs))
+
+-- no option has the flag's name
+abbrev pub AreBesideFlag : List Numbered → Type 0
+AreBesideFlag options = (o : Numbered) → IsOf o options → bytes_eq o.name early ≡ false
+
+-- a search that asks for the flag's name finds the flag
+flag_found_by : (p : Rule → Bool) (options : List Numbered) → ((x : Numbered) → p (ready x) ≡ bytes_eq x.name early) → p ready_early ≡ true → AreBesideFlag options
+    → find p (rules_for options) ≡ Some ready_early
+flag_found_by p [] asks hit beside = ap (λ b. cond b (Some ready_early) (find p (ready_help ∷ []))) hit
+flag_found_by p (x ∷ rest) asks hit beside =
+    let miss : p (ready x) ≡ false = asks x ∙ beside x (inl refl) in
+    ap (λ b. cond b (Some (ready x)) (find p (rules_for rest))) miss ∙ flag_found_by p rest asks hit (λ o of. beside o (inr of))
+
+pub flag_found_long : (options : List Numbered) → AreBesideFlag options → arg_by_long (rules_for options) early ≡ Some ready_early
+flag_found_long options beside = flag_found_by _ options (λ x. or_none (bytes_eq x.name early)) refl beside
 
 -- options of one name are one
 pub same_option : (options : List Numbered) (a b : Numbered) → are_apart options ≡ true → IsOf a options → IsOf b options → a.name ≡ b.name → a ≡ b

@@ -1,4 +1,4 @@
--- Whatever words the program takes, each option's number is in its range.
+-- Whatever words the program takes, each option's number is in its range, and the flag is true or false.
 use Rattle.std.proofs.Common.{◌≡◌, ◌∙◌, ◌≤◌, ◌==◌, ◌&&◌, ◌||◌, ◌⊎◌, ℕ, Bool, true, false, cond, pos, zero, suc, refl, sym, ap, subst, inl, inr, arith, List, [], ◌∷◌, ◌++◌, length, codes, is_some, option_map, Option, Some, None, true≢false}
 use Rattle.std.specs.Fmt.{decimal}
 use Rattle.std.specs.List.{AllByRecursion, find, fold}
@@ -18,17 +18,21 @@ use Rattle.clap.specs.declared.builder.value_parser.ValueParser.TheVariants.{Sig
 use Rattle.clap.specs.declared.parser.matches.ValueSource.TheVariants.{CommandLine}
 use Rattle.clap.specs.declared.error.kind.ErrorKind.{ErrorKind}
 use Rattle.clap.specs.declared.error.kind.ErrorKind.TheVariants.{ArgumentConflict, DisplayHelp, TooManyValues, ValueValidation}
-use Rattle.maskcull.specs.App.{Numbered, cull_options, live_options, demo_options, the_app}
-use Rattle.maskcull.specs.Words.{HasNumber, HasNumbers, IsEntered}
+use Rattle.maskcull.specs.App.{Numbered, early, cull_options, live_options, demo_options, the_app}
+use Rattle.maskcull.specs.Words.{HasFlag, HasNumber, IsEntered, IsGiven}
 use Rattle.maskcull.proofs.DecimalWords.{number_accepted}
-use Rattle.maskcull.proofs.UseDefaults.{default_row, found_last}
+use Rattle.maskcull.proofs.UseDefaults.{default_row, flag_default_row, flag_last, found_last}
 use Rattle.maskcull.proofs.PlainWords.{cull_fine, live_fine, demo_fine, fault_behind, names, program_built, start, top}
 use Rattle.clap.specs.Lexer.{without_minus}
 use Rattle.clap.specs.Values.{IsSignedIn, read_as}
 use Rattle.clap.proofs.ValueTestLemmas.{accepts-Accepts}
-use Rattle.maskcull.proofs.OptionRules.{IsOf, ready, ready_help, rules_for, same_option}
-use Rattle.maskcull.proofs.UseRows.{append_nil, at_row-missing}
-use Rattle.maskcull.proofs.UseWalk.{AreFine, leaf}
+use Rattle.maskcull.proofs.OptionRules.{IsOf, differs_back, ready, ready_early, ready_help, rules_for, same_option}
+use Rattle.maskcull.proofs.UseRows.{append_nil, at_row-missing, flag_row, flag_used_new}
+use Rattle.maskcull.proofs.UseWalk.{AreFine, beside, leaf}
+
+each_of : (P : Numbered → Type 0) (options : List Numbered) → ((o : Numbered) → IsOf o options → P o) → AllByRecursion P options
+each_of P [] each = tt
+each_of P (x ∷ rest) each = (each x (inl refl), each_of P rest (λ o of. each o (inr of)))
 
 none_first : (a b : Kinds) → or_else a b ≡ [] → (a ≡ []) × (b ≡ [])
 none_first [] b e = (refl, e)
@@ -48,9 +52,10 @@ module _ (name : Text) (options : List Numbered) (fine : AreFine options) where
     pub reading : r.reading ≡ WithoutMinus
     pub taken : accepts false (Signed (pos o.least) (pos o.most)) text ≡ true
 
-  -- the row is of no option, or has one value that its option takes
-  abbrev pub IsGood : Row → Type 0
-  IsGood r = (o : Numbered) → IsOf o options → bytes_eq r.id o.name ≡ true → IsValueOf o r
+  -- the row is of an option and has one value that it takes, or is of the flag and says true, or is of neither
+  pub record IsGood (r : Row) : Type 0 where
+    pub of_option : (o : Numbered) → IsOf o options → bytes_eq r.id o.name ≡ true → IsValueOf o r
+    pub of_flag : bytes_eq r.id early ≡ true → row_text r ≡ Some (codes "true")
 
   abbrev AreGood : List Row → Type 0
   AreGood = AllByRecursion IsGood
@@ -62,7 +67,7 @@ module _ (name : Text) (options : List Numbered) (fine : AreFine options) where
   -- ---- one use
 
   abbrev IsOurs : Rule → Type 0
-  IsOurs a = ((o : Numbered) × IsOf o options × (a ≡ ready o)) ⊎ (a ≡ ready_help)
+  IsOurs a = ((o : Numbered) × IsOf o options × (a ≡ ready o)) ⊎ (a ≡ ready_early) ⊎ (a ≡ ready_help)
 
   not_repeated : (b : Bool) (k : ErrorKind) → cond (b && true) (k ∷ []) [] ≡ [] → b ≡ false
   not_repeated true k e = cc
@@ -77,9 +82,12 @@ module _ (name : Text) (options : List Numbered) (fine : AreFine options) where
 
   new_good : (o : Numbered) (v : Text) → IsOf o options → accepts false (Signed (pos o.least) (pos o.most)) v ≡ true → IsGood (new_row o v)
   unfolding new_row
-  new_good o v of ok other is_one same =
-      let one : o ≡ other = same_option options o other fine.apart of is_one ((bytes_eq-Decides o.name other.name).0 same) in
-      subst (λ (z : Numbered). IsValueOf z (new_row o v)) one (record { text = v; values = refl; reading = refl; taken = ok })
+  new_good o v of ok = record {
+    of_option = λ other is_one same.
+        let one : o ≡ other = same_option options o other fine.apart of is_one ((bytes_eq-Decides o.name other.name).0 same) in
+        subst (λ (z : Numbered). IsValueOf z (new_row o v)) one (record { text = v; values = refl; reading = refl; taken = ok });
+    of_flag = λ same. absurd (true≢false (sym same ∙ beside name options fine o of));
+  }
 
   used_once : (o : Numbered) (v : Text) (rows : List Row) → has_row o.name rows ≡ false → used (ready o) (v ∷ []) rows ≡ rows ++ new_row o v ∷ []
   unfolding new_row
@@ -103,6 +111,22 @@ module _ (name : Text) (options : List Numbered) (fine : AreFine options) where
       let ok : accepts false (Signed (pos o.least) (pos o.most)) v ≡ true = accepted (accepts false (Signed (pos o.least) (pos o.most)) v) ValueValidation parts.1 in
       subst AreGood (sym (used_once o v rows none)) (good_more rows (new_row o v) good (new_good o v of ok))
 
+  flag_is_good : IsGood flag_row
+  flag_is_good = record { of_option = λ o of same. absurd (true≢false (sym same ∙ differs_back o.name early (beside name options fine o of))); of_flag = λ same. refl }
+
+  some_values : (n : ℕ) → 1 ≤ n → range_kinds 0 0 n ≡ [] → ⊥
+  some_values n many e =
+      let more : (0 == n) ≡ false = ne_eqb 0 n (omega arith) in
+      let bad = rw more at e in
+      cc
+
+  flag_good : (values : List Text) (rows : List Row) → use_fault false ready_early values rows ≡ [] → AreGood rows → AreGood (used ready_early values rows)
+  flag_good (v ∷ more) rows e good = absurd (some_values (length (v ∷ more)) (omega arith) (none_first (range_kinds 0 0 (length (v ∷ more))) (set_fault false ready_early (v ∷ more) rows) e).0)
+  flag_good [] rows e good =
+      let parts = none_first (repeat_fault false early rows) (values_fault ready_early (codes "true" ∷ [])) e in
+      let none : has_row early rows ≡ false = not_repeated (has_row early rows) ArgumentConflict parts.0 in
+      subst AreGood (sym (flag_used_new rows none)) (good_more rows flag_row good flag_is_good)
+
   help_fails : (values : List Text) (rows : List Row) → use_fault false ready_help values rows ≡ [] → ⊥
   help_fails values rows e =
       let parts = none_first (range_kinds 0 0 (length values)) (DisplayHelp ∷ []) e in
@@ -112,16 +136,20 @@ module _ (name : Text) (options : List Numbered) (fine : AreFine options) where
   used_good a values rows ours e good = elim ours [
     | inl found ↦
         subst (λ (z : Rule). AreGood (used z values rows)) (sym found.2) (option_good found.0 values rows found.1 (ap (λ (z : Rule). use_fault false z values rows) (sym found.2) ∙ e) good)
-    | inr help ↦ absurd (help_fails values rows (ap (λ (z : Rule). use_fault false z values rows) (sym help) ∙ e))
+    | inr others ↦ elim others [
+      | inl flag ↦ subst (λ (z : Rule). AreGood (used z values rows)) (sym flag) (flag_good values rows (ap (λ (z : Rule). use_fault false z values rows) (sym flag) ∙ e) good)
+      | inr help ↦ absurd (help_fails values rows (ap (λ (z : Rule). use_fault false z values rows) (sym help) ∙ e))
+    ]
   ]
 
   -- what a search among the rules finds is one of them
   ours : (p : Rule → Bool) (some : List Numbered) → ((o : Numbered) → IsOf o some → IsOf o options) → IfSome (find p (rules_for some)) IsOurs
-  ours p [] within = go (p ready_help)
+  ours p [] within = go (p ready_early) (p ready_help)
     where
-      go : (b : Bool) → IfSome (cond b (Some ready_help) None) IsOurs
-      go true = inr refl
-      go false = tt
+      go : (a b : Bool) → IfSome (cond a (Some ready_early) (cond b (Some ready_help) None)) IsOurs
+      go true b = inr (inl refl)
+      go false true = inr (inr refl)
+      go false false = tt
   ours p (x ∷ rest) within = go (p (ready x)) (ours p rest (λ o of. within o (inr of)))
     where
       go : (b : Bool) → IfSome (find p (rules_for rest)) IsOurs → IfSome (cond b (Some (ready x)) (find p (rules_for rest))) IsOurs
@@ -263,14 +291,17 @@ module _ (name : Text) (options : List Numbered) (fine : AreFine options) where
 
   -- ---- a whole command
 
-  found_good : (o : Numbered) (rows : List Row) → IsOf o options → AreGood rows → has_row o.name rows ≡ true → (r : Row) × (find (λ x. bytes_eq x.id o.name) rows ≡ Some r) × IsValueOf o r
-  found_good o [] of good some = absurd (true≢false (sym some))
-  found_good o (r ∷ rows) of good some = go (bytes_eq r.id o.name) refl some (λ later. found_good o rows of good.1 later)
+  -- a search among good rows finds a good one
+  abbrev FindsGood : Text → Option Row → Type 0
+  FindsGood id found = (r : Row) × (found ≡ Some r) × (bytes_eq r.id id ≡ true) × IsGood r
+
+  found_good : (id : Text) (rows : List Row) → AreGood rows → has_row id rows ≡ true → FindsGood id (find (λ x. bytes_eq x.id id) rows)
+  found_good id [] good some = absurd (true≢false (sym some))
+  found_good id (r ∷ rows) good some = go (bytes_eq r.id id) refl some (λ later. found_good id rows good.1 later)
     where
-      go : (b : Bool) → bytes_eq r.id o.name ≡ b → (b || has_row o.name rows) ≡ true
-          → (has_row o.name rows ≡ true → (x : Row) × (find (λ y. bytes_eq y.id o.name) rows ≡ Some x) × IsValueOf o x)
-          → (x : Row) × (cond b (Some r) (find (λ y. bytes_eq y.id o.name) rows) ≡ Some x) × IsValueOf o x
-      go true is e rec = (r, refl, good.0 o of is)
+      go : (b : Bool) → bytes_eq r.id id ≡ b → (b || has_row id rows) ≡ true → (has_row id rows ≡ true → FindsGood id (find (λ x. bytes_eq x.id id) rows))
+          → FindsGood id (cond b (Some r) (find (λ x. bytes_eq x.id id) rows))
+      go true is e rec = (r, refl, is, good.0)
       go false is e rec = rec e
 
   value_read : (o : Numbered) (r : Row) → IsValueOf o r → (text : Text) × (row_text r ≡ Some (without_minus text)) × IsSignedIn (pos o.least) (pos o.most) text
@@ -298,22 +329,37 @@ module _ (name : Text) (options : List Numbered) (fine : AreFine options) where
 
       go : (b : Bool) → has_row o.name rows ≡ b → HasNumber (fold with_default rows c) o
       go true e =
-          let found = found_good o rows of good e in
-          of_row found.0 (last ∙ ap (λ b. cond b (find (λ x. bytes_eq x.id o.name) rows) (Some (default_row o))) e ∙ found.1) found.2
+          let found = found_good o.name rows good e in
+          of_row found.0 (last ∙ ap (λ b. cond b (find (λ x. bytes_eq x.id o.name) rows) (Some (default_row o))) e ∙ found.1) (found.3.of_option o of found.2)
       go false e = of_row (default_row o) (last ∙ ap (λ b. cond b (find (λ x. bytes_eq x.id o.name) rows) (Some (default_row o))) e) (default_good o of)
 
-  pub level_numbers : (words : List Text) → level_fault s [] nothing_held words false [] ≡ [] → (o : Numbered) → IsOf o options → HasNumber (rows_after c [] words) o
-  level_numbers words e o of =
+  has_flag : (rows : List Row) → AreGood rows → HasFlag (fold with_default rows c)
+  has_flag rows good = go (has_row early rows) refl
+    where
+      last : find (λ x. bytes_eq x.id early) (fold with_default rows c) ≡ cond (has_row early rows) (find (λ x. bytes_eq x.id early) rows) (Some flag_default_row)
+      last = flag_last options rows (beside name options fine)
+
+      go : (b : Bool) → has_row early rows ≡ b → HasFlag (fold with_default rows c)
+      go true e =
+          let found = found_good early rows good e in
+          inl (ap (option_and_then row_text) (last ∙ ap (λ b. cond b (find (λ x. bytes_eq x.id early) rows) (Some flag_default_row)) e ∙ found.1) ∙ found.3.of_flag found.2)
+      go false e = inr (ap (option_and_then row_text) (last ∙ ap (λ b. cond b (find (λ x. bytes_eq x.id early) rows) (Some flag_default_row)) e))
+
+  level_good : (words : List Text) → level_fault s [] nothing_held words false [] ≡ [] → AreGood (settled c (walk c [] nothing_held words).held).rows
+  level_good words e =
       let end : Held = (walk c [] nothing_held words).held in
       let first = none_first (walk_fault s [] (walk_from nothing_held) words) (or_else (settle_fault c false end) (or_else (defaults_fault (settled c end).rows c) (check_fault s (finished c end) false))) e in
       let second = none_first (settle_fault c false end) (or_else (defaults_fault (settled c end).rows c) (check_fault s (finished c end) false)) first.1 in
-      has_number o (settled c end).rows of (settled_good end second.0 (words_good words (walk_from nothing_held) first.0 tt))
+      settled_good end second.0 (words_good words (walk_from nothing_held) first.0 tt)
+
+  -- words that the command takes give each option its number, and tell whether the flag is given
+  pub level_given : (words : List Text) → level_fault s [] nothing_held words false [] ≡ [] → IsGiven options (rows_after c [] words)
+  level_given words e =
+      let end : Held = (walk c [] nothing_held words).held in
+      let good = level_good words e in
+      record { numbers = each_of _ options (λ o of. has_number o (settled c end).rows of good); flag = has_flag (settled c end).rows good }
 
 -- ---- the program
-
-each_of : (P : Numbered → Type 0) (options : List Numbered) → ((o : Numbered) → IsOf o options → P o) → AllByRecursion P options
-each_of P [] each = tt
-each_of P (x ∷ rest) each = (each x (inl refl), each_of P rest (λ o of. each o (inr of)))
 
 abbrev help_leaf : Shape
 help_leaf = built_leaf (inherited (with_leaf_noted the_app.top) help_shape)
@@ -335,15 +381,11 @@ entered_numbers words e =
     other : {A : Type 0} → false ≡ true → A
     other same = absurd (true≢false (sym same))
 
-    numbers : (name : Text) (options : List Numbered) (fine : AreFine options) (words : List Text)
-        → level_fault (leaf name options) [] nothing_held words false [] ≡ [] → HasNumbers options (rows_after (rules_for options) [] words)
-    numbers name options fine words e = each_of _ options (level_numbers name options fine words e)
-
     one : (words : List Text) (a b c d : Bool) → option_map_or (λ t. level_fault t [] nothing_held words false []) (named a b c d) [] ≡ []
         → IfSome (option_map (λ t. rows_at t words) (named a b c d)) (λ q. IsEntered q.0 q.1)
-    one words true b c d e = record { cull = λ _. numbers (codes "cull") cull_options cull_fine words e; live = other; demo = other }
-    one words false true c d e = record { cull = other; live = λ _. numbers (codes "live") live_options live_fine words e; demo = other }
-    one words false false true d e = record { cull = other; live = other; demo = λ _. numbers (codes "demo") demo_options demo_fine words e }
+    one words true b c d e = record { cull = λ _. level_given (codes "cull") cull_options cull_fine words e; live = other; demo = other }
+    one words false true c d e = record { cull = other; live = λ _. level_given (codes "live") live_options live_fine words e; demo = other }
+    one words false false true d e = record { cull = other; live = other; demo = λ _. level_given (codes "demo") demo_options demo_fine words e }
     one words false false false true e = record { cull = other; live = other; demo = other }
     one words false false false false e = tt
 

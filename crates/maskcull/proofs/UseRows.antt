@@ -1,16 +1,18 @@
 -- What one use of an option adds to the matches, and that it has no fault.
-use Rattle.std.proofs.Common.{◌≡◌, ◌∙◌, ◌<◌, ◌^◌, ◌||◌, Bool, true, false, cond, pos, refl, ap, List, [], ◌∷◌, ◌++◌, Some, None, true≢false}
+use Rattle.std.proofs.Common.{◌≡◌, ◌∙◌, ◌<◌, ◌^◌, ◌||◌, Bool, true, false, cond, pos, refl, ap, List, [], ◌∷◌, ◌++◌, Some, None, codes, true≢false}
 use Rattle.std.specs.Fmt.{decimal}
+use Rattle.std.specs.Prelude.{if◌then◌else◌}
 use Rattle.std.specs.Str.{bytes_eq}
 use Rattle.clap.specs.Walk.{Row, Text, at_row, has_row, more_values, used}
 use Rattle.clap.specs.Faults.{use_fault}
 use Rattle.clap.specs.ValueTests.{accepts}
-use Rattle.clap.specs.declared.builder.value_parser.Reading.TheVariants.{WithoutMinus}
+use Rattle.clap.specs.declared.builder.value_parser.Reading.TheVariants.{AsWritten, WithoutMinus}
 use Rattle.clap.specs.declared.builder.value_parser.ValueParser.TheVariants.{Signed}
 use Rattle.clap.specs.declared.parser.matches.ValueSource.TheVariants.{CommandLine}
+use Rattle.maskcull.specs.App.{early}
 use Rattle.maskcull.specs.Words.{IsInRange, Use}
 use Rattle.maskcull.proofs.DecimalWords.{number_accepted}
-use Rattle.maskcull.proofs.OptionRules.{ready}
+use Rattle.maskcull.proofs.OptionRules.{ready, ready_early}
 
 abbrev pub row_for : Use → Row
 row_for u = record {
@@ -20,6 +22,19 @@ row_for u = record {
   source = Some CommandLine;
   reading = WithoutMinus;
 }
+
+-- the row of the flag, where it is given
+abbrev pub flag_row : Row
+flag_row = record {
+  id = early;
+  values = codes "true" ∷ [];
+  count = None;
+  source = Some CommandLine;
+  reading = AsWritten;
+}
+
+abbrev pub flag_rows : Bool → List Row
+flag_rows is_early = if is_early then flag_row ∷ [] else []
 
 pub neither : (a b : Bool) → (a || b) ≡ false → (a ≡ false) × (b ≡ false)
 neither true b e = absurd (true≢false e)
@@ -41,6 +56,15 @@ pub used_new : (u : Use) (rows : List Row) → has_row u.option.name rows ≡ fa
 used_new u rows none =
     let gone : at_row u.option.name (λ _. []) [] rows ≡ rows = at_row-missing u.option.name (λ _. []) [] rows none ∙ append_nil rows in
     ap (λ rs. at_row u.option.name (more_values CommandLine (decimal u.number ∷ [])) (row_for u ∷ []) rs) gone ∙ at_row-missing u.option.name (more_values CommandLine (decimal u.number ∷ [])) (row_for u ∷ []) rows none
+
+-- the first use of the flag
+pub flag_used_new : (rows : List Row) → has_row early rows ≡ false → used ready_early [] rows ≡ rows ++ flag_row ∷ []
+flag_used_new rows none =
+    let gone : at_row early (λ _. []) [] rows ≡ rows = at_row-missing early (λ _. []) [] rows none ∙ append_nil rows in
+    ap (λ rs. at_row early (more_values CommandLine (codes "true" ∷ [])) (flag_row ∷ []) rs) gone ∙ at_row-missing early (more_values CommandLine (codes "true" ∷ [])) (flag_row ∷ []) rows none
+
+pub flag_use_passes : (rows : List Row) → has_row early rows ≡ false → use_fault false ready_early [] rows ≡ []
+flag_use_passes rows none = rw none refl
 
 abbrev accepts_it : Use → Bool
 accepts_it u = accepts false (Signed (pos u.option.least) (pos u.option.most)) (decimal u.number)

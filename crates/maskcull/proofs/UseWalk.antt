@@ -12,11 +12,11 @@ use Rattle.clap.specs.Faults.{bundle_fault, flag_word_fault, long_fault, option_
 use Rattle.clap.specs.Kinds.{or_else}
 use Rattle.clap.proofs.CutLemmas.{Lacks}
 use Rattle.clap.proofs.LexerLemmas.{name_and_value-at, name_and_value-without}
-use Rattle.maskcull.specs.App.{Numbered}
-use Rattle.maskcull.specs.Words.{IsInRange, Use, words_of_use}
+use Rattle.maskcull.specs.App.{Numbered, early}
+use Rattle.maskcull.specs.Words.{IsInRange, Use, words_of_flag, words_of_use}
 use Rattle.maskcull.proofs.DecimalWords.{bare_number}
-use Rattle.maskcull.proofs.OptionRules.{IsOf, are_apart, found_id, found_long, ready, rules_for, same_text}
-use Rattle.maskcull.proofs.UseRows.{row_for, use_passes, used_new}
+use Rattle.maskcull.proofs.OptionRules.{AreBesideFlag, IsOf, are_apart, flag_found_long, found_id, found_long, ready, ready_early, rules_for, same_text}
+use Rattle.maskcull.proofs.UseRows.{flag_row, flag_rows, flag_use_passes, flag_used_new, row_for, use_passes, used_new}
 
 abbrev pub pending_for : Option Use → Option (Text × List Text)
 pending_for = option_map (λ u. (u.option.name, decimal u.number ∷ []))
@@ -32,10 +32,11 @@ abbrev pub rows_with : List Row → Option Use → List Row
 rows_with rows None = rows
 rows_with rows (Some u) = rows ++ row_for u ∷ []
 
--- an option whose name can be told from its value, and whose numbers are small
+-- an option whose name can be told from its value and is not the flag's, and whose numbers are small
 pub record IsFine (o : Numbered) : Type 0 where
   pub some : 0 < length o.name
   pub lacks : Lacks 61 o.name
+  pub not_early : bytes_eq o.name early ≡ false
   pub small : o.most < 2 ^ 63
   pub default_above : o.least ≤ o.default
   pub default_below : o.default ≤ o.most
@@ -73,6 +74,13 @@ name_is u fine = go u.option.name fine.some fine.lacks
     go [] some lacks = absurd (omega arith)
     go (x ∷ xs) some lacks = (ap Some (name_and_value-without (x ∷ xs) lacks), refl)
 
+-- the words of a command behind its name, and the rows that they make
+abbrev pub option_words : List Use → Bool → List Use → List Text
+option_words before is_early after = flat_map words_of_use before ++ words_of_flag is_early ++ flat_map words_of_use after
+
+abbrev pub option_rows : List Use → Bool → List Use → List Row
+option_rows before is_early after = (map row_for before ++ flag_rows is_early) ++ map row_for after
+
 module _ (name : Text) (options : List Numbered) (fine : AreFine options) where
   abbrev s : Shape
   s = leaf name options
@@ -84,6 +92,9 @@ module _ (name : Text) (options : List Numbered) (fine : AreFine options) where
   pub record IsUse (u : Use) : Type 0 where
     pub of : IsOf u.option options
     pub within : IsInRange u
+
+  pub beside : AreBesideFlag options
+  beside o of = (fine.each o of).not_early
 
   abbrev pub IsWaiting : List Row → Option Use → Type 0
   IsWaiting rows None = Unit {0}
@@ -200,6 +211,30 @@ module _ (name : Text) (options : List Numbered) (fine : AreFine options) where
         ∙ ap (λ o. or_else (flag_word_fault c false (option_and_then long_of_rest (option_and_then (strip_byte 45) o)) (decimal u.number) named.held) []) word.hyphen
         ∙ ap (λ o. or_else (option_map_or (λ flags. bundle_fault c false flags named.held) (option_and_then short_of_rest o) []) []) word.hyphen
 
+  -- ---- the flag
+
+  module _ (rows : List Row) (last : Option Use) (waits : IsWaiting rows last) (none : has_row early (rows_with rows last) ≡ false) where
+    flag_rows_are : (settled c (held_for rows last)).rows ≡ rows_with rows last
+    flag_rows_are = ap (λ (h : Held). h.rows) (settled_is rows last waits)
+
+    flag_met_is : word_met c [] false idle 1 (codes "--early") (held_for rows last) ≡ (held_for (rows_with rows last ++ flag_row ∷ []) None, next idle)
+    flag_met_is =
+        ap (λ (o : Option Rule). after_flag c idle (codes "--early") (long_met c o None (held_for rows last)).0 (long_met c o None (held_for rows last)).1) (flag_found_long options beside)
+        ∙ ap (λ rs. (held_for (used ready_early [] rs) None, next idle)) flag_rows_are
+        ∙ ap (λ rs. (held_for rs None, next idle)) (flag_used_new (rows_with rows last) none)
+
+    flag_walk : walked c [] (between rows last) (codes "--early") ≡ between (rows_with rows last ++ flag_row ∷ []) None
+    unfolding walked
+    flag_walk = ap (λ (m : Held × Step). after_step c (codes "--early") (between rows last) m.0 m.1) flag_met_is
+
+    flag_turn : turn_fault s [] (between rows last) (codes "--early") ≡ []
+    flag_turn =
+        ap (λ (m : Held × Step). or_else (word_fault s [] false idle (codes "--early") (held_for rows last)) (step_fault s 1 m.0 m.1)) flag_met_is
+        ∙ ap (λ (o : Option Rule). or_else (long_fault c false o None (held_for rows last)) []) (flag_found_long options beside)
+        ∙ ap (λ k. or_else (or_else k (use_fault false ready_early [] (settled c (held_for rows last)).rows)) []) (settles rows last waits)
+        ∙ ap (λ rs. or_else (use_fault false ready_early [] rs) []) flag_rows_are
+        ∙ ap (λ k. or_else k []) (flag_use_passes (rows_with rows last) none)
+
   -- ---- all uses
 
   -- each use is one of an option that has no row yet
@@ -227,21 +262,46 @@ module _ (name : Text) (options : List Numbered) (fine : AreFine options) where
     rows_are = p.rows_are;
   }
 
-  pub uses_pass : (rows : List Row) (last : Option Use) (uses : List Use) → IsWaiting rows last → AreNew (rows_with rows last) uses
-      → Passes (between rows last) (flat_map words_of_use uses) (rows_with rows last ++ map row_for uses)
+  -- wherever the walk has come to these rows, it goes on over more words to its last rows
+  abbrev GoesOn : List Row → List Text → List Row → Type 0
+  GoesOn rows more end = (held : List Row) (last : Option Use) → IsWaiting held last → rows_with held last ≡ rows → Passes (between held last) more end
+
+  at_end : (rows : List Row) → GoesOn rows [] rows
   unfolding walk_fault
-  uses_pass rows last [] waits new = record { before = rows; last = last; waits = waits; end = refl; no_fault = refl; rows_are = sym (append-nil (rows_with rows last)) }
-  uses_pass rows last (u ∷ rest) waits new = by_form u.is_joined (λ after held waiting fresh. uses_pass after held rest waiting fresh)
+  at_end rows held last waits is = record { before = held; last = last; waits = waits; end = refl; no_fault = refl; rows_are = is }
+
+  uses_pass : (rows : List Row) (last : Option Use) (uses : List Use) (more : List Text) (end : List Row) → IsWaiting rows last → AreNew (rows_with rows last) uses
+      → GoesOn (rows_with rows last ++ map row_for uses) more end → Passes (between rows last) (flat_map words_of_use uses ++ more) end
+  uses_pass rows last [] more end waits new on = on rows last waits (sym (append-nil (rows_with rows last)))
+  uses_pass rows last (u ∷ rest) more end waits new on = by_form u.is_joined (λ after held waiting fresh goes. uses_pass after held rest more end waiting fresh goes)
     where
-      same_rows : (rows_with rows last ++ row_for u ∷ []) ++ map row_for rest ≡ rows_with rows last ++ map row_for (u ∷ rest)
-      same_rows = append_assoc (rows_with rows last) (row_for u ∷ []) (map row_for rest)
+      goes_on : GoesOn ((rows_with rows last ++ row_for u ∷ []) ++ map row_for rest) more end
+      goes_on held next_last waiting is = on held next_last waiting (is ∙ append_assoc (rows_with rows last) (row_for u ∷ []) (map row_for rest))
 
       by_form : (b : Bool)
-          → ((after : List Row) (held : Option Use) → IsWaiting after held → AreNew (rows_with after held) rest
-          → Passes (between after held) (flat_map words_of_use rest) (rows_with after held ++ map row_for rest))
-          → Passes (between rows last) (cond b (joined_word u ∷ []) (name_word u ∷ decimal u.number ∷ []) ++ flat_map words_of_use rest) (rows_with rows last ++ map row_for (u ∷ rest))
+          → ((after : List Row) (held : Option Use) → IsWaiting after held → AreNew (rows_with after held) rest → GoesOn (rows_with after held ++ map row_for rest) more end
+          → Passes (between after held) (flat_map words_of_use rest ++ more) end)
+          → Passes (between rows last) ((cond b (joined_word u ∷ []) (name_word u ∷ decimal u.number ∷ []) ++ flat_map words_of_use rest) ++ more) end
       by_form true passes = one_more _ _ _ _ _ (joined_walk rows last waits u new.0 new.1) (joined_passes rows last waits u new.0 new.1)
-          (subst (Passes _ _) same_rows (passes (rows_with rows last ++ row_for u ∷ []) None tt new.2))
+          (passes (rows_with rows last ++ row_for u ∷ []) None tt new.2 goes_on)
       by_form false passes = one_more _ _ _ _ _ (name_walk rows last waits u new.0 new.1) (name_passes rows last waits u new.0 new.1)
-          (one_more _ _ _ _ _ (value_walk rows last waits u new.0 new.1) (value_passes rows last waits u new.0 new.1)
-          (subst (Passes _ _) same_rows (passes (rows_with rows last) (Some u) (new.0, new.1) new.2)))
+          (one_more _ _ _ _ _ (value_walk rows last waits u new.0 new.1) (value_passes rows last waits u new.0 new.1) (passes (rows_with rows last) (Some u) (new.0, new.1) new.2 goes_on))
+
+  flag_passes : (is_early : Bool) (rows : List Row) (last : Option Use) (more : List Text) (end : List Row) → IsWaiting rows last → has_row early (rows_with rows last) ≡ false
+      → GoesOn (rows_with rows last ++ flag_rows is_early) more end → Passes (between rows last) (words_of_flag is_early ++ more) end
+  flag_passes false rows last more end waits none on = on rows last waits (sym (append-nil (rows_with rows last)))
+  flag_passes true rows last more end waits none on =
+      one_more _ _ _ _ _ (flag_walk rows last waits none) (flag_turn rows last waits none) (on (rows_with rows last ++ flag_row ∷ []) None tt refl)
+
+  -- uses, then maybe the flag, then more uses
+  pub all_pass : (before : List Use) (is_early : Bool) (after : List Use) → AreNew [] before → has_row early (map row_for before) ≡ false → AreNew (map row_for before ++ flag_rows is_early) after
+      → Passes (between [] None) (option_words before is_early after) (option_rows before is_early after)
+  all_pass before is_early after new none fresh =
+      subst (λ ws. Passes (between [] None) ws (option_rows before is_early after)) (sym (append_assoc (flat_map words_of_use before) (words_of_flag is_early) (flat_map words_of_use after)))
+      (uses_pass [] None before (words_of_flag is_early ++ flat_map words_of_use after) (option_rows before is_early after) tt new
+      (λ rows last waits is. flag_passes is_early rows last (flat_map words_of_use after) (option_rows before is_early after) waits (ap (has_row early) is ∙ none)
+      (λ held next_last waiting same.
+      let both : rows_with held next_last ≡ map row_for before ++ flag_rows is_early = same ∙ ap (λ rs. rs ++ flag_rows is_early) is in
+      subst (λ ws. Passes (between held next_last) ws (option_rows before is_early after)) (append-nil (flat_map words_of_use after))
+      (uses_pass held next_last after [] (option_rows before is_early after) waiting (subst (λ rs. AreNew rs after) (sym both) fresh)
+      (λ end_held end_last end_waits end_is. at_end (option_rows before is_early after) end_held end_last end_waits (end_is ∙ ap (λ rs. rs ++ map row_for after) both))))))

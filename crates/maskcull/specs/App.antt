@@ -3,6 +3,7 @@ use Rattle.std.specs.Prelude.{ℕ, pos, true, Some, List, [], ◌∷◌, ◌++�
 use Rattle.std.specs.Fmt.{decimal}
 use Rattle.clap.specs.Words.{App, Rule, Shape, Text, new_app, new_rule, with_subcommand}
 use Rattle.clap.specs.Simple.{new_shape, on_top}
+use Rattle.clap.specs.declared.builder.action.ArgAction.TheVariants.{SetTrue}
 use Rattle.clap.specs.declared.builder.value_parser.ValueParser.TheVariants.{Signed}
 
 -- an option that has a number: its name behind the two hyphens, the least and the greatest number, and the one that stands where it isn't given
@@ -57,9 +58,20 @@ rule_for o = record (new_rule o.name) {
   parser = Some (Signed (pos o.least) (pos o.most));
 }
 
--- a command with these options
+-- the flag that has objects settled while a frame is drawn: its name behind the two hyphens
+abbrev pub early : Text
+early = codes "early"
+
+abbrev pub early_rule : Rule
+early_rule = record (new_rule early) { long = Some early; action = Some SetTrue }
+
+-- a command with these options, before it has the flag
+abbrev pub unflagged_shape : Text → List Numbered → Shape
+unflagged_shape name options = record (new_shape name) { rules = map rule_for options }
+
+-- a command with these options, and the flag behind them
 abbrev pub command_shape : Text → List Numbered → Shape
-command_shape name options = record (new_shape name) { rules = map rule_for options }
+command_shape name options = record (new_shape name) { rules = map rule_for options ++ early_rule ∷ [] }
 
 -- the program: one of its commands must be named
 abbrev pub the_app : App

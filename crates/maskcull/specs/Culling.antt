@@ -1,5 +1,5 @@
 -- What a run owes over the bytes that were left in its source.
-use Rattle.std.specs.Prelude.{ℕ, ◌≡◌, ◌<◌, ◌≤◌, List, [], length, Result, Err, OnOk, OnErr, IfErr, ◌⊎◌, Some, IfSome}
+use Rattle.std.specs.Prelude.{ℕ, Bool, ◌≡◌, ◌<◌, ◌≤◌, List, [], length, Result, Err, OnOk, OnErr, IfErr, ◌⊎◌, Some, IfSome}
 use Rattle.cull_base.specs.Stream.{SourceSays, SinkSays, Rose, Appends, AppendsPrefix, IsNoted}
 use Rattle.scene_reader.specs.Fault.{first_fault, IsRefusal}
 use Rattle.maskcull.specs.Notes.{refusal_text}
@@ -16,7 +16,8 @@ use Rattle.scene_reader.specs.declared.error.SceneError.{SceneError}
 use Rattle.cull_base.specs.Screen.{tile_count_of}
 use Rattle.cull_base.specs.Tiles.{ArePieces, tile_after}
 use Rattle.masked_update.specs.TileOf.{TileOf, tile_at}
-use Rattle.cull_report.specs.Scene.{size_of, frame_pieces, report_text}
+use Rattle.cull_base.specs.Fold.{after}
+use Rattle.cull_report.specs.Scene.{IsMarkedRight, size_of, frame_pieces, object_verdict, report_text}
 use Rattle.maskcull.specs.declared.failure.Failure.{Failure}
 use Rattle.maskcull.specs.declared.failure.Status.{Status}
 use Rattle.maskcull.specs.declared.failure.Status.TheVariants as statuses
@@ -80,6 +81,10 @@ IsCulled before after report_before report_after =
 -- the tiles took the whole list of a frame
 abbrev pub TookFrame : Parts → ℕ → List TileOf → Type 0
 TookFrame s frame tiles = (t : ℕ) → t < tile_count_of (size_of s) → (tile_at tiles t).subs ≡ tile_after (size_of s) t (frame_pieces s frame)
+
+-- the objects of a frame that are marked are occluded after its whole list
+abbrev pub AreSettled : Parts → ℕ → List Bool → Type 0
+AreSettled s frame marks = IsMarkedRight (object_verdict s frame (λ u. after u (frame_pieces s frame))) s.objects marks
 
 -- each member of each frame's list is a piece
 abbrev pub AllArePieces : Parts → Type 0

@@ -1,13 +1,17 @@
 -- The live lines of a frame, as looks at its tiles make them.
-use Rattle.std.specs.Prelude.{ℕ, ◌≡◌, ◌<◌, ◌≤◌, ◌/◌, ◌%◌, List, length, slice_index_or}
+use Rattle.std.specs.Prelude.{ℕ, ◌≡◌, ◌<◌, ◌≤◌, ◌/◌, ◌%◌, Bool, true, false, List, length, replicate, slice_index_or}
 use Rattle.std.specs.List.{flat_map}
 use Rattle.cull_base.specs.declared.clip.ClipVertex.{ClipVertex}
+use Rattle.cull_base.specs.declared.scene_types.Object.{Object}
+use Rattle.cull_base.specs.declared.scene_types.Verdict.TheVariants.{Occluded}
+use Rattle.cull_base.specs.Fold.{after}
 use Rattle.cull_base.specs.Screen.{Dimensions, tile_count_of}
-use Rattle.cull_base.specs.Tiles.{PieceList, tile_list}
+use Rattle.cull_base.specs.Tiles.{ArePieces, PieceList, tile_list}
 use Rattle.scene_reader.specs.Layout.{Parts, IsScene}
 use Rattle.tile_cells.specs.Snapshots.{HoldsExactly, SnapshotOf}
 use Rattle.cull_report.specs.Live.{IsRisingIn, IsStated, LiveLineOf, counts_held, frame_live, object_at, object_line, text_of_line}
-use Rattle.cull_report.specs.Scene.{frame_clips, frame_list, object_area, size_of}
+use Rattle.cull_report.specs.Scene.{frame_clips, frame_list, frame_pieces, object_area, object_verdict, size_of}
+use Rattle.maskcull.specs.Culling.{AreSettled}
 
 -- the parts are a scene's, which has this frame, whose clip vertices these are, and so many objects
 pub record IsWatching (s : Parts) (frame objects : ℕ) (clips : List ClipVertex) : Type 0 where
@@ -26,14 +30,16 @@ abbrev pub HaveRoom : Parts → ℕ → ℕ → List LiveLineOf → Type 0
 HaveRoom s frame objects lines =
     (i : ℕ) (d : LiveLineOf) → i < length lines → RoomFor s frame (i % objects) (slice_index_or lines i d).room
 
--- before a frame of this list is drawn: lines with room, and a snapshot of the scene's screen
-pub record IsReady (s : Parts) (frame objects : ℕ) (clips : List ClipVertex) (size : Dimensions) (lines : List LiveLineOf) (list : PieceList) : Type 0 where
+-- before a frame of this list is drawn: lines with room, a snapshot of the scene's screen, and a mark for each object,
+-- of which none is set
+pub record IsReady (s : Parts) (frame objects : ℕ) (clips : List ClipVertex) (size : Dimensions) (lines : List LiveLineOf) (marks : List Bool) (list : PieceList) : Type 0 where
   pub watching : IsWatching s frame objects clips
   pub list_is : list ≡ frame_list s frame
   pub size_is : size ≡ size_of s
   pub some : 0 < length lines → 0 < objects
   pub few : length lines ≤ 64
   pub room : HaveRoom s frame objects lines
+  pub unset : marks ≡ replicate (length s.objects) false
 
 -- a line tells of an object in a round what was seen then: so many members of each tile's list
 pub record Tells (s : Parts) (frame round o : ℕ) (seen : ℕ → ℕ) (l : LiveLineOf) : Type 0 where
@@ -47,6 +53,16 @@ pub record AreLooks (s : Parts) (frame objects : ℕ) (seen : ℕ → ℕ → �
 
 abbrev pub HaveLooked : Parts → ℕ → ℕ → List LiveLineOf → Type 0
 HaveLooked s frame objects lines = (seen : ℕ → ℕ → ℕ) × AreLooks s frame objects seen (length lines) lines
+
+-- an object that is called settled is occluded after the frame's whole list of pieces
+abbrev pub IsSettledWhere : Parts → ℕ → ℕ → Bool → Type 0
+IsSettledWhere s frame o settled =
+    (d : Object) → ArePieces (frame_pieces s frame) → settled ≡ true
+    → object_verdict s frame (λ u. after u (frame_pieces s frame)) (slice_index_or s.objects o d) ≡ Occluded
+
+-- marks for a frame's list of pieces
+abbrev pub HaveSettled : Parts → ℕ → List Bool → Type 0
+HaveSettled s frame marks = ArePieces (frame_pieces s frame) → AreSettled s frame marks
 
 -- the lines are a frame's live text, of counts that rise
 pub record AreLive (s : Parts) (rounds watch frame : ℕ) (lines : List LiveLineOf) : Type 0 where

@@ -1,5 +1,5 @@
 -- The command words: what they ask for, and which of them are plain.
-use Rattle.std.specs.Prelude.{ℕ, pos, Bool, true, ◌≡◌, ◌≤◌, ◌⊎◌, List, [], ◌∷◌, ◌++◌, Option, Some, None, All, Contains, find, flat_map, codes, if◌then◌else◌, option_and_then}
+use Rattle.std.specs.Prelude.{ℕ, pos, Bool, true, false, ◌≡◌, ◌≤◌, ◌⊎◌, List, [], ◌∷◌, ◌++◌, Option, Some, None, All, Contains, find, flat_map, codes, if◌then◌else◌, option_and_then}
 use Rattle.std.specs.Fmt.{decimal}
 use Rattle.std.specs.List.{AllByRecursion}
 use Rattle.std.specs.Option.{option_map_or}
@@ -8,7 +8,7 @@ use Rattle.std.specs.Str.Parse.{digits_value, without_leading_plus}
 use Rattle.clap.specs.Walk.{is_empty}
 use Rattle.clap.specs.Words.{IsSignedIn, Row, Text, one_of, without_minus, subcommand_of, fault_of}
 use Rattle.binning.specs.Cut.{cut_into}
-use Rattle.maskcull.specs.App.{Numbered, workers, bins_x, bins_y, batch, rounds, watch, seed, triangles, cull_options, live_options, demo_options, the_app}
+use Rattle.maskcull.specs.App.{Numbered, workers, bins_x, bins_y, batch, early, rounds, watch, seed, triangles, cull_options, live_options, demo_options, the_app}
 use Rattle.maskcull.specs.declared.failure.Status.{Status}
 use Rattle.maskcull.specs.declared.failure.Status.TheVariants as statuses
 use Rattle.maskcull.specs.declared.request.Command.{Command}
@@ -50,22 +50,30 @@ number_named rows name = option_map_or (λ text. digits_value 10 (without_leadin
 abbrev pub number_in : List Row → Numbered → ℕ
 number_in rows o = number_named rows o.name
 
--- the settings, where each option has such a number
-abbrev pub settings_by : (Numbered → ℕ) → Settings
-settings_by number = record { workers = number workers; cut = cut_into (number bins_x) (number bins_y); batch = number batch }
+-- whether the flag has the value true among the matches
+abbrev pub is_early_in : List Row → Bool
+is_early_in rows = option_map_or (λ text. bytes_eq text (codes "true")) (one_of early rows) false
 
--- the request of a command by its name, where each option has such a number
-abbrev pub request_by : Text → (Numbered → ℕ) → Option Request
-request_by name number =
-    if bytes_eq name (codes "cull") then Some (record { command = Cull; settings = settings_by number })
-    else (if bytes_eq name (codes "live") then Some (record { command = Live (number rounds) (number watch); settings = settings_by number })
-    else (if bytes_eq name (codes "demo") then Some (record { command = Demo (number seed) (number triangles); settings = settings_by number })
+-- the settings, where each option has such a number, and whether the flag is given
+abbrev pub settings_by : (Numbered → ℕ) → Bool → Settings
+settings_by number is_early = record { workers = number workers; cut = cut_into (number bins_x) (number bins_y); batch = number batch; early = is_early }
+
+-- the request of a command by its name, where each option has such a number, and whether the flag is given
+abbrev pub request_by : Text → (Numbered → ℕ) → Bool → Option Request
+request_by name number is_early =
+    if bytes_eq name (codes "cull") then Some (record { command = Cull; settings = settings_by number is_early })
+    else (if bytes_eq name (codes "live") then Some (record { command = Live (number rounds) (number watch); settings = settings_by number is_early })
+    else (if bytes_eq name (codes "demo") then Some (record { command = Demo (number seed) (number triangles); settings = settings_by number is_early })
     else None))
+
+-- the request of a command by its name and its matches
+abbrev pub request_in : Text → List Row → Option Request
+request_in name rows = request_by name (number_in rows) (is_early_in rows)
 
 -- what the words ask for; none where `clap` refuses them
 unfoldable pub request_of : List Text → Option Request
 request_of words =
-    if is_empty (fault_of the_app words) then option_and_then (λ p. request_by p.0 (number_in p.1)) (subcommand_of the_app words)
+    if is_empty (fault_of the_app words) then option_and_then (λ p. request_in p.0 p.1) (subcommand_of the_app words)
     else None
 
 -- ---- what `clap` has seen to
@@ -82,13 +90,22 @@ HasNumber rows o = IsNumbered rows o.name o.least o.most
 abbrev pub HasNumbers : List Numbered → List Row → Type 0
 HasNumbers options rows = AllByRecursion (HasNumber rows) options
 
--- a command's name, and each of its options with a number in its range
-pub record IsEntered (name : Text) (rows : List Row) : Type 0 where
-  pub cull : bytes_eq name (codes "cull") ≡ true → HasNumbers cull_options rows
-  pub live : bytes_eq name (codes "live") ≡ true → HasNumbers live_options rows
-  pub demo : bytes_eq name (codes "demo") ≡ true → HasNumbers demo_options rows
+-- the flag is true or false among the matches
+abbrev pub HasFlag : List Row → Type 0
+HasFlag rows = (one_of early rows ≡ Some (codes "true")) ⊎ (one_of early rows ≡ Some (codes "false"))
 
--- ---- plain words: the command, and options with numbers in their ranges, each at most once, in any order
+-- each of these options has a number in its range, and the flag is true or false
+pub record IsGiven (options : List Numbered) (rows : List Row) : Type 0 where
+  pub numbers : HasNumbers options rows
+  pub flag : HasFlag rows
+
+-- a command's name, and what its settings need of its options and of the flag
+pub record IsEntered (name : Text) (rows : List Row) : Type 0 where
+  pub cull : bytes_eq name (codes "cull") ≡ true → IsGiven cull_options rows
+  pub live : bytes_eq name (codes "live") ≡ true → IsGiven live_options rows
+  pub demo : bytes_eq name (codes "demo") ≡ true → IsGiven demo_options rows
+
+-- ---- plain words: the command, options with numbers in their ranges, and the flag, each at most once, in any order
 
 -- an option with its number, as one word or as two
 pub record Use : Type 0 where
@@ -121,13 +138,19 @@ pub record AreUses (options : List Numbered) (uses : List Use) : Type 0 where
 abbrev pub stated : List Use → Numbered → ℕ
 stated uses o = option_map_or (λ u. u.number) (find (λ u. bytes_eq u.option.name o.name) uses) o.default
 
--- the words are the program's name, this command's, and uses of its options
+-- the flag, where it is given
+abbrev pub words_of_flag : Bool → List Text
+words_of_flag is_early = if is_early then codes "--early" ∷ [] else []
+
+-- the words are the program's name, this command's, and uses of its options, among which the flag may stand
 pub record ArePlainFor (name : Text) (options : List Numbered) (words : List Text) (r : Request) : Type 0 where
   pub program : Text
-  pub uses : List Use
-  pub are_uses : AreUses options uses
-  pub spelled : words ≡ program ∷ name ∷ flat_map words_of_use uses
-  pub asked : request_by name (stated uses) ≡ Some r
+  pub before : List Use
+  pub is_early : Bool
+  pub after : List Use
+  pub are_uses : AreUses options (before ++ after)
+  pub spelled : words ≡ program ∷ name ∷ (flat_map words_of_use before ++ words_of_flag is_early ++ flat_map words_of_use after)
+  pub asked : request_by name (stated (before ++ after)) is_early ≡ Some r
 
 -- plain words, and what they ask for
 abbrev pub ArePlain : List Text → Request → Type 0

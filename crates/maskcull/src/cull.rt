@@ -8,7 +8,8 @@ ghost use Rattle.maskcull.specs.Words.{AreInRange};
 ghost use Rattle.maskcull.specs.Culling.{IfScene, EndsAs, IsCulled, HasFault, EachFault, EachScene, GainsFront, WithoutScene, Reports, IsReportFailure, IsBeforeReport};
 
 use crate::failure::Failure;
-use crate::frames::{FrameLines, report_frames};
+use crate::frame_by_frame::report_frames;
+use crate::frames::FrameLines;
 use crate::settings::Settings;
 use cull_base::{Sink, Source};
 use cull_report::write_header;

@@ -8,7 +8,8 @@ ghost use Rattle.maskcull.specs.Words.{AreInRange};
 
 use crate::demo_scene::demo_scene;
 use crate::failure::Failure;
-use crate::frames::{FrameLines, report_frames};
+use crate::frame_by_frame::report_frames;
+use crate::frames::FrameLines;
 use crate::settings::Settings;
 use crate::summary::write_demo_line;
 use cull_base::Sink;

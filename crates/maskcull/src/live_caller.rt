@@ -3,10 +3,11 @@ ghost use Rattle.std.specs.Prelude.{◌≡◌, ℕ, ◌<◌, ◌≤◌, length, 
 ghost use Rattle.cull_base.specs.Screen.{tile_count_of};
 ghost use Rattle.cull_report.specs.Scene.{frame_list, size_of};
 ghost use Rattle.tile_cells.specs.Standing.{IsReading};
-ghost use Rattle.maskcull.specs.LiveFrames.{IsWatching, RoomFor, Tells};
+ghost use Rattle.tile_queues.specs.Callers.{Follows};
+ghost use Rattle.maskcull.specs.LiveFrames.{HaveSettled, IsSettledWhere, IsWatching, RoomFor, Tells};
 
 use cull_base::ClipVertex;
-use cull_report::{LiveLine, object_area, object_verdict};
+use cull_report::{LiveLine, object_area, object_settled, object_verdict};
 use scene_reader::Scene;
 use std::sync::Wait;
 use std::thread::Threads;
@@ -58,26 +59,85 @@ fn look<R: Wait>(
     line.fill(watched.frame, round, object, verdict, snapshot);
 }
 
-/// Looks at each watched object in each round, and keeps what it saw: a line for each look, round after round.
+// Whether an object is settled over the tiles of its area as they stand now. Conditions: there is such an object, and
+// the reader is of the frame's list.
+fn is_settled<R: Wait>(
+    rt: &R,
+    cells: &TileCells,
+    reader: &mut TileReader,
+    watched: &Watched,
+    object: u32,
+    snapshot: &mut Snapshot,
+) -> bool
+    requires watched { IsWatching watched.now.scene.now watched.now.frame watched.now.objects watched.now.clips.now }
+    requires object { object < length watched.now.scene.now.objects }
+    requires reader { IsReading cells.now (frame_list watched.now.scene.now watched.now.frame) reader.old }
+    requires size { snapshot.old.size ≡ size_of watched.now.scene.now }
+    ensures settled { IsSettledWhere watched.now.scene.now watched.now.frame object result }
+    ensures rises { (t : ℕ) → t < tile_count_of (size_of watched.now.scene.now)
+        → slice_index reader.old.seen t ≤ slice_index reader.new.seen t }
+    ensures reader { IsReading cells.now (frame_list watched.now.scene.now watched.now.frame) reader.new }
+    ensures size { snapshot.new.size ≡ size_of watched.now.scene.now }
+{
+    let clips = watched.clips;
+    let area = object_area(watched.scene, watched.frame, clips, object);
+    reader.snapshot(rt, cells, area, snapshot);
+    object_settled(watched.scene, watched.frame, clips, object, snapshot)
+}
+
+// Looks once at each object of the scene, and marks those that are settled. Conditions: there is a mark for each, and
+// the reader is of the frame's list.
+fn mark_settled<R: Wait>(
+    rt: &R,
+    cells: &TileCells,
+    reader: &mut TileReader,
+    watched: &Watched,
+    snapshot: &mut Snapshot,
+    marks: &mut Vec<bool>,
+)
+    requires watched { IsWatching watched.now.scene.now watched.now.frame watched.now.objects watched.now.clips.now }
+    requires reader { IsReading cells.now (frame_list watched.now.scene.now watched.now.frame) reader.old }
+    requires size { snapshot.old.size ≡ size_of watched.now.scene.now }
+    requires marks { length marks.old.items ≡ length watched.now.scene.now.objects }
+    ensures settled { HaveSettled watched.now.scene.now watched.now.frame marks.new.items }
+    ensures marks { length marks.new.items ≡ length marks.old.items }
+    ensures follows { Follows reader.old reader.new }
+{
+    // accessors tell that there is a cell for each tile, and what is held of a scene
+    let (_tiles, _near) = (reader.len(), watched.scene.near());
+    for object in 0..watched.scene.objects().len() as u32 {
+        marks[object as usize] = is_settled(rt, cells, reader, watched, object, snapshot);
+    }
+}
+
+/// Looks at each watched object in each round, and keeps what it saw: a line for each look, round after round. Then it
+/// marks the objects of the scene that are settled, if it is to.
 #[derive(Drop)]
 pub struct LiveCaller<'a, G: Gate> {
     pub watched: Watched<'a>,
     pub gate: &'a G,
     pub snapshot: Snapshot,
     pub lines: Vec<LiveLine>,
+    /// Whether it marks objects.
+    pub early: bool,
+    /// A mark for each object.
+    pub settled: Vec<bool>,
 }
 
 impl<'a, G: Gate> Caller for LiveCaller<'a, G> {
     ghost use Rattle.std.specs.Prelude.{◌≡◌, ◌<◌, ◌≤◌, length};
     ghost use Rattle.cull_report.specs.Scene.{size_of};
-    ghost use Rattle.maskcull.specs.LiveFrames.{HaveLooked, IsReady};
+    ghost use Rattle.maskcull.specs.LiveFrames.{HaveLooked, HaveSettled, IsReady};
 
-    ghost ready = { λ s list. IsReady s.watched.scene.now s.watched.frame s.watched.objects s.watched.clips.now s.snapshot.size s.lines.items list };
+    ghost ready = { λ s list. IsReady s.watched.scene.now s.watched.frame s.watched.objects s.watched.clips.now
+        s.snapshot.size s.lines.items s.settled.items list };
 
-    ghost done = { λ s list reader. HaveLooked s.watched.scene.now s.watched.frame s.watched.objects s.lines.items };
+    ghost done = { λ s list reader. HaveLooked s.watched.scene.now s.watched.frame s.watched.objects s.lines.items
+        × HaveSettled s.watched.scene.now s.watched.frame s.settled.items };
 
     ghost keeps = { λ s t. (t.watched.scene.now ≡ s.watched.scene.now) × (t.watched.frame ≡ s.watched.frame)
-        × (t.watched.objects ≡ s.watched.objects) × (length t.lines.items ≡ length s.lines.items) };
+        × (t.watched.objects ≡ s.watched.objects) × (length t.lines.items ≡ length s.lines.items)
+        × (length t.settled.items ≡ length s.settled.items) };
 
     fn beside<R: Threads + Wait + Sync>(
         &mut self,
@@ -101,6 +161,16 @@ impl<'a, G: Gate> Caller for LiveCaller<'a, G> {
                 object,
                 &mut self.snapshot,
                 &mut self.lines[place],
+            );
+        }
+        if self.early {
+            mark_settled(
+                rt,
+                cells,
+                reader,
+                &self.watched,
+                &mut self.snapshot,
+                &mut self.settled,
             );
         }
     }

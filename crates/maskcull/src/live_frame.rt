@@ -13,7 +13,9 @@ ghost use Rattle.maskcull.specs.LiveScenes.{NotesLines, ReportsFrame};
 ghost use Rattle.maskcull.specs.Words.{AreInRange};
 
 use crate::failure::Failure;
-use crate::frames::{Frame, FrameLines, clip_frame, pieces_of, verdicts_over, write_lines};
+use crate::frames::{
+    Frame, FrameLines, clip_frame, pieces_of, unset_marks, verdicts_over, write_lines,
+};
 use crate::live_caller::{LiveCaller, Watched};
 use crate::settings::Settings;
 use binning::batch_size;
@@ -27,18 +29,18 @@ use std::thread::Threads;
 use tile_cells::{Snapshot, TileCells};
 use tile_queues::{Caller, Gate, draw_frame};
 
-/// How many looks each frame gets, and at what: so many rounds, each of the first objects, of so many. 1 to 8 each.
+/// How many looks each frame gets, and at what: so many rounds, each of the first objects, of so many. At most 8 each.
 #[derive(Clone, Copy)]
 pub struct Looks {
     pub rounds: u32,
     pub watch: u32,
 }
 
-// What was drawn and seen of a frame.
+/// What was drawn and seen of a frame.
 #[derive(Drop)]
-struct Seen {
-    frame: Frame,
-    lines: Vec<LiveLine>,
+pub struct Seen {
+    pub frame: Frame,
+    pub lines: Vec<LiveLine>,
 }
 
 // A line with room for the tiles of an object's area.
@@ -106,13 +108,14 @@ fn draw_in_cells<R: Threads + Wait + Sync, G: Gate, C: Caller>(
     Ok(cells.close(rt, writers, readers))
 }
 
-// A caller with a line for each look.
+// A caller with a line for each look, and a mark for each object, of which none is set.
 fn make_caller<'a, G: Gate>(
     alloc: Global,
     scene: &'a Scene,
     frame: u32,
     clips: &'a [ClipVertex],
     looks: Looks,
+    early: bool,
     gate: &'a G,
 ) -> Result<LiveCaller<'a, G>, Memory>
     requires frame { frame < length scene.now.cameras }
@@ -120,11 +123,12 @@ fn make_caller<'a, G: Gate>(
     requires rounds { looks.rounds ≤ 8 }
     requires watch { looks.watch ≤ 8 }
     ensures ready { IfOk result (λ c. IsReady c.watched.scene.now c.watched.frame c.watched.objects c.watched.clips.now
-        c.snapshot.size c.lines.items (frame_list scene.now frame)) }
+        c.snapshot.size c.lines.items c.settled.items (frame_list scene.now frame)) }
     ensures scene { IfOk result (λ c. c.watched.scene.now ≡ scene.now) }
     ensures frame { IfOk result (λ c. c.watched.frame ≡ frame) }
     ensures objects { IfOk result (λ c. c.watched.objects ≡ watched scene.now looks.watch) }
     ensures lines { IfOk result (λ c. length c.lines.items ≡ looks.rounds * watched scene.now looks.watch) }
+    ensures marks { IfOk result (λ c. length c.settled.items ≡ length scene.now.objects) }
 {
     // an accessor tells what is held of a scene
     let _near = scene.near();
@@ -136,16 +140,20 @@ fn make_caller<'a, G: Gate>(
     };
     let lines = make_lines(alloc, &watched, looks.rounds)?;
     let snapshot = Snapshot::with_room(alloc, scene.size())?;
+    let settled = unset_marks(alloc, scene.objects().len())?;
     Ok(LiveCaller {
         watched,
         gate,
         snapshot,
         lines,
+        early,
+        settled,
     })
 }
 
-// Draws a frame, looks at its first objects meanwhile, and tests all of them at its end.
-fn draw_live<R: Threads + Wait + Sync, G: Gate>(
+/// Draws a frame, looks at its first objects meanwhile, and tests all of them at its end. Where the settings ask for it
+/// those that were settled meanwhile aren't tested. Conditions: there is such a frame, and the clip vertices are its own.
+pub fn draw_live<R: Threads + Wait + Sync, G: Gate>(
     rt: &R,
     alloc: Global,
     settings: &Settings,
@@ -167,9 +175,11 @@ fn draw_live<R: Threads + Wait + Sync, G: Gate>(
 {
     let workers = settings.workers;
     let list = pieces_of(rt, alloc, scene, frame, clips, workers)?;
-    let mut caller = make_caller(alloc, scene, frame, clips, looks, gate)?;
+    let early = settings.early;
+    let mut caller = make_caller(alloc, scene, frame, clips, looks, early, gate)?;
     let states = draw_in_cells(rt, alloc, settings, &list, gate, &mut caller)?;
-    let verdicts = verdicts_over(rt, alloc, scene, frame, clips, &states, workers)?;
+    let settled = &caller.settled;
+    let verdicts = verdicts_over(rt, alloc, scene, frame, clips, &states, settled, workers)?;
     let frame = Frame {
         pieces: list.len(),
         verdicts,

@@ -6,6 +6,7 @@ mod cull;
 mod demo;
 mod demo_scene;
 mod failure;
+mod frame_by_frame;
 mod frames;
 mod generator;
 mod live;

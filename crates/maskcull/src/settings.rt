@@ -10,4 +10,6 @@ pub struct Settings {
     pub cut: Cut,
     /// 1 to 4096.
     pub batch: u32,
+    /// Whether objects that references hide are settled while a frame is drawn.
+    pub early: bool,
 }

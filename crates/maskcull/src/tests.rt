@@ -1,10 +1,16 @@
+mod busy_run;
 mod command_words;
+mod counting_run;
 mod demo;
 mod drawing;
 mod endings;
+mod faults;
 mod frame_tools;
 mod holding_gate;
+mod last_numbers;
 mod live;
+mod live_verdicts;
 mod masks;
 mod objects;
 mod scenes;
+mod waiting;

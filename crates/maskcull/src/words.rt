@@ -5,7 +5,7 @@ ghost use Rattle.clap.specs.Words.{fault_of, found_of, kind_of, rows_of, subcomm
 ghost use Rattle.cull_base.specs.Stream.{IsNoted};
 ghost use Rattle.maskcull.specs.App.{sharing_options, the_app};
 ghost use Rattle.maskcull.specs.Notes.{IsNotedFirst, status_text, usage_text};
-ghost use Rattle.maskcull.specs.Words.{AreInRange, ArePlain, AreWords, HasNumbers, IsEntered, IsNumbered, IsWithinLimits, number_in, number_named, refusal_status, request_by, request_of, settings_by};
+ghost use Rattle.maskcull.specs.Words.{AreInRange, ArePlain, AreWords, HasNumbers, IsEntered, IsNumbered, IsWithinLimits, HasFlag, is_early_in, number_in, number_named, refusal_status, request_in, request_of, settings_by};
 
 mod program;
 
@@ -87,10 +87,20 @@ fn number(matches: &ArgMatches<'_>, name: &str) -> u32
     matches.get_one::<u32>(name).unwrap()
 }
 
+// Whether the flag is given.
+fn is_early(matches: &ArgMatches<'_>) -> bool
+    requires { HasFlag (rows_of (found_of matches.now)) }
+    ensures { result ≡ is_early_in (rows_of (found_of matches.now)) }
+{
+    matches.get_flag("early")
+}
+
 // The settings, where each of their options has a number in its range.
 fn settings_of(matches: &ArgMatches<'_>) -> Settings
-    requires { HasNumbers sharing_options (rows_of (found_of matches.now)) }
-    ensures value { result ≡ settings_by (number_in (rows_of (found_of matches.now))) }
+    requires numbers { HasNumbers sharing_options (rows_of (found_of matches.now)) }
+    requires flag { HasFlag (rows_of (found_of matches.now)) }
+    ensures value { result ≡ settings_by (number_in (rows_of (found_of matches.now)))
+        (is_early_in (rows_of (found_of matches.now))) }
     ensures range { AreInRange result }
 {
     let columns = number(matches, "bins-x") as u8;
@@ -99,13 +109,14 @@ fn settings_of(matches: &ArgMatches<'_>) -> Settings
         workers: number(matches, "workers"),
         cut: Cut::new(columns, rows).unwrap(),
         batch: number(matches, "batch"),
+        early: is_early(matches),
     }
 }
 
 // The request of a command by its name; none where no command has it.
 fn request_by(name: &str, matches: &ArgMatches<'_>) -> Option<Request>
     requires { IsEntered name.now (rows_of (found_of matches.now)) }
-    ensures value { result ≡ request_by name.now (number_in (rows_of (found_of matches.now))) }
+    ensures value { result ≡ request_in name.now (rows_of (found_of matches.now)) }
     ensures range { IfSome result (λ r. AreInRange r.settings) }
     ensures limits { IfSome result (λ r. IsWithinLimits r.command) }
 {

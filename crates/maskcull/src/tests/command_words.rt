@@ -1,6 +1,6 @@
 //! The command words: which are refused, and what the others ask for.
 use crate::failure::Status;
-use crate::request::Command;
+use crate::request::{Command, Request};
 use crate::run::run;
 use crate::tests::scenes::{FIRST, OCCLUDED, run_with, words};
 use crate::words::request_of;
@@ -63,7 +63,8 @@ fn words_that_are_no_command_are_refused(rt: HostRuntime) -> Result<(), Fail> {
         &["maskcull", "draw"],
         &["maskcull", "live", "x"],
         &["maskcull", "cull", "x"],
-        &["maskcull", "cull", "--early"],
+        &["maskcull", "--early", "cull"],
+        &["maskcull", "cull", "--early", "1"],
         &["maskcull", "cull", "--seed", "1"],
         &["maskcull", "--workers", "1", "cull"],
         &["maskcull", "cull", "--workers"],
@@ -85,6 +86,26 @@ fn words_that_are_no_command_are_refused(rt: HostRuntime) -> Result<(), Fail> {
         &options("1", "1", "1", ""),
     ] {
         let _ = assert_usage(&rt, alloc, refused)?;
+    }
+    Ok(())
+}
+
+#[test]
+fn a_flag_given_twice_or_with_a_value_is_refused(rt: HostRuntime) -> Result<(), Fail> {
+    let alloc = rt.alloc();
+    for (given, wanted) in [
+        (
+            ["maskcull", "cull", "--early", "--early"],
+            "the argument '--early' cannot be used multiple times",
+        ),
+        (
+            ["maskcull", "live", "--early=1", "--rounds=2"],
+            "unexpected value '1' for '--early' found; no more were expected",
+        ),
+    ] {
+        let notes = assert_usage(&rt, alloc, &given)?;
+        let text = str::from_utf8(&notes).ok().expect(&rt, "the note is text");
+        assert!(rt; text.contains(wanted), "no {wanted}");
     }
     Ok(())
 }
@@ -113,16 +134,20 @@ fn settings_change_no_byte(rt: HostRuntime) -> Result<(), Fail> {
     Ok(())
 }
 
+// What some words ask for.
+fn request_for(rt: &impl Abort, alloc: Global, given: &[&str]) -> Result<Request, Fail> {
+    let words = words(alloc, given)?;
+    let request = request_of(alloc, &words);
+    Ok(request.ok().expect(rt, "words are refused"))
+}
+
 // The workers, columns, rows and batch that some words ask for, the command, and the two numbers of its own.
 fn asked(
     rt: &impl Abort,
     alloc: Global,
     given: &[&str],
 ) -> Result<([u32; 4], &'static str, Option<(u32, u32)>), Fail> {
-    let words = words(alloc, given)?;
-    let request = request_of(alloc, &words)
-        .ok()
-        .expect(rt, "words are refused");
+    let request = request_for(rt, alloc, given)?;
     let settings = &request.settings;
     let (command, own) = match request.command {
         Command::Cull => ("cull", None),
@@ -172,6 +197,26 @@ fn live_asks_for_rounds_and_watched_objects(rt: HostRuntime) -> Result<(), Fail>
 }
 
 #[test]
+fn the_flag_stands_anywhere_among_the_options(rt: HostRuntime) -> Result<(), Fail> {
+    let alloc = rt.alloc();
+    for (given, workers, is_early) in [
+        (["maskcull", "cull", "--workers", "3"].as_slice(), 3, false),
+        (&["maskcull", "cull", "--early"], 1, true),
+        (&["maskcull", "live", "--early", "--workers", "3"], 3, true),
+        (
+            &["maskcull", "demo", "--seed", "5", "--early", "--workers=3"],
+            3,
+            true,
+        ),
+        (&["maskcull", "cull", "--workers", "3", "--early"], 3, true),
+    ] {
+        let settings = request_for(&rt, alloc, given)?.settings;
+        assert_eq!(rt; (settings.workers, settings.early), (workers, is_early));
+    }
+    Ok(())
+}
+
+#[test]
 fn options_come_in_any_order_and_in_both_spellings(rt: HostRuntime) -> Result<(), Fail> {
     let alloc = rt.alloc();
     let given = [
@@ -208,13 +253,16 @@ fn help_tells_options_and_statuses(rt: HostRuntime) -> Result<(), Fail> {
         (&all, "7  memory was wanted"),
         (&cull, "--workers <workers>"),
         (&cull, "[default: 64]"),
+        (&cull, "--early"),
         (&cull, "3  the input is no scene"),
         (&live, "--rounds <rounds>"),
         (&live, "--watch <watch>"),
+        (&live, "--early"),
         (&live, "TILE:COUNT"),
         (&live, "6  the notes couldn't be written"),
         (&demo, "--triangles <triangles>"),
         (&demo, "[default: 20000]"),
+        (&demo, "--early"),
         (&demo, "2  the words were refused, or help was asked for"),
     ] {
         let text = str::from_utf8(page).ok().expect(&rt, "the page is text");

@@ -1,12 +1,17 @@
 //! The command `demo`, and the generator of its scene.
+use crate::demo::demo;
 use crate::failure::Status;
 use crate::generator::Generator;
+use crate::settings::Settings;
 use crate::tests::scenes::run_with;
+use binning::Cut;
+use cull_base::SureSink;
 use std::alloc::Global;
 use std::process::Abort;
 use std::sync::Wait;
 use std::test::*;
 use std::thread::Threads;
+use tile_queues::OpenGate;
 
 const WITHOUT_TRIANGLES: &str = concat!(
     "demo seed 1 triangles 0 boxes 500 frames 4\n",
@@ -97,4 +102,20 @@ fn many_triangles_by_many_workers_in_one_bin(rt: HostRuntime) -> Result<(), Fail
 #[test]
 fn many_triangles_by_many_workers_in_many_bins(rt: HostRuntime) -> Result<(), Fail> {
     assert_many(&rt, rt.alloc(), "8", "4")
+}
+
+#[test]
+fn many_triangles_with_objects_settled_early(rt: HostRuntime) -> Result<(), Fail> {
+    let alloc = rt.alloc();
+    let settings = Settings {
+        workers: 8,
+        cut: Cut::new(4, 4).ok_or("a cut")?,
+        batch: 64,
+        early: true,
+    };
+    let mut report = SureSink::new(alloc);
+    let drawn = demo(&rt, alloc, &settings, 1, 20000, &mut report, &OpenGate);
+    assert!(rt; drawn.is_ok());
+    assert_eq!(rt; report.held(), MANY_TRIANGLES.as_bytes());
+    Ok(())
 }

@@ -9,18 +9,6 @@ use tile_queues::OpenGate;
 #[test]
 fn a_refused_scene_is_noted_with_its_numbers(rt: HostRuntime) -> Result<(), Fail> {
     let alloc = rt.alloc();
-    assert_refused(
-        &rt,
-        alloc,
-        Vec::from_slice(alloc, &FIRST[..31])?,
-        "scene refused 1 32 31\n",
-    )?;
-    assert_refused(
-        &rt,
-        alloc,
-        Vec::from_slice(alloc, &FIRST[..176])?,
-        "scene refused 1 177 176\n",
-    )?;
     let mut longer = Vec::from_slice(alloc, &FIRST)?;
     longer.push(0)?;
     assert_refused(&rt, alloc, longer, "scene refused 9\n")?;
@@ -68,53 +56,6 @@ fn a_refused_scene_is_noted_with_its_numbers(rt: HostRuntime) -> Result<(), Fail
         changed(alloc, &[(105, 33)])?,
         "scene refused 13 0\n",
     )
-}
-
-#[test]
-fn a_report_that_fails_stands_in_front(rt: HostRuntime) -> Result<(), Fail> {
-    let alloc = rt.alloc();
-    let mut input = BytesSource::new(Vec::from_slice(alloc, &FIRST)?, 64, Vec::new(alloc));
-    let mut report = BytesSink::new(alloc, 1000, Vec::from_slice(alloc, &[2])?);
-    let mut notes = SureSink::new(alloc);
-    let words = words(alloc, &["maskcull", "cull"])?;
-    let status = run(
-        &rt,
-        alloc,
-        &words,
-        &mut input,
-        &mut report,
-        &mut notes,
-        &OpenGate,
-    );
-    assert_eq!(rt; status.code(), 5);
-    assert_eq!(rt; report.held(), b"msoc-report 1 32 8 1 1\n".as_slice());
-    assert_eq!(rt; notes.held(), b"report fault\n".as_slice());
-    Ok(())
-}
-
-#[test]
-fn an_input_that_fails_is_noted(rt: HostRuntime) -> Result<(), Fail> {
-    let alloc = rt.alloc();
-    for call in [1, 3] {
-        let fails = Vec::from_slice(alloc, &[call])?;
-        let mut input = BytesSource::new(Vec::from_slice(alloc, &FIRST)?, 64, fails);
-        let mut report = SureSink::new(alloc);
-        let mut notes = SureSink::new(alloc);
-        let words = words(alloc, &["maskcull", "cull"])?;
-        let status = run(
-            &rt,
-            alloc,
-            &words,
-            &mut input,
-            &mut report,
-            &mut notes,
-            &OpenGate,
-        );
-        assert_eq!(rt; status.code(), 4);
-        assert_eq!(rt; report.held(), b"".as_slice());
-        assert_eq!(rt; notes.held(), b"read fault\n".as_slice());
-    }
-    Ok(())
 }
 
 #[test]

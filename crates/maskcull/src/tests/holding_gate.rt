@@ -9,11 +9,13 @@ ghost use Rattle.tile_queues.specs.Callers.{Follows};
 use crate::frames::pieces_of;
 use crate::tests::frame_tools::{clips_of, scene_from};
 use crate::tests::scenes::FIRST;
+use crate::tests::waiting::wait_for;
 use binning::{Cut, batch_size};
 use cull_base::{FrameList, Memory, Verdict};
 use masked_update::{TileState, TileView, draw_plain};
 use rect_query::rect_test;
 use std::alloc::Global;
+use std::process::Abort;
 use std::sync::Wait;
 use std::sync::atomic::{AtomicBool, Ordering};
 use std::test::*;
@@ -21,19 +23,7 @@ use std::thread::Threads;
 use tile_cells::{Snapshot, TileCells, TileReader};
 use tile_queues::{Caller, Gate, draw_frame};
 
-const TURNS: u32 = 100_000_000;
-
 const LOOKS: u32 = 10_000_000;
-
-// Waits for a flag, for so many turns at most. Whether it came.
-fn wait_for(flag: &AtomicBool) -> bool {
-    for _ in 0..TURNS {
-        if flag.load(Ordering::SeqCst) {
-            return true;
-        }
-    }
-    false
-}
 
 // Holds the second member of the first bin up until a flag is set.
 #[derive(Drop)]
@@ -112,16 +102,19 @@ impl<'a> Caller for Watcher<'a> {
     }
 }
 
-// What cells hold when a list is drawn through them in one bin by one worker.
+// What cells hold when a list is drawn through them by so many workers.
 fn drawn_in_cells<R: Threads + Wait + Sync, G: Gate, C: Caller>(
     rt: &R,
     alloc: Global,
     list: &FrameList,
     cut: &Cut,
+    workers: u32,
     batch: u32,
     gate: &G,
     caller: &mut C,
 ) -> Result<Vec<TileState>, Memory>
+    requires some { 1 ≤ workers }
+    requires workers { workers ≤ 64 }
     requires batch { 1 ≤ batch }
     requires few { batch_count_of (length list.now.list.members) batch ≤ 2048 }
     requires ready { C.ready caller.old list.now.list }
@@ -129,7 +122,7 @@ fn drawn_in_cells<R: Threads + Wait + Sync, G: Gate, C: Caller>(
     let (cells, writers, mut readers) = TileCells::make(rt, alloc, list, 1)?;
     let reader = &mut readers[0];
     let writers = draw_frame(
-        rt, alloc, list, &cells, writers, reader, cut, 1, batch, gate, caller,
+        rt, alloc, list, &cells, writers, reader, cut, workers, batch, gate, caller,
     )?;
     Ok(cells.close(rt, writers, readers))
 }
@@ -155,10 +148,16 @@ fn first_list<R: Threads + Wait + Sync>(rt: &R, alloc: Global) -> Result<FrameLi
     Ok(pieces_of(rt, alloc, &scene, 0, &clips, 1)?)
 }
 
-#[test]
-fn holding_gate(rt: HostRuntime) -> Result<(), Fail> {
-    let alloc = rt.alloc();
-    let list = first_list(&rt, alloc)?;
+// The two pieces are drawn as they are on one thread, and the caller sees the tile between them.
+fn assert_held<R: Threads + Wait + Sync + Abort>(
+    rt: &R,
+    alloc: Global,
+    workers: u32,
+) -> Result<(), Fail>
+    requires some { 1 ≤ workers }
+    requires workers { workers ≤ 64 }
+{
+    let list = first_list(rt, alloc)?;
     assert_eq!(rt; list.len(), 2);
     let cut = Cut::new(1, 1).ok_or("a cut")?;
     let batch = batch_size(list.len(), 1);
@@ -172,10 +171,20 @@ fn holding_gate(rt: HostRuntime) -> Result<(), Fail> {
         snapshot: Snapshot::with_room(alloc, list.size())?,
         visible: false,
     };
-    let held = drawn_in_cells(&rt, alloc, &list, &cut, batch, &gate, &mut watcher)?;
+    let held = drawn_in_cells(rt, alloc, &list, &cut, workers, batch, &gate, &mut watcher)?;
     let states = draw_plain(alloc, &list)?;
     assert!(rt; gate.freed.load(Ordering::SeqCst));
     assert!(rt; watcher.visible);
     assert!(rt; are_alike(held.as_slice(), states.as_slice()));
     Ok(())
+}
+
+#[test]
+fn holding_gate(rt: HostRuntime) -> Result<(), Fail> {
+    assert_held(&rt, rt.alloc(), 1)
+}
+
+#[test]
+fn holding_gate_with_eight_workers(rt: HostRuntime) -> Result<(), Fail> {
+    assert_held(&rt, rt.alloc(), 8)
 }

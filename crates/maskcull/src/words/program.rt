@@ -3,10 +3,10 @@ ghost use Rattle.std.specs.Prelude.{◌≡◌, pos, IfOk, IfErr, Some, [], ◌�
 ghost use Rattle.clap.specs.Words.{app_of, kind_of, new_rule, rule_of};
 ghost use Rattle.clap.specs.declared.builder.Command.TheViews.{out-Command as fields_of};
 ghost use Rattle.clap.specs.declared.builder.value_parser.ValueParser.TheVariants.{Signed};
-ghost use Rattle.maskcull.specs.App.{rule_for, workers, bins_x, bins_y, batch, rounds, watch, seed, triangles, sharing_options, cull_options, live_options, demo_options, command_shape, the_app};
+ghost use Rattle.maskcull.specs.App.{rule_for, workers, bins_x, bins_y, batch, early_rule, rounds, watch, seed, triangles, sharing_options, cull_options, live_options, demo_options, command_shape, unflagged_shape, the_app};
 
 use clap::error::ErrorKind;
-use clap::{Arg, Command, Error, value_parser};
+use clap::{Arg, ArgAction, Command, Error, value_parser};
 use std::alloc::Global;
 
 const ABOUT: &str = "Says which objects of a scene are hidden behind its triangles";
@@ -58,6 +58,9 @@ Exit status:
   6  the notes couldn't be written
   7  memory was wanted";
 
+const EARLY_HELP: &str =
+    "Settle objects that are hidden for good while a frame is drawn; the report stays the same";
+
 const ROUNDS_HELP: &str = "How often the objects are looked at in each frame, 1 to 8";
 
 const WATCH_HELP: &str = "How many of the first objects are looked at, 1 to 8";
@@ -101,7 +104,18 @@ fn option<'a>(
         .help(help)
 }
 
-// A command whose frames are cut and shared by options.
+// The flag that has objects settled while a frame is drawn.
+fn early<'a>(alloc: Global) -> Arg<'a>
+    ensures rule { rule_of result ≡ early_rule }
+    ensures local { result.global ≡ false }
+{
+    Arg::new(alloc, "early")
+        .long("early")
+        .action(ArgAction::SetTrue)
+        .help(EARLY_HELP)
+}
+
+// A command whose frames are cut and shared by options, before it has the flag.
 fn sharing<'a>(
     alloc: Global,
     name: &'a str,
@@ -109,7 +123,7 @@ fn sharing<'a>(
     more: &'a str,
 ) -> Result<Command<'a>, Error>
     ensures memory { IfErr result (λ e. kind_of e ≡ ErrorKind.OutOfMemory) }
-    ensures app { IfOk result (λ c. app_of c ≡ record { top = command_shape name.now sharing_options; subs = [] }) }
+    ensures app { IfOk result (λ c. app_of c ≡ record { top = unflagged_shape name.now sharing_options; subs = [] }) }
     ensures local { IfOk result (λ c. (fields_of c).has_globals ≡ false) }
 {
     let command = Command::new(alloc, name).about(about).after_help(more);
@@ -155,7 +169,7 @@ fn cull<'a>(alloc: Global) -> Result<Command<'a>, Error>
     ensures app { IfOk result (λ c. app_of c ≡ record { top = command_shape (codes "cull") cull_options; subs = [] }) }
     ensures local { IfOk result (λ c. (fields_of c).has_globals ≡ false) }
 {
-    sharing(alloc, "cull", CULL_ABOUT, CULL_MORE)
+    Ok(sharing(alloc, "cull", CULL_ABOUT, CULL_MORE)?.arg(early(alloc))?)
 }
 
 fn live<'a>(alloc: Global) -> Result<Command<'a>, Error>
@@ -166,7 +180,8 @@ fn live<'a>(alloc: Global) -> Result<Command<'a>, Error>
     Ok(
         sharing(alloc, "live", LIVE_ABOUT, LIVE_MORE)?
             .arg(option(alloc, "rounds", 1, 8, "1", ROUNDS_HELP))?
-            .arg(option(alloc, "watch", 1, 8, "1", WATCH_HELP))?,
+            .arg(option(alloc, "watch", 1, 8, "1", WATCH_HELP))?
+            .arg(early(alloc))?,
     )
 }
 
@@ -192,7 +207,8 @@ fn demo<'a>(alloc: Global) -> Result<Command<'a>, Error>
                 65536,
                 "20000",
                 "How many triangles the scene has, 0 to 65536",
-            ))?,
+            ))?
+            .arg(early(alloc))?,
     )
 }
 

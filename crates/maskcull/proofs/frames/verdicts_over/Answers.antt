@@ -11,7 +11,12 @@ use Rattle.masked_update.specs.Views.{state_in}
 use Rattle.cull_report.specs.Scene.{frame_verdicts, frame_pieces, size_of, object_verdict}
 use Rattle.cull_report.proofs.Agreement.{objects_alike}
 use Rattle.cull_report.proofs.TileStates.{drawn_agrees}
+use Rattle.maskcull.proofs.Marks.{settled_over}
 use Rattle.maskcull.proofs.frames.verdicts_over.Goals as goal
+
+pub verdicts_by_workers-requires-clause-right : goal.verdicts_by_workers-requires-clause-right
+verdicts_by_workers-requires-clause-right g c =
+    λ lifetimes within. settled_over c.args.scene.now c.args.frame c.new.result.states.now c.args.settled.now (rw (c.new.ensures) c.requires.drawn) c.requires.right
 
 pub returns : goal.returns
 unfolding frame_verdicts

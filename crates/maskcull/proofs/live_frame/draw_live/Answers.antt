@@ -3,7 +3,9 @@ use Rattle.cull_base.specs.Tiles.{PieceList, ArePieces}
 use Rattle.cull_base.specs.Screen.{tile_count_of}
 use Rattle.tile_queues.specs.Frames.{HaveStates}
 use Rattle.cull_report.specs.Scene.{frame_list}
+use Rattle.maskcull.specs.Culling.{AreSettled}
 use Rattle.maskcull.proofs.LiveTexts.{kept_is_live}
+use Rattle.maskcull.proofs.Marks.{settled_in_end}
 use Rattle.maskcull.proofs.live_frame.draw_live.Goals as goal
 
 pub returns-clause-live : goal.returns-clause-live
@@ -11,7 +13,7 @@ returns-clause-live g c =
     let new = c.draw_in_cells.new.caller in
     let kept = c.in_ok-states.ensures.keeps in
     let made = c.in_ok-caller.ensures in
-    kept_is_live c.args.scene.now c.args.looks.rounds c.args.looks.watch c.args.frame new.watched.scene.now new.watched.frame new.watched.objects new.lines.items c.in_ok-states.ensures.done.1
+    kept_is_live c.args.scene.now c.args.looks.rounds c.args.looks.watch c.args.frame new.watched.scene.now new.watched.frame new.watched.objects new.lines.items c.in_ok-states.ensures.done.1.0
     (kept.0 ∙ made.scene) (kept.1 ∙ made.frame) (kept.2 ∙ made.objects) (kept.3 ∙ made.lines)
 
 pub verdicts_over-requires-clause-tiles : goal.verdicts_over-requires-clause-tiles
@@ -25,6 +27,17 @@ verdicts_over-requires-clause-drawn g c =
     let drawn : HaveStates (frame_list c.args.scene.now c.args.frame) c.deref.result.now =
     rw c.deref.ensures.value (subst (λ (l : PieceList). HaveStates l c.in_ok-states.states.items) c.in_ok-list.ensures.list c.in_ok-states.ensures.drawn) in
     λ lifetimes within t lt. drawn t lt
+
+pub verdicts_over-requires-clause-right : goal.verdicts_over-requires-clause-right
+verdicts_over-requires-clause-right g c =
+    let s = c.args.scene.now in let frame = c.args.frame in
+    let new = c.draw_in_cells.new.caller in
+    let kept = c.in_ok-states.ensures.keeps in
+    let made = c.in_ok-caller.ensures in
+    let pieces = subst (λ (l : PieceList). ArePieces l.members) c.in_ok-list.ensures.list c.in_ok-states.ensures.pieces in
+    let right : AreSettled s frame c.deref-2.result.now = rw c.deref-2.ensures.value
+    (settled_in_end s frame new.watched.scene.now new.watched.frame new.settled.items (kept.0 ∙ made.scene) (kept.1 ∙ made.frame) c.in_ok-states.ensures.done.1.1 pieces) in
+    λ lifetimes within o d lt mark. right o d lt mark
 
 pub returns-clause-valid : goal.returns-clause-valid
 returns-clause-valid g c = subst (λ (l : PieceList). ArePieces l.members) c.in_ok-list.ensures.list c.in_ok-states.ensures.pieces

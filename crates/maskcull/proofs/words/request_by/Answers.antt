@@ -7,25 +7,25 @@ use Rattle.maskcull.proofs.words.request_by.Goals as goal
 
 pub number-requires : goal.number-requires
 number-requires c =
-    let has : HasNumbers live_options (rows_of (found_of c.args.matches.now)) = c.requires.live (search rules) in
+    let has : HasNumbers live_options (rows_of (found_of c.args.matches.now)) = (c.requires.live (search rules)).numbers in
     wider _ _ _ _ _ has.1.1.1.1.0 (omega arith)
 
 pub number-requires-in-live : goal.number-requires-in-live
 number-requires-in-live c =
-    let has : HasNumbers live_options (rows_of (found_of c.args.matches.now)) = c.requires.live (search rules) in
+    let has : HasNumbers live_options (rows_of (found_of c.args.matches.now)) = (c.requires.live (search rules)).numbers in
     wider _ _ _ _ _ has.1.1.1.1.1.0 (omega arith)
 
 pub returns-in-live-clause-limits : goal.returns-in-live-clause-limits
 returns-in-live-clause-limits c =
-    let has : HasNumbers live_options (rows_of (found_of c.args.matches.now)) = c.requires.live (search rules) in
+    let has : HasNumbers live_options (rows_of (found_of c.args.matches.now)) = (c.requires.live (search rules)).numbers in
     (read_within _ _ _ _ _ c.number.ensures has.1.1.1.1.0, read_within _ _ _ _ _ c.number-in-live.ensures has.1.1.1.1.1.0)
 
 pub number-requires-in-demo-2 : goal.number-requires-in-demo-2
 number-requires-in-demo-2 c =
-    let has : HasNumbers demo_options (rows_of (found_of c.args.matches.now)) = c.requires.demo (search rules) in
+    let has : HasNumbers demo_options (rows_of (found_of c.args.matches.now)) = (c.requires.demo (search rules)).numbers in
     wider _ _ _ _ _ has.1.1.1.1.1.0 (omega arith)
 
 pub returns-in-demo-clause-limits : goal.returns-in-demo-clause-limits
 returns-in-demo-clause-limits c =
-    let has : HasNumbers demo_options (rows_of (found_of c.args.matches.now)) = c.requires.demo (search rules) in
+    let has : HasNumbers demo_options (rows_of (found_of c.args.matches.now)) = (c.requires.demo (search rules)).numbers in
     (read_within _ _ _ _ _ c.number-in-demo-2.ensures has.1.1.1.1.1.0).1

@@ -1,6 +1,6 @@
 use Rattle.std.proofs.Common.{◌∙◌, ⊎_elim, sym, map, string_bytes, None}
 use Rattle.clap.specs.Words.{found_of, rows_of}
-use Rattle.maskcull.proofs.AskedWords.{answers_none, answers_some, asked, command_entered, has_numbers, no_command, none_asked, plain_asked}
+use Rattle.maskcull.proofs.AskedWords.{answers_none, answers_some, asked, command_entered, is_entered, no_command, none_asked, plain_asked}
 use Rattle.maskcull.proofs.words.request_of.Goals as goal
 
 pub returns-in-Err-clause-none : goal.returns-in-Err-clause-none
@@ -11,7 +11,7 @@ returns-in-Err-clause-plain c r plain = plain_asked _ r plain
 
 pub request_by-requires : goal.request_by-requires
 request_by-requires c =
-    has_numbers (map string_bytes c.args.words.now) c.in-Some.name.now (rows_of (found_of c.in-Some.matches.now)) c.in-Ok.ensures.fault
+    is_entered (map string_bytes c.args.words.now) c.in-Some.name.now (rows_of (found_of c.in-Some.matches.now)) c.in-Ok.ensures.fault
     (sym c.in-Ok.ensures.matches ∙ command_entered c.in-Ok.matches _ _ c.in-Some.ensures.name c.in-Some.ensures.rows)
 
 pub returns-in-Some-clause-some : goal.returns-in-Some-clause-some

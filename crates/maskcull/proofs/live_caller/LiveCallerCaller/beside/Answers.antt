@@ -18,6 +18,7 @@ loop-place-init g c =
       room = c.requires.ready.room;
       same = refl;
       count = refl;
+      marks = refl;
     }
 
 pub loop-place-preserved : goal.loop-place-preserved
@@ -46,4 +47,5 @@ loop-place-preserved g c =
       room = room_kept s w.frame w.objects lines k c.look.new.line c.index_mut.result.now so_far.room lt (c.look.ensures.room ∙ ap (λ (l : LiveLineOf). l.room) c.index_mut.ensures.value);
       same = so_far.same;
       count = length-set lines k c.look.new.line ∙ so_far.count;
+      marks = so_far.marks;
     }

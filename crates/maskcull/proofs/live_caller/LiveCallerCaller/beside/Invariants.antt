@@ -15,4 +15,5 @@ invariant-loop-place g l = record {
   room : HaveRoom l.self.watched.scene.now l.self.watched.frame l.self.watched.objects l.self.lines.items;
   same : l.self.watched ≡ l.fn.self.watched;
   count : length l.self.lines.items ≡ length l.fn.self.lines.items;
+  marks : l.self.settled.items ≡ l.fn.self.settled.items;
 }

@@ -1,9 +1,10 @@
 use Rattle.maskcull.specs.App.{rounds, watch}
-use Rattle.maskcull.proofs.Builders.{option_added}
+use Rattle.maskcull.proofs.Builders.{arg_added, option_added}
 use Rattle.maskcull.proofs.DefaultTexts.{text_of_1}
 use Rattle.maskcull.proofs.words.program.live.Goals as goal
 
 pub returns-clause-app : goal.returns-clause-app
 returns-clause-app c =
     let one = option_added _ _ _ _ rounds _ c.in_ok-arg.ensures c.option.ensures.local c.option.ensures.rule text_of_1 c.in_ok-sharing.ensures.app in
-    option_added _ _ _ _ watch _ c.in_ok-arg-2.ensures c.option-2.ensures.local c.option-2.ensures.rule text_of_1 one
+    let two = option_added _ _ _ _ watch _ c.in_ok-arg-2.ensures c.option-2.ensures.local c.option-2.ensures.rule text_of_1 one in
+    arg_added _ _ _ _ _ c.in_ok-arg-3.ensures c.early.ensures.local c.early.ensures.rule two

@@ -6,7 +6,7 @@ use Rattle.cull_base.proofs.Streams.{appends_then}
 use Rattle.maskcull.specs.Frames.{lines_of, frames_lines}
 use Rattle.maskcull.specs.Culling.{Reports}
 use Rattle.maskcull.proofs.FrameByFrame.{frames_lines-none, frames_lines-next, frames_lines-begins, next_valid, reports_then, reports_no_more}
-use Rattle.maskcull.proofs.frames.report_frames.Goals as goal
+use Rattle.maskcull.proofs.frame_by_frame.report_frames.Goals as goal
 
 -- what was written through a vector's slice has the vector's length
 kept_length : {X : Type 0} (xs ys : List X) (n m : ℕ) → length xs ≡ length ys → length ys ≡ m → length ys ≡ n → length (take n (xs ++ drop (length xs) ys)) ≡ m

@@ -3,7 +3,7 @@ use Rattle.cull_base.specs.Tiles.{PieceList, ArePieces}
 use Rattle.cull_base.specs.Screen.{tile_count_of}
 use Rattle.tile_queues.specs.Frames.{HaveStates}
 use Rattle.cull_report.specs.Scene.{frame_list}
-use Rattle.maskcull.proofs.frames.draw.Goals as goal
+use Rattle.maskcull.proofs.frame_by_frame.draw_plainly.Goals as goal
 
 pub verdicts_over-requires-clause-tiles : goal.verdicts_over-requires-clause-tiles
 unfolding frame_list

@@ -3,7 +3,7 @@ use Rattle.cull_base.specs.Stream.{Appends}
 use Rattle.cull_base.specs.Tiles.{ArePieces}
 use Rattle.cull_report.specs.Scene.{frame_pieces}
 use Rattle.maskcull.specs.Frames.{frames_lines}
-use Rattle.maskcull.proofs.frames.report_frames.Given as goal
+use Rattle.maskcull.proofs.frame_by_frame.report_frames.Given as goal
 
 abbrev pub invariant-loop-frame : goal.invariant-loop-frame
 invariant-loop-frame g l = record {
