@@ -11,6 +11,7 @@ use binning::{Cut, bin_batch};
 use cull_base::{BytesSource, SureSink};
 use scene_reader::Scene;
 use std::alloc::{AllocError, Global};
+use std::process::Abort;
 use std::sync::Wait;
 use std::sync::atomic::{AtomicBool, AtomicU32, Ordering};
 use std::test::*;
@@ -131,12 +132,13 @@ fn are_counted(counts: &[AtomicU32], frames: &[Vec<usize>], bin: usize) -> bool 
 fn counted_summary<R: Threads + Wait + Sync>(
     rt: &R,
     alloc: Global,
+    given: &[&str],
     gate: &CountingGate,
 ) -> Result<(Status, Vec<u8>), AllocError> {
     let mut input = BytesSource::new(Vec::new(alloc), 7, Vec::new(alloc));
     let mut report = SureSink::new(alloc);
     let mut notes = SureSink::new(alloc);
-    let words = words(alloc, &MANY)?;
+    let words = words(alloc, given)?;
     let status = run(rt, alloc, &words, &mut input, &mut report, &mut notes, gate);
     Ok((status, Vec::from_slice(alloc, report.held())?))
 }
@@ -158,20 +160,50 @@ const MANY: [&str; 12] = [
     "4",
 ];
 
-#[test]
-fn counting_run(rt: HostRuntime) -> Result<(), Fail> {
-    let alloc = rt.alloc();
+// The same through cells.
+const EARLY: [&str; 13] = [
+    "maskcull",
+    "demo",
+    "--early",
+    "--seed",
+    "1",
+    "--triangles",
+    "20000",
+    "--workers",
+    "8",
+    "--bins-x",
+    "4",
+    "--bins-y",
+    "4",
+];
+
+// Each bin draws each piece that meets it, once in each frame, and the summary is that of one worker in one bin.
+fn assert_counted<R: Threads + Wait + Sync + Abort>(
+    rt: &R,
+    alloc: Global,
+    given: &[&str],
+) -> Result<(), Fail> {
     let cut = Cut::new(4, 4).ok_or("a cut")?;
-    let frames = numbers_of_frames(&rt, alloc, &cut)?;
+    let frames = numbers_of_frames(rt, alloc, &cut)?;
     let gate = gate_for(alloc, 16, most_of(&frames))?;
-    let (status, summary) = counted_summary(&rt, alloc, &gate)?;
+    let (status, summary) = counted_summary(rt, alloc, given, &gate)?;
     assert_eq!(rt; status, Status::Done);
     assert_eq!(rt; frames.len(), 4);
     assert!(rt; !gate.beyond.load(Ordering::SeqCst));
     for bin in 0..gate.calls.len() {
         assert!(rt; are_counted(&gate.calls[bin], &frames, bin));
     }
-    let plain = run_with(&rt, alloc, &ONE, Vec::new(alloc))?;
+    let plain = run_with(rt, alloc, &ONE, Vec::new(alloc))?;
     assert_eq!(rt; summary.as_slice(), plain.report.as_slice());
     Ok(())
+}
+
+#[test]
+fn counting_run(rt: HostRuntime) -> Result<(), Fail> {
+    assert_counted(&rt, rt.alloc(), &MANY)
+}
+
+#[test]
+fn counting_run_through_cells(rt: HostRuntime) -> Result<(), Fail> {
+    assert_counted(&rt, rt.alloc(), &EARLY)
 }

@@ -1,17 +1,12 @@
 //! The command `demo`, and the generator of its scene.
-use crate::demo::demo;
 use crate::failure::Status;
 use crate::generator::Generator;
-use crate::settings::Settings;
 use crate::tests::scenes::run_with;
-use binning::Cut;
-use cull_base::SureSink;
 use std::alloc::Global;
 use std::process::Abort;
 use std::sync::Wait;
 use std::test::*;
 use std::thread::Threads;
-use tile_queues::OpenGate;
 
 const WITHOUT_TRIANGLES: &str = concat!(
     "demo seed 1 triangles 0 boxes 500 frames 4\n",
@@ -60,14 +55,9 @@ fn without_triangles_no_frame_has_pieces(rt: HostRuntime) -> Result<(), Fail> {
     assert_summary(&rt, rt.alloc(), &words, WITHOUT_TRIANGLES)
 }
 
-// Whatever the settings are.
-fn assert_many<R: Threads + Wait + Sync + Abort>(
-    rt: &R,
-    alloc: Global,
-    workers: &str,
-    bins: &str,
-) -> Result<(), Fail> {
-    let words = [
+// The words for many triangles, by so many workers in so many columns and rows of bins.
+fn many_words<'a>(workers: &'a str, bins: &'a str) -> [&'a str; 12] {
+    [
         "maskcull",
         "demo",
         "--seed",
@@ -80,7 +70,28 @@ fn assert_many<R: Threads + Wait + Sync + Abort>(
         bins,
         "--bins-y",
         bins,
-    ];
+    ]
+}
+
+// Whatever the settings are.
+fn assert_many<R: Threads + Wait + Sync + Abort>(
+    rt: &R,
+    alloc: Global,
+    workers: &str,
+    bins: &str,
+) -> Result<(), Fail> {
+    assert_summary(rt, alloc, &many_words(workers, bins), MANY_TRIANGLES)
+}
+
+// With objects settled early too.
+fn assert_early<R: Threads + Wait + Sync + Abort>(
+    rt: &R,
+    alloc: Global,
+    workers: &str,
+    bins: &str,
+) -> Result<(), Fail> {
+    let mut words = Vec::from_slice(alloc, &many_words(workers, bins))?;
+    words.push("--early")?;
     assert_summary(rt, alloc, &words, MANY_TRIANGLES)
 }
 
@@ -106,16 +117,8 @@ fn many_triangles_by_many_workers_in_many_bins(rt: HostRuntime) -> Result<(), Fa
 
 #[test]
 fn many_triangles_with_objects_settled_early(rt: HostRuntime) -> Result<(), Fail> {
-    let alloc = rt.alloc();
-    let settings = Settings {
-        workers: 8,
-        cut: Cut::new(4, 4).ok_or("a cut")?,
-        batch: 64,
-        early: true,
-    };
-    let mut report = SureSink::new(alloc);
-    let drawn = demo(&rt, alloc, &settings, 1, 20000, &mut report, &OpenGate);
-    assert!(rt; drawn.is_ok());
-    assert_eq!(rt; report.held(), MANY_TRIANGLES.as_bytes());
+    for (workers, bins) in [("1", "1"), ("1", "4"), ("8", "1"), ("8", "4")] {
+        assert_early(&rt, rt.alloc(), workers, bins)?;
+    }
     Ok(())
 }
