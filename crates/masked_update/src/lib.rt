@@ -24,6 +24,7 @@ pub use canvas::Canvas;
 pub use draw::draw_plain;
 pub use member::next_member;
 pub use piece_setup::PieceSetup;
+pub use sub_span::SubBox;
 pub use sub_tile::SubTile;
 pub use tile_state::TileState;
 pub use tile_view::{PlainView, TileView};

@@ -13,6 +13,7 @@ use std::simd::prelude::*;
 
 /// The references, the workings and the masks of eight subtiles, by their numbers.
 #[derive(Clone, Copy)]
+#[repr(C)]
 pub struct TileLayers {
     references: [u32; 8],
     workings: [u32; 8],

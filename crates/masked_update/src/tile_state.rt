@@ -11,8 +11,10 @@ use crate::tile_layers::TileLayers;
 use cull_base::{ScreenTri, Size, Tile};
 use std::marker::Model;
 
-/// Eight subtiles in two rows of four, and a count of pieces.
+/// Eight subtiles in two rows of four, and a count of pieces. In memory it is 25 numbers of 32 bits: the references, the
+/// workings and the masks of the subtiles, then the count.
 #[derive(Clone, Copy)]
+#[repr(C)]
 pub struct TileState {
     layers: TileLayers,
     count: u32,
@@ -106,7 +108,7 @@ impl TileState {
 
     /// Merges a piece, doesn't count it, and says whether any subtile may have changed. Conditions: the column and the
     /// row are below the screen's, and what is reached on it is what the piece reaches.
-    pub(crate) fn merge(&mut self, piece: &PieceSetup, reached: &SubBox, place: Tile) -> bool
+    pub fn merge(&mut self, piece: &PieceSetup, reached: &SubBox, place: Tile) -> bool
         requires reached { IsSubBox (box_of piece.now) reached.now }
         requires column { place.column < tile_columns_of reached.now.size }
         requires row { place.row < tile_rows_of reached.now.size }
