@@ -63,7 +63,7 @@ shape_hides size f pieces (Pieces ts hull) px py good all is occluded x y has =
     let sound = subst (IsSound u pieces) (sym is) (after_is_sound u pieces all) in
     pieces_nearer size f pieces ts hull px py (λ t m. (good t m).0) all sound (occluded_is_hidden size f (Pieces ts hull) occluded) x y has
 
-rectangle_has_pieces : (top near : ℕ) (size : Dimensions) (r : Rect) (w : ℤ) → HasPieces (rectangle_shape top near size r w)
+pub rectangle_has_pieces : (top near : ℕ) (size : Dimensions) (r : Rect) (w : ℤ) → HasPieces (rectangle_shape top near size r w)
 rectangle_has_pieces top near size r w = by (int_lt w (pos near)) (meets r (screen_of size))
   where
     by : (b m : Bool) → HasPieces (cond m (cond b AlwaysVisible (Flat r (nearness_at top near w))) AlwaysOutside)
@@ -72,7 +72,7 @@ rectangle_has_pieces top near size r w = by (int_lt w (pos near)) (meets r (scre
     by false true = tt
     by false false = tt
 
-answer_has_pieces : (size : Dimensions) (answer : BoxAnswer) → HasPieces (shape_of_answer size answer)
+pub answer_has_pieces : (size : Dimensions) (answer : BoxAnswer) → HasPieces (shape_of_answer size answer)
 answer_has_pieces size Outside = tt
 answer_has_pieces size Straddles = tt
 answer_has_pieces size (At r q) = by (meets r (screen_of size))

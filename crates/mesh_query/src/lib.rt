@@ -9,4 +9,4 @@ mod tests;
 mod vertices;
 
 pub use area::mesh_area;
-pub use mesh::mesh_test;
+pub use mesh::{Progress, ask_triangle, mesh_test};

@@ -72,8 +72,10 @@ fn is_box_on_screen(vertices: &[ClipVertex; 3], near: u16, size: Size) -> bool
     }
 }
 
-// Asks a triangle. Its near box is made only where no box of a piece tells whether it meets the screen.
-fn ask_triangle<V: TileView>(
+/// Asks a triangle of a mesh: what is known with it, or None where a sample that it touches isn't hidden. Conditions: as
+/// for `mesh_test`, and no vertex is past the guard. Its near box is made only where no box of a piece tells whether it
+/// meets the screen.
+pub fn ask_triangle<V: TileView>(
     view: &V,
     size: Size,
     near: u16,
