@@ -1,5 +1,5 @@
 -- Bins along one axis: which tile stands in which bin.
-use Rattle.std.proofs.Common.{◌≡◌, inl, inr, ℕ, suc, ◌+◌, ◌-◌, ◌*◌, ◌/◌, ◌^◌, ◌<◌, ◌≤◌, min, max, true, ◌&&◌, nat_lt, nat_eq, arith, ap, ◌∙◌}
+use Rattle.std.proofs.Common.{◌≡◌, inl, inr, ℕ, suc, ◌+◌, ◌*◌, ◌/◌, ◌^◌, ◌<◌, ◌≤◌, min, max, true, ◌&&◌, nat_lt, nat_eq, arith, ap, ◌∙◌}
 use Rattle.std.specs.Int.{div_ceil}
 use Rattle.std.specs.Cmp.{both_ways}
 use Rattle.std.proofs.lemmas.Bool.{cases_lt, lt-ltb}
@@ -115,20 +115,28 @@ bins_rise bins tiles m n some any le =
     let f = from_first bins tiles (bin_along bins tiles m) m some h in
     to_first bins tiles (bin_along bins tiles m) n some any (omega (arith, f, le))
 
+-- the bin of a tile has one
+pub first_has_tile : (bins tiles n : ℕ) → 0 < bins → 0 < tiles → has_tile_along bins tiles (bin_along bins tiles n) ≡ true
+first_has_tile bins tiles n some any =
+    let from = from_first bins tiles (bin_along bins tiles n) n some (omega arith) in
+    let to = before_first bins tiles (bin_along bins tiles n + 1) n some any (omega arith) in
+    lt-ltb _ _ (omega (arith, from, to))
+
 -- the bins from that of a first tile to that of the last
-pub reached_is : (bins tiles first end : ℕ) → IsCutAxis bins tiles → first < end → ReachesAlong bins tiles first end (bin_along bins tiles first) (bin_along bins tiles (end - 1) + 1)
-reached_is bins tiles first end sizes lt b below =
+pub reached_is : (bins tiles first last : ℕ) → IsCutAxis bins tiles → first ≤ last → ReachesAlong bins tiles first (last + 1) (bin_along bins tiles first) (bin_along bins tiles last + 1)
+reached_is bins tiles first last sizes le b below =
     let some : 0 < bins = omega (arith, sizes.some_bins) in
     let any : 0 < tiles = omega (arith, sizes.some_tiles) in
-    by (bin_along bins tiles first) (bin_along bins tiles (end - 1)) (first_along bins tiles b) (first_along bins tiles (b + 1))
+    by (bin_along bins tiles first) (bin_along bins tiles last) (first_along bins tiles b) (first_along bins tiles (b + 1))
     (λ h. before_first bins tiles (b + 1) first some any (omega (arith, h))) (λ h. let m = to_before bins tiles (b + 1) first some h in omega (arith, m))
-    (λ h. let m = from_first bins tiles b (end - 1) some h in omega (arith, m, lt)) (λ h. to_first bins tiles b (end - 1) some any (omega (arith, h)))
+    (λ h. from_first bins tiles b last some h) (λ h. to_first bins tiles b last some any h)
   where
-    by : (low high f e : ℕ) → (low ≤ b → first < e) → (first < e → low ≤ b) → (b ≤ high → f < end) → (f < end → b ≤ high) → (is_between low (high + 1) b && nat_lt f e) ≡ nat_lt (max first f) (min end e)
+    by : (low high f e : ℕ) → (low ≤ b → first < e) → (first < e → low ≤ b) → (b ≤ high → f ≤ last) → (f ≤ last → b ≤ high) → (is_between low (high + 1) b && nat_lt f e) ≡ nat_lt (max first f) (min (last + 1) e)
     by low high f e p q r s = both_ways _ _ (λ h. grind (arith, nat_tests, p, r)) (λ h. grind (arith, nat_tests, q, s))
 
-pub none_reached : (bins tiles first end : ℕ) → end ≤ first → ReachesAlong bins tiles first end 0 0
-none_reached bins tiles first end le b below = by (first_along bins tiles b) (first_along bins tiles (b + 1))
+-- no tile, no bin
+pub none_reached : (bins tiles : ℕ) → ReachesAlong bins tiles 0 0 0 0
+none_reached bins tiles b below = by (first_along bins tiles b) (first_along bins tiles (b + 1))
   where
-    by : (f e : ℕ) → (is_between 0 0 b && nat_lt f e) ≡ nat_lt (max first f) (min end e)
+    by : (f e : ℕ) → (is_between 0 0 b && nat_lt f e) ≡ nat_lt (max 0 f) (min 0 e)
     by f e = both_ways _ _ (λ h. grind (arith, nat_tests)) (λ h. grind (arith, nat_tests))

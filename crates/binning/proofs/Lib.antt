@@ -1,6 +1,7 @@
 pub mod Axes
 pub mod BinSpans
 pub mod Reaches
+pub mod TileSpans
 pub mod Places
 pub mod Walks
 pub mod Laws

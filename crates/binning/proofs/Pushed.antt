@@ -132,6 +132,23 @@ module _ (screen : CutScreen) where
         )
       ]
 
+  -- one row alone, and of it one column
+  one_row : (row first end b : ℕ) → is_bin_in_row screen row first end b ≡ is_bin_in_rows screen row (row + 1) first end b
+  one_row row first end b = elim (row_more row row first end b (omega arith)) [
+    | inl (off, is) ↦ is
+    | inr (off, is) ↦ off ∙ sym (rows_none row first end b) ∙ is
+  ]
+
+  pub pushed_in_one : (row column index : ℕ) (parts : List PartOf) → column < screen.cut.columns → row * screen.cut.columns + column < length parts → has_tiles (bin_span_of screen.size screen.cut (row * screen.cut.columns + column)) ≡ true
+      → let at = row * screen.cut.columns + column in PushedWhere (is_bin_in_rows screen row (row + 1) column (column + 1)) index parts (set parts at (with_index index (part_at parts at)))
+  pushed_in_one row column index parts lt within on =
+      let none : ℕ → Bool = λ b. false in
+      let at = row * screen.cut.columns + column in
+      one_pushed none (is_bin_in_rows screen row (row + 1) column (column + 1)) index at parts parts within refl
+      (sym (one_row row column (column + 1) at) ∙ row_last row column column lt (omega arith) ∙ on)
+      (λ b ne. sym (row_none row column b) ∙ row_next row column column b lt ne ∙ one_row row column (column + 1) b)
+      (none_pushed none index parts (λ b h. refl))
+
 -- no place, and one place more
 pub none_got : (list : PieceList) (cut : CutOf) (from : ℕ) (parts : List PartOf) → GotIndices list cut from from parts parts
 none_got list cut from parts b lt = sym (ap (λ is. with_indices is (part_at parts b)) (places_in-nil (bin_rect_of list.size cut b) list.members from) ∙ ap (part (part_at parts b).bin (part_at parts b).batch) (append-nil (part_at parts b).indices))

@@ -1,8 +1,6 @@
 -- A screen and how it is cut, along both axes.
 use Rattle.std.specs.Prelude.{ℕ, ◌≡◌, ◌≤◌, Bool, true}
 use Rattle.cull_base.specs.Screen.{Dimensions, IsSize, tile_columns_of, tile_rows_of}
-use Rattle.cull_base.specs.declared.tile_span.TileSpan.{TileSpan}
-use Rattle.binning.specs.Axis.{ReachesAlong}
 use Rattle.binning.specs.Cut.{CutOf, IsCut}
 
 pub record CutScreen : Type 0 where
@@ -19,13 +17,3 @@ pub record IsGrid (size : Dimensions) (cut : CutOf) (columns tile_columns rows t
   pub down : rows ≡ cut.rows
   pub down_tiles : tile_rows ≡ tile_rows_of size
   pub full : is_full ≡ true → (cut.columns ≤ tile_columns_of size) × (cut.rows ≤ tile_rows_of size)
-
--- Of the columns of bins that have tiles, exactly those from a first to before an end have one among the columns of a
--- span; and so of the rows.
-abbrev pub ReachesColumns : CutScreen → TileSpan → ℕ → ℕ → Type 0
-ReachesColumns screen span first end =
-    ReachesAlong screen.cut.columns (tile_columns_of screen.size) span.first_column span.end_column first end
-
-abbrev pub ReachesRows : CutScreen → TileSpan → ℕ → ℕ → Type 0
-ReachesRows screen span first end =
-    ReachesAlong screen.cut.rows (tile_rows_of screen.size) span.first_row span.end_row first end

@@ -1,5 +1,6 @@
 pub mod Cut
 pub mod Axis
+pub mod Tiles
 pub mod Bins
 pub mod Grid
 pub mod Places

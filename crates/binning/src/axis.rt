@@ -1,5 +1,5 @@
 //! One axis of the screen: its tiles, cut into bins.
-ghost use Rattle.std.specs.Prelude.{◌≡◌, ◌+◌, ◌<◌, ◌≤◌};
+ghost use Rattle.std.specs.Prelude.{◌≡◌, ◌+◌, ◌<◌, ◌≤◌, true};
 ghost use Rattle.cull_base.specs.Screen.{tile_columns_of, tile_rows_of};
 ghost use Rattle.binning.specs.Axis.{IsCutAxis, IsRangeWithin, IsStepOf, ReachesAlong, bin_along, first_along, has_tile_along};
 
@@ -88,21 +88,19 @@ impl Axis {
         self.first_tile(bin) < self.first_tile(bin + 1)
     }
 
-    /// The bins that have a tile from a first to before an end, and between them maybe some that have none at all.
-    /// Condition: the end is at most the number of tiles.
+    /// The bins that have a tile from a first to a last, and between them maybe some that have none at all.
+    /// Conditions: the first isn't past the last, and the last is below the number of tiles.
     #[inline(always)]
-    pub(crate) fn reached(self, first: u32, end: u32) -> BinRange
-        requires { end ≤ self.tiles }
-        ensures reached { ReachesAlong self.bins self.tiles first end result.first result.end }
+    pub(crate) fn reached(self, first: u32, last: u32) -> BinRange
+        requires order { first ≤ last }
+        requires within { last < self.tiles }
+        ensures reached { ReachesAlong self.bins self.tiles first (last + 1) result.first result.end }
         ensures range { IsRangeWithin self.bins result.first result.end }
+        ensures first { has_tile_along self.bins self.tiles result.first ≡ true }
     {
-        if first < end {
-            BinRange {
-                first: self.bin_of(first),
-                end: self.bin_of(end - 1) + 1,
-            }
-        } else {
-            BinRange { first: 0, end: 0 }
+        BinRange {
+            first: self.bin_of(first),
+            end: self.bin_of(last) + 1,
         }
     }
 }

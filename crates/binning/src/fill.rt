@@ -1,14 +1,15 @@
 //! The parts of a batch, filled in one pass over its pieces.
-ghost use Rattle.std.specs.Prelude.{◌≡◌, ◌<◌, ◌≤◌, length, OnOk};
+ghost use Rattle.std.specs.Prelude.{◌≡◌, ◌+◌, ◌*◌, ◌<◌, ◌≤◌, true, length, OnOk};
 ghost use Rattle.cull_base.specs.Piece.{box_of};
 ghost use Rattle.binning.specs.Axis.{IsRangeWithin};
+ghost use Rattle.binning.specs.Bins.{bin_span_of, has_tiles};
 ghost use Rattle.binning.specs.Cut.{bin_count_of};
 ghost use Rattle.binning.specs.Pushed.{PushedWhere, GotIndices, is_met, is_bin_in_row, is_bin_in_rows};
 
 use crate::axis::BinRange;
 use crate::grid::{Grid, Reach};
 use crate::part::BinPart;
-use cull_base::{FrameList, Memory, ScreenTri, TileSpan};
+use cull_base::{FrameList, Memory, ScreenTri};
 
 // Adds an index to the parts of the bins in one row and some columns that have tiles.
 #[inline(always)]
@@ -50,14 +51,35 @@ fn push_in_rows(parts: &mut [BinPart], grid: &Grid, reach: Reach, index: u32) ->
     Ok(())
 }
 
-// Adds a piece to the parts of the bins that its box meets.
+// Adds an index to the part of the one bin in some rows and columns, which has tiles: as in rows and columns of many.
+#[inline(always)]
+fn push_in_one(parts: &mut [BinPart], grid: &Grid, reach: Reach, index: u32) -> Result<(), Memory>
+    requires parts { length parts.old ≡ bin_count_of grid.now.cut }
+    requires columns { IsRangeWithin grid.now.cut.columns reach.columns.first reach.columns.end }
+    requires rows { IsRangeWithin grid.now.cut.rows reach.rows.first reach.rows.end }
+    requires one_column { reach.columns.end ≡ reach.columns.first + 1 }
+    requires one_row { reach.rows.end ≡ reach.rows.first + 1 }
+    requires has_tiles { has_tiles (bin_span_of grid.now.size grid.now.cut
+        (reach.rows.first * grid.now.cut.columns + reach.columns.first)) ≡ true }
+    ensures { let rows = reach.rows in let columns = reach.columns in
+        let reached = is_bin_in_rows grid.now rows.first rows.end columns.first columns.end in
+        OnOk result (PushedWhere reached index parts.old parts.new) }
+{
+    parts[grid.bin_at(reach.columns.first, reach.rows.first) as usize].push(index)
+}
+
+// Adds a piece to the parts of the bins that its box meets: most pieces meet one.
 #[inline(always)]
 fn push_piece(parts: &mut [BinPart], grid: &Grid, tri: &ScreenTri, index: u32) -> Result<(), Memory>
     requires parts { length parts.old ≡ bin_count_of grid.now.cut }
     ensures { OnOk result (PushedWhere (is_met grid.now (box_of tri.now)) index parts.old parts.new) }
 {
-    let span = TileSpan::of(&tri.boxed(), grid.size());
-    push_in_rows(parts, grid, grid.reached(&span), index)
+    let reach = grid.reached(tri);
+    if reach.is_one() {
+        push_in_one(parts, grid, reach, index)
+    } else {
+        push_in_rows(parts, grid, reach, index)
+    }
 }
 
 /// Adds to the parts the pieces of a list from one index to before another. Conditions: there is one part for each bin,

@@ -1,14 +1,15 @@
 //! A screen's bins along both axes.
-ghost use Rattle.std.specs.Prelude.{◌≡◌, ◌+◌, ◌*◌, ◌<◌, ◌≤◌};
-ghost use Rattle.cull_base.specs.Span.{IsSpan};
+ghost use Rattle.std.specs.Prelude.{◌≡◌, ℕ, ◌+◌, ◌*◌, ◌<◌, ◌≤◌, true, ◌&&◌, nat_eq};
+ghost use Rattle.cull_base.specs.Piece.{box_of};
 ghost use Rattle.binning.specs.Axis.{IsRangeWithin};
 ghost use Rattle.binning.specs.Bins.{bin_span_of, has_tiles};
-ghost use Rattle.binning.specs.Cut.{IsCut};
-ghost use Rattle.binning.specs.Grid.{ReachesColumns, ReachesRows};
+ghost use Rattle.binning.specs.Cut.{IsCut, bin_count_of};
+ghost use Rattle.binning.specs.Pushed.{is_bin_in_rows, is_met};
 
 use crate::axis::{Axis, BinRange};
 use crate::cut::Cut;
-use cull_base::{Size, TileSpan};
+use crate::tiles::{TILE_HEIGHT, TILE_WIDTH, first_tile, last_tile, misses};
+use cull_base::{Extent, ScreenTri, Size};
 use std::marker::Model;
 
 /// The bins of a screen.
@@ -32,11 +33,28 @@ impl Model for Grid {
     ghost invariant = { λ g. IsGrid g.size g.cut g.across.bins g.across.tiles g.down.bins g.down.tiles g.is_full };
 }
 
-/// The bins by column and row that a span of tiles reaches.
+/// The bins in some columns and rows.
 #[derive(Clone, Copy)]
 pub(crate) struct Reach {
     pub(crate) columns: BinRange,
     pub(crate) rows: BinRange,
+}
+
+const NO_BINS: Reach = Reach {
+    columns: BinRange { first: 0, end: 0 },
+    rows: BinRange { first: 0, end: 0 },
+};
+
+impl Reach {
+    /// Whether it is one bin. Condition: no first is past 8.
+    #[inline(always)]
+    pub(crate) fn is_one(self) -> bool
+        requires columns { self.columns.first ≤ 8 }
+        requires rows { self.rows.first ≤ 8 }
+        ensures { result ≡ (nat_eq self.columns.end (self.columns.first + 1) && nat_eq self.rows.end (self.rows.first + 1)) }
+    {
+        self.columns.end == self.columns.first + 1 && self.rows.end == self.rows.first + 1
+    }
 }
 
 impl Grid {
@@ -58,13 +76,6 @@ impl Grid {
         }
     }
 
-    #[inline(always)]
-    pub(crate) fn size(&self) -> Size
-        ensures { result ≡ self.now.size }
-    {
-        self.size
-    }
-
     /// How many bins stand in a row.
     #[inline(always)]
     pub(crate) fn columns(&self) -> u32
@@ -84,19 +95,42 @@ impl Grid {
         self.is_full || self.across.has_tile(column) && self.down.has_tile(row)
     }
 
-    /// The bins that a span of tiles reaches, by column and row.
+    /// The number of the bin at a column and a row. Condition: both are below the cut's.
     #[inline(always)]
-    pub(crate) fn reached(&self, span: &TileSpan) -> Reach
-        requires { IsSpan self.now.size span.now }
+    pub(crate) fn bin_at(&self, column: u32, row: u32) -> u32
+        requires column { column < self.now.cut.columns }
+        requires row { row < self.now.cut.rows }
+        ensures value { result ≡ row * self.now.cut.columns + column }
+        ensures within { result < bin_count_of self.now.cut }
+    {
+        row * self.columns() + column
+    }
+
+    /// The bins that a piece's box meets, and between them maybe some that have no tiles: the first has.
+    #[inline(always)]
+    pub(crate) fn reached(&self, tri: &ScreenTri) -> Reach
         ensures valid { IsCut self.now.cut.columns self.now.cut.rows }
-        ensures columns { ReachesColumns self.now span.now result.columns.first result.columns.end }
-        ensures rows { ReachesRows self.now span.now result.rows.first result.rows.end }
+        ensures bins { let rows = result.rows in let columns = result.columns in (b : ℕ) → b < bin_count_of self.now.cut
+            → is_bin_in_rows self.now rows.first rows.end columns.first columns.end b ≡ is_met self.now (box_of tri.now) b }
+        ensures first { result.columns.first < result.columns.end → has_tiles (bin_span_of self.now.size self.now.cut
+            (result.rows.first * self.now.cut.columns + result.columns.first)) ≡ true }
         ensures column_range { IsRangeWithin self.now.cut.columns result.columns.first result.columns.end }
         ensures row_range { IsRangeWithin self.now.cut.rows result.rows.first result.rows.end }
     {
+        let (width, height) = (self.size.width(), self.size.height());
+        let x = Extent::of_three(&tri.x());
+        let y = Extent::of_three(&tri.y());
+        if misses(x, width) || misses(y, height) {
+            return NO_BINS;
+        }
+        let (left, right) = (first_tile(x, TILE_WIDTH), last_tile(x, width, TILE_WIDTH));
+        let (top, bottom) = (
+            first_tile(y, TILE_HEIGHT),
+            last_tile(y, height, TILE_HEIGHT),
+        );
         Reach {
-            columns: self.across.reached(span.first_column, span.end_column),
-            rows: self.down.reached(span.first_row, span.end_row),
+            columns: self.across.reached(left, right),
+            rows: self.down.reached(top, bottom),
         }
     }
 }

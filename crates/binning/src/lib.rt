@@ -13,6 +13,7 @@ mod parts;
 mod rooms;
 #[cfg(test)]
 mod tests;
+mod tiles;
 
 pub use around::rect_around;
 pub use batches::{batch_count, batch_size};

@@ -10,7 +10,7 @@ use std::marker::Model;
 /// would have to give back.
 const ROOM: usize = 16;
 
-/// The room that a part takes when it has more: those of small batches grow once.
+/// The room that a part takes when it is full: those of small batches grow once.
 const MORE: usize = 48;
 
 /// Of a batch's pieces those that meet a bin, by their indices in the frame list, rising.
@@ -48,10 +48,11 @@ impl BinPart {
     pub(crate) fn push(&mut self, index: u32) -> Result<(), Memory>
         ensures { OnOk result (self.new ≡ with_index index self.old) }
     {
-        if self.indices.len() == ROOM {
+        if self.indices.len() == self.indices.capacity() {
             self.indices.reserve(MORE).map_err(|_| Memory)?;
         }
-        self.indices.push(index).map_err(|_| Memory)
+        self.indices.push_reserved(index);
+        Ok(())
     }
 
     pub fn bin(&self) -> u32

@@ -121,3 +121,29 @@ fn second_batch_of_two_has_the_third_piece(rt: HostRuntime) -> Result<(), Fail> 
     assert!(rt; none[0].indices().is_empty() && none[1].indices().is_empty());
     Ok(())
 }
+
+// Of a screen that cuts its last tiles to 8 by 4 pixels: three pieces a pixel off to the right, to the left and below,
+// one that ends on the first pixel, and one that begins on the last.
+fn five_at_the_edges(rt: &HostRuntime) -> Result<FrameList, Fail>
+    ensures { IfOk result (λ f. length f.list.members ≡ 5) }
+{
+    let size = Size::new(40, 4).ok_or("a size")?;
+    let mut list = FrameList::with_room(rt.alloc(), size, 5)?;
+    list.push(ScreenTri::new([640, 799, 799], [0, 0, 63], [9; 3]).ok_or("a piece")?);
+    list.push(ScreenTri::new([-160, -1, -1], [0, 0, 63], [9; 3]).ok_or("a piece")?);
+    list.push(ScreenTri::new([0, 639, 639], [64, 64, 127], [9; 3]).ok_or("a piece")?);
+    list.push(ScreenTri::new([-160, 0, 0], [-63, -63, 0], [9; 3]).ok_or("a piece")?);
+    list.push(ScreenTri::new([639, 799, 799], [63, 63, 127], [9; 3]).ok_or("a piece")?);
+    Ok(list)
+}
+
+#[test]
+fn pieces_a_pixel_off_the_screen_are_in_no_part(rt: HostRuntime) -> Result<(), Fail> {
+    let list = five_at_the_edges(&rt)?;
+    let cut = Cut::new(2, 1).ok_or("a cut")?;
+    let parts = bin_batch(rt.alloc(), &list, 0, 0, 5, &cut)?;
+    assert_eq!(rt; parts.len(), 2);
+    assert!(rt; is_part(&parts[0], 0, 0, &[3]));
+    assert!(rt; is_part(&parts[1], 1, 0, &[4]));
+    Ok(())
+}
