@@ -166,11 +166,48 @@ live_next s rounds watch counts k r0 r r' n0 n n' so frame =
       },
     )
 
--- the front of a text that stops behind the frames so far
-live_front : (s : Parts) (rounds watch : ℕ) (counts : Counts) (k : ℕ) (n0 n : SinkSays) → k < length s.cameras → AppendsPrefix n0 n (frames_live s rounds watch counts (k + 1)) → AppendsPrefix n0 n (live_text s rounds watch counts)
-live_front s rounds watch counts k n0 n lt h =
+-- the lines of the frames before one and a front of its own are a front of the live text
+lines_are_front : (s : Parts) (rounds watch : ℕ) (counts : Counts) (k m : ℕ) → k < length s.cameras → m ≤ length (frame_live s rounds watch (counts k) k)
+    → (n : ℕ) × (n ≤ length (live_text s rounds watch counts))
+    × (take n (live_text s rounds watch counts) ≡ frames_live s rounds watch counts k ++ take m (frame_live s rounds watch (counts k) k))
+lines_are_front s rounds watch counts k m lt le =
     let (rest, e) = frames_live-begins s rounds watch counts k (length s.cameras) lt in
-    subst (AppendsPrefix n0 n) (sym e) (front_of_more n0 n (frames_live s rounds watch counts (k + 1)) rest h)
+    let a = frames_live s rounds watch counts k in let b = frame_live s rounds watch (counts k) k in
+    let is : live_text s rounds watch counts ≡ a ++ (b ++ rest) = e ∙ ap (λ (t : List ℕ). t ++ rest) (frames_live-next s rounds watch counts k) ∙ append_assoc a b rest in
+    let n = length a + m in (
+      n,
+      omega (arith, le, ap length is, length-append a (b ++ rest), length-append b rest),
+      ap (take n) is ∙ take-append-add a (b ++ rest) m ∙ ap (λ (t : List ℕ). a ++ t) (take-append-le m b rest le),
+    )
+
+-- what the notes gained of a live text, by the frame under way
+pub gains_rising : (s : Parts) (rounds watch : ℕ) (counts : Counts) (f : Failure) (k m : ℕ) (r0 r n0 n : SinkSays) → IsRising s rounds watch counts → k < length s.cameras
+    → AppendsPrefix r0 r (scene_header s ++ frames_text s (k + 1))
+    → (0 < k → (more : List ℕ) × Appends r0 r ((scene_header s ++ frames_text s k) ++ more))
+    → m ≤ length (frame_live s rounds watch (counts k) k)
+    → (0 < m → Appends r0 r (scene_header s ++ frames_text s (k + 1)))
+    → (f ≡ ReportFault → m ≡ 0)
+    → Appends n0 n (frames_live s rounds watch counts k ++ take m (frame_live s rounds watch (counts k) k))
+    → GainsRising s rounds watch f r0 r n0 n
+gains_rising s rounds watch counts f k m r0 r n0 n rising lt reported earlier within joined none noted =
+    let (size, le, is) = lines_are_front s rounds watch counts k m lt within in
+    record {
+      counts = counts;
+      rising = rising;
+      size = size;
+      within = le;
+      lines = record { frame = k; is_frame = lt; reported = reported; earlier = earlier; size = m; within = within; joined = joined; spelled = is };
+      whole_frames = none;
+      gained = subst (Appends n0 n) (sym is) noted;
+    }
+
+-- nothing was noted, and of the report at most the header written
+pub nothing_rises : (s : Parts) (rounds watch : ℕ) (f : Failure) (r0 r n0 n : SinkSays) → 0 < length s.cameras → AppendsPrefix r0 r (scene_header s) → Appends n0 n [] → GainsRising s rounds watch f r0 r n0 n
+nothing_rises s rounds watch f r0 r n0 n some h none =
+    let unseen : Counts = λ f r o t. 0 in
+    gains_rising s rounds watch unseen f 0 0 r0 r n0 n (λ frame lt. none_rise s rounds watch frame) some (front_of_more r0 r (scene_header s) (frames_text s (0 + 1)) h) (λ lt. absurd (omega arith)) (omega arith)
+    (λ lt. absurd (omega arith)) (λ is. refl)
+    (subst (λ (t : List ℕ). Appends n0 n (t ++ [])) (sym (frames_live-none s rounds watch unseen)) none)
 
 -- a frame failed before its lines were noted
 unnoted_end : (s : Parts) (rounds watch : ℕ) (counts : Counts) (k : ℕ) (f : Failure) (r0 r r' n0 n n' : SinkSays) → LiveSoFar s rounds watch counts k r0 r n0 n → k < length s.cameras
@@ -179,12 +216,13 @@ unnoted_end s rounds watch counts k f r0 r r' n0 n n' so lt un frame =
     let (rest, e) = report_begins s k lt in
     let here = front_then r0 r r' (scene_header s ++ frames_text s k) (frame_report s k) so.reported un.reported in
     let there : AppendsPrefix r0 r' (scene_header s ++ frames_text s (k + 1)) = subst (AppendsPrefix r0 r') (sym (report_next s k)) here in
-    let same = subst (Appends n0 n') (append-nil (frames_live s rounds watch counts k)) (appends_then n0 n n' (frames_live s rounds watch counts k) [] so.noted un.noted) in
-    let noted = subst (AppendsPrefix n0 n') (sym (frames_live-next s rounds watch counts k)) (whole_is_front n0 n' (frames_live s rounds watch counts k) (frame_live s rounds watch (counts k) k) same) in
+    let (m, le, part) = un.reported in
+    let earlier = appends_then r0 r r' (scene_header s ++ frames_text s k) (take m (frame_report s k)) so.reported part in
+    let noted = appends_then n0 n n' (frames_live s rounds watch counts k) [] so.noted un.noted in
     record {
       ok = tt;
       err = subst (AppendsPrefix r0 r') (sym e) (front_of_more r0 r' (scene_header s ++ frames_text s (k + 1)) rest there);
-      front = λ other. record { counts = counts; rising = so.rising; gained = live_front s rounds watch counts k n0 n' lt noted };
+      front = λ other. gains_rising s rounds watch counts f k 0 r0 r' n0 n' so.rising lt there (λ some. (take m (frame_report s k), earlier)) (omega arith) (λ some. absurd (omega arith)) (λ is. refl) noted;
       stops = λ is. let e : f ≡ NotesFault = cc in absurd (un.cause e);
       cause = cause_then f r0 r r' n0 n n' so.report_stays so.stay.faults frame.cause;
       report_stays = omega (arith, so.report_stays, frame.report_stays);
@@ -193,22 +231,27 @@ unnoted_end s rounds watch counts k f r0 r r' n0 n n' so lt un frame =
 
 -- a frame's lines couldn't be noted
 noted_end : (s : Parts) (rounds watch : ℕ) (counts : Counts) (k : ℕ) (f : Failure) (r0 r r' n0 n n' : SinkSays) → LiveSoFar s rounds watch counts k r0 r n0 n → k < length s.cameras
-    → HasLive s rounds watch k r r' (AppendsProperPrefix n n') → ReportsFrame s rounds watch k r r' n n' (Err f) → ReportsLive s rounds watch r0 r' n0 n' (Err f)
-noted_end s rounds watch counts k f r0 r r' n0 n n' so lt has frame =
+    → (f ≡ ReportFault → ⊥) → HasLive s rounds watch k r r' (AppendsProperPrefix n n') → ReportsFrame s rounds watch k r r' n n' (Err f) → ReportsLive s rounds watch r0 r' n0 n' (Err f)
+noted_end s rounds watch counts k f r0 r r' n0 n n' so lt written has frame =
     let c = has.counts in
     let counts' = with_at counts k c in
     let (m, proper, gained) = has.noted_is in
     let (rest, e) = report_begins s k lt in
-    let reported : Appends r0 r' (scene_header s ++ frames_text s (k + 1)) =
-    subst (Appends r0 r') (sym (report_next s k)) (appends_then r0 r r' (scene_header s ++ frames_text s k) (frame_report s k) so.reported has.reported) in
+    let earlier = appends_then r0 r r' (scene_header s ++ frames_text s k) (frame_report s k) so.reported has.reported in
+    let reported : Appends r0 r' (scene_header s ++ frames_text s (k + 1)) = subst (Appends r0 r') (sym (report_next s k)) earlier in
     let rising = rising_with s rounds watch counts k c so.rising has.rising in
-    let front = subst (AppendsPrefix n0 n') (sym (live_upto s rounds watch counts k c)) (front_then n0 n n' (frames_live s rounds watch counts k) (frame_live s rounds watch c k) so.noted (m, omega arith, gained)) in
     let is : counts' k ≡ c = at_same counts k c k refl in
     let alike = frames_live-alike s rounds watch counts k c in
+    let fits : m < length (frame_live s rounds watch (counts' k) k) = subst (λ (d : ℕ → ℕ → ℕ → ℕ). m < length (frame_live s rounds watch d k)) (sym is) proper in
+    let noted : Appends n0 n' (frames_live s rounds watch counts' k ++ take m (frame_live s rounds watch (counts' k) k)) =
+    subst (λ (t : List ℕ). Appends n0 n' (t ++ take m (frame_live s rounds watch (counts' k) k))) (sym alike)
+    (subst (λ (d : ℕ → ℕ → ℕ → ℕ). Appends n0 n' (frames_live s rounds watch counts k ++ take m (frame_live s rounds watch d k))) (sym is)
+    (appends_then n0 n n' (frames_live s rounds watch counts k) (take m (frame_live s rounds watch c k)) so.noted gained)) in
     record {
       ok = tt;
       err = subst (AppendsPrefix r0 r') (sym e) (whole_is_front r0 r' (scene_header s ++ frames_text s (k + 1)) rest reported);
-      front = λ other. record { counts = counts'; rising = rising; gained = live_front s rounds watch counts' k n0 n' lt front };
+      front = λ other. gains_rising s rounds watch counts' f k m r0 r' n0 n' rising lt (all_is_front r0 r' (scene_header s ++ frames_text s (k + 1)) reported) (λ some. (frame_report s k, earlier)) (omega (arith, fits))
+          (λ some. reported) (λ fault. absurd (written fault)) noted;
       stops = λ stop. record {
         counts = counts';
         rising = rising;
@@ -216,10 +259,8 @@ noted_end s rounds watch counts k f r0 r r' n0 n n' so lt has frame =
         is_frame = lt;
         reported = reported;
         size = m;
-        proper = subst (λ (d : ℕ → ℕ → ℕ → ℕ). m < length (frame_live s rounds watch d k)) (sym is) proper;
-        gained = subst (λ (t : List ℕ). Appends n0 n' (t ++ take m (frame_live s rounds watch (counts' k) k))) (sym alike)
-            (subst (λ (d : ℕ → ℕ → ℕ → ℕ). Appends n0 n' (frames_live s rounds watch counts k ++ take m (frame_live s rounds watch d k))) (sym is)
-            (appends_then n0 n n' (frames_live s rounds watch counts k) (take m (frame_live s rounds watch c k)) so.noted gained));
+        proper = fits;
+        gained = noted;
       };
       cause = cause_then f r0 r r' n0 n n' so.report_stays so.stay.faults frame.cause;
       report_stays = omega (arith, so.report_stays, frame.report_stays);
@@ -230,7 +271,7 @@ pub live_ends : (s : Parts) (rounds watch : ℕ) (counts : Counts) (k : ℕ) (f 
     → ReportsFrame s rounds watch k r r' n n' (Err f) → ReportsLive s rounds watch r0 r' n0 n' (Err f)
 live_ends s rounds watch counts k f r0 r r' n0 n n' so lt frame = elim frame.err [
   | inl un ↦ unnoted_end s rounds watch counts k f r0 r r' n0 n n' so lt un frame
-  | inr has ↦ noted_end s rounds watch counts k f r0 r r' n0 n n' so lt has frame
+  | inr has ↦ noted_end s rounds watch counts k f r0 r r' n0 n n' so lt has.0 has.1 frame
 ]
 
 -- all frames were drawn
@@ -250,12 +291,12 @@ live_whole s rounds watch counts k r0 r n0 n so is hidden = record {
 }
 
 -- only a front of the header was written, or no more than the header
-pub header_ends : (s : Parts) (rounds watch : ℕ) (f : Failure) (r0 r n : SinkSays) → AppendsPrefix r0 r (scene_header s) → (f ≡ NotesFault → ⊥) → IsLiveFailure f r0 r n n → r0.faults ≤ r.faults
+pub header_ends : (s : Parts) (rounds watch : ℕ) (f : Failure) (r0 r n : SinkSays) → IsScene s → AppendsPrefix r0 r (scene_header s) → (f ≡ NotesFault → ⊥) → IsLiveFailure f r0 r n n → r0.faults ≤ r.faults
     → ReportsLive s rounds watch r0 r n n (Err f)
-header_ends s rounds watch f r0 r n h other cause stays = record {
+header_ends s rounds watch f r0 r n scene h other cause stays = record {
   ok = tt;
   err = subst (AppendsPrefix r0 r) (sym (report_text-is s)) (front_of_more r0 r (scene_header s) (frames_text s (length s.cameras)) h);
-  front = λ no. record { counts = λ f r o t. 0; rising = λ frame lt. none_rise s rounds watch frame; gained = (0, omega arith, nothing_appended n) };
+  front = λ no. nothing_rises s rounds watch f r0 r n n (omega (arith, scene.some_frames)) h (nothing_appended n);
   stops = λ is. let e : f ≡ NotesFault = cc in absurd (other e);
   cause = cause;
   report_stays = stays;
@@ -277,6 +318,10 @@ frame_unnoted s rounds watch frame f r0 r n h other cause stays = record {
 lines_cause : (f : Failure) (r0 r n0 n : SinkSays) → (f ≡ Memory) ⊎ ((f ≡ NotesFault) × Rose n0.faults n.faults) → IsLiveFailure f r0 r n0 n
 lines_cause f r0 r n0 n h = elim h [ inl m ↦ inl m | inr x ↦ inr (inr x) ]
 
+-- lines that couldn't be noted are no report that couldn't be written
+lines_written : (f : Failure) (n0 n : SinkSays) → (f ≡ Memory) ⊎ ((f ≡ NotesFault) × Rose n0.faults n.faults) → f ≡ ReportFault → ⊥
+lines_written f n0 n h is = elim h [ inl m ↦ absurd cc | inr x ↦ let y = x.0 in absurd cc ]
+
 pub frame_noted : (s : Parts) (rounds watch frame : ℕ) (result : Result (Unit {0}) Failure) (lines : List LiveLineOf) (r0 r n0 n : SinkSays) → Appends r0 r (frame_report s frame) → r0.faults ≤ r.faults
     → AreLive s rounds watch frame lines → NotesLines n0 n result (flat_map text_of_line lines) → ReportsFrame s rounds watch frame r0 r n0 n result
 frame_noted s rounds watch frame (Ok x) lines r0 r n0 n h stays live notes = record {
@@ -288,7 +333,7 @@ frame_noted s rounds watch frame (Ok x) lines r0 r n0 n h stays live notes = rec
 }
 frame_noted s rounds watch frame (Err f) lines r0 r n0 n h stays live notes = record {
   ok = tt;
-  err = inr (record { reported = h; counts = live.counts; rising = live.rising; noted_is = subst (AppendsProperPrefix n0 n) live.spelled notes.err });
+  err = inr (lines_written f n0 n notes.cause, record { reported = h; counts = live.counts; rising = live.rising; noted_is = subst (AppendsProperPrefix n0 n) live.spelled notes.err });
   cause = lines_cause f r0 r n0 n notes.cause;
   report_stays = stays;
   stay = notes.stay;

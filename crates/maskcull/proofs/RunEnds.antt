@@ -20,7 +20,7 @@ use Rattle.maskcull.specs.LiveRuns.{GainsLive, GainsLiveFront, StopsAtNotes}
 use Rattle.maskcull.specs.LiveScenes.{CountsStay, GainsRising, ReportsLive}
 use Rattle.maskcull.specs.Notes.{IsNotedBehind, note_text, status_text}
 use Rattle.maskcull.specs.Outcome.{failure_of, status_of}
-use Rattle.maskcull.proofs.LiveEnds.{none_rise, nothing_appended, rose_later}
+use Rattle.maskcull.proofs.LiveEnds.{nothing_appended, nothing_rises, rose_later}
 
 -- what follows of each scene follows of each scene
 pub each_map : (source : SourceSays) (P Q : Parts → Type 0) → ((s : Parts) → P s → Q s) → EachScene source P → EachScene source Q
@@ -29,6 +29,14 @@ each_map source P Q f h = by source.left h
     by : (left : Option (List ℕ)) → IfSome left (λ bytes. (s : Parts) → IsSceneOf bytes s → P s) → IfSome left (λ bytes. (s : Parts) → IsSceneOf bytes s → Q s)
     by None h = tt
     by (Some bytes) h = λ s is. f s (h s is)
+
+-- a fact of each scene
+pub each_scene : (source : SourceSays) (P : Parts → Type 0) → ((s : Parts) → IsScene s → P s) → EachScene source P
+each_scene source P f = by source.left
+  where
+    by : (left : Option (List ℕ)) → IfSome left (λ bytes. (s : Parts) → IsSceneOf bytes s → P s)
+    by None = tt
+    by (Some bytes) = λ s is. f s is.scene
 
 pub each_of : (source : SourceSays) (P : Parts → Type 0) → ((s : Parts) → P s) → EachScene source P
 each_of source P f = by source.left
@@ -60,25 +68,33 @@ noted_behind n0 n1 n2 front note h stay noted = elim noted [
   | inr part ↦ let (m, le, f) = part.0 in inr (m, le, appends_then n0 n1 n2 front (take m note) h f, rose_of_either n0 n1 n2 stay part.1)
 ]
 
-pub front_noted : (s : Parts) (rounds watch : ℕ) (n0 n1 n2 : SinkSays) (note : List ℕ) → GainsRising s rounds watch n0 n1 → CountsStay n0 n1 → IsNoted n1 n2 note → GainsLiveFront s rounds watch n0 n2 note
-front_noted s rounds watch n0 n1 n2 note gains stay noted =
-    let (m, le, h) = gains.gained in
-    record {
-      counts = gains.counts;
-      rising = gains.rising;
-      size = m;
-      within = le;
-      gained = noted_behind n0 n1 n2 (take m (live_text s rounds watch gains.counts)) note h stay noted;
-    }
+-- of a scene that wasn't drawn
+pub nothing_gained : (s : Parts) (rounds watch : ℕ) (f : Failure) (r n : SinkSays) → IsScene s → GainsRising s rounds watch f r r n n
+nothing_gained s rounds watch f r n scene = nothing_rises s rounds watch f r r n n (omega (arith, scene.some_frames)) (0, omega arith, nothing_appended r) (nothing_appended n)
 
-pub none_noted : (s : Parts) (rounds watch : ℕ) (n0 n2 : SinkSays) (note : List ℕ) → IsNoted n0 n2 note → GainsLiveFront s rounds watch n0 n2 note
-none_noted s rounds watch n0 n2 note noted = record {
-  counts = λ f r o t. 0;
-  rising = λ frame lt. none_rise s rounds watch frame;
-  size = 0;
-  within = omega arith;
-  gained = elim noted [ inl whole ↦ inl whole | inr part ↦ let (m, le, f) = part.0 in inr (m, le, f, part.1) ];
+of_report_fault : (f : Failure) → status_of f ≡ statuses.ReportFault → f ≡ ReportFault
+of_report_fault (Scene e) is = absurd cc
+of_report_fault ReadFault is = absurd cc
+of_report_fault ReportFault is = refl
+of_report_fault NotesFault is = absurd cc
+of_report_fault Memory is = absurd cc
+
+pub front_noted : (s : Parts) (rounds watch : ℕ) (f : Failure) (r0 r1 n0 n1 n2 : SinkSays) → GainsRising s rounds watch f r0 r1 n0 n1 → CountsStay n0 n1 → IsNoted n1 n2 (status_text (status_of f))
+    → GainsLiveFront s rounds watch r0 r1 n0 n2 (status_of f)
+front_noted s rounds watch f r0 r1 n0 n1 n2 gains stay noted = record {
+  counts = gains.counts;
+  rising = gains.rising;
+  size = gains.size;
+  within = gains.within;
+  lines = gains.lines;
+  whole_frames = λ is. gains.whole_frames (of_report_fault f is);
+  gained = noted_behind n0 n1 n2 (take gains.size (live_text s rounds watch gains.counts)) (status_text (status_of f)) gains.gained stay noted;
 }
+
+-- nothing but a note that memory was wanted
+pub none_noted : (s : Parts) (rounds watch : ℕ) (r n0 n2 : SinkSays) → IsScene s → IsNoted n0 n2 (status_text statuses.Memory) → GainsLiveFront s rounds watch r r n0 n2 statuses.Memory
+none_noted s rounds watch r n0 n2 scene noted =
+    front_noted s rounds watch Memory r r n0 n0 n2 (nothing_gained s rounds watch Memory r n0 scene) (record { faults = omega arith; refusals = omega arith }) noted
 
 -- nothing is noted of lines that couldn't be noted
 pub nothing_more : (n1 n2 : SinkSays) → IsNoted n1 n2 (note_text NotesFault) → Appends n1 n2 []
@@ -112,9 +128,9 @@ live_gained source s rounds watch r0 r1 n0 n1 (Ok x) only rep = each_only source
 live_gained source s rounds watch r0 r1 n0 n1 (Err f) only rep = tt
 
 pub live_rising : (source : SourceSays) (s : Parts) (rounds watch : ℕ) (r0 r1 n0 n1 : SinkSays) (r : Result (Unit {0}) Failure) → IsOnlyScene source s → ReportsLive s rounds watch r0 r1 n0 n1 r
-    → IfErr r (λ f. (f ≡ NotesFault → ⊥) → EachScene source (λ t. GainsRising t rounds watch n0 n1))
+    → IfErr r (λ f. (f ≡ NotesFault → ⊥) → EachScene source (λ t. GainsRising t rounds watch f r0 r1 n0 n1))
 live_rising source s rounds watch r0 r1 n0 n1 (Ok x) only rep = tt
-live_rising source s rounds watch r0 r1 n0 n1 (Err f) only rep = λ other. each_only source s (λ t. GainsRising t rounds watch n0 n1) only (rep.front other)
+live_rising source s rounds watch r0 r1 n0 n1 (Err f) only rep = λ other. each_only source s (λ t. GainsRising t rounds watch f r0 r1 n0 n1) only (rep.front other)
 
 pub live_stops : (source : SourceSays) (s : Parts) (rounds watch : ℕ) (r0 r1 n0 n1 : SinkSays) (r : Result (Unit {0}) Failure) → IsOnlyScene source s → ReportsLive s rounds watch r0 r1 n0 n1 r
     → IsErrOf r NotesFault → EachScene source (λ t. StopsAtNotes t rounds watch r0 r1 n0 n1)
@@ -132,9 +148,6 @@ live_drawn source s rounds watch r0 r1 n0 n1 (Err f) rep = each_of source (λ _.
   | inl m ↦ inr (inr (inr (ap Err m)))
   | inr rest ↦ elim rest [ inl w ↦ inr (inl (ap Err w.0)) | inr n ↦ inl (ap Err n.0) ]
 ])
-
-pub nothing_gained : (s : Parts) (rounds watch : ℕ) (n : SinkSays) → GainsRising s rounds watch n n
-nothing_gained s rounds watch n = record { counts = λ f r o t. 0; rising = λ frame lt. none_rise s rounds watch frame; gained = (0, omega arith, nothing_appended n) }
 
 -- a scene that couldn't be read is no fault of the notes
 pub read_is_no_note : (e : SceneError) → failure_of e ≡ NotesFault → ⊥

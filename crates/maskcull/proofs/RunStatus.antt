@@ -24,7 +24,7 @@ use Rattle.maskcull.specs.LiveScenes.{CountsStay, GainsRising}
 use Rattle.maskcull.specs.Notes.{note_text, refusal_text, status_text}
 use Rattle.maskcull.specs.Outcome.{status_of}
 use Rattle.maskcull.specs.Words.{AreWords, refusal_status, request_of}
-use Rattle.maskcull.proofs.RunEnds.{each_map, each_of, front_noted, live_map, live_of, none_noted, nothing_more, text_by_status}
+use Rattle.maskcull.proofs.RunEnds.{each_map, each_scene, front_noted, live_map, live_of, none_noted, nothing_more, text_by_status}
 
 -- ---- failures by their status
 
@@ -140,24 +140,24 @@ run_stops c source r0 r1 n0 n1 n2 noted h =
     h
 
 -- a front of the lines was noted, and the note behind it
-pub run_front : (c : Command) (source : SourceSays) (n0 n1 n2 : SinkSays) (f : Failure) → MayHaveWritten (status_of f) → IsNoted n1 n2 (note_text f) → CountsStay n0 n1
-    → ((f ≡ NotesFault → ⊥) → IfLive c (λ rounds watch. EachScene source (λ s. GainsRising s rounds watch n0 n1)))
-    → IfLive c (λ rounds watch. EachScene source (λ s. GainsLiveFront s rounds watch n0 n2 (status_text (status_of f))))
-run_front c source n0 n1 n2 f may noted stay h =
+pub run_front : (c : Command) (source : SourceSays) (r0 r1 n0 n1 n2 : SinkSays) (f : Failure) → MayHaveWritten (status_of f) → IsNoted n1 n2 (note_text f) → CountsStay n0 n1
+    → ((f ≡ NotesFault → ⊥) → IfLive c (λ rounds watch. EachScene source (λ s. GainsRising s rounds watch f r0 r1 n0 n1)))
+    → IfLive c (λ rounds watch. EachScene source (λ s. GainsLiveFront s rounds watch r0 r1 n0 n2 (status_of f)))
+run_front c source r0 r1 n0 n1 n2 f may noted stay h =
     let text = text_by_status f may in
     let noted' : IsNoted n1 n2 (status_text (status_of f)) = subst (IsNoted n1 n2) text noted in
-    live_map c (λ rounds watch. EachScene source (λ s. GainsRising s rounds watch n0 n1)) (λ rounds watch. EachScene source (λ s. GainsLiveFront s rounds watch n0 n2 (status_text (status_of f))))
-    (λ rounds watch each. each_map source (λ s. GainsRising s rounds watch n0 n1) (λ s. GainsLiveFront s rounds watch n0 n2 (status_text (status_of f)))
-    (λ s gains. front_noted s rounds watch n0 n1 n2 (status_text (status_of f)) gains stay noted') each)
+    live_map c (λ rounds watch. EachScene source (λ s. GainsRising s rounds watch f r0 r1 n0 n1)) (λ rounds watch. EachScene source (λ s. GainsLiveFront s rounds watch r0 r1 n0 n2 (status_of f)))
+    (λ rounds watch each. each_map source (λ s. GainsRising s rounds watch f r0 r1 n0 n1) (λ s. GainsLiveFront s rounds watch r0 r1 n0 n2 (status_of f))
+    (λ s gains. front_noted s rounds watch f r0 r1 n0 n1 n2 gains stay noted') each)
     (h (written_is_no_note f may))
 
--- nothing but a note
-pub note_alone : (words : List Text) (source : SourceSays) (n0 n2 : SinkSays) (note : List ℕ) → IsNoted n0 n2 note
-    → IfAsked words (λ c. IfLive c (λ rounds watch. EachScene source (λ s. GainsLiveFront s rounds watch n0 n2 note)))
-note_alone words source n0 n2 note noted =
-    asked_all words (λ c. IfLive c (λ rounds watch. EachScene source (λ s. GainsLiveFront s rounds watch n0 n2 note)))
-    (λ c. live_of c (λ rounds watch. EachScene source (λ s. GainsLiveFront s rounds watch n0 n2 note))
-    (λ rounds watch. each_of source (λ s. GainsLiveFront s rounds watch n0 n2 note) (λ s. none_noted s rounds watch n0 n2 note noted)))
+-- nothing but a note that memory was wanted
+pub note_alone : (words : List Text) (source : SourceSays) (r n0 n2 : SinkSays) → IsNoted n0 n2 (status_text statuses.Memory)
+    → IfAsked words (λ c. IfLive c (λ rounds watch. EachScene source (λ s. GainsLiveFront s rounds watch r r n0 n2 statuses.Memory)))
+note_alone words source r n0 n2 noted =
+    asked_all words (λ c. IfLive c (λ rounds watch. EachScene source (λ s. GainsLiveFront s rounds watch r r n0 n2 statuses.Memory)))
+    (λ c. live_of c (λ rounds watch. EachScene source (λ s. GainsLiveFront s rounds watch r r n0 n2 statuses.Memory))
+    (λ rounds watch. each_scene source (λ s. GainsLiveFront s rounds watch r r n0 n2 statuses.Memory) (λ s scene. none_noted s rounds watch r n0 n2 scene noted)))
 
 -- the note behind nothing
 pub noted_as : (n0 n1 n2 : SinkSays) (f : Failure) → (status_of f ≡ statuses.Scene → ⊥) → n1 ≡ n0 → IsNoted n1 n2 (note_text f) → IsNoted n0 n2 (status_text (status_of f))

@@ -1,5 +1,5 @@
 -- The live lines of a frame, as looks at its tiles make them.
-use Rattle.std.specs.Prelude.{ℕ, ◌≡◌, ◌<◌, ◌≤◌, ◌/◌, ◌%◌, Bool, true, false, List, length, replicate, slice_index_or}
+use Rattle.std.specs.Prelude.{ℕ, ◌≡◌, ◌<◌, ◌≤◌, ◌/◌, ◌%◌, Bool, true, false, List, length, replicate, slice_index, slice_index_or}
 use Rattle.std.specs.List.{flat_map}
 use Rattle.cull_base.specs.declared.clip.ClipVertex.{ClipVertex}
 use Rattle.cull_base.specs.declared.scene_types.Object.{Object}
@@ -8,8 +8,10 @@ use Rattle.cull_base.specs.Fold.{after}
 use Rattle.cull_base.specs.Screen.{Dimensions, tile_count_of}
 use Rattle.cull_base.specs.Tiles.{ArePieces, PieceList, tile_list}
 use Rattle.scene_reader.specs.Layout.{Parts, IsScene}
+use Rattle.tile_cells.specs.Cells.{Reading}
 use Rattle.tile_cells.specs.Snapshots.{HoldsExactly, SnapshotOf}
-use Rattle.cull_report.specs.Live.{IsRisingIn, IsStated, LiveLineOf, counts_held, frame_live, object_at, object_line, text_of_line}
+use Rattle.cull_report.specs.Live.{IsRisingIn, IsStated, LiveLineOf, counts_held, frame_live, object_at, object_line, prefixed_tiles, text_of_line}
+use Rattle.cull_report.specs.Settled.{settled_in}
 use Rattle.cull_report.specs.Scene.{frame_clips, frame_list, frame_pieces, object_area, object_verdict, size_of}
 use Rattle.maskcull.specs.Culling.{AreSettled}
 
@@ -59,6 +61,22 @@ abbrev pub IsSettledWhere : Parts → ℕ → ℕ → Bool → Type 0
 IsSettledWhere s frame o settled =
     (d : Object) → ArePieces (frame_pieces s frame) → settled ≡ true
     → object_verdict s frame (λ u. after u (frame_pieces s frame)) (slice_index_or s.objects o d) ≡ Occluded
+
+-- whether an object is settled where each tile stands after so many members of its list
+abbrev pub prefixed_settled : Parts → ℕ → (ℕ → ℕ) → ℕ → Bool
+prefixed_settled s frame count o = settled_in s frame (prefixed_tiles s frame count) (object_at s o)
+
+-- The first k marks tell of each object whether it is settled where each tile stands after the members that were seen of it at the object's turn. What is
+-- seen of a tile never falls from object to object, from what the reader had seen before the first to what it has seen since.
+pub record AreMarks (s : Parts) (frame : ℕ) (seen : ℕ → ℕ → ℕ) (old new : Reading) (k : ℕ) (marks : List Bool) : Type 0 where
+  pub tell : (o : ℕ) → o < k → slice_index_or marks o false ≡ prefixed_settled s frame (seen o) o
+  pub rises : (i j t : ℕ) → i < j → j < k → t < tile_count_of (size_of s) → seen i t ≤ seen j t
+  pub from : (o t : ℕ) → o < k → t < tile_count_of (size_of s) → slice_index old.seen t ≤ seen o t
+  pub to : (o t : ℕ) → o < k → t < tile_count_of (size_of s) → seen o t ≤ slice_index new.seen t
+
+-- and so the marks of all objects
+abbrev pub HaveMarks : Parts → ℕ → Reading → Reading → List Bool → Type 0
+HaveMarks s frame old new marks = (seen : ℕ → ℕ → ℕ) × AreMarks s frame seen old new (length s.objects) marks
 
 -- marks for a frame's list of pieces
 abbrev pub HaveSettled : Parts → ℕ → List Bool → Type 0

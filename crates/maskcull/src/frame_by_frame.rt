@@ -16,7 +16,7 @@ use crate::settings::Settings;
 use binning::batch_size;
 use cull_base::{ClipVertex, Memory, Sink};
 use scene_reader::Scene;
-use std::alloc::{AllocError, Global};
+use std::alloc::Global;
 use std::sync::Wait;
 use std::thread::Threads;
 use tile_queues::{Gate, draw_plain_frame};
@@ -112,9 +112,10 @@ fn report_frame<R: Threads + Wait + Sync, W: Sink, G: Gate>(
 // Asks for a large block that nobody touches, and gives it up. The C library hands freed memory back to the system where
 // more lies free than twice the largest block that it was given back so far, and then a frame's memory is made anew for
 // each frame, page by page. After this it is kept for the next frame.
-fn keep_freed_memory(alloc: Global) {
-    let block: Result<Vec<u8>, AllocError> = Vec::with_capacity(alloc, LARGE);
+fn keep_freed_memory(alloc: Global) -> Result<(), Memory> {
+    let block: Vec<u8> = Vec::with_capacity(alloc, LARGE).map_err(|_| Memory)?;
     drop(block);
+    Ok(())
 }
 
 /// Draws frame after frame, and writes the lines of each before the next begins.
@@ -133,7 +134,7 @@ pub fn report_frames<R: Threads + Wait + Sync, W: Sink, G: Gate>(
     ensures valid { OnOk result (AllArePieces scene.now) }
     ensures scene { OnOk result (IsScene scene.now) }
 {
-    keep_freed_memory(alloc);
+    keep_freed_memory(alloc)?;
     let nowhere = ClipVertex { x: 0, y: 0, w: 0 };
     let mut clips = vec![in alloc; nowhere; scene.vertices().len()].map_err(|_| Failure::Memory)?;
     for frame in 0..scene.cameras().len() as u32 {

@@ -94,7 +94,8 @@ pub fn live<R: Threads + Wait + Sync, S: Source, W: Sink, E: Sink, G: Gate>(
     ensures unnoted { IfErr result (λ f. IsBeforeReport f → notes.new ≡ notes.old) }
     ensures prefix { OnErr result (GainsFront (S.says input.old) (W.says report.old) (W.says report.new)) }
     ensures front { IfErr result (λ f. (f ≡ Failure.NotesFault → ⊥) → EachScene (S.says input.old)
-        (λ s. GainsRising s looks.rounds looks.watch (E.says notes.old) (E.says notes.new))) }
+        (λ s. GainsRising s looks.rounds looks.watch f
+        (W.says report.old) (W.says report.new) (E.says notes.old) (E.says notes.new))) }
     ensures stops { IsErrOf result Failure.NotesFault → EachScene (S.says input.old)
         (λ s. StopsAtNotes s looks.rounds looks.watch
         (W.says report.old) (W.says report.new) (E.says notes.old) (E.says notes.new)) }

@@ -4,7 +4,7 @@ ghost use Rattle.cull_base.specs.Screen.{tile_count_of};
 ghost use Rattle.cull_report.specs.Scene.{frame_list, size_of};
 ghost use Rattle.tile_cells.specs.Standing.{IsReading};
 ghost use Rattle.tile_queues.specs.Callers.{Follows};
-ghost use Rattle.maskcull.specs.LiveFrames.{HaveSettled, IsSettledWhere, IsWatching, RoomFor, Tells};
+ghost use Rattle.maskcull.specs.LiveFrames.{HaveMarks, HaveSettled, IsSettledWhere, IsWatching, RoomFor, Tells, prefixed_settled};
 
 use cull_base::ClipVertex;
 use cull_report::{LiveLine, object_area, object_settled, object_verdict};
@@ -59,8 +59,8 @@ fn look<R: Wait>(
     line.fill(watched.frame, round, object, verdict, snapshot);
 }
 
-// Whether an object is settled over the tiles of its area as they stand now. Conditions: there is such an object, and
-// the reader is of the frame's list.
+// Whether an object is settled over the tiles of its area as they stand now: by the references of these after as many
+// members as the reader has seen then. Conditions: there is such an object, and the reader is of the frame's list.
 fn is_settled<R: Wait>(
     rt: &R,
     cells: &TileCells,
@@ -73,6 +73,8 @@ fn is_settled<R: Wait>(
     requires object { object < length watched.now.scene.now.objects }
     requires reader { IsReading cells.now (frame_list watched.now.scene.now watched.now.frame) reader.old }
     requires size { snapshot.old.size ≡ size_of watched.now.scene.now }
+    ensures value { result ≡ prefixed_settled watched.now.scene.now watched.now.frame
+        (λ t. slice_index reader.new.seen t) object }
     ensures settled { IsSettledWhere watched.now.scene.now watched.now.frame object result }
     ensures rises { (t : ℕ) → t < tile_count_of (size_of watched.now.scene.now)
         → slice_index reader.old.seen t ≤ slice_index reader.new.seen t }
@@ -99,6 +101,7 @@ fn mark_settled<R: Wait>(
     requires reader { IsReading cells.now (frame_list watched.now.scene.now watched.now.frame) reader.old }
     requires size { snapshot.old.size ≡ size_of watched.now.scene.now }
     requires marks { length marks.old.items ≡ length watched.now.scene.now.objects }
+    ensures value { HaveMarks watched.now.scene.now watched.now.frame reader.old reader.new marks.new.items }
     ensures settled { HaveSettled watched.now.scene.now watched.now.frame marks.new.items }
     ensures marks { length marks.new.items ≡ length marks.old.items }
     ensures follows { Follows reader.old reader.new }

@@ -31,11 +31,18 @@ use tile_queues::OpenGate;
 
 // The words that the program was started with; none where one isn't UTF-8, which is no command.
 fn words_of(rt: &HostRuntime, alloc: Global) -> Result<Vec<String>, Memory> {
+    let mut words = Vec::new(alloc);
     match env::args(rt) {
-        Ok(words) => words.collect(alloc).map_err(|_| Memory),
+        Ok(given) => {
+            // `collect` would ask for room by a guess first, and do without it where that is refused
+            for word in given {
+                words.push(word).map_err(|_| Memory)?;
+            }
+            Ok(words)
+        }
         Err(error) => match error.kind() {
             ErrorKind::OutOfMemory => Err(Memory),
-            _ => Ok(Vec::new(alloc)),
+            _ => Ok(words),
         },
     }
 }

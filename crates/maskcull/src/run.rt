@@ -62,7 +62,8 @@ fn perform<R: Threads + Wait + Sync, S: Source, W: Sink, E: Sink, G: Gate>(
     ensures quiet { (IsLive request.now.command → ⊥) → notes.new ≡ notes.old }
     ensures unnoted { IfErr result (λ f. IsBeforeReport f → notes.new ≡ notes.old) }
     ensures front { IfErr result (λ f. (f ≡ Failure.NotesFault → ⊥) → IfLive request.now.command (λ rounds watch.
-        EachScene (S.says input.old) (λ s. GainsRising s rounds watch (E.says notes.old) (E.says notes.new)))) }
+        EachScene (S.says input.old) (λ s. GainsRising s rounds watch f
+        (W.says report.old) (W.says report.new) (E.says notes.old) (E.says notes.new)))) }
     ensures stops { IsErrOf result Failure.NotesFault → IfLive request.now.command (λ rounds watch.
         EachScene (S.says input.old) (λ s. StopsAtNotes s rounds watch
         (W.says report.old) (W.says report.new) (E.says notes.old) (E.says notes.new))) }
@@ -148,7 +149,7 @@ pub fn run<R: Threads + Wait + Sync, S: Source, W: Sink, E: Sink, G: Gate>(
         (W.says report.old) (W.says report.new) (E.says notes.old) (E.says notes.new)))) }
     ensures live_front { MayHaveWritten result → IfAsked (map string_bytes words.now) (λ c. IfLive c (λ rounds watch.
         EachScene (S.says input.old) (λ s. GainsLiveFront s rounds watch
-        (E.says notes.old) (E.says notes.new) (status_text result)))) }
+        (W.says report.old) (W.says report.new) (E.says notes.old) (E.says notes.new) result))) }
     ensures nothing_asked { request_of (map string_bytes words.now) ≡ None → report.new ≡ report.old }
     ensures noted { (result ≡ Status.Done → ⊥) → (result ≡ Status.Scene → ⊥) → (result ≡ Status.Usage → ⊥)
         → (result ≡ Status.NotesFault → ⊥)

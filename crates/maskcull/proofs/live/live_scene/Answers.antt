@@ -25,7 +25,7 @@ returns-in_err-write_header-clause-reported g c =
     let r0 = g.W.Sink.says c.args.report.now in let r = g.W.Sink.says c.write_header.new.sink in let n = g.E.Sink.says c.args.notes.now in
     let p = err_from_is_err_and c.from_residual.result c.from_residual.ensures.1 in
     let w = c.in_err-write_header.ensures in
-    rw (p.1, p.2) (header_ends s looks.rounds looks.watch (sink_failure e) r0 r n (proper_is_front r0 r (scene_header s) w.err) (not_of_notes e) (sink_cause e r0 r n (scene_header s) w) w.faults_stay)
+    rw (p.1, p.2) (header_ends s looks.rounds looks.watch (sink_failure e) r0 r n c.near-near.ensures.valid (proper_is_front r0 r (scene_header s) w.err) (not_of_notes e) (sink_cause e r0 r n (scene_header s) w) w.faults_stay)
 
 pub loop-frame-init : goal.loop-frame-init
 loop-frame-init g c =
@@ -79,4 +79,4 @@ returns-in_err-clips-clause-reported g c =
     let s = c.args.scene.now in let looks = c.args.looks in
     let r0 = g.W.Sink.says c.args.report.now in let r = g.W.Sink.says c.write_header.new.sink in let n = g.E.Sink.says c.args.notes.now in
     let p = err_from_is_err_and c.from_residual-in_err-clips.result c.from_residual-in_err-clips.ensures.1 in
-    rw (p.1, p.2) (header_ends s looks.rounds looks.watch failures.Memory r0 r n (all_is_front r0 r (scene_header s) c.in_ok-write_header.ensures.ok) (λ is. absurd cc) (inl refl) c.write_header.ensures.faults_stay)
+    rw (p.1, p.2) (header_ends s looks.rounds looks.watch failures.Memory r0 r n c.near-near.ensures.valid (all_is_front r0 r (scene_header s) c.in_ok-write_header.ensures.ok) (λ is. absurd cc) (inl refl) c.write_header.ensures.faults_stay)

@@ -6,7 +6,7 @@ use Rattle.maskcull.specs.declared.failure.Failure.TheVariants.{NotesFault}
 use Rattle.maskcull.specs.declared.failure.Status.{Status}
 use Rattle.maskcull.specs.declared.failure.Status.TheVariants as statuses
 use Rattle.maskcull.specs.declared.request.Command.{Command}
-use Rattle.maskcull.specs.Culling.{EachScene, IfLive, IsLive, MayHaveWritten, WithoutScene}
+use Rattle.maskcull.specs.Culling.{EachScene, IfAsked, IfLive, IsLive, MayHaveWritten, WithoutScene}
 use Rattle.maskcull.specs.LiveRuns.{GainsLiveFront, StopsAtNotes}
 use Rattle.maskcull.specs.Notes.{note_text, status_text}
 use Rattle.maskcull.specs.Outcome.{status_of}
@@ -17,12 +17,14 @@ use Rattle.maskcull.proofs.run.run.Goals as goal
 pub returns-in-Err-clause-live_front : goal.returns-in-Err-clause-live_front
 returns-in-Err-clause-live_front g c may =
     let words : List Text = map string_bytes c.args.words.now in
+    let source = g.S.Source.says c.args.input.now in
+    let r = g.W.Sink.says c.args.report.now in
     let n0 = g.E.Sink.says c.args.notes.now in let n2 = g.E.Sink.says c.end.new.notes in
     let m : MayHaveWritten (refusal_status c.in-Err.refusal) = subst MayHaveWritten c.end.ensures.value may in
     let e = refusal_written c.in-Err.refusal m in
     let is : statuses.Memory ≡ c.end.result = cc in
-    let noted : IsNoted n0 n2 (status_text c.end.result) = subst (λ (s : Status). IsNoted n0 n2 (status_text s)) is (c.end.ensures.noted_memory (refusal_wants_memory c.in-Err.refusal e)) in
-    note_alone words (g.S.Source.says c.args.input.now) n0 n2 (status_text c.end.result) noted
+    subst (λ (status : Status). IfAsked words (λ command. IfLive command (λ rounds watch. EachScene source (λ s. GainsLiveFront s rounds watch r r n0 n2 status)))) is
+    (note_alone words source r n0 n2 (c.end.ensures.noted_memory (refusal_wants_memory c.in-Err.refusal e)))
 
 pub returns-in-Err-perform-clause-scene : goal.returns-in-Err-perform-clause-scene
 returns-in-Err-perform-clause-scene g c is =
@@ -47,13 +49,14 @@ pub returns-in-Err-perform-clause-live_front : goal.returns-in-Err-perform-claus
 returns-in-Err-perform-clause-live_front g c may =
     let words : List Text = map string_bytes c.args.words.now in
     let source = g.S.Source.says c.args.input.now in
+    let r0 = g.W.Sink.says c.args.report.now in let r1 = g.W.Sink.says c.perform.new.report in
     let n0 = g.E.Sink.says c.args.notes.now in let n1 = g.E.Sink.says c.perform.new.notes in let n2 = g.E.Sink.says c.end-in-Err-perform.new.notes in
     let f = c.in-Err-perform.failure in
     let is = c.end-in-Err-perform.ensures.value in
     let m : MayHaveWritten (status_of f) = subst MayHaveWritten is may in
-    let P : Status → Command → Type 0 = λ status command. IfLive command (λ rounds watch. EachScene source (λ s. GainsLiveFront s rounds watch n0 n2 (status_text status))) in
+    let P : Status → Command → Type 0 = λ status command. IfLive command (λ rounds watch. EachScene source (λ s. GainsLiveFront s rounds watch r0 r1 n0 n2 status)) in
     asked_by words c.in-Ok.request (P c.end-in-Err-perform.result) c.in-Ok.ensures.some
-    (subst (λ (status : Status). P status c.in-Ok.request.command) (sym is) (run_front c.in-Ok.request.command source n0 n1 n2 f m c.end-in-Err-perform.ensures.noted c.in-Err-perform.ensures.stay c.in-Err-perform.ensures.front))
+    (subst (λ (status : Status). P status c.in-Ok.request.command) (sym is) (run_front c.in-Ok.request.command source r0 r1 n0 n1 n2 f m c.end-in-Err-perform.ensures.noted c.in-Err-perform.ensures.stay c.in-Err-perform.ensures.front))
 
 pub returns-in-Err-perform-clause-noted : goal.returns-in-Err-perform-clause-noted
 returns-in-Err-perform-clause-noted g c not_done not_scene not_usage not_notes not_live =
