@@ -1,0 +1,7 @@
+pub mod Bands
+mod Clearing
+mod AllTiles
+mod Codes
+mod Eight
+mod Hiding
+mod Triangles

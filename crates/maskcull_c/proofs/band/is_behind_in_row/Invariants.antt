@@ -1,0 +1,7 @@
+use Rattle.masked_update.specs.Walk.{NoneBelowWhere, is_in_row}
+use Rattle.masked_update.proofs.Walks.{columns_before}
+use Rattle.maskcull_c.specs.Bands.{band_of}
+use Rattle.maskcull_c.proofs.band.is_behind_in_row.Given as goal
+
+abbrev pub invariant-loop-column : goal.invariant-loop-column
+invariant-loop-column l = NoneBelowWhere l.fn.nearest (is_in_row (columns_before l.fn.span l.column) l.fn.row) (band_of l.fn.window l.fn.tiles)

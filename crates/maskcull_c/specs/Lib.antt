@@ -1,0 +1,4 @@
+pub mod Given
+pub mod Tiles
+pub mod Bands
+pub mod Asked

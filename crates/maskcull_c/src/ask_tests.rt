@@ -1,0 +1,143 @@
+//! What stands behind, at and before a piece that fills a screen of 32 by 8 at three times the near distance 1. Its
+//! nearness is 65535 / 3 = 21845; at w = 4 an object has 16384, at w = 2 it has 32768.
+use super::*;
+use cull_base::{ScreenTri, Size};
+use masked_update::TileState;
+use std::test::Fail;
+
+const SETUP: Setup = Setup {
+    width: 32,
+    height: 8,
+    near: 1,
+    winding: 0,
+};
+
+fn tiles() -> Result<[TileState; 1], &'static str> {
+    let size = Size::new(32, 8).ok_or("a size")?;
+    let piece = ScreenTri::new([0, 2048, 0], [0, 0, 2048], [21845; 3]).ok_or("a piece")?;
+    let mut tile = TileState::empty();
+    tile.take(&piece, size, 0);
+    Ok([tile])
+}
+
+// The answer to a rectangle.
+fn rectangle(x0: i32, y0: i32, x1: i32, y1: i32, w: i32) -> Result<u32, &'static str> {
+    Ok(maskcull_test(&SETUP, &tiles()?, &Area { x0, y0, x1, y1 }, w))
+}
+
+fn at(x: i32, y: i32, w: i32) -> Vertex {
+    Vertex { x, y, w }
+}
+
+// The answer to a box between two corners, as the identity camera sees it.
+fn block(low: [i32; 3], high: [i32; 3]) -> Result<u32, &'static str> {
+    let corners = Corners {
+        corners: [
+            at(high[0], high[1], high[2]),
+            at(high[0], low[1], low[2]),
+            at(low[0], high[1], low[2]),
+            at(high[0], high[1], low[2]),
+            at(low[0], low[1], high[2]),
+            at(high[0], low[1], high[2]),
+            at(low[0], high[1], high[2]),
+            at(low[0], low[1], low[2]),
+        ],
+    };
+    Ok(maskcull_test_box(&SETUP, &tiles()?, &corners))
+}
+
+const ONE: Triangle = Triangle { a: 0, b: 1, c: 2 };
+
+const NEXT: Triangle = Triangle { a: 0, b: 2, c: 3 };
+
+// The answer to a mesh.
+fn mesh(vertices: &[Vertex], triangles: &[Triangle]) -> Result<u32, &'static str> {
+    Ok(maskcull_test_mesh(&SETUP, &tiles()?, vertices, triangles))
+}
+
+#[test]
+fn a_rectangle_is_occluded_only_behind_what_was_drawn(rt: HostRuntime) -> Result<(), Fail> {
+    assert_eq!(rt; rectangle(0, 0, 32, 8, 4)?, OCCLUDED);
+    assert_eq!(rt; rectangle(-100, -100, 100, 100, 4)?, OCCLUDED);
+    assert_eq!(rt; rectangle(0, 0, 32, 8, 3)?, VISIBLE);
+    assert_eq!(rt; rectangle(5, 5, 6, 6, 2)?, VISIBLE);
+    assert_eq!(rt; rectangle(5, 5, 6, 6, 0)?, VISIBLE);
+    Ok(())
+}
+
+#[test]
+fn a_rectangle_without_a_pixel_in_the_screen_is_outside(rt: HostRuntime) -> Result<(), Fail> {
+    assert_eq!(rt; rectangle(32, 0, 40, 8, 4)?, OUTSIDE);
+    assert_eq!(rt; rectangle(0, 0, 32, 0, 4)?, OUTSIDE);
+    assert_eq!(rt; rectangle(-8, 0, 0, 8, 0)?, OUTSIDE);
+    Ok(())
+}
+
+#[test]
+fn a_box_is_as_near_as_its_nearest_corner(rt: HostRuntime) -> Result<(), Fail> {
+    assert_eq!(rt; block([-1, -1, 4], [1, 1, 8])?, OCCLUDED);
+    assert_eq!(rt; block([-1, -1, 3], [1, 1, 8])?, VISIBLE);
+    assert_eq!(rt; block([-1, -1, 0], [1, 1, 8])?, VISIBLE);
+    assert_eq!(rt; block([-1, -1, -8], [1, 1, 0])?, OUTSIDE);
+    assert_eq!(rt; block([20, -1, 4], [21, 1, 8])?, OUTSIDE);
+    Ok(())
+}
+
+#[test]
+fn a_mesh_is_occluded_where_each_of_its_triangles_is(rt: HostRuntime) -> Result<(), Fail> {
+    let four = [at(-4, 4, 4), at(4, 4, 4), at(4, -4, 4), at(-1, -1, 1)];
+    assert_eq!(rt; mesh(&four, &[ONE])?, OCCLUDED);
+    assert_eq!(rt; mesh(&four, &[ONE, NEXT])?, VISIBLE);
+    let equal = [at(-3, 3, 3), at(3, 3, 3), at(3, -3, 3)];
+    assert_eq!(rt; mesh(&equal, &[ONE])?, VISIBLE);
+    let past_guard = [at(-4, 4, 4), at(16385, 4, 4), at(-4, -16384, 4)];
+    assert_eq!(rt; mesh(&past_guard, &[ONE])?, VISIBLE);
+    Ok(())
+}
+
+#[test]
+fn a_mesh_that_nothing_shows_is_outside(rt: HostRuntime) -> Result<(), Fail> {
+    let behind = [at(-4, 4, 0), at(4, 4, 0), at(4, -4, -1)];
+    assert_eq!(rt; mesh(&behind, &[ONE])?, OUTSIDE);
+    assert_eq!(rt; mesh(&behind, &[])?, OUTSIDE);
+    let beside = [at(12, 4, 4), at(16, 4, 4), at(16, -4, 4)];
+    assert_eq!(rt; mesh(&beside, &[ONE])?, OUTSIDE);
+    Ok(())
+}
+
+#[test]
+fn what_is_asked_wrongly_is_refused(rt: HostRuntime) -> Result<(), Fail> {
+    let area = Area {
+        x0: 0,
+        y0: 0,
+        x1: 32,
+        y1: 8,
+    };
+    let narrow = Setup { width: 20, ..SETUP };
+    let tall = Setup {
+        height: 16,
+        ..SETUP
+    };
+    assert_eq!(rt; maskcull_test(&narrow, &tiles()?, &area, 4), BAD_SETUP);
+    assert_eq!(rt;
+        maskcull_test(&Setup { near: 0, ..SETUP }, &tiles()?, &area, 4),
+        BAD_SETUP
+    );
+    assert_eq!(rt; maskcull_test(&tall, &tiles()?, &area, 4), BAD_TILES);
+    let corners = Corners {
+        corners: [at(0, 0, 4); 8],
+    };
+    assert_eq!(rt; maskcull_test_box(&narrow, &tiles()?, &corners), BAD_SETUP);
+    assert_eq!(rt; maskcull_test_box(&tall, &tiles()?, &corners), BAD_TILES);
+    let three = [at(-4, 4, 4), at(4, 4, 4), at(4, -4, 4)];
+    assert_eq!(rt;
+        maskcull_test_mesh(&narrow, &tiles()?, &three, &[NEXT]),
+        BAD_SETUP
+    );
+    assert_eq!(rt;
+        maskcull_test_mesh(&tall, &tiles()?, &three, &[NEXT]),
+        BAD_TILES
+    );
+    assert_eq!(rt; mesh(&three, &[ONE, NEXT])?, BAD_INDEX);
+    Ok(())
+}

@@ -1,0 +1,150 @@
+//! A piece is drawn into the tiles of a window that its box reaches.
+ghost use Rattle.std.specs.Prelude.{◌≡◌, ◌<◌, ◌≤◌, true, length};
+ghost use Rattle.cull_base.specs.Piece.{IsPiece, box_of};
+ghost use Rattle.cull_base.specs.Screen.{IsSize};
+ghost use Rattle.cull_base.specs.Span.{IsPartOf, IsSpan, has_tile};
+ghost use Rattle.masked_update.specs.Canvas.{IsCanvas, MergedMet};
+ghost use Rattle.masked_update.specs.Least.{NoneBelow};
+ghost use Rattle.masked_update.specs.Merged.{IsSubBox};
+ghost use Rattle.masked_update.specs.Walk.{MergedWhere, NoneBelowWhere, is_in_row};
+ghost use Rattle.maskcull_c.specs.Bands.{band_of};
+
+use cull_base::{ScreenTri, Size, Tile, TileSpan};
+use masked_update::{PieceSetup, SubBox, TileState};
+
+// Whether a piece that is nowhere nearer changes nothing in a tile.
+#[inline(always)]
+fn is_behind(tile: &TileState, nearest: u32) -> bool
+    ensures { result ≡ true → NoneBelow nearest tile.now }
+{
+    // an accessor tells how many subtiles a tile has
+    let _first = tile.sub(0);
+    nearest <= tile.least_reference()
+}
+
+// Whether a piece stands behind all tiles of one row, in the columns of a span.
+#[inline(always)]
+fn is_behind_in_row(
+    tiles: &[TileState],
+    window: TileSpan,
+    span: TileSpan,
+    row: u32,
+    nearest: u32,
+) -> bool
+    requires whole { IsCanvas (band_of window tiles.now) }
+    requires part { IsPartOf window span }
+    requires row { (span.first_row ≤ row) × (row < span.end_row) }
+    ensures { result ≡ true → NoneBelowWhere nearest (is_in_row span row) (band_of window tiles.now) }
+{
+    let start = window.row_start(row);
+    for column in span.first_column..span.end_column {
+        let number = start + (column - window.first_column) as usize;
+        if !is_behind(&tiles[number], nearest) {
+            return false;
+        }
+    }
+    true
+}
+
+// Whether it stands behind all tiles of a span.
+#[inline(always)]
+fn is_behind_in_span(tiles: &[TileState], window: TileSpan, span: TileSpan, nearest: u32) -> bool
+    requires whole { IsCanvas (band_of window tiles.now) }
+    requires part { IsPartOf window span }
+    ensures { result ≡ true → NoneBelowWhere nearest (has_tile span) (band_of window tiles.now) }
+{
+    for row in span.first_row..span.end_row {
+        if !is_behind_in_row(tiles, window, span, row, nearest) {
+            return false;
+        }
+    }
+    true
+}
+
+// Merges a piece into the tiles of one row, in the columns of a span.
+#[inline(always)]
+fn merge_in_row(
+    tiles: &mut [TileState],
+    window: TileSpan,
+    piece: &PieceSetup,
+    reached: &SubBox,
+    span: TileSpan,
+    row: u32,
+)
+    requires whole { IsCanvas (band_of window tiles.old) }
+    requires part { IsPartOf window span }
+    requires reached { IsSubBox (box_of piece.now) reached.now }
+    requires span { IsSpan reached.now.size span }
+    requires row { (span.first_row ≤ row) × (row < span.end_row) }
+    requires small { row < 256 }
+    ensures { MergedWhere (is_in_row span row) reached.now.size piece.now
+        (band_of window tiles.old) (band_of window tiles.new) }
+{
+    let start = window.row_start(row);
+    // an accessor tells how many columns there may be
+    let _columns = reached.size.tile_columns();
+    for column in span.first_column..span.end_column {
+        let number = start + (column - window.first_column) as usize;
+        let place = Tile {
+            column: column as u16,
+            row: row as u16,
+        };
+        tiles[number].merge(piece, reached, place);
+    }
+}
+
+// Merges a piece into the tiles of a span.
+fn merge_in_span(
+    tiles: &mut [TileState],
+    window: TileSpan,
+    piece: &PieceSetup,
+    reached: &SubBox,
+    span: TileSpan,
+)
+    requires whole { IsCanvas (band_of window tiles.old) }
+    requires part { IsPartOf window span }
+    requires reached { IsSubBox (box_of piece.now) reached.now }
+    requires span { IsSpan reached.now.size span }
+    requires sized { IsSize reached.now.size.width reached.now.size.height }
+    ensures { MergedWhere (has_tile span) reached.now.size piece.now
+        (band_of window tiles.old) (band_of window tiles.new) }
+{
+    for row in span.first_row..span.end_row {
+        merge_in_row(tiles, window, piece, reached, span, row);
+    }
+}
+
+// Sets a piece up, and merges it into the tiles of a span.
+#[inline(always)]
+fn merge_piece(
+    tiles: &mut [TileState],
+    window: TileSpan,
+    tri: &ScreenTri,
+    size: Size,
+    span: TileSpan,
+)
+    requires whole { IsCanvas (band_of window tiles.old) }
+    requires part { IsPartOf window span }
+    requires span { IsSpan size span }
+    requires sized { IsSize size.width size.height }
+    ensures { MergedWhere (has_tile span) size tri.now (band_of window tiles.old) (band_of window tiles.new) }
+{
+    let piece = PieceSetup::of(tri);
+    merge_in_span(tiles, window, &piece, &piece.reached_on(size), span);
+}
+
+/// Merges a piece into the tiles of a window that its box reaches. One that stands behind all of them changes nothing
+/// and isn't set up. Conditions: the window is of the screen, and the tiles are its tiles, row by row.
+pub(crate) fn draw_piece(tiles: &mut [TileState], window: TileSpan, tri: &ScreenTri, size: Size)
+    requires whole { IsCanvas (band_of window tiles.old) }
+    requires window { IsSpan size window }
+    ensures met { MergedMet size tri.now (band_of window tiles.old) (band_of window tiles.new) }
+    ensures whole { length tiles.new ≡ length tiles.old }
+    ensures piece { IsPiece tri.now }
+    ensures sized { IsSize size.width size.height }
+{
+    let span = TileSpan::of(&tri.boxed(), size).cut(&window);
+    if !is_behind_in_span(tiles, window, span, tri.greatest_nearness()) {
+        merge_piece(tiles, window, tri, size, span);
+    }
+}

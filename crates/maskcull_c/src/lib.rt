@@ -1,0 +1,21 @@
+//! Calls for C and C++: triangles are drawn onto tiles in memory of the caller, and rectangles, boxes and meshes are
+//! tested against them. Nothing is allocated, kept between calls or started, and no call has a condition.
+#![tactic(auto)]
+
+mod ask;
+#[cfg(test)]
+mod ask_tests;
+mod band;
+mod draw;
+mod given;
+mod mesh;
+mod status;
+#[cfg(test)]
+mod tests;
+mod tiles;
+
+pub use ask::{maskcull_test, maskcull_test_box, maskcull_test_mesh};
+pub use draw::{maskcull_draw, maskcull_draw_band};
+pub use given::{Area, Corners, Setup, Triangle, Vertex};
+pub use status::{BAD_INDEX, BAD_SETUP, BAD_TILES, DONE, OCCLUDED, OUTSIDE, VISIBLE};
+pub use tiles::{SubtileState, maskcull_clear, maskcull_subtile, maskcull_tile_count};

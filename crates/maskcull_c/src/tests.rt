@@ -1,0 +1,130 @@
+//! A quad over the whole screen, refusals, and rows of tiles drawn one after another.
+use super::*;
+use masked_update::TileState;
+use std::test::Fail;
+
+const SETUP: Setup = Setup {
+    width: 32,
+    height: 8,
+    near: 1,
+    winding: 0,
+};
+
+// Two tiles side by side, in two rows.
+const WIDE: Setup = Setup {
+    width: 64,
+    height: 16,
+    near: 1,
+    winding: 0,
+};
+
+// The corners of the screen at distance 2, and a point farther off.
+const VERTICES: [Vertex; 5] = [
+    Vertex { x: -2, y: 2, w: 2 },
+    Vertex { x: 2, y: 2, w: 2 },
+    Vertex { x: 2, y: -2, w: 2 },
+    Vertex { x: -2, y: -2, w: 2 },
+    Vertex { x: 1, y: -3, w: 4 },
+];
+
+const QUAD: [Triangle; 2] = [Triangle { a: 0, b: 1, c: 2 }, Triangle { a: 0, b: 2, c: 3 }];
+
+const SLANTED: [Triangle; 2] = [Triangle { a: 0, b: 1, c: 4 }, Triangle { a: 0, b: 2, c: 3 }];
+
+fn held(tiles: &[TileState], tile: usize, subtile: u32) -> (u32, u32, u32) {
+    let state = maskcull_subtile(tiles, tile, subtile);
+    (state.reference, state.working, state.mask)
+}
+
+#[test]
+fn a_quad_over_the_screen_hides_what_is_behind_it(rt: HostRuntime) -> Result<(), Fail> {
+    let mut tiles = [TileState::empty(); 1];
+    assert_eq!(rt; maskcull_tile_count(32, 8), 1);
+    assert_eq!(rt; maskcull_draw(&SETUP, &mut tiles, &VERTICES, &QUAD), DONE);
+    for subtile in 0..8 {
+        // half of the greatest nearness, rounded down
+        assert_eq!(rt;
+            held(&tiles, 0, subtile),
+            (32767, 0, 0),
+            "subtile {subtile}"
+        );
+    }
+    assert_eq!(rt; held(&tiles, 1, 0), (0, 0, 0));
+    maskcull_clear(&mut tiles);
+    for subtile in 0..8 {
+        assert_eq!(rt; held(&tiles, 0, subtile), (0, 0, 0), "subtile {subtile}");
+    }
+    Ok(())
+}
+
+fn setup(width: u32, height: u32, near: u32, winding: u32) -> Setup {
+    Setup {
+        width,
+        height,
+        near,
+        winding,
+    }
+}
+
+#[test]
+fn a_refusal_leaves_the_tiles(rt: HostRuntime) -> Result<(), Fail> {
+    let mut tiles = [TileState::empty(); 1];
+    // the upper right half of the screen
+    assert_eq!(rt;
+        maskcull_draw(&SETUP, &mut tiles, &VERTICES, &QUAD[..1]),
+        DONE
+    );
+    let beyond = [Triangle { a: 0, b: 2, c: 3 }, Triangle { a: 0, b: 5, c: 3 }];
+    let cases = [
+        (setup(36, 8, 1, 0), QUAD, BAD_SETUP),
+        (setup(32, 2052, 1, 0), QUAD, BAD_SETUP),
+        (setup(32, 8, 0, 0), QUAD, BAD_SETUP),
+        (setup(32, 8, 1, 3), QUAD, BAD_SETUP),
+        (setup(32, 16, 1, 0), QUAD, BAD_TILES),
+        (setup(32, 8, 1, 0), beyond, BAD_INDEX),
+    ];
+    for (setup, triangles, status) in cases {
+        assert_eq!(rt;
+            maskcull_draw(&setup, &mut tiles, &VERTICES, &triangles),
+            status
+        );
+        assert_eq!(rt; held(&tiles, 0, 3), (32767, 0, 0));
+        assert_eq!(rt; held(&tiles, 0, 4), (0, 0, 0));
+    }
+    assert_eq!(rt;
+        maskcull_draw_band(&SETUP, &mut tiles, 1, &VERTICES, &QUAD),
+        BAD_TILES
+    );
+    assert_eq!(rt;
+        maskcull_draw_band(&WIDE, &mut tiles, 0, &VERTICES, &QUAD),
+        BAD_TILES
+    );
+    assert_eq!(rt; held(&tiles, 0, 4), (0, 0, 0));
+    Ok(())
+}
+
+#[test]
+fn rows_of_tiles_make_the_screen(rt: HostRuntime) -> Result<(), Fail> {
+    let mut whole = [TileState::empty(); 4];
+    assert_eq!(rt; maskcull_draw(&WIDE, &mut whole, &VERTICES, &SLANTED), DONE);
+    let mut rows = [TileState::empty(); 4];
+    let (upper, lower) = rows.split_at_mut(2);
+    assert_eq!(rt;
+        maskcull_draw_band(&WIDE, lower, 1, &VERTICES, &SLANTED),
+        DONE
+    );
+    assert_eq!(rt;
+        maskcull_draw_band(&WIDE, upper, 0, &VERTICES, &SLANTED),
+        DONE
+    );
+    for tile in 0..4 {
+        for subtile in 0..8 {
+            assert_eq!(rt;
+                held(&rows, tile, subtile),
+                held(&whole, tile, subtile),
+                "tile {tile}, subtile {subtile}"
+            );
+        }
+    }
+    Ok(())
+}
