@@ -1,0 +1,306 @@
+/* maskcull for C and C++: tells, before a picture is drawn, what is hidden in it. C11 or C++17.
+ *
+ * The picture is cut into tiles of 32 by 8 pixels, and each tile into eight subtiles of 8 by 4. Large triangles that
+ * stand in front, the occluders, are drawn onto the tiles, which keep two depths and a mask for each subtile. Then
+ * rectangles, boxes and meshes are tested against the tiles: what is called occluded has, at each of its samples in the
+ * screen, a drawn triangle strictly nearer. A pixel has one sample, in its middle. "Visible" is no promise: it is also
+ * said where it can't be told.
+ *
+ * The tiles lie in your memory. No call allocates, keeps a pointer, starts a thread, takes a lock or writes anything
+ * but the tiles, and none prints or exits. All is reckoned in whole numbers, so each machine gives the same answers.
+ *
+ *     #include "maskcull.h"
+ *
+ *     maskcull_setup setup = {1280, 720, 64, 0};                                   // near distance 64, both windings
+ *     size_t tile_count;
+ *     maskcull_tile *tiles = maskcull_open(setup.width, setup.height, &tile_count);
+ *     if (tiles == NULL) return 1;
+ *     for (;;) {                                                                   // each frame
+ *         maskcull_clear(tiles, tile_count);
+ *         maskcull_draw(&setup, tiles, tile_count, vertices, vertex_count, triangles, triangle_count);
+ *         if (maskcull_test_box(&setup, tiles, tile_count, &box) == MASKCULL_VISIBLE) draw_the_house();
+ *     }
+ *     maskcull_close(tiles);
+ *
+ * Link with libmaskcull_c.a, which `rt lib` makes in crates/maskcull_c: cc game.c libmaskcull_c.a
+ *
+ * Units
+ *   - Pixels count from the upper left corner, x to the right and y downwards.
+ *   - A vertex is given in clip space, before the division by w: x / w runs from -1 at the left edge of the screen to
+ *     1 at the right, y / w from -1 at the lower edge to 1 at the upper, and w is the distance along the view. x, y, w
+ *     and the near distance are whole numbers of a unit of your own. The view has to be one in perspective.
+ *   - Nearness is 65535 near / w: rounded down for what is drawn and up for what is tested. Two distances with one
+ *     nearness are equally near, and what is equally near isn't hidden.
+ *
+ * What you promise, and no call can look at
+ *   Safety
+ *   1. No pointer is null, also where the count beside it is 0, and each is aligned as its type asks, to 4 bytes. It
+ *      stands for as many elements as its count says. (The maskcull_checked_ forms below answer for null.)
+ *   2. Each tile is all zero bytes, which is an empty tile, or was last written by these calls. So tiles come from
+ *      maskcull_open, calloc, or std::vector<maskcull_tile>(count), never from malloc alone; a copy by memcpy is fine.
+ *   3. The tiles of a call that writes them overlap nothing else that is handed to it.
+ *   4. While a call runs no other thread writes what it reads, or touches the tiles that it writes. Tests may run side
+ *      by side, and so may maskcull_draw_band on tiles that don't overlap.
+ *   Meaning
+ *   5. From one clearing to the next all calls on some tiles have the same width, height and near distance. The winding
+ *      may change from call to call. */
+#ifndef MASKCULL_H
+#define MASKCULL_H
+
+#include <assert.h>
+#include <stddef.h>
+#include <stdint.h>
+#include <stdlib.h>
+
+#ifdef __cplusplus
+extern "C" {
+#endif
+
+/* What calls answer. With 1 to 4 a call did nothing, and the tiles are as they were. */
+enum maskcull_status {
+    MASKCULL_DONE = 0,      /* all was drawn */
+    MASKCULL_BAD_SETUP = 1, /* the size, the near distance or the winding is none */
+    MASKCULL_BAD_TILES = 2, /* these aren't as many tiles as the screen has, or as a band can have */
+    MASKCULL_BAD_INDEX = 3, /* a triangle names a vertex that isn't there */
+    MASKCULL_NULL = 4,      /* a pointer is null: only the maskcull_checked_ forms answer this */
+    MASKCULL_VISIBLE = 16,  /* not hidden, or it can't be told */
+    MASKCULL_OCCLUDED = 17, /* hidden at each of its samples in the screen, and it has one there */
+    MASKCULL_OUTSIDE = 18   /* without a pixel in the screen, or a box or mesh behind the near plane */
+};
+
+/* How winding is said in a setup: which triangles aren't drawn, by how they run on the screen. */
+enum maskcull_winding {
+    MASKCULL_KEEPS_BOTH = 0,
+    MASKCULL_DROPS_CLOCKWISE = 1,
+    MASKCULL_DROPS_COUNTERCLOCKWISE = 2
+};
+
+/* The screen and how triangles are taken. A call with other numbers than these answers MASKCULL_BAD_SETUP. */
+typedef struct maskcull_setup {
+    uint32_t width;   /* in pixels: a multiple of 8, from 8 to 2048 */
+    uint32_t height;  /* in pixels: a multiple of 4, from 4 to 2048 */
+    uint32_t near_w;  /* the near distance: 1 to 1024. The part of a triangle with w below it is cut off. */
+    uint32_t winding; /* 0 to 2, as in maskcull_winding; of occluders only */
+} maskcull_setup;
+
+/* A vertex in clip space: any numbers. One with x, y or w further than 16384 near_w from 0 is past the guard: an
+ * occluder triangle with such a vertex isn't drawn, and an object with one is called visible. */
+typedef struct maskcull_vertex {
+    int32_t x;
+    int32_t y;
+    int32_t w;
+} maskcull_vertex;
+
+/* A triangle by the numbers of its vertices, from 0. */
+typedef struct maskcull_triangle {
+    uint32_t a;
+    uint32_t b;
+    uint32_t c;
+} maskcull_triangle;
+
+/* The pixels from (x0, y0) to before (x1, y1). It may reach past the screen, and may have no pixel. */
+typedef struct maskcull_area {
+    int32_t x0;
+    int32_t y0;
+    int32_t x1;
+    int32_t y1;
+} maskcull_area;
+
+/* The corners of a box, in any order; or up to eight points with some of them repeated. */
+typedef struct maskcull_box {
+    maskcull_vertex corners[8];
+} maskcull_box;
+
+/* A tile: 100 bytes, of which only the calls below make sense. All zero bytes are an empty tile. Subtile k, in column
+ * k % 4 and row k / 4 of the tile, has the k-th of each. The count isn't used here: maskcull_clear makes it 0, and
+ * drawing leaves it as it was. */
+typedef struct maskcull_tile {
+    uint32_t references[8];
+    uint32_t workings[8];
+    uint32_t masks[8];
+    uint32_t count;
+} maskcull_tile;
+
+/* What a subtile holds, in nearness from 0 to 65535: something drawn is at least so near as `working` at each sample
+ * of the mask, and as `reference` at the others; 0 says nothing. Sample (column c, row r) is bit 8 r + c. */
+typedef struct maskcull_subtile_state {
+    uint32_t reference;
+    uint32_t working;
+    uint32_t mask;
+} maskcull_subtile_state;
+
+/* Tiles are numbered row by row from the upper left. A row has (width + 31) / 32 tiles, and there are (height + 7) / 8
+ * rows. The answer is 0 where there is no such screen. */
+uint32_t maskcull_tile_count(uint32_t width, uint32_t height);
+
+/* Empties tiles, as many as are given. */
+void maskcull_clear(maskcull_tile *tiles, size_t tile_count);
+
+/* Draws occluder triangles onto all tiles of the screen, after all that was drawn before: any number of calls, in any
+ * order with tests. MASKCULL_DONE wherever the setup, the number of tiles and all indices are right; a triangle that is
+ * behind the near plane, past the guard, or of the dropped winding is no error.
+ * BAD_SETUP, BAD_TILES (other than maskcull_tile_count of them), BAD_INDEX. */
+uint32_t maskcull_draw(const maskcull_setup *setup, maskcull_tile *tiles, size_t tile_count,
+                       const maskcull_vertex *vertices, size_t vertex_count,
+                       const maskcull_triangle *triangles, size_t triangle_count);
+
+/* The same, onto some whole rows of the screen's tiles: `tiles` points to the first tile of row first_row, and is as
+ * many rows long as are to be drawn. The setup is that of the whole screen. Threads that draw the same triangles in
+ * the same order, each onto rows of its own, leave the tiles that one maskcull_draw leaves.
+ * BAD_SETUP, BAD_TILES (not whole rows, or past the last one), BAD_INDEX. */
+uint32_t maskcull_draw_band(const maskcull_setup *setup, maskcull_tile *tiles, size_t tile_count, uint32_t first_row,
+                            const maskcull_vertex *vertices, size_t vertex_count,
+                            const maskcull_triangle *triangles, size_t triangle_count);
+
+/* Tests the pixels of an area at distance w. OUTSIDE without a pixel in the screen; else VISIBLE where w is below the
+ * near distance; else OCCLUDED where each pixel in the screen is hidden at its sample.
+ * BAD_SETUP, BAD_TILES. */
+uint32_t maskcull_test(const maskcull_setup *setup, const maskcull_tile *tiles, size_t tile_count,
+                       const maskcull_area *area, int32_t w);
+
+/* Tests a box as the rectangle around its corners on the screen, which is as near as its nearest corner. OUTSIDE where
+ * all corners are behind the near plane (w below near_w), VISIBLE where one is or is past the guard, else as
+ * maskcull_test.
+ * BAD_SETUP, BAD_TILES. */
+uint32_t maskcull_test_box(const maskcull_setup *setup, const maskcull_tile *tiles, size_t tile_count,
+                           const maskcull_box *corners);
+
+/* Tests a mesh triangle by triangle, each from both sides: sharper than a box, and slower. OUTSIDE without a triangle,
+ * or where all vertices are behind the near plane or no triangle comes near the screen; VISIBLE where a vertex is past
+ * the guard. Vertices that no triangle names don't count.
+ * BAD_SETUP, BAD_TILES, BAD_INDEX. */
+uint32_t maskcull_test_mesh(const maskcull_setup *setup, const maskcull_tile *tiles, size_t tile_count,
+                            const maskcull_vertex *vertices, size_t vertex_count,
+                            const maskcull_triangle *triangles, size_t triangle_count);
+
+/* What a subtile of a tile holds; zeros where there is no such tile or subtile. */
+maskcull_subtile_state maskcull_subtile(const maskcull_tile *tiles, size_t tile_count, size_t tile, uint32_t subtile);
+
+/* The layouts that the library was built for. */
+static_assert(sizeof(maskcull_setup) == 16 && offsetof(maskcull_setup, winding) == 12, "maskcull_setup");
+static_assert(sizeof(maskcull_vertex) == 12 && offsetof(maskcull_vertex, w) == 8, "maskcull_vertex");
+static_assert(sizeof(maskcull_triangle) == 12 && offsetof(maskcull_triangle, c) == 8, "maskcull_triangle");
+static_assert(sizeof(maskcull_area) == 16 && offsetof(maskcull_area, y1) == 12, "maskcull_area");
+static_assert(sizeof(maskcull_box) == 96 && offsetof(maskcull_box, corners) == 0, "maskcull_box");
+static_assert(offsetof(maskcull_tile, references) == 0 && offsetof(maskcull_tile, workings) == 32, "maskcull_tile");
+static_assert(offsetof(maskcull_tile, masks) == 64 && offsetof(maskcull_tile, count) == 96, "maskcull_tile");
+static_assert(sizeof(maskcull_tile) == 100, "maskcull_tile");
+static_assert(sizeof(maskcull_subtile_state) == 12 && offsetof(maskcull_subtile_state, mask) == 8,
+              "maskcull_subtile_state");
+
+/* From here on: help in C, around the calls. It is compiled into your program, and no proof covers it. */
+
+/* Empty tiles for a screen, and how many. NULL and 0 where there is no such screen or no memory. */
+static inline maskcull_tile *maskcull_open(uint32_t width, uint32_t height, size_t *tile_count)
+{
+    size_t count = maskcull_tile_count(width, height);
+    maskcull_tile *tiles = count == 0 ? NULL : (maskcull_tile *)calloc(count, sizeof(maskcull_tile));
+    if (tile_count != NULL) {
+        *tile_count = tiles == NULL ? 0 : count;
+    }
+    return tiles;
+}
+
+static inline void maskcull_close(maskcull_tile *tiles)
+{
+    free(tiles);
+}
+
+/* Whether a pointer can stand for so many elements. */
+static inline int maskcull_is_there(const void *elements, size_t count)
+{
+    return elements != NULL || count == 0;
+}
+
+/* The calls once more, for pointers that may be null: MASKCULL_NULL, and nothing is done, where one is null that has to
+ * stand for something. With a count of 0 a null pointer is taken as no elements. */
+static inline uint32_t maskcull_checked_clear(maskcull_tile *tiles, size_t tile_count)
+{
+    if (!maskcull_is_there(tiles, tile_count)) {
+        return MASKCULL_NULL;
+    }
+    if (tile_count != 0) {
+        maskcull_clear(tiles, tile_count);
+    }
+    return MASKCULL_DONE;
+}
+
+static inline uint32_t maskcull_checked_draw(const maskcull_setup *setup, maskcull_tile *tiles, size_t tile_count,
+                                             const maskcull_vertex *vertices, size_t vertex_count,
+                                             const maskcull_triangle *triangles, size_t triangle_count)
+{
+    const maskcull_vertex no_vertex = {0, 0, 0};
+    const maskcull_triangle no_triangle = {0, 0, 0};
+    maskcull_tile no_tile;
+    if (setup == NULL || !maskcull_is_there(tiles, tile_count) || !maskcull_is_there(vertices, vertex_count)
+        || !maskcull_is_there(triangles, triangle_count)) {
+        return MASKCULL_NULL;
+    }
+    return maskcull_draw(setup, tiles == NULL ? &no_tile : tiles, tile_count,
+                         vertices == NULL ? &no_vertex : vertices, vertex_count,
+                         triangles == NULL ? &no_triangle : triangles, triangle_count);
+}
+
+static inline uint32_t maskcull_checked_draw_band(const maskcull_setup *setup, maskcull_tile *tiles, size_t tile_count,
+                                                  uint32_t first_row,
+                                                  const maskcull_vertex *vertices, size_t vertex_count,
+                                                  const maskcull_triangle *triangles, size_t triangle_count)
+{
+    const maskcull_vertex no_vertex = {0, 0, 0};
+    const maskcull_triangle no_triangle = {0, 0, 0};
+    maskcull_tile no_tile;
+    if (setup == NULL || !maskcull_is_there(tiles, tile_count) || !maskcull_is_there(vertices, vertex_count)
+        || !maskcull_is_there(triangles, triangle_count)) {
+        return MASKCULL_NULL;
+    }
+    return maskcull_draw_band(setup, tiles == NULL ? &no_tile : tiles, tile_count, first_row,
+                              vertices == NULL ? &no_vertex : vertices, vertex_count,
+                              triangles == NULL ? &no_triangle : triangles, triangle_count);
+}
+
+static inline uint32_t maskcull_checked_test(const maskcull_setup *setup, const maskcull_tile *tiles, size_t tile_count,
+                                             const maskcull_area *area, int32_t w)
+{
+    if (setup == NULL || tiles == NULL || area == NULL) {
+        return MASKCULL_NULL;
+    }
+    return maskcull_test(setup, tiles, tile_count, area, w);
+}
+
+static inline uint32_t maskcull_checked_test_box(const maskcull_setup *setup, const maskcull_tile *tiles,
+                                                 size_t tile_count, const maskcull_box *corners)
+{
+    if (setup == NULL || tiles == NULL || corners == NULL) {
+        return MASKCULL_NULL;
+    }
+    return maskcull_test_box(setup, tiles, tile_count, corners);
+}
+
+static inline uint32_t maskcull_checked_test_mesh(const maskcull_setup *setup, const maskcull_tile *tiles,
+                                                  size_t tile_count,
+                                                  const maskcull_vertex *vertices, size_t vertex_count,
+                                                  const maskcull_triangle *triangles, size_t triangle_count)
+{
+    const maskcull_vertex no_vertex = {0, 0, 0};
+    const maskcull_triangle no_triangle = {0, 0, 0};
+    if (setup == NULL || tiles == NULL || !maskcull_is_there(vertices, vertex_count)
+        || !maskcull_is_there(triangles, triangle_count)) {
+        return MASKCULL_NULL;
+    }
+    return maskcull_test_mesh(setup, tiles, tile_count, vertices == NULL ? &no_vertex : vertices, vertex_count,
+                              triangles == NULL ? &no_triangle : triangles, triangle_count);
+}
+
+/* Zeros also where the tiles are null. */
+static inline maskcull_subtile_state maskcull_checked_subtile(const maskcull_tile *tiles, size_t tile_count,
+                                                              size_t tile, uint32_t subtile)
+{
+    const maskcull_subtile_state none = {0, 0, 0};
+    return tiles == NULL ? none : maskcull_subtile(tiles, tile_count, tile, subtile);
+}
+
+#ifdef __cplusplus
+}
+#endif
+
+#endif
