@@ -1,6 +1,6 @@
 -- Rows of tiles after some pieces: one piece more, and one after the other.
 use Rattle.std.proofs.Common.{◌≡◌, inl, inr, ℕ, zero, suc, ◌+◌, ◌-◌, ◌*◌, ◌/◌, ◌%◌, ◌<◌, Bool, true, false, cond, List, [], ◌∷◌, ◌++◌, length, get_or, slice_index_or, arith, refl, ap, ◌∙◌, sym, subst}
-use Rattle.std.proofs.Math.Nat.{mod-lt}
+use Rattle.std.proofs.Math.Nat.{mod-lt, mul_comm}
 use Rattle.std.proofs.Math.Seq.{get_or-append_right}
 use Rattle.std.proofs.lemmas.Bool.{cases_lt}
 use Rattle.std.proofs.lemmas.List.{get_or_append_left, get_or_default, length-append}
@@ -31,7 +31,7 @@ use Rattle.masked_update.proofs.TileLists.{one_taken}
 use Rattle.masked_update.proofs.Tiles.{has, place_of_number, tile_with}
 use Rattle.snap_setup.specs.Pieces.{list_of_clips}
 use Rattle.maskcull_c.specs.Bands.{Adds, IsBand, band_of, first_in}
-use Rattle.maskcull_c.specs.Tiles.{IsAfter}
+use Rattle.maskcull_c.specs.Tiles.{AreRows, IsAfter}
 
 -- a piece whose box doesn't meet a tile changes none of its subtiles
 missed : (size : Dimensions) (tile : ℕ) (x : Piece) (subs : List State) → IsSize size.width size.height → IsPiece x → meets (box_of x) (tile_rect_of size tile) ≡ false → length subs ≡ 8 → merged_by size (tile_place size tile) x subs ≡ subs
@@ -149,3 +149,12 @@ bands_join size first pieces a b upper lower = record {
   ];
   valid = upper.valid;
 }
+
+-- the tiles of a band are whole rows of the screen's
+pub band_is_rows : (size : Dimensions) (window : TileSpan) (first_row : ℕ) (tiles : List TileOf) → IsBand size window tiles → window.first_row ≡ first_row → AreRows size first_row tiles
+band_is_rows size window first_row tiles band is =
+    let columns : columns_in window ≡ tile_columns_of size = omega (arith, band.from_left, band.to_right) in record {
+      rows = rows_in window;
+      whole = band.whole ∙ ap (λ n. n * rows_in window) columns ∙ mul_comm (tile_columns_of size) (rows_in window);
+      within = omega (arith, band.span.rows, band.span.rows_within, is);
+    }

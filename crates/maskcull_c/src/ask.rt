@@ -92,6 +92,8 @@ pub extern "C" fn maskcull_test(setup: &Setup, tiles: &[TileState], area: &Area,
     ensures hides { Hides (size_of setup.now) tiles.now (shape_of_area setup.now area.now w) result }
     ensures bad_setup { result ≡ BAD_SETUP → IsSetup setup.now → ⊥ }
     ensures bad_tiles { result ≡ BAD_TILES → AreAll (size_of setup.now) tiles.now → ⊥ }
+    ensures refuses_setup { (IsSetup setup.now → ⊥) → result ≡ BAD_SETUP }
+    ensures refuses_tiles { IsSetup setup.now → (AreAll (size_of setup.now) tiles.now → ⊥) → result ≡ BAD_TILES }
     ensures known { IsAnswer 2 result }
 {
     let Some(checked) = setup.checked() else {
@@ -112,6 +114,8 @@ pub extern "C" fn maskcull_test_box(setup: &Setup, tiles: &[TileState], corners:
     ensures hides { Hides (size_of setup.now) tiles.now (shape_of_box setup.now corners.now) result }
     ensures bad_setup { result ≡ BAD_SETUP → IsSetup setup.now → ⊥ }
     ensures bad_tiles { result ≡ BAD_TILES → AreAll (size_of setup.now) tiles.now → ⊥ }
+    ensures refuses_setup { (IsSetup setup.now → ⊥) → result ≡ BAD_SETUP }
+    ensures refuses_tiles { IsSetup setup.now → (AreAll (size_of setup.now) tiles.now → ⊥) → result ≡ BAD_TILES }
     ensures known { IsAnswer 2 result }
 {
     let Some(checked) = setup.checked() else {
@@ -140,6 +144,10 @@ pub extern "C" fn maskcull_test_mesh(
     ensures bad_setup { result ≡ BAD_SETUP → IsSetup setup.now → ⊥ }
     ensures bad_tiles { result ≡ BAD_TILES → AreAll (size_of setup.now) tiles.now → ⊥ }
     ensures bad_index { result ≡ BAD_INDEX → All (IsAmong (length vertices.now)) triangles.now → ⊥ }
+    ensures refuses_setup { (IsSetup setup.now → ⊥) → result ≡ BAD_SETUP }
+    ensures refuses_tiles { IsSetup setup.now → (AreAll (size_of setup.now) tiles.now → ⊥) → result ≡ BAD_TILES }
+    ensures refuses_index { IsSetup setup.now → AreAll (size_of setup.now) tiles.now
+        → (All (IsAmong (length vertices.now)) triangles.now → ⊥) → result ≡ BAD_INDEX }
     ensures known { IsAnswer 3 result }
 {
     let Some(checked) = setup.checked() else {

@@ -69,6 +69,7 @@ fn draw_onto(
         checked.now.winding) tiles.old tiles.new }
     ensures accepted { All (IsAmong (length vertices.now)) triangles.now → result ≡ DONE }
     ensures bad_index { result ≡ BAD_INDEX → All (IsAmong (length vertices.now)) triangles.now → ⊥ }
+    ensures refuses_index { (All (IsAmong (length vertices.now)) triangles.now → ⊥) → result ≡ BAD_INDEX }
     ensures either { (result ≡ DONE) ⊎ ((result ≡ BAD_INDEX) × (tiles.new ≡ tiles.old)) }
 {
     if !are_among(triangles, vertices.len()) {
@@ -120,6 +121,10 @@ pub extern "C" fn maskcull_draw(
     ensures bad_setup { result ≡ BAD_SETUP → IsSetup setup.now → ⊥ }
     ensures bad_tiles { result ≡ BAD_TILES → AreAll (size_of setup.now) tiles.old → ⊥ }
     ensures bad_index { result ≡ BAD_INDEX → All (IsAmong (length vertices.now)) triangles.now → ⊥ }
+    ensures refuses_setup { (IsSetup setup.now → ⊥) → result ≡ BAD_SETUP }
+    ensures refuses_tiles { IsSetup setup.now → (AreAll (size_of setup.now) tiles.old → ⊥) → result ≡ BAD_TILES }
+    ensures refuses_index { IsSetup setup.now → AreAll (size_of setup.now) tiles.old
+        → (All (IsAmong (length vertices.now)) triangles.now → ⊥) → result ≡ BAD_INDEX }
     ensures most { result ≤ BAD_INDEX }
     ensures refused { result ≢ DONE → tiles.new ≡ tiles.old }
 {
@@ -152,6 +157,10 @@ pub extern "C" fn maskcull_draw_band(
     ensures bad_setup { result ≡ BAD_SETUP → IsSetup setup.now → ⊥ }
     ensures bad_tiles { result ≡ BAD_TILES → AreRows (size_of setup.now) first_row tiles.old → ⊥ }
     ensures bad_index { result ≡ BAD_INDEX → All (IsAmong (length vertices.now)) triangles.now → ⊥ }
+    ensures refuses_setup { (IsSetup setup.now → ⊥) → result ≡ BAD_SETUP }
+    ensures refuses_tiles { IsSetup setup.now → (AreRows (size_of setup.now) first_row tiles.old → ⊥) → result ≡ BAD_TILES }
+    ensures refuses_index { IsSetup setup.now → AreRows (size_of setup.now) first_row tiles.old
+        → (All (IsAmong (length vertices.now)) triangles.now → ⊥) → result ≡ BAD_INDEX }
     ensures most { result ≤ BAD_INDEX }
     ensures refused { result ≢ DONE → tiles.new ≡ tiles.old }
 {

@@ -1,9 +1,9 @@
-use Rattle.std.proofs.Common.{map, ap, ◌∙◌}
+use Rattle.std.proofs.Common.{map, ap, ◌∙◌, subst}
 use Rattle.cull_base.specs.Screen.{Dimensions}
 use Rattle.maskcull_c.specs.Bands.{first_in}
 use Rattle.maskcull_c.specs.Given.{clip_of, size_of, tri_of, winding_of}
-use Rattle.maskcull_c.specs.Tiles.{row_start}
-use Rattle.maskcull_c.proofs.Bands.{adds_as}
+use Rattle.maskcull_c.specs.Tiles.{AreRows, row_start}
+use Rattle.maskcull_c.proofs.Bands.{adds_as, band_is_rows}
 use Rattle.maskcull_c.proofs.draw.maskcull_draw_band.Goals as goal
 
 pub returns-clause-drawn : goal.returns-clause-drawn
@@ -16,3 +16,9 @@ returns-clause-drawn c e =
     let first = ap (row_start checked.size) row ∙ ap (λ (s : Dimensions). row_start s c.args.first_row) is.size in
     adds_as checked.size (size_of setup) (first_in checked.size window) (row_start (size_of setup) c.args.first_row) checked.near setup.near checked.winding (winding_of setup.winding) (map clip_of c.args.vertices.now) (map tri_of c.args.triangles.now) c.args.tiles.now c.draw_onto.new.tiles
     is.size first is.near is.winding (c.draw_onto.ensures.adds e)
+
+pub returns-clause-refuses_tiles : goal.returns-clause-refuses_tiles
+returns-clause-refuses_tiles c setup isnt =
+    let band = c.in-Some-window_from.ensures in
+    let rows = band_is_rows c.in-Some.checked.size c.in-Some-window_from.window c.args.first_row c.args.tiles.now band.0 band.1 in
+    absurd (isnt (subst (λ (size : Dimensions). AreRows size c.args.first_row c.args.tiles.now) c.in-Some.ensures.size rows))
