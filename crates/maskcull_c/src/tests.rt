@@ -50,7 +50,16 @@ fn a_quad_over_the_screen_hides_what_is_behind_it(rt: HostRuntime) -> Result<(),
         );
     }
     assert_eq!(rt; held(&tiles, 1, 0), (0, 0, 0));
+    let screen = Area {
+        x0: 0,
+        y0: 0,
+        x1: 32,
+        y1: 8,
+    };
+    assert_eq!(rt; maskcull_test(&SETUP, &tiles, &screen, 3), OCCLUDED);
+    assert_eq!(rt; maskcull_test(&SETUP, &tiles, &screen, 2), VISIBLE);
     maskcull_clear(&mut tiles);
+    assert_eq!(rt; maskcull_test(&SETUP, &tiles, &screen, 3), VISIBLE);
     for subtile in 0..8 {
         assert_eq!(rt; held(&tiles, 0, subtile), (0, 0, 0), "subtile {subtile}");
     }
