@@ -1,5 +1,5 @@
 -- A plane is least and greatest over the samples of a subtile at a corner.
-use Rattle.std.proofs.Common.{◌≡◌, ℕ, ℤ, pos, negsuc, suc, zero, ◌+◌, ◌*◌, ◌/◌, ◌%◌, ◌<◌, ◌≤◌, ◌+ℤ◌, ◌*ℤ◌, ◌≤ℤ◌, ◌^◌, ◌∙◌, sym, slice_index_or, arith, refl, List, map, length, get_or, ◌⊎◌, inl, inr}
+use Rattle.std.proofs.Common.{◌≡◌, ℕ, ℤ, pos, negsuc, suc, zero, ◌+◌, ◌*◌, ◌/◌, ◌%◌, ◌<◌, ◌≤◌, ◌+ℤ◌, ◌*ℤ◌, ◌≤ℤ◌, ◌∙◌, sym, arith, refl, List, map, length, get_or, ◌⊎◌, inl, inr}
 use Rattle.std.specs.Int.{int_min, int_max}
 use Rattle.std.specs.List.{fold, range_with_len, All, Contains}
 use Rattle.std.proofs.Math.Nat.{mul-le-mul_left}
@@ -7,13 +7,16 @@ use Rattle.std.proofs.lemmas.Int.{ints, fold-int_min_bounds, fold-int_min_reache
 use Rattle.std.proofs.lemmas.List.FromFn.{length-map-range_with_len, get_or-map-range_with_len}
 use Rattle.std.proofs.lemmas.List.Elements.{All-get_or}
 use Rattle.cull_base.specs.Piece.{least_of, greatest_of, Point, sample, each_sample}
-use Rattle.cull_base.specs.Bounds.{Bounded}
-use Rattle.cull_base.proofs.Bounds.{bounded-mul}
+use Rattle.cull_base.proofs.Ring.{diff-mul, diff-same, pos_is, over1}
 use Rattle.cull_base.specs.declared.place.Sub.{Sub}
 use Rattle.cull_base.specs.declared.place.Tile.{Tile}
 use Rattle.depth_plane.specs.Plane.{Coefficients, numerator_at, IsNarrow, least_in, sub_in}
-use Rattle.depth_plane.specs.Corner.{least_place, greatest_place, rise_at, rises_of}
+use Rattle.depth_plane.specs.Corner.{least_place, greatest_place}
+use Rattle.depth_plane.specs.Floors.{number_at}
 use Rattle.depth_plane.proofs.Products.{mul-add}
+
+regrouped : (a : ℤ) (m i : ℕ) → (a *ℤ pos m) *ℤ pos i ≡ a *ℤ pos (m * i)
+regrouped a m i = over1 (λ a. (a *ℤ pos m) *ℤ pos i ≡ a *ℤ pos (m * i)) (λ p n. simp (pos_is, diff-mul) (diff-same _ _ _ _ (omega arith))) a
 
 abbrev rest : (ℕ → ℤ) → List ℤ
 rest f = map f (range_with_len 1 31)
@@ -143,20 +146,11 @@ least_moved c u v i j ec er =
     ∙ corner_least c v _ _ refl refl
 
 -- by that over a tile's first subtile
-pub least_risen : (c : Coefficients) (tile : Tile) (j : ℕ) → least_in c (sub_in tile 0) +ℤ rise_at c.across c.down j ≡ least_in c (sub_in tile j)
-least_risen c tile j = apart (least_in c (sub_in tile 0)) (c.across *ℤ pos (128 * (j % 4))) (c.down *ℤ pos (64 * (j / 4))) ∙ least_moved c (sub_in tile 0) (sub_in tile j) (j % 4) (j / 4) (omega arith) (omega arith)
+pub least_risen : (c : Coefficients) (tile : Tile) (j : ℕ) → least_in c (sub_in tile 0) +ℤ number_at (c.across *ℤ pos 128) (c.down *ℤ pos 64) j ≡ least_in c (sub_in tile j)
+least_risen c tile j = apart (least_in c (sub_in tile 0)) c.across c.down (j % 4) (j / 4) ∙ least_moved c (sub_in tile 0) (sub_in tile j) (j % 4) (j / 4) (omega arith) (omega arith)
   where
-    apart : (f p q : ℤ) → f +ℤ (p +ℤ q) ≡ (f +ℤ p) +ℤ q
-    apart f p q = omega (arith, ints)
-
-pub rise-bounded : (a d : ℤ) (j : ℕ) → j < 8 → Bounded (2 ^ 46) a → Bounded (2 ^ 46) d → Bounded (2 ^ 56) (rise_at a d j)
-rise-bounded a d j lt ba bd =
-    let p = bounded-mul (2 ^ 46) 384 a (pos (128 * (j % 4))) ba (omega (arith, ints), omega (arith, ints)) in
-    let q = bounded-mul (2 ^ 46) 64 d (pos (64 * (j / 4))) bd (omega (arith, ints, lt), omega (arith, ints, lt)) in
-    (omega (arith, ints, p, q), omega (arith, ints, p, q))
-
-pub index-rises_of : (a d : ℤ) (j : ℕ) → j < 8 → slice_index_or (rises_of a d) j (pos 0) ≡ rise_at a d j
-index-rises_of a d j lt = get_or-map-range_with_len (rise_at a d) 0 8 j j (pos 0) lt (omega arith)
+    apart : (f a d : ℤ) (i k : ℕ) → f +ℤ (((a *ℤ pos 128) *ℤ pos i) +ℤ ((d *ℤ pos 64) *ℤ pos k)) ≡ (f +ℤ (a *ℤ pos (128 * i))) +ℤ (d *ℤ pos (64 * k))
+    apart f a d i k = let e = regrouped a 128 i in let g = regrouped d 64 k in omega (arith, ints, e, g)
 
 pub corner_greatest : (c : Coefficients) (u : Sub) (x y : ℕ) → x ≡ (16 * (8 * u.column) + 8) + greatest_place c.across 112 → y ≡ (16 * (4 * u.row) + 8) + greatest_place c.down 48 →
     numerator_at c (at x y) ≡ greatest_of (each_sample (λ k. numerator_at c (sample u k)))

@@ -7,3 +7,4 @@ pub mod Planes
 pub mod Depths
 pub mod Fractions
 pub mod Boxes
+pub mod FloorLanes

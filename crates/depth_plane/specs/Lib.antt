@@ -1,3 +1,4 @@
 pub mod Plane
 pub mod Corner
 pub mod Vertices
+pub mod Floors

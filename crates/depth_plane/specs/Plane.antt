@@ -1,5 +1,5 @@
 -- The depth of a piece as a plane over the screen.
-use Rattle.std.specs.Prelude.{ℕ, ℤ, pos, true, Bool, List, IsTrue, ◌↔◌, ◌+◌, ◌*◌, ◌/◌, ◌%◌, ◌<◌, ◌≡◌, ◌^◌, ◌+ℤ◌, ◌-ℤ◌, ◌*ℤ◌, ◌≤ℤ◌, ◌<ℤ◌}
+use Rattle.std.specs.Prelude.{ℕ, ℤ, pos, true, Bool, IsTrue, ◌↔◌, ◌+◌, ◌*◌, ◌/◌, ◌%◌, ◌<◌, ◌≡◌, ◌^◌, ◌+ℤ◌, ◌-ℤ◌, ◌*ℤ◌, ◌≤ℤ◌, ◌<ℤ◌}
 use Rattle.cull_base.specs.Bounds.{Bounded}
 use Rattle.std.specs.Int.{int_max}
 use Rattle.cull_base.specs.Piece.{Piece, Point, point, vertex, nearness, middle, covers, touches, sample, each_sample, least_of}
@@ -8,7 +8,8 @@ use Rattle.cull_base.specs.Depth.{numerator, denominator, floor_of, cut_to_range
 use Rattle.cull_base.specs.declared.place.Sample.{Sample}
 use Rattle.cull_base.specs.declared.place.Sub.{Sub}
 use Rattle.cull_base.specs.declared.place.Tile.{Tile}
-use Rattle.depth_plane.specs.Corner.{least_place, rises_of}
+use Rattle.depth_plane.specs.Corner.{least_place}
+use Rattle.depth_plane.specs.declared.floor_lanes.FloorLanes.{FloorLanes}
 
 -- the depth at (x, y) is (across * x + down * y + level) / area
 pub record Coefficients : Type 0 where
@@ -55,9 +56,11 @@ pub record IsNarrow (c : Coefficients) (first : ℤ) : Type 0 where
   pub value : first ≡ numerator_at c (point (pos (8 + least_place c.across 112)) (pos (8 + least_place c.down 48)))
   pub within : Bounded (2 ^ 61 + 2 ^ 54) first
 
--- these are what a plane rises by within a tile, where it isn't steep
-abbrev pub HasRises : Coefficients → List ℤ → Type 0
-HasRises c rises = Bounded (2 ^ 46) c.across → Bounded (2 ^ 46) c.down → rises ≡ rises_of c.across c.down
+-- these are what a plane rises by within a tile, over its area
+pub record HasLanes (c : Coefficients) (f : FloorLanes) : Type 0 where
+  pub right : f.right ≡ c.across *ℤ pos 128
+  pub below : f.below ≡ c.down *ℤ pos 64
+  pub size : pos f.size ≡ c.area
 
 -- subtile j of a tile, of two rows of four
 abbrev pub sub_in : Tile → ℕ → Sub
@@ -66,13 +69,6 @@ sub_in tile j = record { column = 4 * tile.column + j % 4; row = 2 * tile.row + 
 -- the least numerator over a subtile
 abbrev pub least_in : Coefficients → Sub → ℤ
 least_in c u = least_of (each_sample (λ k. numerator_at c (sample u k)))
-
--- the least over the first subtile of a tile, where those over the others fit 64 bits too
-pub record IsTileFirst (c : Coefficients) (tile : Tile) (first : ℤ) : Type 0 where
-  pub across : Bounded (2 ^ 46) c.across
-  pub down : Bounded (2 ^ 46) c.down
-  pub value : first ≡ least_in c (sub_in tile 0)
-  pub within : Bounded (2 ^ 62 + 2 ^ 61 + 2 ^ 54) first
 
 -- the low bound of a subtile by a plane, and by a nearness that it isn't below
 abbrev pub low_from : Coefficients → ℕ → Sub → ℕ

@@ -1,7 +1,7 @@
 //! The corner of a subtile where a plane is least or greatest, picked by the slopes' signs.
-ghost use Rattle.std.specs.Prelude.{◌≡◌, ℕ, ℤ, pos, ◌+◌, ◌*◌, ◌/◌, ◌%◌, ◌<◌, ◌≤◌, ◌^◌, ◌+ℤ◌, ◌*ℤ◌, ◌≤ℤ◌, IfSome, IsTrue, ◌↔◌};
+ghost use Rattle.std.specs.Prelude.{◌≡◌, ℕ, ℤ, pos, ◌+◌, ◌<◌, ◌^◌, ◌+ℤ◌, ◌*ℤ◌, IfSome, IsTrue, ◌↔◌};
 ghost use Rattle.cull_base.specs.Bounds.{Bounded};
-ghost use Rattle.depth_plane.specs.Corner.{least_place, greatest_place, rise_at, rises_of};
+ghost use Rattle.depth_plane.specs.Corner.{least_place, greatest_place};
 ghost use Rattle.depth_plane.specs.Plane.{coefficients, IsNarrow};
 
 /// From the first sample of a subtile to the last in its row, in sixteenths of a pixel.
@@ -110,46 +110,6 @@ pub fn narrow_numerator(across: i64, down: i64, first: i64, right: u32, below: u
     ensures bounded { Bounded (2 ^ 62 + 2 ^ 61 + 2 ^ 54) result }
 {
     first + narrow_term(across, right) + narrow_term(down, below)
-}
-
-#[inline(always)]
-fn subtile_rise(across: i64, down: i64, j: u32) -> i64
-    requires across { Bounded (2 ^ 46) across }
-    requires down { Bounded (2 ^ 46) down }
-    requires j { j < 8 }
-    ensures { result ≡ rise_at across down j }
-{
-    narrow_term(across, 128 * (j % 4)) + narrow_term(down, 64 * (j / 4))
-}
-
-#[inline(always)]
-fn gentle_rises(across: i64, down: i64) -> [i64; 8]
-    requires across { Bounded (2 ^ 46) across }
-    requires down { Bounded (2 ^ 46) down }
-    ensures { result ≡ rises_of across down }
-{
-    [
-        subtile_rise(across, down, 0),
-        subtile_rise(across, down, 1),
-        subtile_rise(across, down, 2),
-        subtile_rise(across, down, 3),
-        subtile_rise(across, down, 4),
-        subtile_rise(across, down, 5),
-        subtile_rise(across, down, 6),
-        subtile_rise(across, down, 7),
-    ]
-}
-
-/// What a plane rises by from a tile's first subtile to each of the eight; nothing is said of a steep one.
-#[inline(always)]
-pub fn subtile_rises(across: i64, down: i64) -> [i64; 8]
-    ensures { Bounded (2 ^ 46) across → Bounded (2 ^ 46) down → result ≡ rises_of across down }
-{
-    if is_gentle(across) && is_gentle(down) {
-        gentle_rises(across, down)
-    } else {
-        [0; 8]
-    }
 }
 
 /// The least value over the first subtile, where the values at a screen's samples fit 64 bits.

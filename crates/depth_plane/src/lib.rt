@@ -2,6 +2,7 @@
 #![tactic(auto)]
 
 mod corner;
+mod floor_lanes;
 mod plane;
 mod quotient;
 #[cfg(test)]

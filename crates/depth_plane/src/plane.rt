@@ -1,19 +1,21 @@
 //! The plane of a piece's depth.
-ghost use Rattle.std.specs.Prelude.{◌≡◌, ℕ, ℤ, pos, max, true, ◌<◌, ◌≤◌, ◌^◌, ◌<ℤ◌, IsTrue, ◌↔◌, ◌+◌, ◌*◌, ◌/◌, ◌%◌, IfSome};
+ghost use Rattle.std.specs.Prelude.{◌≡◌, ℕ, ℤ, pos, max, true, ◌<◌, ◌≤◌, ◌^◌, ◌<ℤ◌, IsTrue, ◌↔◌, ◌+◌, ◌*◌, ◌/◌, ◌%◌, slice_index, IfSome};
 ghost use Rattle.cull_base.specs.Piece.{least_of, greatest_of, IsPiece, Piece, Point, sample, each_sample};
 ghost use Rattle.std.specs.Int.{int_max};
 ghost use Rattle.cull_base.specs.Depth.{floor_of, least_nearness, greatest_nearness, numerator, denominator, low_of, high_of};
 ghost use Rattle.cull_base.specs.Bounds.{Bounded};
 ghost use Rattle.cull_base.specs.declared.nearness.TheConstants.{HELD_TOP};
-ghost use Rattle.depth_plane.specs.Plane.{plane_of, numerator_at, IsNearer, point_of, IsLowBound, IsHighBound, TellsNearerPiece, IsNarrow, IsTileFirst, least_in, low_from, sub_in};
+ghost use Rattle.depth_plane.specs.Plane.{plane_of, numerator_at, IsNearer, point_of, IsLowBound, IsHighBound, TellsNearerPiece, IsNarrow, low_from, sub_in};
 
 use crate::corner::{
     SPAN_ACROSS, SPAN_DOWN, greatest_along, least_along, narrow_first, narrow_numerator,
-    numerator_at, subtile_rises,
+    numerator_at,
 };
+use crate::floor_lanes::{FloorLanes, lanes_along};
 use crate::quotient::{ceiling, cut_to_range, is_greater, narrow_floor};
 use crate::vertices::Vertices;
 use cull_base::{Divisor, Sample, ScreenTri, Sub, Tile};
+use std::array;
 use std::marker::Model;
 
 /// The depth of a piece at (x, y), in sixteenths of a pixel: `(across * x + down * y + level) / area`.
@@ -24,14 +26,14 @@ pub struct Plane {
     level: i128,
     // the least numerator over the first subtile, where numerators over the screen fit 64 bits
     first: Option<i64>,
-    // what the plane rises by from a tile's first subtile to each
-    rises: [i64; 8],
     area: Divisor,
+    // what it rises by from a tile's first subtile to each, over the area, if that is neither too great nor too steep
+    lanes: Option<FloorLanes>,
 }
 
 impl Model for Plane {
     ghost use Rattle.std.specs.Prelude.{pos, IfSome};
-    ghost use Rattle.depth_plane.specs.Plane.{Coefficients, coefficients, IsPlane, IsNarrow, HasRises};
+    ghost use Rattle.depth_plane.specs.Plane.{Coefficients, coefficients, IsPlane, IsNarrow, HasLanes};
 
     ghost Value = { Coefficients };
 
@@ -39,7 +41,7 @@ impl Model for Plane {
 
     ghost invariant = { λ p.
         let c = coefficients p.across p.down p.level (pos p.area) in
-        IsPlane c × IfSome p.first (IsNarrow c) × HasRises c p.rises };
+        IsPlane c × IfSome p.first (IsNarrow c) × IfSome p.lanes (HasLanes c) };
 }
 
 // Where the sample of a pixel stands, in sixteenths of a pixel.
@@ -82,13 +84,14 @@ impl Plane {
         let down = vertices.down();
         let area = vertices.area();
         let level = vertices.level(across, down, area);
+        let divisor = Divisor::of(area.unsigned_abs());
         Plane {
             across,
             down,
             level,
             first: narrow_first(across, down, level),
-            rises: subtile_rises(across, down),
-            area: Divisor::of(area.unsigned_abs()),
+            area: divisor,
+            lanes: lanes_along(divisor, across, down),
         }
     }
 
@@ -106,59 +109,43 @@ impl Plane {
         self.low_above(tri.least_nearness(), sub)
     }
 
-    /// The least numerator over the first subtile of a tile, where those over all of them fit 64 bits. Condition: the
-    /// tile lies within 2048 by 2048 pixels.
+    // The same as `floors`, in lanes, where numerators over the screen fit 64 bits and the plane is neither too great
+    // nor too steep.
     #[inline(always)]
-    pub fn tile_first(&self, tile: Tile) -> Option<i64>
+    fn floors_in_lanes(&self, tile: Tile) -> Option<[u32; 8]>
         requires column { tile.column < 64 }
         requires row { tile.row < 256 }
-        ensures { IfSome result (IsTileFirst self.now tile) }
+        ensures { IfSome result (λ floors. (j : ℕ) → j < 8 → slice_index floors j ≡ low_from self.now 0 (sub_in tile j)) }
     {
         let first = self.first?;
-        Some(self.narrow_least(first, subtile(tile, 0)))
+        let lanes = self.lanes.as_ref()?;
+        Some(lanes.floors(self.narrow_least(first, subtile(tile, 0))))
     }
 
-    // The least numerator over subtile j of a tile, by that over the first.
-    #[inline(always)]
-    fn least_in_tile(&self, tile: Tile, first: i64, j: u32) -> i64
-        requires first { IsTileFirst self.now tile first }
-        requires j { j < 8 }
-        ensures { result ≡ least_in self.now (sub_in tile j) }
-    {
-        first + self.rises[j as usize]
-    }
-
-    /// The floor of the least depth over subtile j of a tile, from 0 to the top that pieces hold, by the least numerator
-    /// over the first. The greater of it and the piece's least nearness is the low bound. Conditions: the tile lies
-    /// within 2048 by 2048 pixels, and j is below 8.
-    #[inline(always)]
-    pub fn floor_in_tile(&self, tile: Tile, first: Option<i64>, j: u32) -> u32
+    // The same, one after the other.
+    #[inline(never)]
+    fn floors_in_turn(&self, tile: Tile) -> [u32; 8]
         requires column { tile.column < 64 }
         requires row { tile.row < 256 }
-        requires first { IfSome first (IsTileFirst self.now tile) }
-        requires j { j < 8 }
-        ensures value { result ≡ low_from self.now 0 (sub_in tile j) }
-        ensures within { result ≤ HELD_TOP }
+        ensures { (j : ℕ) → j < 8 → slice_index result j ≡ low_from self.now 0 (sub_in tile j) }
+    {
+        array::from_fn(|j| self.low_above(0, subtile(tile, j as u32)))
+    }
+
+    /// The floors of the least depths over a tile's eight subtiles, from 0 to the top that pieces hold. The greater of
+    /// such a floor and the piece's least nearness is the low bound. Condition: the tile lies within 2048 by 2048 pixels.
+    #[inline(always)]
+    pub fn floors(&self, tile: Tile) -> [u32; 8]
+        requires column { tile.column < 64 }
+        requires row { tile.row < 256 }
+        ensures value { (j : ℕ) → j < 8 → slice_index result j ≡ low_from self.now 0 (sub_in tile j) }
+        ensures within { (j : ℕ) → j < 8 → slice_index result j ≤ HELD_TOP }
         ensures raised { (x : Piece) → self.now ≡ plane_of x → IsPiece x
-            → max (least_nearness x) result ≡ low_of x (sub_in tile j) }
+            → (j : ℕ) → j < 8 → max (least_nearness x) (slice_index result j) ≡ low_of x (sub_in tile j) }
     {
-        self.low_in_tile_above(0, tile, first, j)
-    }
-
-    // The same, but no less than a nearness.
-    #[inline(always)]
-    fn low_in_tile_above(&self, nearness: u32, tile: Tile, first: Option<i64>, j: u32) -> u32
-        requires column { tile.column < 64 }
-        requires row { tile.row < 256 }
-        requires first { IfSome first (IsTileFirst self.now tile) }
-        requires j { j < 8 }
-        ensures { result ≡ low_from self.now nearness (sub_in tile j) }
-    {
-        match first {
-            Some(first) => {
-                narrow_floor(self.least_in_tile(tile, first, j), &self.area, nearness)
-            }
-            None => self.wide_low(nearness, subtile(tile, j)),
+        match self.floors_in_lanes(tile) {
+            Some(floors) => floors,
+            None => self.floors_in_turn(tile),
         }
     }
 

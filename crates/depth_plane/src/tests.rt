@@ -2,7 +2,7 @@
 ghost use Rattle.std.specs.Prelude.{◌<◌};
 
 use crate::plane::Plane;
-use cull_base::{HELD_TOP, Sample, ScreenTri, Sub};
+use cull_base::{HELD_TOP, Sample, ScreenTri, Sub, Tile};
 use std::process::Abort;
 
 fn piece_of(rt: &impl Abort, x: [i32; 3], y: [i32; 3], q: [u32; 3]) -> ScreenTri {
@@ -28,6 +28,62 @@ fn numerators_beyond_64_bits_are_divided_too(rt: HostRuntime) {
     let sub = Sub { column: 0, row: 0 };
     assert_eq!(rt; plane.low(&tri, sub), 500);
     assert_eq!(rt; plane.high(&tri, sub), 501);
+    assert_eq!(rt; plane.floors(Tile { column: 0, row: 0 }), [500; 8]);
+}
+
+fn floors(tri: &ScreenTri, column: u16, row: u16) -> [u32; 8]
+    requires column { column < 64 }
+    requires row { row < 256 }
+{
+    Plane::of(tri).floors(Tile { column, row })
+}
+
+// The depth is 812.5 over the last samples of the first column of subtiles, and 200 less over each one's further right.
+#[test]
+fn floors_go_on_below_the_least_nearness_down_to_zero(rt: HostRuntime) {
+    let tri = piece_of(&rt, [0, 512, 0], [0, 0, 512], [1000, 200, 1000]);
+    assert_eq!(rt;
+        floors(&tri, 0, 0),
+        [812, 612, 412, 212, 812, 612, 412, 212]
+    );
+    assert_eq!(rt; floors(&tri, 1, 0), [12, 0, 0, 0, 12, 0, 0, 0]);
+    let plane = Plane::of(&tri);
+    assert_eq!(rt; plane.low(&tri, Sub { column: 1, row: 1 }), 612);
+    assert_eq!(rt; plane.low(&tri, Sub { column: 4, row: 1 }), 200);
+}
+
+// The least depth over the first subtile is 768 and 63/64; it falls by 199.75 a column and by 50 a row.
+#[test]
+fn what_is_left_of_two_quotients_is_carried(rt: HostRuntime) {
+    let tri = piece_of(&rt, [0, 512, 0], [0, 0, 512], [1000, 201, 600]);
+    assert_eq!(rt;
+        floors(&tri, 0, 0),
+        [768, 569, 369, 169, 718, 519, 319, 119]
+    );
+}
+
+// The doubled area is 1, and the depth 1,000,000x - 1,001,000y: too steep for lanes.
+#[test]
+fn a_steep_piece_has_floors_too(rt: HostRuntime) {
+    let tri = piece_of(&rt, [0, 1000, 1001], [0, 999, 1000], [0, 1000, 0]);
+    let top = HELD_TOP;
+    assert_eq!(rt; floors(&tri, 0, 0), [0, top, top, top, 0, top, top, top]);
+    assert_eq!(rt; bounds(&tri, 0, 1).0, 0);
+    assert_eq!(rt; bounds(&tri, 1, 1).0, top);
+}
+
+// The doubled area is 2^32, too great for lanes, and the depth 60,000 - 50,000x/65,536.
+#[test]
+fn a_great_piece_has_floors_too(rt: HostRuntime) {
+    let side = 65_536;
+    let tri = piece_of(&rt, [0, side, 0], [0, 0, side], [60_000, 10_000, 60_000]);
+    assert_eq!(rt;
+        floors(&tri, 0, 0),
+        [
+            59_908, 59_810, 59_713, 59_615, 59_908, 59_810, 59_713, 59_615
+        ]
+    );
+    assert_eq!(rt; bounds(&tri, 3, 1).0, 59_615);
 }
 
 fn bounds(tri: &ScreenTri, column: u16, row: u16) -> (u32, u32)

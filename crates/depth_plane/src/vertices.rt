@@ -65,6 +65,7 @@ fn slope(q: i64, v: i64, other_q: i64, other_v: i64) -> i64
     requires other_v { Bounded (2 ^ 30) other_v }
     ensures value { result ≡ (q *ℤ v) -ℤ (other_q *ℤ other_v) }
     ensures bounded { Bounded (2 ^ 56) result }
+    ensures closer { Bounded (2 ^ 55) result }
 {
     minus(rise(q, v), rise(other_q, other_v))
 }
@@ -124,6 +125,7 @@ impl Vertices {
     pub fn across(&self) -> i64
         ensures value { result ≡ across_of self.now }
         ensures bounded { Bounded (2 ^ 56) result }
+        ensures closer { Bounded (2 ^ 55) result }
     {
         let Vertices { second, third, .. } = self;
         slope(second.q, third.y, third.q, second.y)
@@ -134,6 +136,7 @@ impl Vertices {
     pub fn down(&self) -> i64
         ensures value { result ≡ down_of self.now }
         ensures bounded { Bounded (2 ^ 56) result }
+        ensures closer { Bounded (2 ^ 55) result }
     {
         let Vertices { second, third, .. } = self;
         slope(third.q, second.x, second.q, third.x)

@@ -1,5 +1,5 @@
 -- What lanes compute where nothing wraps.
-use Rattle.std.proofs.Common.{ℕ, ◌<◌, ◌^◌, ◌+◌, negsuc, ◌*ℤ◌, ◌≤ℤ◌, ◌≡◌, ℤ, pos, ◌%◌, ◌+ℤ◌, arith, w32, w64, FitsSigned, to_z, of_z, Bool, true, false, cond, refl, ap, ◌∙◌, int_le, [], ◌∷◌}
+use Rattle.std.proofs.Common.{ℕ, zero, suc, ◌<◌, ◌^◌, ◌+◌, negsuc, ◌*ℤ◌, ◌≤ℤ◌, ◌≡◌, ℤ, pos, ◌%◌, ◌+ℤ◌, arith, w32, w64, FitsSigned, to_z, of_z, Bool, true, false, cond, refl, ap, ◌∙◌, int_le, [], ◌∷◌}
 use Rattle.std.specs.Cmp.{both_ways}
 use Rattle.cull_base.specs.Bounds.{Bounded}
 use Rattle.std.specs.Int.{int_div_euclid}
@@ -74,6 +74,18 @@ mask_of_eight f g h =
 pub each_of_eight : (P : ℕ → Type 0) → ((k : ℕ) → k < 8 → P k) → P 0 × (P 1 × (P 2 × (P 3 × (P 4 × (P 5 × (P 6 × (P 7 × Unit {0})))))))
 each_of_eight P h =
     (h 0 (omega arith), (h 1 (omega arith), (h 2 (omega arith), (h 3 (omega arith), (h 4 (omega arith), (h 5 (omega arith), (h 6 (omega arith), (h 7 (omega arith), tt))))))))
+
+-- each of eight numbers
+pub any_of_eight : (P : ℕ → Type 0) → P 0 → P 1 → P 2 → P 3 → P 4 → P 5 → P 6 → P 7 → (k : ℕ) → k < 8 → P k
+any_of_eight P a b c d e f g h zero l = a
+any_of_eight P a b c d e f g h (suc zero) l = b
+any_of_eight P a b c d e f g h (suc (suc zero)) l = c
+any_of_eight P a b c d e f g h (suc (suc (suc zero))) l = d
+any_of_eight P a b c d e f g h (suc (suc (suc (suc zero)))) l = e
+any_of_eight P a b c d e f g h (suc (suc (suc (suc (suc zero))))) l = f
+any_of_eight P a b c d e f g h (suc (suc (suc (suc (suc (suc zero)))))) l = g
+any_of_eight P a b c d e f g h (suc (suc (suc (suc (suc (suc (suc zero))))))) l = h
+any_of_eight P a b c d e f g h (suc (suc (suc (suc (suc (suc (suc (suc k)))))))) l = absurd (omega arith)
 
 -- a sixteenth, rounded down, and moved by sixteenths of steps isn't negative exactly where the value isn't
 pub is_not_negative-sixteenth : (e k : ℤ) → is_not_negative (int_div_euclid e (pos 16) +ℤ k) ≡ is_not_negative (e +ℤ (pos 16 *ℤ k))

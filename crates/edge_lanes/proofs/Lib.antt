@@ -7,3 +7,15 @@ pub mod Extremes
 pub mod Sharing
 pub mod Subtiles
 pub mod Tiles
+pub mod SpanLanes
+pub mod SpanBytes
+pub mod SpanEnds
+pub mod Floors
+pub mod Levels
+pub mod Turns
+pub mod Shortfalls
+pub mod Crossed
+pub mod Lesser
+pub mod Rows
+pub mod TileRows
+pub mod Calls

@@ -3,3 +3,7 @@ pub mod Lines
 pub mod Inside
 pub mod Shared
 pub mod Tiles
+pub mod Between
+pub mod Spans
+pub mod Crossings
+pub mod Rows

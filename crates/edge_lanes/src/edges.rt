@@ -43,7 +43,7 @@ fn are_near(a: i32, b: i32, c: i32) -> bool
 }
 
 #[inline(always)]
-fn is_narrow(tri: &ScreenTri) -> bool
+pub(crate) fn is_narrow(tri: &ScreenTri) -> bool
     ensures { IsTrue result → IsNarrow tri.now }
 {
     let x = tri.x();
@@ -96,6 +96,7 @@ impl Edges {
         ensures samples { (j : ℕ) → j < 8 → samples_of (slice_index result j) ≡ inside_of self.now (sub_of tile j) }
     {
         let edges = self.at_tile(tile);
-        array::from_fn(|j| edges.mask(j as u32))
+        let candidates = edges.candidates();
+        array::from_fn(|j| edges.mask_among(candidates, j as u32))
     }
 }

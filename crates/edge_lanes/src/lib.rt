@@ -3,16 +3,25 @@
 
 mod arithmetic;
 mod bias;
+mod crossing;
+mod crossings;
 mod edges;
 mod narrow_edge;
 mod narrow_edges;
+mod row_edges;
 mod shared;
+mod slant;
+mod spans;
 #[cfg(test)]
 mod tests;
 mod tile_edges;
+mod tile_row;
+mod turned;
 mod wide_edge;
 mod wide_edges;
 
 pub use edges::Edges;
+pub use row_edges::RowEdges;
 pub use shared::shared_edge;
 pub use tile_edges::TileEdges;
+pub use tile_row::TileRow;

@@ -5,10 +5,11 @@ ghost use Rattle.std.specs.Int.{int_div_euclid};
 ghost use Rattle.cull_base.specs.Piece.{IsCoordinate, point};
 ghost use Rattle.cull_base.specs.Bounds.{Bounded};
 ghost use Rattle.edge_lanes.specs.Lanes.{offsets_of, highest_of, lowest_of, subtile_step, subtile_steps, subtile_signs, row_of};
-ghost use Rattle.edge_lanes.specs.Lines.{IsEdge, IsShort, candidates_of, clamped, inside_from, line, moved_to, tile_value, whole_of};
+ghost use Rattle.edge_lanes.specs.Lines.{IsEdge, IsShort, candidates_of, clamped, counts_at, inside_from, line, moved_to, tile_value, whole_of};
 
 use crate::arithmetic::{shift, steps};
 use crate::bias::first_value;
+use crate::slant::Slant;
 use cull_base::{Side, Tile};
 use std::simd::prelude::*;
 
@@ -156,6 +157,15 @@ impl NarrowEdge {
             step(ay, by),
             step(bx, ax),
         )
+    }
+
+    /// The edge, or where it is level, one that has the same signs on a screen of 2048 by 2048 pixels.
+    #[inline(always)]
+    pub fn slant(&self) -> Slant
+        ensures { (x y : ℕ) → x < 2 ^ 11 → y < 2 ^ 11
+            → counts_at (line result.start result.column result.row) x y ≡ counts_at (narrow_line self.now) x y }
+    {
+        Slant::of(self.start, self.column, self.row)
     }
 
     /// The value at the first sample of a tile.

@@ -2,6 +2,7 @@
 ghost use Rattle.std.specs.Prelude.{◌<◌, ◌^◌, ◌≤ℤ◌, pos, negsuc};
 
 use crate::edges::Edges;
+use crate::row_edges::RowEdges;
 use crate::shared::shared_edge;
 use cull_base::{ScreenTri, Side, Sub, Tile};
 use std::process::Abort;
@@ -215,6 +216,63 @@ fn agree(tri: &ScreenTri, x: &[i32; 3], y: &[i32; 3], side: Side, sub: Sub) -> b
     edges.mask(sub) == plain && masks[(sub.row % 2 * 4 + sub.column % 4) as usize] == plain
 }
 
+// Whether the spans of a row agree with samples.
+fn row_agrees(tri: &ScreenTri, x: &[i32; 3], y: &[i32; 3], sub: Sub) -> bool
+    requires column { sub.column < 256 }
+    requires row { sub.row < 512 }
+{
+    let edges = RowEdges::of(tri);
+    let over = edges.over_row(u32::from(sub.row / 2));
+    let column = u32::from(sub.column / 4);
+    let mask = over.masks(column)[(sub.row % 2 * 4 + sub.column % 4) as usize];
+    mask == plain_mask(x, y, Side::Occluder, sub) && (mask == 0 || over.ahead(column) % 2 == 1)
+}
+
+// The two pieces of a square of two pixels, and what they leave in the tiles of the first row: a diagonal, level edges
+// and upright ones.
+#[test]
+fn a_row_has_the_spans_of_a_square(rt: HostRuntime) {
+    let first = RowEdges::of(&ScreenTri::new([0, 32, 32], [0, 0, 32], [0; 3]).expect(
+        &rt, "a piece",
+    ));
+    let second = RowEdges::of(&ScreenTri::new([0, 32, 0], [0, 32, 32], [0; 3]).expect(
+        &rt, "a piece",
+    ));
+    let (upper, lower) = (first.over_row(0), second.over_row(0));
+    assert_eq!(rt; upper.masks(0), [0x203, 0, 0, 0, 0, 0, 0, 0]);
+    assert_eq!(rt; lower.masks(0), [0x100, 0, 0, 0, 0, 0, 0, 0]);
+    assert_eq!(rt; upper.ahead(0), 1);
+    assert_eq!(rt; upper.ahead(1), 0);
+    assert_eq!(rt; upper.masks(63), [0; 8]);
+    assert_eq!(rt; first.over_row(1).masks(0), [0; 8]);
+}
+
+// One edge is level, or hardly slanted, or nearly upright, at the first and at the last rows of the greatest screen.
+#[test]
+fn rows_agree_where_edges_are_level_flat_or_far(rt: HostRuntime) {
+    let far = 524_000;
+    for (x, y) in [
+        ([0, 1600, 800], [200, 200, 1000]),
+        ([800, 1600, 0], [200, 1000, 1000]),
+        ([-far, far, 0], [8, 9, 600]),
+        ([-far, far, 0], [32_000, 32_001, 32_700]),
+        ([16_000, 16_001, 15_000], [-far, far, 0]),
+        ([16_000, 16_001, 15_000], [-1000, 32_767, 32_767]),
+        ([GUARD - 1000, GUARD, 0], [0, 0, 1000]),
+        ([-far, far, far], [-far, -far, far]),
+    ] {
+        let tri = ScreenTri::new(x, y, [0; 3]).expect(&rt, "a piece");
+        for column in [0, 1, 7, 100, 125, 255] {
+            for row in [0, 3, 12, 500, 511] {
+                assert!(rt;
+                    row_agrees(&tri, &x, &y, Sub { column, row }),
+                    "{column}, {row}"
+                );
+            }
+        }
+    }
+}
+
 #[test]
 fn lanes_agree_with_single_samples(rt: HostRuntime) {
     let mut state = 1u64;
@@ -238,6 +296,8 @@ fn lanes_agree_with_single_samples(rt: HostRuntime) {
                 let beside = sub_near(x[k], y[(k + 1) % 3]);
                 assert!(rt; agree(&tri, &x, &y, Side::Occluder, sub), "covered at {i}");
                 assert!(rt; agree(&tri, &x, &y, Side::Object, sub), "touched at {i}");
+                assert!(rt; row_agrees(&tri, &x, &y, sub), "spans at {i}");
+                assert!(rt; row_agrees(&tri, &x, &y, beside), "spans beside {i}");
                 assert!(rt;
                     agree(&tri, &x, &y, Side::Occluder, beside),
                     "covered beside {i}"

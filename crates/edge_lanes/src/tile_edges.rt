@@ -97,6 +97,21 @@ impl TileEdges<'_> {
         }
     }
 
+    /// As `mask`, where it is known of some subtiles that they have no samples: of these none is asked.
+    #[inline(always)]
+    pub(crate) fn mask_among(&self, candidates: u32, j: u32) -> u32
+        requires candidates { AreCandidates (inside_at self.now) candidates }
+        requires j { j < 8 }
+        ensures value { result ≡ mask_l (inside_at self.now j) }
+        ensures samples { samples_of result ≡ inside_at self.now j }
+    {
+        if (candidates >> j) & 1 == 0 {
+            0
+        } else {
+            self.mask(j)
+        }
+    }
+
     /// The samples of subtile j that lie inside: bit 8r + c is column c of row r. Condition: j is below 8.
     #[inline(always)]
     pub fn mask(&self, j: u32) -> u32

@@ -1,29 +1,48 @@
 -- Tiles of a row that are marked by bits, and change one after the other.
-use Rattle.std.proofs.Common.{◌≡◌, ◌≢◌, inl, inr, ℕ, ◌+◌, ◌-◌, ◌*◌, ◌%◌, ◌<◌, ◌≤◌, ◌^◌, ◌&&◌, Bool, true, false, not, nat_eq, nat_le, cond, min, arith, refl, ap, ◌∙◌, sym, subst, bit_and, w32}
+use Rattle.std.proofs.Common.{◌≡◌, ◌≢◌, inl, inr, ℕ, ◌+◌, ◌-◌, ◌*◌, ◌%◌, ◌<◌, ◌≤◌, ◌^◌, ◌&&◌, Bool, true, false, not, nat_eq, nat_le, cond, min, arith, refl, ap, ◌∙◌, sym, subst, length, bit_and, w32}
 use Rattle.std.specs.Int.{bit_at, bit_not, trailing_zeros}
 use Rattle.std.proofs.lemmas.Bool.{and_parts, and_from, and_left, and_right, cases_eq, cases_lt, cond-false, cond-true, eq-eqb, eqb-true, le-leb}
 use Rattle.std.proofs.lemmas.Bool.Decides.{nat_tests}
 use Rattle.std.proofs.lemmas.Nat.{and_le_l}
-use Rattle.std.proofs.lemmas.Nat.Bits.{bit_at_and, bit_at-lt, bit_at-zero, bit_at_above, bit_at_clear_same, bit_at_clear_other}
+use Rattle.std.proofs.lemmas.Nat.Bits.{bit_at_and, bit_at-lt, bit_at-zero, bit_at_above, bit_at_clear_same, bit_at_clear_other, bit_at-trailing_zeros}
 use Rattle.cull_base.specs.Piece.{Piece, IsPiece}
 use Rattle.cull_base.specs.Depth.{greatest_nearness}
 use Rattle.cull_base.specs.Screen.{Dimensions}
 use Rattle.cull_base.specs.Span.{has_tile, is_between, number_in}
 use Rattle.cull_base.specs.declared.place.Tile.{Tile}
 use Rattle.cull_base.specs.declared.tile_span.TileSpan.{TileSpan}
-use Rattle.masked_update.specs.TileOf.{TileOf, tile_at}
+use Rattle.masked_update.specs.TileOf.{tile_at}
 use Rattle.masked_update.specs.Taken.{merged_tile}
 use Rattle.masked_update.specs.Least.{NoneBelow}
-use Rattle.masked_update.specs.Canvas.{CanvasOf, with_tile, tile_on}
+use Rattle.masked_update.specs.Merged.{CoversNone}
+use Rattle.masked_update.specs.Canvas.{CanvasOf, IsCanvas, with_tile, tile_on}
 use Rattle.masked_update.specs.Walk.{ChangedWhere, MergedWhere, NoneBelowWhere, is_in_row, is_marked}
-use Rattle.masked_update.proofs.Covering.{lowest_within}
-use Rattle.masked_update.proofs.Merging.{merged_behind}
+use Rattle.masked_update.proofs.Merging.{merged_behind, merged_uncovered}
 use Rattle.masked_update.proofs.SubBits.{ones_at}
 use Rattle.masked_update.proofs.Tiles.{same_place, tile_with}
-use Rattle.masked_update.proofs.Walks.{columns_before, one_more}
+use Rattle.masked_update.proofs.Walks.{columns_before, none_changed, one_more}
+
+-- the lowest bit of some of eight
+pub lowest_within : (left : ℕ) → left ≢ 0 → left < 2 ^ 8 → (trailing_zeros w32 left < 8) × (bit_at left (trailing_zeros w32 left) ≡ 1)
+lowest_within left some byte =
+    let is = bit_at-trailing_zeros w32 left (omega arith) (omega arith) in
+    let j = trailing_zeros w32 left in
+    elim (cases_lt j 8) [
+      | inl lt ↦ (lt, is.1)
+      | inr ge ↦ let none = bit_at_above left 8 j byte ge in let one = is.1 in absurd (omega (arith, none, one))
+    ]
 
 abbrev pub cleared : ℕ → ℕ → ℕ
 cleared left j = bit_and left (bit_not w32 (1 * 2 ^ j % 2 ^ 32))
+
+pub cleared_less : (left j : ℕ) → j < 8 → bit_at left j ≡ 1 → cleared left j < left
+cleared_less left j lt one =
+    let le = and_le_l left (bit_not w32 (1 * 2 ^ j % 2 ^ 32)) in
+    let clear = bit_at_clear_same w32 left j (omega arith) in
+    elim (cases_eq (cleared left j) left) [
+      | inl e ↦ let same = ap (λ n. bit_at n j) e in absurd (omega (arith, same, clear, one))
+      | inr ne ↦ omega (arith, le, ne)
+    ]
 
 -- the place whose bit is set
 pub marked : (row column bits j : ℕ) → bit_at bits j ≡ 1 → is_marked row column bits (tile_with (column + j) row) ≡ true
@@ -116,6 +135,11 @@ all_done size x row column bits left old now none done = record {
         let off = unmarked row column left p (ap (λ n. bit_at n (p.column - column)) none ∙ bit_at-zero (p.column - column)) in
         ap (λ b. is_marked row column bits p && not b) off ∙ and-true (is_marked row column bits p)
 
+-- where none is marked nothing changes
+pub none_marked : (size : Dimensions) (x : Piece) (row column bits : ℕ) (c : CanvasOf) → IsCanvas c → bits ≡ 0 → MergedWhere (is_marked row column bits) size x c c
+none_marked size x row column bits c whole none =
+    none_changed (is_marked row column bits) (λ p t. merged_tile size p x t) c whole (λ p. unmarked row column bits p (ap (λ n. bit_at n (p.column - column)) none ∙ bit_at-zero (p.column - column)))
+
 -- the columns of a row before some, and of as many more
 in_columns : (span : TileSpan) (row column : ℕ) (p : Tile) → p.row ≡ row → is_between span.first_column column p.column ≡ true → is_in_row (columns_before span column) row p ≡ true
 in_columns span row column p on at = and_from (nat_eq p.row row) _ (eq-eqb p.row row on) at
@@ -147,10 +171,29 @@ behind_more span nearest row column count c here all p h on =
           subst (λ (q : Tile). NoneBelow nearest (tile_on c q)) (sym same) (here (p.column - column) (omega (arith, below, from)))
     ]
 
+-- the tile at a place stays as it is where a piece is merged into it
+abbrev pub Stays : Dimensions → Piece → CanvasOf → Tile → Type 0
+Stays size x c p = merged_tile size p x (tile_on c p) ≡ tile_on c p
+
+-- of so many columns the marked ones that are left out are those where the piece covers nothing
+pub stay_where_clear : (size : Dimensions) (x : Piece) (row column count all bits : ℕ) (c : CanvasOf) → IsPiece x → count ≤ 8
+    → ((i : ℕ) → i < count → bit_at all i ≡ 0 → NoneBelow (greatest_nearness x) (tile_on c (tile_with (column + i) row)))
+    → ((i : ℕ) → i < count → length (tile_on c (tile_with (column + i) row)).subs ≡ 8)
+    → ((i : ℕ) → i < 8 → bit_at all i ≡ 1 → bit_at bits i ≡ 0 → CoversNone x (tile_with (column + i) row))
+    → (i : ℕ) → i < count → bit_at bits i ≡ 0 → Stays size x c (tile_with (column + i) row)
+stay_where_clear size x row column count all bits c piece few behind eight empty i lt clear =
+    let p = tile_with (column + i) row in
+    elim (cases_eq (bit_at all i) 0) [
+      | inl none ↦ merged_behind size p x (tile_on c p) piece (behind i lt none)
+      | inr some ↦
+          let two = bit_at-lt all i in
+          merged_uncovered size p x (tile_on c p) (eight i lt) (empty i (omega (arith, lt, few)) (omega (arith, some, two)) clear)
+    ]
+
 -- a piece is merged into so many columns more, where those that aren't marked stay
-module _ (span : TileSpan) (size : Dimensions) (x : Piece) (row column count bits : ℕ) (old now new : CanvasOf) (piece : IsPiece x) (byte : bits < 2 ^ 8)
+module _ (span : TileSpan) (size : Dimensions) (x : Piece) (row column count bits : ℕ) (old now new : CanvasOf) (byte : bits < 2 ^ 8)
     (among : (i : ℕ) → i < 8 → bit_at bits i ≡ 1 → i < count)
-    (behind : (i : ℕ) → i < count → bit_at bits i ≡ 0 → NoneBelow (greatest_nearness x) (tile_on now (tile_with (column + i) row)))
+    (stays : (i : ℕ) → i < count → bit_at bits i ≡ 0 → Stays size x now (tile_with (column + i) row))
     (from_first : span.first_column ≤ column)
     (inv : MergedWhere (is_in_row (columns_before span column) row) size x old now) (step : MergedWhere (is_marked row column bits) size x now new) where
   abbrev Goal : Tile → Type 0
@@ -179,8 +222,8 @@ module _ (span : TileSpan) (size : Dimensions) (x : Piece) (row column count bit
       let there = in_columns span row (column + count) p on (between span.first_column (column + count) p.column (omega (arith, from, from_first)) lt) in
       elim (cases_eq (bit_at bits i) 0) [
         | inl none ↦
-            let nb = subst (λ (t : TileOf). NoneBelow (greatest_nearness x) t) (ap (tile_on now) (sym same) ∙ was) (behind i (omega (arith, from, lt)) none) in
-            stepped p h ∙ cond-false _ _ _ (unmarked row column bits p none) ∙ was ∙ sym (merged_behind size p x (tile_on old p) piece nb) ∙ sym (cond-true _ _ _ there)
+            let still = subst (Stays size x now) (sym same) (stays i (omega (arith, from, lt)) none) in
+            stepped p h ∙ cond-false _ _ _ (unmarked row column bits p none) ∙ sym still ∙ ap (merged_tile size p x) was ∙ sym (cond-true _ _ _ there)
         | inr some ↦
             let two = bit_at-lt bits i in
             let one : bit_at bits i ≡ 1 = omega (arith, some, two) in

@@ -17,7 +17,7 @@ use Rattle.edge_lanes.specs.Inside.{sub_of}
 use Rattle.masked_update.specs.TileOf.{TileOf}
 use Rattle.masked_update.specs.Taken.{merged_tile}
 use Rattle.masked_update.specs.Least.{NoneBelow}
-use Rattle.masked_update.specs.Merged.{merged_at, merged_by}
+use Rattle.masked_update.specs.Merged.{CoversNone, merged_at, merged_by}
 use Rattle.masked_update.specs.Lanes.{low_at, mask_at, AreSteps}
 use Rattle.masked_update.specs.Coverage.{IsCovered, IsCoverage, IsRaised, AreWanted}
 use Rattle.masked_update.specs.declared.coverage.Coverage.{Coverage}
@@ -83,4 +83,16 @@ merged_behind size place x t piece b = ap (λ subs. tile_with subs t.count) (sym
 
     stays : (on : Bool) (j : ℕ) → j < 8 → let s = slice_index_or t.subs j empty_state in s ≡ cond on (step (sub_of place j) s x) s
     stays true j h = sym (step_behind (sub_of place j) (slice_index_or t.subs j empty_state) x piece (b.behind j h))
+    stays false j h = refl
+
+-- and so does one where the piece covers nothing
+pub merged_uncovered : (size : Dimensions) (place : Tile) (x : Piece) (t : TileOf) → length t.subs ≡ 8 → CoversNone x place → merged_tile size place x t ≡ t
+unfolding merged_by
+merged_uncovered size place x t eight none = ap (λ subs. tile_with subs t.count) (sym (eight_of (merged_at size place x t.subs) t.subs eight (λ j h. stays (is_on_screen size (sub_of place j)) j h)))
+  where
+    tile_with : List State → ℕ → TileOf
+    tile_with subs count = record { subs = subs; count = count }
+
+    stays : (on : Bool) (j : ℕ) → j < 8 → let s = slice_index_or t.subs j empty_state in s ≡ cond on (step (sub_of place j) s x) s
+    stays true j h = sym (step_empty (sub_of place j) (slice_index_or t.subs j empty_state) x 0 (sym (none j h)) refl)
     stays false j h = refl

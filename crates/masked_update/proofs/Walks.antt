@@ -1,7 +1,7 @@
 -- Tiles of a canvas that change, one place more at a time.
 use Rattle.std.proofs.Common.{◌≡◌, inl, inr, ℕ, ◌+◌, ◌-◌, ◌<◌, ◌≤◌, ◌&&◌, Bool, true, false, nat_eq, length, set, cond, arith, refl, ap, ◌∙◌, sym, subst}
-use Rattle.std.proofs.lemmas.Bool.{and_parts, and_from, and_left, and_right, cond-false, cond-true, cases_eq, eq-eqb, eqb-true}
-use Rattle.std.proofs.lemmas.Bool.Decides.{eqb_tells}
+use Rattle.std.proofs.lemmas.Bool.{and_parts, and_from, and_left, and_right, cond-false, cond-true, cases_eq, cases_lt, eq-eqb, eqb-true}
+use Rattle.std.proofs.lemmas.Bool.Decides.{eqb_tells, nat_tests}
 use Rattle.std.proofs.lemmas.List.{get_or-set_other, length-set}
 use Rattle.std.proofs.lemmas.Grind.{get_or-set_at}
 use Rattle.cull_base.specs.Piece.{Piece, IsPiece, box_of}
@@ -16,16 +16,17 @@ use Rattle.masked_update.specs.TileOf.{TileOf, tile_at, no_tile}
 use Rattle.masked_update.specs.Taken.{counted_tile, counted_where, merged_tile, merged_where}
 use Rattle.masked_update.specs.Canvas.{CanvasOf, CountedMet, IsCanvas, IsInWindow, MergedMet, with_tile, tile_on, tile_in}
 use Rattle.masked_update.specs.Walk.{ChangedWhere, HoldsWhere, NoneBelowWhere, is_in_row}
+pub use Rattle.masked_update.specs.Walk.{rows_before}
 use Rattle.masked_update.proofs.Merging.{merged_behind}
 use Rattle.masked_update.proofs.Grid.{grows_elsewhere, before, last_between, none_between}
-use Rattle.masked_update.proofs.Tiles.{tile_with, same_place, has, number_within, one_place, between}
+use Rattle.masked_update.proofs.Tiles.{tile_with, same_place, has, stands, number_within, one_place, between}
 
--- the columns of a span before one, and its rows before one
+-- the columns of a span before one, and its rows from one on
 abbrev pub columns_before : TileSpan → ℕ → TileSpan
 columns_before span column = record span { end_column = column }
 
-abbrev pub rows_before : TileSpan → ℕ → TileSpan
-rows_before span row = record span { end_row = row }
+abbrev pub rows_from : TileSpan → ℕ → TileSpan
+rows_from span row = record span { first_row = row }
 
 -- of no place the test holds, so nothing has changed
 pub none_changed : (test : Tile → Bool) (f : Tile → TileOf → TileOf) (c : CanvasOf) → IsCanvas c → ((p : Tile) → test p ≡ false) → ChangedWhere test f c c
@@ -171,6 +172,34 @@ merged_where_behind test size x c piece whole behind = record { window = refl; w
     stays p h true e = sym (cond-true _ _ _ e ∙ merged_behind size p x (tile_on c p) piece (behind p h e))
     stays p h false e = sym (cond-false _ _ _ e)
 
+-- a place of a span in a row before one stands among the rows before it
+pub among_before : (span : TileSpan) (row : ℕ) (p : Tile) → has_tile span p ≡ true → p.row < row → has_tile (rows_before span row) p ≡ true
+among_before span row p h lt = let s = stands span p h in has (rows_before span row) p (record { row_from = s.row_from; row_before = lt; column_from = s.column_from; column_before = s.column_before })
+
+-- a piece that stands behind the rows of a span before one, and is merged into those from it on, is merged into all
+pub merged_from : (span : TileSpan) (row : ℕ) (size : Dimensions) (x : Piece) (old new : CanvasOf) → IsPiece x → span.first_row ≤ row → NoneBelowWhere (greatest_nearness x) (has_tile (rows_before span row)) old
+    → ChangedWhere (has_tile (rows_from span row)) (λ p t. merged_tile size p x t) old new → ChangedWhere (has_tile span) (λ p t. merged_tile size p x t) old new
+merged_from span row size x old new piece le behind changed = record { window = changed.window; whole = changed.whole; tiles = λ p h. changed.tiles p h ∙ by p h }
+  where
+    if_so : Tile → Bool → TileOf
+    if_so p b = cond b (merged_tile size p x (tile_on old p)) (tile_on old p)
+
+    early : (first end n : ℕ) → n < first → is_between first end n ≡ false
+    early first end n lt = grind (arith, nat_tests)
+
+    late : (first begin end n : ℕ) → first ≤ begin → begin ≤ n → is_between begin end n ≡ is_between first end n
+    late first begin end n a b = grind (arith, nat_tests)
+
+    stays : (p : Tile) → has_tile old.window p ≡ true → p.row < row → (b : Bool) → has_tile span p ≡ b → tile_on old p ≡ if_so p (has_tile span p)
+    stays p h lt true e = sym (cond-true _ _ _ e ∙ merged_behind size p x (tile_on old p) piece (behind p h (among_before span row p e lt)))
+    stays p h lt false e = sym (cond-false _ _ _ e)
+
+    by : (p : Tile) → has_tile old.window p ≡ true → if_so p (has_tile (rows_from span row) p) ≡ if_so p (has_tile span p)
+    by p h = elim (cases_lt p.row row) [
+      | inl lt ↦ cond-false _ _ _ (and_left _ (has_column span p.column) (early row span.end_row p.row lt)) ∙ stays p h lt (has_tile span p) refl
+      | inr from ↦ ap (λ b. if_so p (b && has_column span p.column)) (late span.first_row row span.end_row p.row le from)
+    ]
+
 -- a piece is merged into the tiles of the span, which are those of the window that its box meets
 pub merged_met : (span : TileSpan) (size : Dimensions) (x : Piece) (old new : CanvasOf) → ((t : ℕ) → IsInWindow size old.window t → has_tile span (tile_place size t) ≡ meets (box_of x) (tile_rect_of size t))
     → ChangedWhere (has_tile span) (λ p t. merged_tile size p x t) old new → MergedMet size x old new
@@ -199,6 +228,17 @@ row_here window span row column part from_row to_row from to = has window (tile_
 -- its number, as the walk computes it
 pub row_number : (window now : TileSpan) (row column start : ℕ) → now ≡ window → start ≡ row_start_in now row → start + (column - now.first_column) ≡ number_in window (tile_with column row)
 row_number window now row column start same is = ap (λ n. n + (column - now.first_column)) is ∙ ap (λ (w : TileSpan). number_in w (tile_with column row)) same
+
+-- and that of a place so many columns on, which is one of the canvas's
+pub row_number_on : (c : CanvasOf) (now span : TileSpan) (row column start i : ℕ) → now ≡ c.window → start ≡ row_start_in now row → IsCanvas c → IsPartOf c.window span
+    → span.first_row ≤ row → row < span.end_row → span.first_column ≤ column → column + i < span.end_column
+    → (start + (column - now.first_column) + i ≡ number_in c.window (tile_with (column + i) row)) × (number_in c.window (tile_with (column + i) row) < length c.tiles)
+row_number_on c now span row column start i same is whole part from_row to_row from to =
+    let here = row_here c.window span row (column + i) part from_row to_row (omega (arith, from)) to in
+    let first = ap (λ (w : TileSpan). w.first_column) same in
+    let on : start + (column - now.first_column) + i ≡ start + (column + i - now.first_column) = omega (arith, first, from, part.first_column) in
+    let below = number_within c.window (tile_with (column + i) row) here in
+    (on ∙ row_number c.window now row (column + i) start same is, omega (arith, below, whole))
 
 -- it stands in the row, in the columns of the span
 pub row_in_span : (span : TileSpan) (row column : ℕ) → span.first_column ≤ column → column < span.end_column → is_in_row span row (tile_with column row) ≡ true

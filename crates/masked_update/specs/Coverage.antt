@@ -18,13 +18,6 @@ pub record IsCovered (u : Sub) (x : Piece) (low mask : ℕ) : Type 0 where
   pub samples : samples_of mask ≡ covered x u
   pub bound : mask ≢ 0 → max (least_nearness x) low ≡ low_of x u
 
--- subtile j of a tile is now covered by the piece, and the others stay
-pub record CoveredAt (place : Tile) (x : Piece) (j : ℕ) (old new : Coverage) : Type 0 where
-  pub mergeable : IsMergeable new
-  pub here : IsCovered (sub_of place j) x (low_at new j) (mask_at new j)
-  pub low_stays : (k : ℕ) → k < 8 → k ≢ j → low_at new k ≡ low_at old k
-  pub mask_stays : (k : ℕ) → k < 8 → k ≢ j → mask_at new k ≡ mask_at old k
-
 -- the subtiles of the bits are covered by the piece, and the others get nothing
 pub record IsCoverage (place : Tile) (x : Piece) (bits : ℕ) (c : Coverage) : Type 0 where
   pub mergeable : IsMergeable c

@@ -7,11 +7,11 @@ use Rattle.cull_base.specs.Rectangle.{meets}
 use Rattle.cull_base.specs.declared.rect.Rect.{Rect}
 use Rattle.cull_base.specs.declared.place.Sub.{Sub}
 use Rattle.cull_base.specs.declared.place.Tile.{Tile}
-use Rattle.cull_base.specs.State.{State, empty_state}
+use Rattle.cull_base.specs.State.{State, empty_state, no_samples}
 use Rattle.cull_base.specs.Fold.{step}
 use Rattle.edge_lanes.specs.Inside.{sub_of}
-use Rattle.edge_lanes.specs.Tiles.{inside_at}
-use Rattle.edge_lanes.specs.declared.tile_edges.TileEdges.{TileEdges}
+use Rattle.edge_lanes.specs.Crossings.{inside_rows}
+use Rattle.edge_lanes.specs.declared.tile_row.TileRow.{TileRow}
 use Rattle.masked_update.specs.Grid.{is_in_rows}
 use Rattle.masked_update.specs.declared.sub_span.SubBox.{SubBox}
 use Rattle.masked_update.specs.declared.sub_span.SubSpan.{SubSpan}
@@ -30,9 +30,14 @@ merged_at size place x subs j =
 unfoldable pub merged_by : Dimensions → Tile → Piece → List State → List State
 merged_by size place x subs = map (merged_at size place x subs) (range_with_len 0 8)
 
--- the edges over a tile are the piece's
-abbrev pub AreEdgesOf : TileEdges → Tile → Piece → Type 0
-AreEdgesOf edges place x = (j : ℕ) → inside_at edges j ≡ covered x (sub_of place j)
+-- the edges over a row of tiles are the piece's
+pub record AreRowOf (over : TileRow) (row : ℕ) (x : Piece) : Type 0 where
+  pub row_is : over.row ≡ row
+  pub covers : (u : Sub) → u.column < 256 → u.row < 512 → inside_rows over.edges.now u ≡ covered x u
+
+-- the piece covers no sample of the tile
+abbrev pub CoversNone : Piece → Tile → Type 0
+CoversNone x place = (j : ℕ) → j < 8 → covered x (sub_of place j) ≡ no_samples
 
 -- subtile j of a tile stands in the span
 abbrev pub has_sub : SubSpan → ℕ → Bool

@@ -20,6 +20,10 @@ abbrev pub is_marked : ℕ → ℕ → ℕ → Tile → Bool
 is_marked row column bits place =
     nat_eq place.row row && (nat_le column place.column && nat_eq (bit_at bits (place.column - column)) 1)
 
+-- the span's rows before one
+abbrev pub rows_before : TileSpan → ℕ → TileSpan
+rows_before span row = record { first_row = span.first_row; end_row = row; first_column = span.first_column; end_column = span.end_column }
+
 -- what holds of the tile at each place of the window where the test holds
 abbrev pub HoldsWhere : (Tile → Bool) → (TileOf → Type 0) → CanvasOf → Type 0
 HoldsWhere test Holds c = (p : Tile) → has_tile c.window p ≡ true → test p ≡ true → Holds (tile_on c p)

@@ -7,7 +7,7 @@ ghost use Rattle.cull_base.specs.Span.{has_tile, tiles_in};
 ghost use Rattle.cull_base.specs.Tiles.{PieceList};
 ghost use Rattle.masked_update.specs.Canvas.{CountsAt, IsCanvas, StandsAt, empty_canvas, with_tile, tile_on};
 ghost use Rattle.masked_update.specs.Least.{NoneBelow};
-ghost use Rattle.masked_update.specs.Merged.{IsSubBox};
+ghost use Rattle.masked_update.specs.Merged.{AreRowOf, IsSubBox};
 ghost use Rattle.masked_update.specs.Taken.{counted_tile, merged_tile};
 ghost use Rattle.masked_update.specs.TileOf.{tile_at};
 
@@ -15,6 +15,7 @@ use crate::piece_setup::PieceSetup;
 use crate::sub_span::SubBox;
 use crate::tile_state::TileState;
 use cull_base::{Memory, Tile, TileSpan};
+use edge_lanes::TileRow;
 use std::alloc::Global;
 use std::marker::Model;
 use std::simd::prelude::*;
@@ -85,6 +86,8 @@ impl Canvas {
         requires { number < length self.now.tiles }
         ensures behind { (i : ℕ) → i < 8 → number + i < length self.now.tiles → bit_at result i ≡ 0
             → NoneBelow nearest (tile_at self.now.tiles (number + i)) }
+        ensures eight { (i : ℕ) → i < 8 → number + i < length self.now.tiles
+            → length (tile_at self.now.tiles (number + i)).subs ≡ 8 }
         ensures byte { result < 2 ^ 8 }
     {
         // an accessor tells how many tiles there are
@@ -104,20 +107,27 @@ impl Canvas {
     }
 
     /// Merges a piece into the tile of a number, and counts nothing. Conditions: there is such a tile, the column and
-    /// the row are below the screen's, and what is reached on it is what the piece reaches.
+    /// the row are below the screen's, what is reached on it is what the piece reaches, and the edges are the piece's
+    /// over the tile's row.
     #[inline(always)]
-    pub(crate) fn merge(&mut self, number: usize, piece: &PieceSetup, reached: &SubBox, place: Tile)
+    pub(crate) fn merge(
+        &mut self,
+        number: usize,
+        piece: &PieceSetup,
+        reached: &SubBox,
+        over: &TileRow,
+        place: Tile,
+    )
         requires reached { IsSubBox (box_of piece.now) reached.now }
+        requires over { AreRowOf over.now place.row piece.now }
         requires tile { number < length self.old.tiles }
         requires column { place.column < tile_columns_of reached.now.size }
         requires row { place.row < tile_rows_of reached.now.size }
         ensures { self.new ≡ with_tile self.old number
             (merged_tile reached.now.size place piece.now (tile_at self.old.tiles number)) }
     {
-        let changed = self.tiles[number].merge(piece, reached, place);
-        if changed {
-            self.least[number] = self.tiles[number].least_reference();
-        }
+        self.tiles[number].merge_over(piece, reached, over, place);
+        self.least[number] = self.tiles[number].least_reference();
     }
 
     /// Its tiles, row by row.

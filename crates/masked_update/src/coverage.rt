@@ -1,5 +1,6 @@
 //! What a piece brings to the eight subtiles of a tile.
-ghost use Rattle.std.specs.Prelude.{◌≡◌, ◌≤◌, max, replicate};
+ghost use Rattle.std.specs.Prelude.{◌≡◌, ℕ, ◌<◌, ◌≤◌, ◌^◌, max, replicate, slice_index_or};
+ghost use Rattle.std.specs.Int.{bit_at};
 ghost use Rattle.std.specs.Simd.Lanes.{zip2};
 ghost use Rattle.cull_base.specs.declared.nearness.TheConstants.{HELD_TOP};
 ghost use Rattle.masked_update.specs.Lanes.{IsMergeable};
@@ -23,8 +24,40 @@ fn no_less(numbers: [u32; 8], least: u32) -> [u32; 8]
         .to_array()
 }
 
+// The masks of the subtiles of the bits. The others are empty.
+#[inline(always)]
+fn masks_among(masks: [u32; 8], bits: u32) -> [u32; 8]
+    requires { bits < 2 ^ 8 }
+    ensures inside { (j : ℕ) → j < 8 → bit_at bits j ≡ 1 → slice_index_or result j 0 ≡ slice_index_or masks j 0 }
+    ensures others { (j : ℕ) → j < 8 → bit_at bits j ≡ 0 → slice_index_or result j 0 ≡ 0 }
+{
+    if bits == 255 {
+        return masks;
+    }
+    let none = u32x8::splat(0);
+    let set = u32x8::splat(bits) & u32x8::from_array([1, 2, 4, 8, 16, 32, 64, 128]);
+    set.simd_eq(none)
+        .select(none, u32x8::from_array(masks))
+        .to_array()
+}
+
 impl Coverage {
     ghost use Rattle.masked_update.specs.Coverage.{IsRaised};
+
+    /// The bounds, and the masks of the subtiles of the bits: the others get nothing. Condition: bits are 8.
+    #[inline(always)]
+    pub fn among(lows: [u32; 8], masks: [u32; 8], bits: u32) -> Coverage
+        requires { bits < 2 ^ 8 }
+        ensures lows { result.lows ≡ lows }
+        ensures inside { (j : ℕ) → j < 8 → bit_at bits j ≡ 1
+            → slice_index_or result.masks j 0 ≡ slice_index_or masks j 0 }
+        ensures others { (j : ℕ) → j < 8 → bit_at bits j ≡ 0 → slice_index_or result.masks j 0 ≡ 0 }
+    {
+        Coverage {
+            lows,
+            masks: masks_among(masks, bits),
+        }
+    }
 
     /// The same masks, with bounds that are no less than a nearness. Conditions: they are within the top that subtiles
     /// hold, and so is the nearness.

@@ -1,30 +1,29 @@
 //! A piece set up for the tiles that take it: what each subtile asks of it is computed once.
-ghost use Rattle.std.specs.Prelude.{◌≡◌, ◌<◌, ◌^◌, false, length, IfSome};
+ghost use Rattle.std.specs.Prelude.{◌≡◌, ◌<◌, ◌^◌, false, length, List};
 ghost use Rattle.cull_base.specs.Piece.{IsPiece, box_of};
 ghost use Rattle.cull_base.specs.Depth.{greatest_nearness};
 ghost use Rattle.cull_base.specs.Screen.{tile_columns_of, tile_rows_of};
-ghost use Rattle.depth_plane.specs.Plane.{IsTileFirst, plane_of};
-ghost use Rattle.edge_lanes.specs.Tiles.{AreWhole, inside_at};
-ghost use Rattle.masked_update.specs.Coverage.{CoveredAt, IsCoverage, AreWanted};
-ghost use Rattle.masked_update.specs.Lanes.{IsMergeable};
-ghost use Rattle.masked_update.specs.Merged.{AreEdgesOf, IsSubBox, merged_by};
+ghost use Rattle.cull_base.specs.State.{State};
+ghost use Rattle.masked_update.specs.Coverage.{IsCoverage, AreWanted};
+ghost use Rattle.masked_update.specs.Merged.{AreRowOf, IsSubBox, merged_by};
 
 use crate::coverage::Coverage;
 use crate::sub_span::SubBox;
 use crate::tile_layers::TileLayers;
-use cull_base::{Rect, ScreenTri, Side, Size, Tile};
+use cull_base::{Rect, ScreenTri, Size, Tile};
 use depth_plane::Plane;
-use edge_lanes::{Edges, TileEdges};
+use edge_lanes::{RowEdges, TileRow};
 use std::marker::Model;
 
-/// A piece with what each tile asks of it: its edges, its plane, its box and its greatest nearness.
+/// A piece with what each tile asks of it: its edges, its plane, its box, its greatest and its least nearness.
 #[derive(Drop)]
 pub struct PieceSetup {
     tri: ScreenTri,
-    edges: Edges,
+    edges: RowEdges,
     plane: Plane,
     reached: Rect,
     nearest: u32,
+    least: u32,
 }
 
 impl Model for PieceSetup {
@@ -40,18 +39,19 @@ impl Model for PieceSetup {
 }
 
 impl PieceSetup {
-    /// Sets a piece up. Out of line, so that the loops over tiles only read what it computes.
-    #[inline(never)]
+    /// Sets a piece up.
+    #[inline(always)]
     pub fn of(tri: &ScreenTri) -> PieceSetup
         ensures value { result ≡ tri.now }
         ensures valid { IsPiece tri.now }
     {
         PieceSetup {
             tri: *tri,
-            edges: Edges::of(tri, Side::Occluder),
+            edges: RowEdges::of(tri),
             plane: Plane::of(tri),
             reached: tri.boxed(),
             nearest: tri.greatest_nearness(),
+            least: tri.least_nearness(),
         }
     }
 
@@ -80,55 +80,46 @@ impl PieceSetup {
         SubBox::of(&self.reached, size)
     }
 
-    // Subtile j of the tile: its covered samples, and if there are any, its bound but for the least nearness.
+    /// The edges over a row of tiles. Condition: the row is below 256.
     #[inline(always)]
-    fn cover(
-        &self,
-        coverage: &mut Coverage,
-        edges: &TileEdges,
-        whole: u32,
-        first: Option<i64>,
-        place: Tile,
-        j: u32,
-    )
-        requires column { place.column < 64 }
-        requires row { place.row < 256 }
-        requires j { j < 8 }
-        requires edges { AreEdgesOf edges.now place self.now }
-        requires whole { AreWhole (inside_at edges.now) whole }
-        requires first { IfSome first (IsTileFirst (plane_of self.now) place) }
-        requires mergeable { IsMergeable coverage.old }
-        ensures { CoveredAt place self.now j coverage.old coverage.new }
+    pub(crate) fn over_row(&self, row: u32) -> TileRow<'_>
+        requires { row < 256 }
+        ensures { AreRowOf result row self.now }
     {
-        let mask = edges.mask_beside(whole, j);
-        coverage.masks[j as usize] = mask;
-        if mask != 0 {
-            coverage.lows[j as usize] = self.plane.floor_in_tile(place, first, j);
-        }
+        self.edges.over_row(row)
     }
 
-    // The wanted subtiles of a tile. The others get an empty mask.
+    // What the piece brings to the wanted subtiles of a tile.
     #[inline(always)]
-    fn coverage(&self, edges: &TileEdges, place: Tile, wanted: u32) -> Coverage
+    fn coverage(&self, over: &TileRow, place: Tile, wanted: u32) -> Coverage
         requires column { place.column < 64 }
         requires row { place.row < 256 }
-        requires edges { AreEdgesOf edges.now place self.now }
+        requires over { AreRowOf over.now place.row self.now }
         requires byte { wanted < 2 ^ 8 }
         ensures { IsCoverage place self.now wanted result }
     {
-        let mut coverage = Coverage {
-            lows: [0; 8],
-            masks: [0; 8],
-        };
-        let whole = edges.whole();
-        let first = self.plane.tile_first(place);
-        let mut left = wanted;
-        while left != 0 {
-            let j = left.trailing_zeros();
-            self.cover(&mut coverage, edges, whole, first, place, j);
-            left &= !(1 << j);
+        let masks = over.masks(u32::from(place.column));
+        Coverage::among(self.plane.floors(place), masks, wanted)
+    }
+
+    // The subtiles of a tile, as bits, that are on the screen; of a tile at its right or lower end those that the box
+    // reaches. The piece covers nothing outside its box.
+    #[inline(always)]
+    fn subtiles_on_screen(&self, reached: &SubBox, place: Tile) -> u32
+        requires { IsSubBox (box_of self.now) reached.now }
+        ensures wanted { (subs : List State) → AreWanted reached.now.size place self.now subs result }
+        ensures byte { result < 2 ^ 8 }
+    {
+        // an accessor tells what is held of a piece
+        let _nearest = self.nearest();
+        let size = reached.size;
+        if u32::from(place.column) + 1 < size.tile_columns()
+            && u32::from(place.row) + 1 < size.tile_rows()
+        {
+            255
+        } else {
+            reached.in_tile(place).bits()
         }
-        coverage
     }
 
     // The subtiles of a tile, as bits, that the box reaches on the screen and whose reference is below the piece. It
@@ -142,8 +133,29 @@ impl PieceSetup {
         reached.in_tile(place).bits() & layers.below(self.nearest)
     }
 
-    /// Merges the piece into a tile's subtiles on the screen, and says whether any may have changed. Conditions: the
-    /// column and the row are below the screen's, and what is reached on it is what the piece reaches.
+    /// Merges the piece into a tile's subtiles on the screen. Conditions: the column and the row are below the
+    /// screen's, what is reached on it is what the piece reaches, and the edges are the piece's over the tile's row.
+    #[inline(always)]
+    pub(crate) fn merge_over(
+        &self,
+        layers: &mut TileLayers,
+        reached: &SubBox,
+        over: &TileRow,
+        place: Tile,
+    )
+        requires reached { IsSubBox (box_of self.now) reached.now }
+        requires over { AreRowOf over.now place.row self.now }
+        requires column { place.column < tile_columns_of reached.now.size }
+        requires row { place.row < tile_rows_of reached.now.size }
+        ensures { layers.new ≡ merged_by reached.now.size place self.now layers.old }
+    {
+        // an accessor tells what is held of a size
+        let _width = reached.size.width();
+        let wanted = self.subtiles_on_screen(reached, place);
+        layers.merge(self.coverage(over, place, wanted).raised(self.least));
+    }
+
+    /// The same where the row's edges aren't at hand. Says whether any subtile may have changed.
     pub(crate) fn merge_into(&self, layers: &mut TileLayers, reached: &SubBox, place: Tile) -> bool
         requires reached { IsSubBox (box_of self.now) reached.now }
         requires column { place.column < tile_columns_of reached.now.size }
@@ -153,20 +165,11 @@ impl PieceSetup {
     {
         // an accessor tells what is held of a size
         let _width = reached.size.width();
-        let behind = self.subtiles_behind(layers, reached, place);
-        if behind == 0 {
+        if self.subtiles_behind(layers, reached, place) == 0 {
             return false;
         }
-        let edges = self.edges.at_tile(place);
-        // in a subtile that an edge rejects whole the piece covers nothing
-        let met = behind & edges.candidates();
-        if met == 0 {
-            return false;
-        }
-        layers.merge(
-            self.coverage(&edges, place, met)
-                .raised(self.tri.least_nearness()),
-        );
+        let over = self.over_row(u32::from(place.row));
+        self.merge_over(layers, reached, &over, place);
         true
     }
 }

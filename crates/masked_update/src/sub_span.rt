@@ -98,7 +98,8 @@ impl SubSpan {
         requires rows { self.first_row ≤ self.end_row }
         requires columns_within { self.end_column ≤ 4 }
         requires rows_within { self.end_row ≤ 2 }
-        ensures { (j : ℕ) → j < 8 → bit_at result j ≡ cond (has_sub self j) 1 0 }
+        ensures value { (j : ℕ) → j < 8 → bit_at result j ≡ cond (has_sub self j) 1 0 }
+        ensures byte { result < 2 ^ 8 }
     {
         let columns = ones_between(self.first_column, self.end_column);
         let rows = ones_between(4 * self.first_row, 4 * self.end_row);

@@ -9,6 +9,7 @@ use crate::sub_span::SubBox;
 use crate::sub_tile::SubTile;
 use crate::tile_layers::TileLayers;
 use cull_base::{ScreenTri, Size, Tile};
+use edge_lanes::TileRow;
 use std::marker::Model;
 
 /// Eight subtiles in two rows of four, and a count of pieces. In memory it is 25 numbers of 32 bits: the references, the
@@ -32,7 +33,7 @@ impl Model for TileState {
 
 impl TileState {
     ghost use Rattle.masked_update.specs.TileOf.{sub_at, empty_tile};
-    ghost use Rattle.masked_update.specs.Merged.{IsSubBox};
+    ghost use Rattle.masked_update.specs.Merged.{AreRowOf, IsSubBox};
     ghost use Rattle.masked_update.specs.Taken.{taken_by, taken_at, merged_tile, counted_tile};
 
     /// Eight empty subtiles, and no piece taken.
@@ -117,6 +118,26 @@ impl TileState {
         ensures eight { length self.new.subs ≡ 8 }
     {
         piece.merge_into(&mut self.layers, reached, place)
+    }
+
+    /// Merges a piece, whose edges over the tile's row are at hand, and doesn't count it. Conditions as for `merge`,
+    /// and the edges are the piece's.
+    #[inline(always)]
+    pub(crate) fn merge_over(
+        &mut self,
+        piece: &PieceSetup,
+        reached: &SubBox,
+        over: &TileRow,
+        place: Tile,
+    )
+        requires reached { IsSubBox (box_of piece.now) reached.now }
+        requires over { AreRowOf over.now place.row piece.now }
+        requires column { place.column < tile_columns_of reached.now.size }
+        requires row { place.row < tile_rows_of reached.now.size }
+        ensures merged { self.new ≡ merged_tile reached.now.size place piece.now self.old }
+        ensures eight { length self.new.subs ≡ 8 }
+    {
+        piece.merge_over(&mut self.layers, reached, over, place);
     }
 
     /// Counts a piece, and doesn't merge it.

@@ -1,18 +1,19 @@
 //! A piece is drawn into the tiles of a canvas that its box reaches.
-ghost use Rattle.std.specs.Prelude.{◌≡◌, ℕ, ◌+◌, ◌<◌, ◌≤◌, ◌^◌, true};
+ghost use Rattle.std.specs.Prelude.{◌≡◌, ℕ, ◌+◌, ◌<◌, ◌≤◌, ◌^◌, true, length};
 ghost use Rattle.std.specs.Int.{bit_at};
 ghost use Rattle.cull_base.specs.Piece.{IsPiece, box_of};
 ghost use Rattle.cull_base.specs.Screen.{IsSize, tile_rows_of};
 ghost use Rattle.cull_base.specs.Span.{IsPartOf, IsSpan, has_tile};
 ghost use Rattle.masked_update.specs.Canvas.{CountedMet, IsInWindow, MergedMet, tile_in, tile_on};
 ghost use Rattle.masked_update.specs.Least.{NoneBelow};
-ghost use Rattle.masked_update.specs.Merged.{IsSubBox};
-ghost use Rattle.masked_update.specs.Walk.{CountedWhere, MayCount, MergedWhere, NoneBelowWhere, is_in_row, is_marked};
+ghost use Rattle.masked_update.specs.Merged.{AreRowOf, IsSubBox};
+ghost use Rattle.masked_update.specs.Walk.{CountedWhere, MayCount, MergedWhere, NoneBelowWhere, is_in_row, is_marked, rows_before};
 
 use crate::canvas::Canvas;
 use crate::piece_setup::PieceSetup;
 use crate::sub_span::{SubBox, ones_between};
 use cull_base::{ScreenTri, Size, Tile, TileSpan};
+use edge_lanes::TileRow;
 
 /// So many tiles of a row are asked at once.
 const AT_ONCE: u32 = 8;
@@ -29,6 +30,8 @@ fn marks(canvas: &Canvas, span: TileSpan, row: u32, column: u32, count: u32, nea
     ensures among { (i : ℕ) → i < 8 → bit_at result i ≡ 1 → i < count }
     ensures behind { (i : ℕ) → i < count → bit_at result i ≡ 0
         → NoneBelow nearest (tile_on canvas.now (record { column = column + i; row = row })) }
+    ensures eight { (i : ℕ) → i < count
+        → length (tile_on canvas.now (record { column = column + i; row = row })).subs ≡ 8 }
     ensures byte { result < 2 ^ 8 }
 {
     let window = canvas.window();
@@ -54,18 +57,18 @@ fn is_behind_in_row(canvas: &Canvas, span: TileSpan, row: u32, nearest: u32) -> 
     true
 }
 
-// Whether it stands behind all tiles of a span.
+// The first row of a span where a piece may change a tile, or the span's end.
 #[inline(always)]
-fn is_behind_in_span(canvas: &Canvas, span: TileSpan, nearest: u32) -> bool
+fn first_row_ahead(canvas: &Canvas, span: TileSpan, nearest: u32) -> u32
     requires part { IsPartOf canvas.now.window span }
-    ensures { result ≡ true → NoneBelowWhere nearest (has_tile span) canvas.now }
+    ensures from { span.first_row ≤ result }
+    ensures behind { NoneBelowWhere nearest (has_tile (rows_before span result)) canvas.now }
 {
-    for row in span.first_row..span.end_row {
-        if !is_behind_in_row(canvas, span, row, nearest) {
-            return false;
-        }
+    let mut row = span.first_row;
+    while row < span.end_row && is_behind_in_row(canvas, span, row, nearest) {
+        row += 1;
     }
-    true
+    row
 }
 
 // Counts a piece in the tiles of one row, in the columns of a span.
@@ -101,6 +104,7 @@ fn merge_marked(
     canvas: &mut Canvas,
     piece: &PieceSetup,
     reached: &SubBox,
+    over: &TileRow,
     span: TileSpan,
     row: u32,
     column: u32,
@@ -111,6 +115,7 @@ fn merge_marked(
     requires span { IsSpan reached.now.size span }
     requires row { (span.first_row ≤ row) × (row < span.end_row) }
     requires small { row < 256 }
+    requires over { AreRowOf over.now row piece.now }
     requires column { span.first_column ≤ column }
     requires within { (i : ℕ) → i < 8 → bit_at bits i ≡ 1 → column + i < span.end_column }
     requires byte { bits < 2 ^ 8 }
@@ -131,6 +136,7 @@ fn merge_marked(
             start + (column + j - window.first_column) as usize,
             piece,
             reached,
+            over,
             place,
         );
         left &= !(1 << j);
@@ -147,19 +153,26 @@ fn merge_in_row(canvas: &mut Canvas, piece: &PieceSetup, reached: &SubBox, span:
     requires small { row < 256 }
     ensures { MergedWhere (is_in_row span row) reached.now.size piece.now canvas.old canvas.new }
 {
-    // accessors tell what is held of a canvas and of a piece
+    // accessors tell what is held of a canvas and of a piece, and how many columns there may be
     let _window = canvas.window();
+    let _columns = reached.size.tile_columns();
     let nearest = piece.nearest();
     let mut column = span.first_column;
     while column < span.end_column {
         let count = (span.end_column - column).min(AT_ONCE);
-        let bits = marks(canvas, span, row, column, count, nearest);
-        merge_marked(canvas, piece, reached, span, row, column, bits);
+        let marked = marks(canvas, span, row, column, count, nearest);
+        if marked != 0 {
+            // where the edges leave a tile nothing, it stays
+            let over = piece.over_row(row);
+            let bits = marked & over.ahead(column);
+            merge_marked(canvas, piece, reached, &over, span, row, column, bits);
+        }
         column += count;
     }
 }
 
-// Merges a piece into the tiles of a span.
+// Merges a piece into the tiles of a span. Out of line, so that the loops only read what the set-up has computed.
+#[inline(never)]
 fn merge_in_span(canvas: &mut Canvas, piece: &PieceSetup, reached: &SubBox, span: TileSpan)
     requires part { IsPartOf canvas.old.window span }
     requires reached { IsSubBox (box_of piece.now) reached.now }
@@ -175,7 +188,7 @@ fn merge_in_span(canvas: &mut Canvas, piece: &PieceSetup, reached: &SubBox, span
 }
 
 // Sets a piece up, and merges it into the tiles of a span.
-#[inline(always)]
+#[inline(never)]
 fn merge_piece(canvas: &mut Canvas, tri: &ScreenTri, size: Size, span: TileSpan)
     requires part { IsPartOf canvas.old.window span }
     requires span { IsSpan size span }
@@ -193,8 +206,9 @@ pub fn draw_piece(canvas: &mut Canvas, tri: &ScreenTri, size: Size)
     ensures { MergedMet size tri.now canvas.old canvas.new }
 {
     let span = TileSpan::of(&tri.boxed(), size).cut(&canvas.window());
-    if !is_behind_in_span(canvas, span, tri.greatest_nearness()) {
-        merge_piece(canvas, tri, size, span);
+    let first_row = first_row_ahead(canvas, span, tri.greatest_nearness());
+    if first_row < span.end_row {
+        merge_piece(canvas, tri, size, TileSpan { first_row, ..span });
     }
 }
 

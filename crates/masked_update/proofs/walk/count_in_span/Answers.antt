@@ -3,8 +3,8 @@ use Rattle.cull_base.specs.Span.{IsPartOf, has_tile}
 use Rattle.cull_base.specs.declared.tile_span.TileSpan.{TileSpan}
 use Rattle.masked_update.specs.TileOf.{TileOf}
 use Rattle.masked_update.specs.Taken.{counted_tile}
-use Rattle.masked_update.specs.Walk.{CountedWhere}
-use Rattle.masked_update.proofs.Walks.{rows_before, none_changed, rows_begin, rows_more, rows_still, row_within}
+use Rattle.masked_update.specs.Walk.{CountedWhere, rows_before}
+use Rattle.masked_update.proofs.Walks.{none_changed, rows_begin, rows_more, rows_still, row_within}
 use Rattle.masked_update.proofs.walk.count_in_span.Goals as goal
 
 pub loop-row-init : goal.loop-row-init

@@ -1,6 +1,5 @@
 use Rattle.cull_base.specs.Span.{has_tile}
-use Rattle.masked_update.specs.Walk.{CountedWhere}
-use Rattle.masked_update.proofs.Walks.{rows_before}
+use Rattle.masked_update.specs.Walk.{CountedWhere, rows_before}
 use Rattle.masked_update.proofs.walk.count_in_span.Given as goal
 
 abbrev pub invariant-loop-row : goal.invariant-loop-row

@@ -1,10 +1,8 @@
-use Rattle.std.proofs.Common.{◌≡◌, ◌+◌, ◌-◌, arith, ap, ◌∙◌, subst}
-use Rattle.cull_base.specs.declared.tile_span.TileSpan.{TileSpan}
+use Rattle.std.proofs.Common.{◌≡◌, arith, length, subst}
 use Rattle.masked_update.specs.Least.{NoneBelow}
 use Rattle.masked_update.specs.TileOf.{tile_at}
 use Rattle.masked_update.proofs.Marks.{among_first, clear_first}
-use Rattle.masked_update.proofs.Tiles.{number_within, tile_with}
-use Rattle.masked_update.proofs.Walks.{row_here, row_number}
+use Rattle.masked_update.proofs.Walks.{row_number_on}
 use Rattle.masked_update.proofs.walk.marks.Goals as goal
 
 pub returns-clause-among : goal.returns-clause-among
@@ -13,17 +11,18 @@ returns-clause-among c i lt one = among_first c.may_change.result c.ones_between
 pub returns-clause-behind : goal.returns-clause-behind
 returns-clause-behind c i lt clear =
     let now = c.args.canvas.now in
-    let span = c.args.span in
-    let column = c.args.column in
     let few = c.requires.few in
-    let inside = c.requires.within in
-    let part = c.requires.part in
-    let here = row_here now.window span c.args.row (column + i) part c.requires.row.0 c.requires.row.1 (omega (arith, c.requires.column)) (omega (arith, lt, inside)) in
-    let at = row_number now.window c.window-window.result c.args.row (column + i) c.row_start.result c.window-window.ensures.value c.row_start.ensures in
-    let first = ap (λ (w : TileSpan). w.first_column) c.window-window.ensures.value in
-    let same : c.row_start.result + (column - c.window-window.result.first_column) + i ≡ c.row_start.result + (column + i - c.window-window.result.first_column) = omega (arith, first, c.requires.column, part.first_column) in
-    let number = same ∙ at in
-    let below = number_within now.window (tile_with (column + i) c.args.row) here in
-    let whole = c.window-window.ensures.whole in
+    let within = c.requires.within in
+    let (number, inside) = row_number_on now c.window-window.result c.args.span c.args.row c.args.column c.row_start.result i c.window-window.ensures.value c.row_start.ensures c.window-window.ensures.whole c.requires.part
+    c.requires.row.0 c.requires.row.1 c.requires.column (omega (arith, lt, within)) in
     let bit = clear_first c.may_change.result c.ones_between.result c.args.count i c.ones_between.ensures.value lt clear in
-    subst (λ n. NoneBelow c.args.nearest (tile_at now.tiles n)) number (c.may_change.ensures.behind i (omega (arith, lt, few)) (omega (arith, number, below, whole)) bit)
+    subst (λ n. NoneBelow c.args.nearest (tile_at now.tiles n)) number (c.may_change.ensures.behind i (omega (arith, lt, few)) (omega (arith, number, inside)) bit)
+
+pub returns-clause-eight : goal.returns-clause-eight
+returns-clause-eight c i lt =
+    let now = c.args.canvas.now in
+    let few = c.requires.few in
+    let within = c.requires.within in
+    let (number, inside) = row_number_on now c.window-window.result c.args.span c.args.row c.args.column c.row_start.result i c.window-window.ensures.value c.row_start.ensures c.window-window.ensures.whole c.requires.part
+    c.requires.row.0 c.requires.row.1 c.requires.column (omega (arith, lt, within)) in
+    subst (λ n. length (tile_at now.tiles n).subs ≡ 8) number (c.may_change.ensures.eight i (omega (arith, lt, few)) (omega (arith, number, inside)))

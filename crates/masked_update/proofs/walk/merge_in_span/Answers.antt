@@ -2,8 +2,8 @@ use Rattle.std.proofs.Common.{◌≡◌, arith, sym, subst}
 use Rattle.cull_base.specs.Span.{IsPartOf, has_tile}
 use Rattle.cull_base.specs.declared.tile_span.TileSpan.{TileSpan}
 use Rattle.masked_update.specs.Taken.{merged_tile}
-use Rattle.masked_update.specs.Walk.{MergedWhere}
-use Rattle.masked_update.proofs.Walks.{rows_before, none_changed, rows_begin, rows_more}
+use Rattle.masked_update.specs.Walk.{MergedWhere, rows_before}
+use Rattle.masked_update.proofs.Walks.{none_changed, rows_begin, rows_more}
 use Rattle.masked_update.proofs.walk.merge_in_span.Goals as goal
 
 pub loop-row-init : goal.loop-row-init

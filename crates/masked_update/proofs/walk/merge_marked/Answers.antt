@@ -1,8 +1,7 @@
 use Rattle.std.proofs.Common.{◌+◌, arith, w32}
 use Rattle.std.specs.Int.{trailing_zeros}
 use Rattle.masked_update.specs.Taken.{merged_tile}
-use Rattle.masked_update.proofs.Covering.{cleared_less, lowest_within}
-use Rattle.masked_update.proofs.Marks.{all_done, is_done, lowest_inside, none_done, one_done}
+use Rattle.masked_update.proofs.Marks.{all_done, cleared_less, is_done, lowest_inside, lowest_within, none_done, one_done}
 use Rattle.masked_update.proofs.Tiles.{tile_with}
 use Rattle.masked_update.proofs.Walks.{none_changed, number_inside, row_here, row_number}
 use Rattle.masked_update.proofs.walk.merge_marked.Goals as goal

@@ -1,10 +1,11 @@
-use Rattle.std.proofs.Common.{◌≡◌, ℕ, ℤ, pos, negsuc, ◌<◌, ◌<ℤ◌, ◌≤ℤ◌, ◌^◌, ◌∙◌, ap, arith, FitsSigned, rules, w64}
+use Rattle.std.proofs.Common.{◌≡◌, ℕ, ℤ, pos, negsuc, ◌<◌, ◌<ℤ◌, ◌≤ℤ◌, ◌*ℤ◌, ◌^◌, Option, Some, None, IfSome, ◌∙◌, ap, arith, FitsSigned, rules, w64}
 use Rattle.std.specs.Int.{w128}
 use Rattle.std.specs.Int.RustNames.{unsigned_abs}
 use Rattle.std.proofs.lemmas.Int.{ints, to_z-of_z}
 use Rattle.cull_base.specs.Bounds.{Bounded}
 use Rattle.cull_base.specs.Piece.{Piece, IsPiece}
-use Rattle.depth_plane.specs.Plane.{Coefficients, numerator_at}
+use Rattle.depth_plane.specs.Plane.{Coefficients, coefficients, numerator_at, HasLanes}
+use Rattle.depth_plane.specs.declared.floor_lanes.FloorLanes.{FloorLanes}
 use Rattle.depth_plane.specs.Vertices.{AreVertices, area_of}
 use Rattle.depth_plane.specs.declared.vertices.Vertices.{Vertices}
 use Rattle.depth_plane.proofs.Planes.{numerator_at-plane_of, area-plane_of, area_of-vertices, plane_of-computed}
@@ -28,8 +29,12 @@ within n m h e = omega (arith, ints, h, e)
 same_area : (a d l m n : ℤ) (v : Coefficients) → m ≡ n → record { across = a; down = d; level = l; area = n } ≡ v → record { across = a; down = d; level = l; area = m } ≡ v
 same_area a d l m n v e h = rw e h
 
-pub of-requires : goal.of-requires
-of-requires c =
+lanes_hold : (o : Option FloorLanes) (a d l : ℤ) (n : ℕ) → IfSome o (λ f. f.right ≡ a *ℤ pos 128) → IfSome o (λ f. f.below ≡ d *ℤ pos 64) → IfSome o (λ f. f.size ≡ n) → IfSome o (HasLanes (coefficients a d l (pos n)))
+lanes_hold None a d l n right below size = tt
+lanes_hold (Some f) a d l n right below size = record { right = right; below = below; size = ap pos size }
+
+pub of-divisor-requires : goal.of-divisor-requires
+of-divisor-requires c =
     let fn : FitsSigned w64 c.area-area.result = search rules in
     not_zero c.area-area.result c.unsigned_abs.result
     (positive c.args.tri.now c.of-vertices.result c.area-area.result c.of-vertices.ensures.valid c.of-vertices.ensures.value c.area-area.ensures.value)
@@ -43,8 +48,8 @@ returns-clause-value c =
     let fn : FitsSigned w64 c.area-area.result = search rules in
     let v = c.of-vertices.ensures in
     let p = positive c.args.tri.now c.of-vertices.result c.area-area.result v.valid v.value c.area-area.ensures.value in
-    simp to_z-of_z (same_area c.across-across.result c.down-down.result c.level-level.result (pos c.of.result) c.area-area.result _
-    (area_is c.area-area.result c.unsigned_abs.result c.of.result p (simp to_z-of_z at c.unsigned_abs.ensures.value) c.of.ensures)
+    simp to_z-of_z (same_area c.across-across.result c.down-down.result c.level-level.result (pos c.of-divisor.result) c.area-area.result _
+    (area_is c.area-area.result c.unsigned_abs.result c.of-divisor.result p (simp to_z-of_z at c.unsigned_abs.ensures.value) c.of-divisor.ensures)
     (plane_of-computed c.args.tri.now c.of-vertices.result c.across-across.result c.down-down.result c.level-level.result c.area-area.result v.value
     c.across-across.ensures.value c.down-down.ensures.value c.area-area.ensures.value (simp to_z-of_z at c.level-level.ensures.value)))
 
@@ -56,7 +61,7 @@ invariant_of-result c =
     let fn : FitsSigned w64 c.area-area.result = search rules in
     let v = c.of-vertices.ensures in
     let p = positive c.args.tri.now c.of-vertices.result c.area-area.result v.valid v.value c.area-area.ensures.value in
-    let is = area_is c.area-area.result c.unsigned_abs.result c.of.result p (simp to_z-of_z at c.unsigned_abs.ensures.value) c.of.ensures in (
+    let is = area_is c.area-area.result c.unsigned_abs.result c.of-divisor.result p (simp to_z-of_z at c.unsigned_abs.ensures.value) c.of-divisor.ensures in (
       simp to_z-of_z (record {
         across = c.across-across.ensures.bounded;
         down = c.down-down.ensures.bounded;
@@ -64,8 +69,9 @@ invariant_of-result c =
         positive_area = rw is p;
         area_within = within c.area-area.result _ c.area-area.ensures.bounded is;
       }),
-      simp to_z-of_z (simp to_z-of_z at (c.narrow_first.ensures (pos c.of.result))),
-      simp to_z-of_z (simp to_z-of_z at c.subtile_rises.ensures),
+      simp to_z-of_z (simp to_z-of_z at (c.narrow_first.ensures (pos c.of-divisor.result))),
+      simp to_z-of_z (lanes_hold c.lanes_along.result c.across-across.result c.down-down.result c.level-level.result c.of-divisor.result
+          (simp to_z-of_z at c.lanes_along.ensures.right) (simp to_z-of_z at c.lanes_along.ensures.below) c.lanes_along.ensures.size),
     )
 
 pub returns-clause-numerator : goal.returns-clause-numerator

@@ -1,4 +1,4 @@
-use Rattle.std.proofs.Common.{ℕ, ◌+◌, ◌<◌, ◌≤◌, get_or, nat_lt, length, List, w32, arith, ap, ◌∙◌, sym, subst}
+use Rattle.std.proofs.Common.{◌≡◌, ℕ, ◌+◌, ◌<◌, ◌≤◌, get_or, nat_lt, length, List, w32, arith, ap, ◌∙◌, sym, subst}
 use Rattle.std.specs.Int.{bit_at}
 use Rattle.std.proofs.lemmas.Simd.{bitmask_splat}
 use Rattle.masked_update.specs.Canvas.{CanvasOf}
@@ -19,3 +19,7 @@ returns-clause-behind c i lt within clear =
     let at = subst (λ (t : List ℕ). c.args.nearest ≤ get_or t (n + i) 0) c.deref.ensures.value (clear_at table n c.args.nearest i long lt (ap (λ m. bit_at m i) (sym is) ∙ clear)) in
     record { eight = inv.eight (n + i) inside; behind = λ j below. let least = inv.least (n + i) j inside below in omega (arith, at, least) })
     within
+
+pub returns-clause-eight : goal.returns-clause-eight
+returns-clause-eight c i lt within =
+    subst (λ (v : CanvasOf). c.args.number + i < length v.tiles → length (tile_at v.tiles (c.args.number + i)).subs ≡ 8) c.self.view_is (λ inside. c.self.invariant.1.eight (c.args.number + i) inside) within

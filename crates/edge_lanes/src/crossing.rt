@@ -1,0 +1,152 @@
+//! Where an edge crosses the rows of samples: columns in fixed-point numbers, of 2^32 parts a pixel.
+ghost use Rattle.std.specs.Prelude.{◌≡◌, ℕ, ℤ, pos, ◌^◌, ◌+◌, ◌*◌, ◌<◌, ◌+ℤ◌, ◌*ℤ◌, slice_index, slice_index_or};
+ghost use Rattle.std.specs.Int.{int_div_euclid, int_max};
+ghost use Rattle.cull_base.specs.Bounds.{Bounded};
+ghost use Rattle.cull_base.specs.Depth.{floor_of};
+ghost use Rattle.edge_lanes.specs.Between.{IsLimit, column_at};
+ghost use Rattle.edge_lanes.specs.Lanes.{offsets_of};
+
+use crate::spans::Spans;
+use crate::turned::Turned;
+use cull_base::Divisor;
+use std::simd::prelude::*;
+
+/// The parts of a pixel.
+const PIXEL: i64 = 0x1_0000_0000;
+
+/// The steps of 2048 rows, each rounded down, fall short by less than this in all. It moves no sample to the other side:
+/// a crossing that isn't a whole column lies at least 2^12 parts before the next one.
+const SHORTFALL: i64 = 2048;
+
+/// An edge, by the column where it crosses each row of samples of a screen of 2048 by 2048 pixels.
+#[derive(Clone, Copy)]
+pub struct Crossing {
+    // in the first row, and what a row adds, in parts of a pixel
+    pub start: i64,
+    pub step: i64,
+    // what each of eight rows adds
+    pub rows: i64x8,
+    // 0 where the samples before the crossing are inside, 2048 where those from it on are
+    pub limit: u32,
+    ghost start_bounded: { Bounded (2 ^ 62 + 2 ^ 12) start },
+    ghost step_bounded: { Bounded (2 ^ 50) step },
+    ghost are_rows: { rows ≡ offsets_of step },
+    ghost is_limit: { IsLimit limit },
+}
+
+// So many pixels over a size, in parts, rounded down. The sign is no branch around the division.
+#[inline(always)]
+fn parts(pixels: i64, size: &Divisor) -> i64
+    requires { Bounded (2 ^ 30) pixels }
+    ensures { result ≡ floor_of (pixels *ℤ pos (2 ^ 32)) (pos size.now) }
+{
+    let numerator = pixels * PIXEL;
+    let distance = if numerator < 0 {
+        -1 - numerator
+    } else {
+        numerator
+    };
+    let whole = size.quotient(distance as u64) as i64;
+    if numerator < 0 { -1 - whole } else { whole }
+}
+
+// The column that so many parts lie in, or the first where they lie before it.
+#[inline(always)]
+fn column_of(parts: i64) -> u32
+    ensures { pos result ≡ int_max (int_div_euclid parts (pos (2 ^ 32))) (pos 0) }
+{
+    ((parts >> 32) as i32).max(0) as u32
+}
+
+// Of eight.
+#[inline(always)]
+fn columns_of(parts: [i64; 8]) -> [u32; 8]
+    ensures { (r : ℕ) → r < 8 → pos (slice_index result r) ≡ int_max (int_div_euclid (slice_index_or parts r (pos 0)) (pos (2 ^ 32))) (pos 0) }
+{
+    let [a, b, c, d, e, f, g, h] = parts;
+    [
+        column_of(a),
+        column_of(b),
+        column_of(c),
+        column_of(d),
+        column_of(e),
+        column_of(f),
+        column_of(g),
+        column_of(h),
+    ]
+}
+
+impl Crossing {
+    ghost use Rattle.edge_lanes.specs.Crossings.{IsNear, crossed_at, is_beside};
+    ghost use Rattle.edge_lanes.specs.Spans.{in_span};
+
+    /// The crossings of an edge. Condition: it is near.
+    #[inline(always)]
+    pub fn of(edge: &Turned) -> Crossing
+        requires { IsNear edge.now }
+        ensures crossed { (y : ℕ) → y < 2 ^ 11 → crossed_at result y ≡ column_at edge.now.start edge.now.row edge.now.size y }
+        ensures limit { result.limit ≡ edge.now.limit }
+    {
+        let size = Divisor::of(edge.size as u64);
+        let step = parts(edge.row, &size);
+        Crossing {
+            start: parts(edge.start, &size) + SHORTFALL,
+            step,
+            rows: i64x8::from_array([
+                0,
+                step,
+                2 * step,
+                3 * step,
+                4 * step,
+                5 * step,
+                6 * step,
+                7 * step,
+            ]),
+            limit: edge.limit,
+        }
+    }
+
+    // What a crossing is at in the first of a row of tiles' eight rows, in parts.
+    #[inline(always)]
+    fn first_parts(&self, row: u32) -> i64
+        requires { row < 256 }
+        ensures value { result ≡ self.now.start +ℤ (self.now.step *ℤ pos (8 * row)) }
+        ensures bounded { Bounded (2 ^ 62 + 2 ^ 61) result }
+    {
+        self.start + self.step * i64::from(8 * row)
+    }
+
+    // What it is at in each of the eight rows.
+    #[inline(always)]
+    fn parts_by_row(&self, row: u32) -> [i64; 8]
+        requires { row < 256 }
+        ensures { (r : ℕ) → r < 8 → slice_index_or result r (pos 0) ≡ self.now.start +ℤ (self.now.step *ℤ pos (8 * row + r)) }
+    {
+        i64x8::splat(self.first_parts(row))
+            .strict_add(self.rows)
+            .to_array()
+    }
+
+    // The columns where the edge crosses the eight rows of a row of tiles, or the first where it crosses before it.
+    #[inline(always)]
+    fn columns(&self, row: u32) -> [u32; 8]
+        requires { row < 256 }
+        ensures { (r : ℕ) → r < 8 → pos (slice_index result r) ≡ int_max (crossed_at self.now (8 * row + r)) (pos 0) }
+    {
+        columns_of(self.parts_by_row(row))
+    }
+
+    /// The columns inside the edge in each of the eight rows of a row of tiles. Condition: the row is below 256.
+    #[inline(always)]
+    pub fn spans(&self, row: u32) -> Spans
+        requires { row < 256 }
+        ensures { (r x : ℕ) → r < 8 → in_span result r x ≡ is_beside self.now x (8 * row + r) }
+    {
+        let crossed = u32x8::from_array(self.columns(row));
+        let limit = u32x8::splat(self.limit);
+        Spans {
+            first: crossed.simd_min(limit),
+            end: crossed.simd_max(limit),
+        }
+    }
+}

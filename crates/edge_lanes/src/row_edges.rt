@@ -1,0 +1,58 @@
+//! The edges of an occluder, asked one row of tiles after the other.
+ghost use Rattle.std.specs.Prelude.{◌≡◌, ℕ, ◌<◌};
+ghost use Rattle.cull_base.specs.Piece.{covered};
+ghost use Rattle.cull_base.specs.declared.place.Sub.{Sub};
+ghost use Rattle.edge_lanes.specs.Crossings.{inside_rows};
+ghost use Rattle.edge_lanes.specs.Lines.{IsNarrow};
+
+use crate::crossings::Crossings;
+use crate::edges::{Edges, is_narrow};
+use crate::narrow_edges::NarrowEdges;
+use crate::turned::TurnedEdges;
+use cull_base::{ScreenTri, Side};
+
+/// The edges of a piece, for the samples that it covers on a screen of 2048 by 2048 pixels.
+#[derive(Clone, Copy)]
+pub struct RowEdges {
+    pub(crate) kind: RowKind,
+}
+
+/// Nearly all pieces are crossed: the others have an edge that is very long, far away or flat.
+#[derive(Clone, Copy)]
+pub(crate) enum RowKind {
+    Crossed(Crossings),
+    Plain(Edges),
+}
+
+// A narrow piece's edges.
+#[inline(always)]
+fn of_narrow(tri: &ScreenTri) -> RowEdges
+    requires { IsNarrow tri.now }
+    ensures { (u : Sub) → u.column < 256 → u.row < 512 → inside_rows result u ≡ covered tri.now u }
+{
+    let edges = TurnedEdges::of(&NarrowEdges::of(tri, Side::Occluder));
+    if edges.are_near() {
+        RowEdges {
+            kind: RowKind::Crossed(Crossings::of(&edges)),
+        }
+    } else {
+        RowEdges {
+            kind: RowKind::Plain(Edges::of(tri, Side::Occluder)),
+        }
+    }
+}
+
+impl RowEdges {
+    #[inline(always)]
+    pub fn of(tri: &ScreenTri) -> RowEdges
+        ensures { (u : Sub) → u.column < 256 → u.row < 512 → inside_rows result u ≡ covered tri.now u }
+    {
+        if is_narrow(tri) {
+            of_narrow(tri)
+        } else {
+            RowEdges {
+                kind: RowKind::Plain(Edges::of(tri, Side::Occluder)),
+            }
+        }
+    }
+}

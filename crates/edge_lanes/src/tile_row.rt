@@ -1,0 +1,76 @@
+//! The edges of an occluder over one row of tiles, whose tiles are asked at once.
+ghost use Rattle.std.specs.Prelude.{◌≡◌, ℕ, ◌<◌, ◌^◌, slice_index};
+ghost use Rattle.std.specs.Simd.Lanes.{mask_l};
+ghost use Rattle.cull_base.specs.State.{samples_of};
+ghost use Rattle.edge_lanes.specs.Crossings.{AreSpansOf};
+
+use crate::row_edges::{RowEdges, RowKind};
+use crate::spans::Spans;
+use cull_base::Tile;
+
+/// The edges of a piece over one row of tiles.
+#[derive(Clone, Copy)]
+pub struct TileRow<'a> {
+    edges: &'a RowEdges,
+    row: u32,
+    spans: Spans,
+    ghost row_within: { row < 256 },
+    ghost are_spans: { AreSpansOf edges.now.kind row spans },
+}
+
+impl RowEdges {
+    /// The edges over a row of tiles. Condition: the row is below 256.
+    #[inline(always)]
+    pub fn over_row(&self, row: u32) -> TileRow<'_>
+        requires { row < 256 }
+        ensures edges { result.edges.now ≡ self.now }
+        ensures row { result.row ≡ row }
+    {
+        match &self.kind {
+            RowKind::Crossed(crossings) => TileRow {
+                edges: self,
+                row,
+                spans: crossings.spans(row),
+            },
+            RowKind::Plain(_) => TileRow {
+                edges: self,
+                row,
+                spans: Spans::none(),
+            },
+        }
+    }
+}
+
+impl TileRow<'_> {
+    ghost use Rattle.edge_lanes.specs.Rows.{AreAhead, inside_in};
+
+    /// Of the tile in a column and the seven to its right, those that have samples inside: bit i, of eight, is clear only
+    /// where the tile i to the right has none. Condition: the column is below 64.
+    #[inline(always)]
+    pub fn ahead(&self, column: u32) -> u32
+        requires { column < 64 }
+        ensures clear { AreAhead self.now column result }
+        ensures byte { result < 2 ^ 8 }
+    {
+        match &self.edges.kind {
+            RowKind::Crossed(_) => self.spans.ahead(column),
+            RowKind::Plain(_) => 255,
+        }
+    }
+
+    /// The masks of the eight subtiles of the tile in a column. Condition: the column is below 64.
+    #[inline(always)]
+    pub fn masks(&self, column: u32) -> [u32; 8]
+        requires { column < 64 }
+        ensures value { (j : ℕ) → j < 8 → slice_index result j ≡ mask_l (inside_in self.now column j) }
+        ensures samples { (j : ℕ) → j < 8 → samples_of (slice_index result j) ≡ inside_in self.now column j }
+    {
+        match &self.edges.kind {
+            RowKind::Crossed(_) => self.spans.masks(column),
+            RowKind::Plain(edges) => edges.tile_masks(Tile {
+                column: column as u16,
+                row: self.row as u16,
+            }),
+        }
+    }
+}

@@ -1,0 +1,18 @@
+use Rattle.std.proofs.Common.{arith, sym, subst}
+use Rattle.cull_base.specs.Piece.{box_of}
+use Rattle.masked_update.specs.Merged.{IsSubSpan}
+use Rattle.masked_update.specs.declared.sub_span.SubSpan.{SubSpan}
+use Rattle.masked_update.proofs.Wanting.{all_of, reached_of}
+use Rattle.masked_update.proofs.piece_setup.PieceSetup.subtiles_on_screen.Goals as goal
+
+pub returns-then-from-tile_rows-clause-wanted : goal.returns-then-from-tile_rows-clause-wanted
+returns-then-from-tile_rows-clause-wanted c subs =
+    let column = c.if-from-tile_columns.true in
+    let row = c.if-from-tile_rows.true in
+    all_of c.args.reached.now.size c.args.place c.args.self.now subs (omega (arith, column, c.from.ensures, c.tile_columns.ensures.value)) (omega (arith, row, c.from-then-from-tile_columns.ensures, c.tile_rows.ensures.value))
+
+pub returns-else-from-tile_columns-clause-wanted : goal.returns-else-from-tile_columns-clause-wanted
+returns-else-from-tile_columns-clause-wanted c subs =
+    let x = c.args.self.now in
+    reached_of c.args.reached.now.size c.args.place x subs c.in_tile.result c.bits.result c.nearest-nearest.ensures.valid
+    (subst (λ (s : SubSpan). IsSubSpan (box_of x) c.args.reached.now.size c.args.place s) (sym c.in_tile.ensures) (c.requires c.args.place)) c.bits.ensures.value

@@ -1,7 +1,0 @@
-use Rattle.cull_base.specs.Span.{has_tile}
-use Rattle.masked_update.specs.Walk.{NoneBelowWhere}
-use Rattle.masked_update.proofs.Walks.{rows_before}
-use Rattle.masked_update.proofs.walk.is_behind_in_span.Given as goal
-
-abbrev pub invariant-loop-row : goal.invariant-loop-row
-invariant-loop-row l = NoneBelowWhere l.nearest (has_tile (rows_before l.span l.row)) l.canvas
