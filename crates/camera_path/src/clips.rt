@@ -13,15 +13,17 @@ use std::thread::{Threads, available_parallelism};
 /// A thread is worth its start for so many vertices.
 const SHARE: usize = 8192;
 
-// One for each share of the work, and no more than there are processors.
-fn thread_count<R: Threads>(rt: &R, vertices: usize) -> usize
-    ensures { 0 < result }
-{
-    let processors = match available_parallelism(rt) {
-        Ok(count) => count.get(),
+// One for each share of the work, and no more than there are processors. The system is asked for these only where there
+// is work for two.
+fn thread_count<R: Threads>(rt: &R, vertices: usize) -> usize {
+    let shares = vertices / SHARE;
+    if shares < 2 {
+        return 1;
+    }
+    match available_parallelism(rt) {
+        Ok(processors) => shares.min(processors.get()),
         Err(_) => 1,
-    };
-    processors.min(vertices / SHARE).max(1)
+    }
 }
 
 /// Puts each vertex in its place, as a camera sees it, by threads where there are many. Conditions: there are as many

@@ -3,4 +3,4 @@
 
 mod shares;
 
-pub use shares::for_each_share;
+pub use shares::{for_each_beside, for_each_share};

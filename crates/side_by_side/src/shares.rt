@@ -24,31 +24,34 @@ fn in_turn<T, F: Fn(usize, &mut T)>(s: &mut [T], base: usize, f: &F)
     }
 }
 
-// Starts a thread for each share of a size but the last, and takes that itself.
+// Starts a thread for each share of a size, and then does the caller's own work.
 #[cycle(shares)]
-fn shares_from<R: Threads + Sync, T: Send, F: Fn(usize, &mut T) + Sync>(
+fn shares_from<R: Threads + Sync, T: Send, F: Fn(usize, &mut T) + Sync, G: FnMut() -> A, A>(
     rt: &R,
     f: &F,
     base: usize,
     size: usize,
     s: &mut [T],
-)
+    own: &mut G,
+) -> A
     requires size { 0 < size }
     requires room { base + length s.old < 2 ^ 64 }
     requires accepts { EachFrom (AcceptsAt F.Fn f.now) base s.old }
-    ensures { EachBothFrom (ChangesAt F.Fn f.now) base s.old s.new }
+    requires own { G.pre own.old }
+    ensures each { EachBothFrom (ChangesAt F.Fn f.now) base s.old s.new }
+    ensures own { G.step own.old result own.new }
 {
-    if s.len() <= size {
-        in_turn(s, base, f);
-        return;
+    if s.is_empty() {
+        return own();
     }
-    let (share, rest) = s.split_at_mut(size);
-    share_and_rest(rt, f, size, base, share, base + size, rest);
+    let here = size.min(s.len());
+    let (share, rest) = s.split_at_mut(here);
+    share_and_rest(rt, f, size, base, share, base + here, rest, own)
 }
 
 // A function of its own, so that what the closures require is what it is given.
 #[cycle(shares)]
-fn share_and_rest<R: Threads + Sync, T: Send, F: Fn(usize, &mut T) + Sync>(
+fn share_and_rest<R: Threads + Sync, T: Send, F: Fn(usize, &mut T) + Sync, G: FnMut() -> A, A>(
     rt: &R,
     f: &F,
     size: usize,
@@ -56,44 +59,75 @@ fn share_and_rest<R: Threads + Sync, T: Send, F: Fn(usize, &mut T) + Sync>(
     share: &mut [T],
     up: usize,
     rest: &mut [T],
-)
+    own: &mut G,
+) -> A
     requires size { 0 < size }
     requires some { 0 < length share.old }
     requires share_room { base + length share.old < 2 ^ 64 }
     requires rest_room { up + length rest.old < 2 ^ 64 }
     requires share { EachFrom (AcceptsAt F.Fn f.now) base share.old }
     requires rest { EachFrom (AcceptsAt F.Fn f.now) up rest.old }
+    requires own { G.pre own.old }
     ensures share { EachBothFrom (ChangesAt F.Fn f.now) base share.old share.new }
     ensures rest { EachBothFrom (ChangesAt F.Fn f.now) up rest.old rest.new }
+    ensures own { G.step own.old result own.new }
 {
     let mut front = ||
         requires { IsSync F.row × IsSend T.row × (base + length share.now < 2 ^ 64)
             × EachFrom (AcceptsAt F.Fn f.now) base share.now }
         ensures { EachBothFrom (ChangesAt F.Fn f.entry.now) base share.entry.now share.exit.now }
     { in_turn(share, base, f) };
-    let mut back = ||
+    let mut back = || -> A
         requires { IsSync R.row × IsSync F.row × IsSend T.row × (0 < size) × (up + length rest.now < 2 ^ 64)
-            × EachFrom (AcceptsAt F.Fn f.now) up rest.now }
-        ensures { EachBothFrom (ChangesAt F.Fn f.entry.now) up rest.entry.now rest.exit.now }
-    { shares_from(rt, f, up, size, rest) };
-    join_mut(rt, &mut front, &mut back);
+            × EachFrom (AcceptsAt F.Fn f.now) up rest.now × G.pre own.now }
+        ensures { EachBothFrom (ChangesAt F.Fn f.entry.now) up rest.entry.now rest.exit.now
+            × G.step own.entry.now result own.exit.now }
+    { shares_from(rt, f, up, size, rest, own) };
+    let ((), done) = join_mut(rt, &mut front, &mut back);
+    done
+}
+
+/// Calls f(i, &mut s[i]) at each place, in at most so many threads of their own, which the caller itself starts, one
+/// after another; then it does its own work. A system may put the first of these threads on the caller's processor until
+/// the caller waits, and that comes soon. With no threads the caller calls f itself, behind its own work.
+pub fn for_each_beside<
+    R: Threads + Sync,
+    T: Send,
+    F: Fn(usize, &mut T) + Sync,
+    G: FnMut() -> A,
+    A,
+>(
+    rt: &R,
+    s: &mut [T],
+    threads: usize,
+    f: &F,
+    own: &mut G,
+) -> A
+    requires accepts { AcceptsEach F.Fn f.now s.old }
+    requires own { G.pre own.old }
+    ensures each { ChangesEach F.Fn f.now s.old s.new }
+    ensures own { G.step own.old result own.new }
+{
+    if threads == 0 {
+        let done = own();
+        in_turn(s, 0, f);
+        return done;
+    }
+    let size = s.len().div_ceil(threads).max(1);
+    shares_from(rt, f, 0, size, s, own)
 }
 
 /// Calls f(i, &mut s[i]) at each place, in at most so many threads: as std's `for_each_mut`, but the caller itself
-/// starts all threads, one after another, and takes the last share. So no thread waits for another to be started, and
-/// each has a processor to itself sooner.
+/// starts all of them, one after another, and takes no share, as `for_each_beside`. One thread is the caller's.
 pub fn for_each_share<R: Threads + Sync, T: Send, F: Fn(usize, &mut T) + Sync>(
     rt: &R,
     s: &mut [T],
     threads: usize,
     f: &F,
 )
-    requires threads { 0 < threads }
     requires accepts { AcceptsEach F.Fn f.now s.old }
     ensures { ChangesEach F.Fn f.now s.old s.new }
 {
-    if s.is_empty() {
-        return;
-    }
-    shares_from(rt, f, 0, s.len().div_ceil(threads), s);
+    let own = if threads == 1 { 0 } else { threads };
+    for_each_beside(rt, s, own, f, &mut || {});
 }

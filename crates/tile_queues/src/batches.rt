@@ -6,7 +6,7 @@ ghost use Rattle.tile_queues.specs.Tasks.{IsSubmitterOf};
 use crate::gate::Gate;
 use crate::queues::BinQueues;
 use crate::sender::Sender;
-use binning::{Cut, batch_count, bin_batch};
+use binning::{Cut, bin_batch};
 use cull_base::{FrameList, Memory};
 use std::alloc::Global;
 use std::sync::Wait;
@@ -40,9 +40,9 @@ fn submit_next<R: Wait, G: Gate>(
     Ok(())
 }
 
-/// Bins and submits all batches of a frame, in order. The gate is asked before each. Err where memory gave out, and then
-/// no batch comes any more. Conditions: the sender is of these queues and of this frame, and has submitted none.
-pub(crate) fn submit_all<R: Wait, G: Gate>(
+/// Bins and submits so many batches more, in order. The gate is asked before each. Err where memory gave out, and then
+/// no batch comes any more. Conditions: the sender is of these queues and of this frame, which has so many more.
+pub(crate) fn submit_next_ones<R: Wait, G: Gate>(
     rt: &R,
     alloc: Global,
     queues: &BinQueues,
@@ -50,6 +50,7 @@ pub(crate) fn submit_all<R: Wait, G: Gate>(
     list: &FrameList,
     cut: &Cut,
     size: u32,
+    count: u32,
     gate: &G,
 ) -> Result<(), Memory>
     requires queues { IsSubmitterOf queues.now sender.old }
@@ -57,10 +58,10 @@ pub(crate) fn submit_all<R: Wait, G: Gate>(
     requires cut { sender.old.frame.cut ≡ cut.now }
     requires size { sender.old.frame.size ≡ size }
     requires some { 1 ≤ size }
-    requires none { sender.old.batches ≡ 0 }
-    ensures { OnOk result (sender.new ≡ record sender.old { batches = batches_in sender.old.frame }) }
+    requires left { sender.old.batches + count ≤ batches_in sender.old.frame }
+    ensures { OnOk result (sender.new ≡ record sender.old { batches = sender.old.batches + count }) }
 {
-    for _ in 0..batch_count(list.len(), size) {
+    for _ in 0..count {
         submit_next(rt, alloc, queues, sender, list, cut, size, gate)?;
     }
     Ok(())

@@ -1,11 +1,11 @@
 //! The drawing of all batches: binned, submitted and drained at once, and drained to the end.
-ghost use Rattle.std.specs.Prelude.{◌≡◌, ◌≤◌, ◌<◌, length, OnOk};
+ghost use Rattle.std.specs.Prelude.{◌≡◌, ◌≤◌, ◌<◌, ◌+◌, length, OnOk};
 ghost use Rattle.binning.specs.Cut.{bin_count_of};
 ghost use Rattle.tile_queues.specs.QueueParts.{batched, batches_in};
 ghost use Rattle.tile_queues.specs.Shares.{AreDealt, AreDrained, AreOutside, AreShares, HoldsFrom, IsDrainedIn, IsShare, IsTaskIn};
 ghost use Rattle.tile_queues.specs.Tasks.{IsSubmitterOf};
 
-use crate::batches::submit_all;
+use crate::batches::submit_next_ones;
 use crate::gate::Gate;
 use crate::keeper::Keeper;
 use crate::queues::BinQueues;
@@ -14,10 +14,13 @@ use crate::share::Share;
 use crate::task::Task;
 use binning::{Cut, batch_count};
 use cull_base::{FrameList, Memory};
-use side_by_side::for_each_share;
+use side_by_side::for_each_beside;
 use std::alloc::Global;
 use std::sync::Wait;
-use std::thread::{Threads, join_mut};
+use std::thread::Threads;
+
+/// Of so many batches one is submitted before the workers begin.
+const AHEAD: u32 = 3;
 
 // Draws what is in the queue of a task's bin.
 fn drain_one<R: Wait, B, K: Keeper<B>, G: Gate>(
@@ -83,9 +86,9 @@ fn drain_some<R: Wait, B, K: Keeper<B>, G: Gate>(
     }
 }
 
-// Draws what is in the queues of a worker's bins: from the middle of the screen on, and then those before. There most is
-// drawn, so that the submitter is ahead when bins come that are drawn faster than it bins.
-fn drain_share<R: Wait, B, K: Keeper<B>, G: Gate>(
+// Draws what is in the queues of a worker's bins, each once: from the middle of the screen on, and then those before.
+// There most is drawn, so that the submitter is ahead when bins come that are drawn faster than it bins.
+fn drain_each<R: Wait, B, K: Keeper<B>, G: Gate>(
     rt: &R,
     queues: &BinQueues,
     tasks: &mut [Task<K>],
@@ -117,8 +120,47 @@ fn drain_share<R: Wait, B, K: Keeper<B>, G: Gate>(
     );
 }
 
-// Draws what is in the queues, the workers side by side in at most so many threads.
-fn drain_all<R: Threads + Wait + Sync, B: Sync, K: Keeper<B> + Send, G: Gate>(
+// Whether a batch was drawn into a bin of a worker.
+fn has_begun<K>(tasks: &[Task<K>]) -> bool {
+    tasks.iter().any(|task| 0 < task.intake.batches())
+}
+
+// Draws what is in the queues of a worker's bins. Where it found batches, it looks once more behind the last bin: by then
+// those have come that were submitted while it drew.
+fn drain_share<R: Wait, B, K: Keeper<B>, G: Gate>(
+    rt: &R,
+    queues: &BinQueues,
+    tasks: &mut [Task<K>],
+    beside: &B,
+    list: &FrameList,
+    cut: &Cut,
+    size: u32,
+    told: u32,
+    workers: u32,
+    worker: u32,
+    gate: &G,
+)
+    requires worker { worker < workers }
+    requires few { workers ≤ 64 }
+    requires share { let frame = batched list.now.list cut.now size (K.cells beside.now) in
+        IsShare (IsTaskIn K.stands beside.now queues.now frame told) workers (bin_count_of cut.now) worker tasks.old }
+    ensures { let frame = batched list.now.list cut.now size (K.cells beside.now) in
+        IsShare (IsDrainedIn K.stands beside.now queues.now frame told) workers (bin_count_of cut.now) worker
+        tasks.new }
+{
+    drain_each(
+        rt, queues, tasks, beside, list, cut, size, told, workers, worker, gate,
+    );
+    if has_begun(tasks) {
+        drain_each(
+            rt, queues, tasks, beside, list, cut, size, told, workers, worker, gate,
+        );
+    }
+}
+
+// Draws what is in the queues, the workers side by side in at most so many threads, while the caller does its own work.
+// With no threads it draws behind that.
+fn drain_all<R: Threads + Wait + Sync, B: Sync, K: Keeper<B> + Send, G: Gate, O: FnMut() -> A, A>(
     rt: &R,
     queues: &BinQueues,
     shares: &mut [Share<K>],
@@ -130,33 +172,35 @@ fn drain_all<R: Threads + Wait + Sync, B: Sync, K: Keeper<B> + Send, G: Gate>(
     workers: u32,
     threads: u32,
     gate: &G,
-)
+    own: &mut O,
+) -> A
     requires some { 0 < workers }
-    requires threads { 0 < threads }
     requires few { workers ≤ 64 }
     requires shares { let frame = batched list.now.list cut.now size (K.cells beside.now) in
         AreShares K.stands beside.now queues.now frame told workers shares.old }
-    ensures { let frame = batched list.now.list cut.now size (K.cells beside.now) in
+    requires own { O.pre own.old }
+    ensures shares { let frame = batched list.now.list cut.now size (K.cells beside.now) in
         AreDrained K.stands beside.now queues.now frame told workers shares.new }
+    ensures own { O.step own.old result own.new }
 {
-    for_each_share(
+    for_each_beside(
         rt,
         shares,
         threads as usize,
-        &|w: usize, own: &mut Share<K>|
+        &|w: usize, share: &mut Share<K>|
             requires worker { w < workers }
             requires few { workers ≤ 64 }
             requires share { let frame = batched list.now.list cut.now size (K.cells beside.now) in
                 IsShare (IsTaskIn K.stands beside.now queues.now frame told) workers (bin_count_of cut.now) w
-                own.old.tasks.items }
+                share.old.tasks.items }
             ensures { let frame = batched list.entry.now.list cut.entry.now size (K.cells beside.entry.now) in
                 IsShare (IsDrainedIn K.stands beside.entry.now queues.entry.now frame told) workers
-                (bin_count_of cut.entry.now) w own.new.tasks.items }
+                (bin_count_of cut.entry.now) w share.new.tasks.items }
         {
             drain_share(
                 rt,
                 queues,
-                own.tasks.as_mut_slice(),
+                share.tasks.as_mut_slice(),
                 beside,
                 list,
                 cut,
@@ -167,7 +211,8 @@ fn drain_all<R: Threads + Wait + Sync, B: Sync, K: Keeper<B> + Send, G: Gate>(
                 gate,
             )
         },
-    );
+        own,
+    )
 }
 
 // Tells a task how many batches were submitted.
@@ -301,8 +346,8 @@ fn tell_all<B, K: Keeper<B>>(
     }
 }
 
-// Submits all batches, while the workers drain what is there. Nobody waits for another. The caller submits: so batches
-// are there when the workers have started.
+// Submits all batches, a first part of them before the workers begin, and the others while these drain what is there. So
+// each finds batches when it has started. Nobody waits for another.
 fn submit_and_drain<R: Threads + Wait + Sync, B: Sync, K: Keeper<B> + Send, G: Gate>(
     rt: &R,
     alloc: Global,
@@ -313,6 +358,7 @@ fn submit_and_drain<R: Threads + Wait + Sync, B: Sync, K: Keeper<B> + Send, G: G
     list: &FrameList,
     cut: &Cut,
     size: u32,
+    batches: u32,
     workers: u32,
     gate: &G,
 ) -> Result<(), Memory>
@@ -322,62 +368,60 @@ fn submit_and_drain<R: Threads + Wait + Sync, B: Sync, K: Keeper<B> + Send, G: G
     requires sender { IsSubmitterOf queues.now sender.old }
     requires frame { sender.old.frame ≡ batched list.now.list cut.now size (K.cells beside.now) }
     requires none { sender.old.batches ≡ 0 }
+    requires all { batches ≡ batches_in sender.old.frame }
     requires shares { let frame = batched list.now.list cut.now size (K.cells beside.now) in
         AreShares K.stands beside.now queues.now frame 0 workers shares.old }
     ensures submitted { OnOk result
         (sender.new ≡ record sender.old { batches = batches_in sender.old.frame }) }
     ensures shares { let frame = batched list.now.list cut.now size (K.cells beside.now) in
-        AreDrained K.stands beside.now queues.now frame 0 workers shares.new }
+        OnOk result (AreDrained K.stands beside.now queues.now frame 0 workers shares.new) }
 {
-    let ((), submitted) = join_mut(
+    let ahead = batches / AHEAD;
+    let left = batches - ahead;
+    submit_next_ones(rt, alloc, queues, sender, list, cut, size, ahead, gate)?;
+    drain_all(
         rt,
-        &mut ||
-            requires some { 0 < workers }
-            requires few { workers ≤ 64 }
-            requires shares { let frame = batched list.now.list cut.now size (K.cells beside.now) in
-                AreShares K.stands beside.now queues.now frame 0 workers shares.now }
-            ensures { let frame = batched list.entry.now.list cut.entry.now size (K.cells beside.entry.now) in
-                AreDrained K.stands beside.entry.now queues.entry.now frame 0 workers shares.exit.now }
-        {
-            drain_all(
-                rt, queues, shares, beside, list, cut, size, 0, workers, workers, gate,
-            )
-        },
+        queues,
+        shares,
+        beside,
+        list,
+        cut,
+        size,
+        0,
+        workers,
+        workers,
+        gate,
         &mut || -> Result<(), Memory>
             requires queues { IsSubmitterOf queues.now sender.now }
             requires list { sender.now.frame.list ≡ list.now.list }
             requires cut { sender.now.frame.cut ≡ cut.now }
             requires size { sender.now.frame.size ≡ size }
             requires some { 1 ≤ size }
-            requires none { sender.now.batches ≡ 0 }
+            requires left { sender.now.batches + left ≡ batches_in sender.now.frame }
             ensures { OnOk result
                 (sender.exit.now ≡ record sender.entry.now { batches = batches_in sender.entry.now.frame }) }
-        { submit_all(rt, alloc, queues, sender, list, cut, size, gate) },
-    );
-    submitted
+        { submit_next_ones(rt, alloc, queues, sender, list, cut, size, left, gate) },
+    )
 }
 
 fn have_drawn<K>(tasks: &[Task<K>], batches: u32) -> bool {
     tasks.iter().all(|task| task.intake.batches() == batches)
 }
 
-// In how many threads the rest is drained: no other than the caller's where all batches are drawn.
-fn threads_for_rest<K>(shares: &[Share<K>], batches: u32, workers: u32) -> u32
-    requires some { 0 < workers }
-    ensures { 0 < result }
-{
+// In how many threads of their own the rest is drained: in none where all batches are drawn.
+fn threads_for_rest<K>(shares: &[Share<K>], batches: u32, workers: u32) -> u32 {
     if shares
         .iter()
         .all(|share| have_drawn(share.tasks.as_slice(), batches))
     {
-        1
+        0
     } else {
         workers
     }
 }
 
-/// Draws all batches. The submitter bins and submits them, while each worker drains each of its bins once; when these
-/// have returned each task is told that all are submitted, and the workers drain to the end. Err where memory gave out.
+/// Draws all batches. The submitter bins and submits them, while each worker drains its bins; when these have returned
+/// each task is told that all are submitted, and the workers drain to the end. Err where memory gave out.
 /// Conditions: the sender and the tasks are of these queues and of this frame, and nothing is submitted yet.
 pub(crate) fn draw_all<R: Threads + Wait + Sync, B: Sync, K: Keeper<B> + Send, G: Gate>(
     rt: &R,
@@ -405,16 +449,27 @@ pub(crate) fn draw_all<R: Threads + Wait + Sync, B: Sync, K: Keeper<B> + Send, G
     ensures drawn { let frame = batched list.now.list cut.now size (K.cells beside.now) in
         OnOk result (AreDrained K.stands beside.now queues.now frame (batches_in frame) workers shares.new) }
 {
-    submit_and_drain(
-        rt, alloc, queues, sender, shares, beside, list, cut, size, workers, gate,
-    )?;
     let batches = batch_count(list.len(), size);
+    submit_and_drain(
+        rt, alloc, queues, sender, shares, beside, list, cut, size, batches, workers, gate,
+    )?;
     tell_all(
         queues, sender, shares, beside, list, cut, size, batches, workers,
     );
     let threads = threads_for_rest(shares, batches, workers);
     drain_all(
-        rt, queues, shares, beside, list, cut, size, batches, workers, threads, gate,
+        rt,
+        queues,
+        shares,
+        beside,
+        list,
+        cut,
+        size,
+        batches,
+        workers,
+        threads,
+        gate,
+        &mut || {},
     );
     Ok(())
 }
