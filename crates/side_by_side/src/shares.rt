@@ -90,13 +90,7 @@ fn share_and_rest<R: Threads + Sync, T: Send, F: Fn(usize, &mut T) + Sync, G: Fn
 /// Calls f(i, &mut s[i]) at each place, in at most so many threads of their own, which the caller itself starts, one
 /// after another; then it does its own work. A system may put the first of these threads on the caller's processor until
 /// the caller waits, and that comes soon. With no threads the caller calls f itself, behind its own work.
-pub fn for_each_beside<
-    R: Threads + Sync,
-    T: Send,
-    F: Fn(usize, &mut T) + Sync,
-    G: FnMut() -> A,
-    A,
->(
+pub fn for_each_beside<R: Threads + Sync, T: Send, F: Fn(usize, &mut T) + Sync, G: FnMut() -> A, A>(
     rt: &R,
     s: &mut [T],
     threads: usize,
