@@ -12,6 +12,7 @@ use crate::frame::{frame_list, push_all};
 use cull_base::{ClipVertex, FrameList, Memory, Size, Tri, Winding};
 use side_by_side::for_each_share;
 use std::alloc::Global;
+use std::mem;
 use std::thread::Threads;
 
 /// A thread is worth its start for so many triangles.
@@ -52,9 +53,37 @@ fn run(tris: &[Tri], share: usize, k: usize) -> &[Tri]
     &tris[start..end]
 }
 
+// As `push_all`. Meanwhile the list stands apart from those of other threads: side by side these are on one cache line,
+// which each piece would take from the others.
+fn push_all_apart(
+    alloc: Global,
+    clips: &[ClipVertex],
+    tris: &[Tri],
+    near: u16,
+    size: Size,
+    winding: Winding,
+    list: &mut FrameList,
+)
+    requires near_least { 1 ≤ near }
+    requires near_most { near ≤ 1024 }
+    requires indices { All (HasClips (length clips.now)) tris.now }
+    requires room { length list.old.list.members + 2 * length tris.now ≤ list.old.room }
+    ensures { list.new ≡ with_members list.old (list_of_clips clips.now tris.now GRADE_TOP near size winding) }
+{
+    match FrameList::with_room(alloc, size, 0) {
+        Ok(empty) => {
+            let mut apart = mem::replace(list, empty);
+            push_all(clips, tris, near, size, winding, &mut apart);
+            *list = apart;
+        }
+        Err(_) => push_all(clips, tris, near, size, winding, list),
+    }
+}
+
 // Fills each room with the pieces of its run.
 fn fill<R: Threads + Sync>(
     rt: &R,
+    alloc: Global,
     rooms: &mut [FrameList],
     clips: &[ClipVertex],
     tris: &[Tri],
@@ -89,7 +118,7 @@ fn fill<R: Threads + Sync>(
             requires empty { IsRoom size (2 * share) room.old }
             ensures { room.new ≡ with_members room.old
                 (list_of_clips clips.entry.now (run_of tris.entry.now share k) GRADE_TOP near size winding) }
-        { push_all(clips, run(tris, share, k), near, size, winding, room) },
+        { push_all_apart(alloc, clips, run(tris, share, k), near, size, winding, room) },
     );
 }
 
@@ -119,6 +148,7 @@ fn make_runs<R: Threads + Sync>(
     let mut rooms = rooms_for(alloc, size, tris.len(), share, runs)?;
     fill(
         rt,
+        alloc,
         rooms.as_mut_slice(),
         clips,
         tris,
