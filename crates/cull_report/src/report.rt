@@ -50,16 +50,19 @@ pub(crate) fn word_of(verdict: Verdict) -> &'static [u8]
     }
 }
 
+// Appends the line of an object. Condition: there is room for it.
 #[tactic(auto, unfolding(crate::specs::Text::verdict_line))]
-fn verdict_line(object: usize, verdict: Verdict) -> Line
-    ensures value { result ≡ verdict_line object verdict }
-    ensures short { length result ≤ 30 }
+fn push_verdict_line(lines: &mut Lines, object: usize, verdict: Verdict)
+    requires { length lines.old + 30 ≤ 4096 }
+    ensures value { lines.new ≡ lines.old ++ verdict_line object verdict }
+    ensures short { length lines.new ≤ length lines.old + 30 }
 {
-    let mut line = Line::begin(b"");
-    line.push_number(object as u64);
-    line.word(word_of(verdict));
-    line.end();
-    line
+    lines.push_number(object as u64);
+    match verdict {
+        Verdict::Visible => lines.push(b" visible\n"),
+        Verdict::Occluded => lines.push(b" occluded\n"),
+        Verdict::Outside => lines.push(b" outside\n"),
+    }
 }
 
 #[tactic(auto, unfolding(crate::specs::Text::end_line))]
@@ -86,7 +89,7 @@ fn lines_from(first: usize, verdicts: &[Verdict]) -> Lines
 {
     let mut lines = Lines::empty();
     for (k, verdict) in verdicts.iter().enumerate() {
-        lines.push(verdict_line(first + k, *verdict).as_slice());
+        push_verdict_line(&mut lines, first + k, *verdict);
     }
     lines
 }
