@@ -15,4 +15,5 @@ pub mod Returning
 pub mod Dealing
 pub mod Draining
 pub mod Ending
+pub mod PlainTasks
 pub mod Keeping

@@ -12,3 +12,4 @@ pub mod Intakes
 pub mod Submitters
 pub mod Owners
 pub mod Shares
+pub mod Waiting

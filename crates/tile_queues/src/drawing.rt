@@ -22,8 +22,8 @@ use std::thread::Threads;
 /// Of so many batches one is submitted before the workers begin.
 const AHEAD: u32 = 3;
 
-// Draws what is in the queue of a task's bin.
-fn drain_one<R: Wait, B, K: Keeper<B>, G: Gate>(
+/// Draws what is in the queue of a task's bin.
+pub(crate) fn drain_one<R: Wait, B, K: Keeper<B>, G: Gate>(
     rt: &R,
     queues: &BinQueues,
     task: &mut Task<K>,
@@ -215,8 +215,8 @@ fn drain_all<R: Threads + Wait + Sync, B: Sync, K: Keeper<B> + Send, G: Gate, O:
     )
 }
 
-// Tells a task how many batches were submitted.
-fn tell_one<B, K: Keeper<B>>(
+/// Tells a task how many batches were submitted.
+pub(crate) fn tell_one<B, K: Keeper<B>>(
     queues: &BinQueues,
     sender: &mut Sender,
     task: &mut Task<K>,

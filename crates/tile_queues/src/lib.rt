@@ -8,6 +8,7 @@ mod cell_bin;
 mod cell_shares;
 mod close_queues;
 mod drawing;
+mod finishing;
 mod frame;
 mod gate;
 mod intake;
@@ -19,16 +20,19 @@ mod one_worker;
 mod part;
 mod plain;
 mod plain_frame;
-mod plain_shares;
+mod plain_tasks;
 mod queue_rule;
 mod queue_steps;
 mod queues;
 mod sender;
 mod share;
 mod submitter;
+
 mod task;
 mod tile_slots;
+mod turns;
 mod unbinned;
+mod waiting;
 
 pub use bin_task::BinTask;
 pub use caller::Caller;

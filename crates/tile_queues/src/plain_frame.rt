@@ -8,16 +8,18 @@ ghost use Rattle.tile_queues.specs.Bins.{AreBinsAt};
 ghost use Rattle.tile_queues.specs.Frames.{HaveStates};
 ghost use Rattle.tile_queues.specs.Plain.{StandsPlain};
 
-use crate::drawing::draw_all;
+use crate::finishing::finish_all;
 use crate::gate::Gate;
 use crate::one_worker::draw_batches;
-use crate::plain_shares::{deal_empty, gather};
+use crate::plain_tasks::first_tasks;
 use crate::queues::BinQueues;
+use crate::turns::submit_and_take;
 use crate::unbinned::draw_unbinned;
 use binning::{Cut, bin_of_tile, bin_span};
 use cull_base::{FrameList, Memory};
 use masked_update::{Canvas, TileState};
 use std::alloc::Global;
+use std::marker::Brand;
 use std::sync::Wait;
 use std::thread::Threads;
 
@@ -127,28 +129,27 @@ fn draw_by_workers<R: Threads + Wait + Sync, G: Gate>(
     ensures drawn { IfOk result (λ v. HaveStates list.now.list v.items) }
 {
     let (queues, mut sender, intakes) = BinQueues::open(alloc, list, cut, batch, &[])?;
-    let mut shares = deal_empty(alloc, &queues, intakes, list, cut, batch, workers)?;
-    let slice = shares.as_mut_slice();
-    draw_all(
+    let slots = first_tasks(alloc, &queues, intakes, list, cut, batch)?;
+    let slots = submit_and_take::<Brand, R, G>(
         rt,
         alloc,
         &queues,
         &mut sender,
-        slice,
-        &(),
+        slots,
         list,
         cut,
         batch,
         workers,
         gate,
     )?;
-    gather(alloc, slice, &queues, list, cut, batch, workers)
+    let bins = finish_all(rt, alloc, &queues, &mut sender, slots, list, cut, batch, gate)?;
+    tiles_in_order(alloc, bins.as_slice(), list, cut)
 }
 
 /// A frame over plain tiles, which nobody reads while they are drawn: each tile of the screen has the states after the
-/// whole list, whatever the cut, the number of workers and the size of batches. Of counts nothing is said. Bin b
-/// belongs to worker b mod workers, which owns its tiles while it draws them. Two or more workers draw batches from the
-/// queues of their bins while these are binned; one needs no queue, and one bin no parts. The gate is asked before a
+/// whole list, whatever the cut, the number of workers and the size of batches. Of counts nothing is said. Two or more
+/// workers draw batches from the queues of bins while these are binned: each takes a bin that waits, owns its tiles while
+/// it draws some of it, and puts it back; one needs no queue, and one bin no parts. The gate is asked before a
 /// batch is binned, and before a bin draws a member, with the number that it has drawn. Err where memory gave out.
 /// Conditions: 1 to 64 workers, and a batch has at least one piece, so that there are at most 2048.
 pub fn draw_plain_frame<R: Threads + Wait + Sync, G: Gate>(

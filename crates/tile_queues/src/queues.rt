@@ -14,7 +14,7 @@ use crate::number_rule::Number;
 use crate::queue_rule::Queue;
 use crate::sender::Sender;
 use crate::submitter::Submitter;
-use crate::task::{Drained, Task, drain_task};
+use crate::task::{Drained, Task, drain_some, drain_task};
 use binning::BinPart;
 use cull_base::FrameList;
 use std::marker::Model;
@@ -130,6 +130,26 @@ impl BinQueues {
     {
         let queue = &self.queues[task.intake.bin() as usize];
         drain_task(rt, queue, &self.number, task, beside, list, gate);
+    }
+
+    /// As `drain_any`, but no more than some: the bin may be put back once so many members are drawn.
+    pub(crate) fn drain_some<R: Wait, B, K: Keeper<B>, G: Gate>(
+        &self,
+        rt: &R,
+        task: &mut Task<K>,
+        beside: &B,
+        list: &FrameList,
+        gate: &G,
+        most: u32,
+    )
+        requires queues { IsTaskOf self.now task.old.intake }
+        requires list { task.old.intake.of.frame.list ≡ list.now.list }
+        requires stands { StandsAtBatches K.stands beside.now task.old.intake task.old.keeper }
+        ensures on { GoesOn task.old.intake task.new.intake }
+        ensures stands { StandsAtBatches K.stands beside.now task.new.intake task.new.keeper }
+    {
+        let queue = &self.queues[task.intake.bin() as usize];
+        drain_some(rt, queue, &self.number, task, beside, list, gate, most);
     }
 
     /// Tells a task how many batches were submitted. Condition: the submitter and the task are of these queues and of one

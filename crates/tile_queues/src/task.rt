@@ -160,3 +160,30 @@ pub(crate) fn drain_task<R: Wait, B, K: Keeper<B>, G: Gate>(
     }
     unreachable!()
 }
+
+/// Draws parts of the bin's queue in order, until so many members are drawn, all batches are, or no more are published.
+pub(crate) fn drain_some<R: Wait, B, K: Keeper<B>, G: Gate>(
+    rt: &R,
+    queue: &Queue,
+    number: &Number,
+    task: &mut Task<K>,
+    beside: &B,
+    list: &FrameList,
+    gate: &G,
+    most: u32,
+)
+    requires list { task.old.intake.of.frame.list ≡ list.now.list }
+    requires queue { task.old.intake.queue ≡ queue.now.table.shared.table_id }
+    requires number { task.old.intake.number ≡ number.now.table.shared.table_id }
+    requires stands { StandsAtBatches K.stands beside.now task.old.intake task.old.keeper }
+    ensures on { GoesOn task.old.intake task.new.intake }
+    ensures stands { StandsAtBatches K.stands beside.now task.new.intake task.new.keeper }
+{
+    let end = task.intake.taken().saturating_add(most);
+    for _ in rt.forever() {
+        let ended = turn(rt, queue, number, task, beside, list, gate).is_some();
+        if ended || end <= task.intake.taken() {
+            return;
+        }
+    }
+}

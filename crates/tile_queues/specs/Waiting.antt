@@ -1,0 +1,24 @@
+-- The tasks of a frame's bins, each in the slot of its bin but while a worker has it.
+use Rattle.std.specs.Prelude.{◌≡◌, ℕ, ◌<◌, List, Some, length, slice_index_or}
+use Rattle.std.specs.declared.option.Option.{Option}
+use Rattle.binning.specs.Cut.{bin_count_of}
+use Rattle.masked_update.specs.Canvas.{CanvasOf}
+use Rattle.tile_queues.specs.Plain.{StandsPlain}
+use Rattle.tile_queues.specs.QueueParts.{BatchedFrame}
+use Rattle.tile_queues.specs.Shares.{IsTaskIn}
+use Rattle.tile_queues.specs.Tasks.{QueuesOf}
+use Rattle.tile_queues.specs.declared.task.Task.{Task}
+
+-- the task of a bin of this frame, with the bin's plain tiles, which was told of nothing yet
+abbrev pub IsPlainTask : QueuesOf → BatchedFrame → ℕ → Task CanvasOf → Type 0
+IsPlainTask queues frame bin t = IsTaskIn StandsPlain (tt {0}) queues frame 0 bin t
+
+-- the same, of queues that may not be picked yet
+abbrev pub IsTaskUnder : Option QueuesOf → BatchedFrame → ℕ → Task CanvasOf → Type 0
+IsTaskUnder queues frame bin t = (q : QueuesOf) → queues ≡ Some q → IsPlainTask q frame bin t
+
+-- a slot for each bin in order, in which no other task than the bin's stands
+pub record AreWaiting (queues : Option QueuesOf) (frame : BatchedFrame) (slots : List (Option (Task CanvasOf))) : Type 0 where
+  pub count : length slots ≡ bin_count_of frame.cut
+  pub each : (b : ℕ) (d : Option (Task CanvasOf)) (t : Task CanvasOf) → b < length slots → slice_index_or slots b d ≡ Some t
+      → IsTaskUnder queues frame b t
