@@ -1,7 +1,6 @@
 -- Frames whose tasks drew all batches have the tiles of the whole list.
-use Rattle.std.proofs.Common.{◌≡◌, ℕ, ◌+◌, ◌-◌, ◌*◌, ◌/◌, ◌%◌, ◌<◌, ◌≤◌, List, [], length, get_or, option_map, true, arith, ap, ◌∙◌, sym, subst}
+use Rattle.std.proofs.Common.{◌≡◌, ℕ, ◌-◌, ◌<◌, ◌≤◌, List, length, get_or, option_map, true, arith, ap, ◌∙◌, sym, subst}
 use Rattle.std.proofs.lemmas.List.{length-map}
-use Rattle.std.proofs.lemmas.Nat.{div-add-mod', mod_below}
 use Rattle.std.proofs.lemmas.Option.{slice_get-get_or, slice_get-map}
 use Rattle.atomic_table.specs.Seated.{TableId}
 use Rattle.binning.specs.Bins.{bin_of, bin_span_of}
@@ -21,13 +20,11 @@ use Rattle.tile_queues.specs.CellBins.{StandsInCells}
 use Rattle.tile_queues.specs.declared.cell_bin.CellBin.{CellBin}
 use Rattle.tile_queues.specs.Owners.{AreHandedBack}
 use Rattle.tile_queues.specs.Plain.{IsPlainAt, StandsPlain}
-use Rattle.tile_queues.specs.QueueParts.{BatchedFrame, BinOfFrame, batched, batches_in, bin_of_frame, places_before}
-use Rattle.tile_queues.specs.Shares.{AreDrained, AreWhole, IsDrainedIn}
+use Rattle.tile_queues.specs.QueueParts.{BatchedFrame, BinOfFrame, batches_in, bin_of_frame, places_before}
+use Rattle.tile_queues.specs.Shares.{AreWhole, IsDrainedIn}
 use Rattle.tile_queues.specs.Tasks.{HoldsBin, IsTaskOf, QueuesOf, StandsAtBatches, Tasking, cells_of}
-use Rattle.tile_queues.specs.declared.share.Share.{Share}
 use Rattle.tile_queues.specs.declared.task.Task.{Task}
 use Rattle.tile_queues.proofs.Dealing.{one_of}
-use Rattle.tile_queues.proofs.Owning.{belongs}
 
 -- all batches have the whole list
 pub places_end : (frame : BatchedFrame) → 1 ≤ frame.size → places_before frame (batches_in frame) ≡ length frame.list.members
@@ -54,26 +51,6 @@ pub held_bin : (list : PieceList) (cut : CutOf) (tile bin : ℕ) (bins : List Ca
 held_bin list cut tile bin bins c sized valid lt is below pieces at here =
     let count = at.count in
     held_at list cut tile bin c sized valid lt is pieces (subst (IsPlainAt list (bin_span_of list.size cut bin) (length list.members)) (sym here) (at.each bin c (omega (arith, below, count))))
-
--- the task of a bin is the worker's to which it belongs
-pub held_task : (queues : QueuesOf) (list : PieceList) (cut : CutOf) (size workers bin : ℕ) → 1 ≤ size → 0 < workers → bin < bin_count_of cut → (shares : List (Share CanvasOf))
-    → (let frame = batched list cut size [] in AreDrained StandsPlain (tt {0}) queues frame (batches_in frame) workers shares)
-    → (own : Share CanvasOf) → own ≡ get_or shares (bin % workers) own → (t : Task CanvasOf) → t ≡ get_or own.tasks.items (bin / workers) t → IsPlainAt list (bin_span_of list.size cut bin) (length list.members) t.keeper
-held_task queues list cut size workers bin some any below shares drawn own of t is =
-    let frame = batched list cut size [] in
-    let mine = mod_below bin workers any in
-    let count = drawn.count in
-    let share = drawn.each (bin % workers) own (omega (arith, count, mine)) in
-    let owned = share.count in
-    let same = ap (λ (s : Share CanvasOf). s.tasks.items) of in
-    let inside = belongs (bin_count_of cut) workers bin any below in
-    let there : IsDrainedIn StandsPlain (tt {0}) queues frame (batches_in frame) (bin / workers * workers + bin % workers) (get_or (get_or shares (bin % workers) own).tasks.items (bin / workers) t) = share.each (bin / workers) t (omega (arith, owned, inside)) in
-    let task : IsDrainedIn StandsPlain (tt {0}) queues frame (batches_in frame) bin t = subst (λ (x : ℕ × Task CanvasOf). IsDrainedIn StandsPlain (tt {0}) queues frame (batches_in frame) x.0 x.1) (λ i. (div-add-mod' bin workers i, (ap (λ (l : List (Task CanvasOf)). get_or l (bin / workers) t) (sym same) ∙ sym is) i)) there in
-    let named = task.task.of_is in
-    let whole : t.intake.batches ≡ batches_in frame = task.whole (λ i. batches_in frame) in
-    let at : StandsAtBatches StandsPlain (tt {0}) t.intake t.keeper = task.task.at in
-    let placed : IsPlainAt list (bin_span_of list.size cut bin) (places_before frame t.intake.batches) t.keeper = subst (λ (b : BinOfFrame). IsPlainAt b.frame.list (bin_span_of b.frame.list.size b.frame.cut b.bin) (places_before b.frame t.intake.batches) t.keeper) named at in
-    subst (λ n. IsPlainAt list (bin_span_of list.size cut bin) n t.keeper) (ap (places_before frame) whole ∙ places_end frame some) placed
 
 -- the cells of new writers
 pub fresh_cells : (cells : List TableId) (list : PieceList) (ws : List Writing) → AreFresh cells list (length cells) ws → cells_of ws ≡ cells

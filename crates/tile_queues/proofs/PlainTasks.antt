@@ -6,7 +6,6 @@ use Rattle.binning.specs.Bins.{bin_span_of}
 use Rattle.binning.specs.Cut.{CutOf}
 use Rattle.cull_base.specs.Tiles.{PieceList}
 use Rattle.masked_update.specs.Canvas.{CanvasOf}
-use Rattle.tile_queues.specs.Bins.{IsBinAt}
 use Rattle.tile_queues.specs.Plain.{IsPlainAt, StandsPlain}
 use Rattle.tile_queues.specs.QueueParts.{BatchedFrame, BinOfFrame, batched, batches_in, places_before}
 use Rattle.tile_queues.specs.Shares.{IsDrainedIn}

@@ -42,8 +42,29 @@ fn drawn_on<R: Wait, G: Gate>(
 {
     let batches = batch_count(list.len(), size);
     let mut task = task;
-    tell_one(queues, sender, &mut task, &(), list, cut, size, batches, bin);
-    drain_one(rt, queues, &mut task, &(), list, cut, size, batches, bin, gate);
+    tell_one(
+        queues,
+        sender,
+        &mut task,
+        &(),
+        list,
+        cut,
+        size,
+        batches,
+        bin,
+    );
+    drain_one(
+        rt,
+        queues,
+        &mut task,
+        &(),
+        list,
+        cut,
+        size,
+        batches,
+        bin,
+        gate,
+    );
     task.keeper
 }
 

@@ -27,7 +27,6 @@ mod queues;
 mod sender;
 mod share;
 mod submitter;
-
 mod task;
 mod tile_slots;
 mod turns;

@@ -142,7 +142,17 @@ fn draw_by_workers<R: Threads + Wait + Sync, G: Gate>(
         workers,
         gate,
     )?;
-    let bins = finish_all(rt, alloc, &queues, &mut sender, slots, list, cut, batch, gate)?;
+    let bins = finish_all(
+        rt,
+        alloc,
+        &queues,
+        &mut sender,
+        slots,
+        list,
+        cut,
+        batch,
+        gate,
+    )?;
     tiles_in_order(alloc, bins.as_slice(), list, cut)
 }
 
