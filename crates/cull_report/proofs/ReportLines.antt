@@ -1,7 +1,8 @@
 -- The lines of verdicts, one after the other.
-use Rattle.std.proofs.Common.{◌≡◌, ℕ, ◌+◌, ◌-◌, ◌<◌, ◌≤◌, min, List, [], ◌∷◌, ◌++◌, length, take, drop, arith, sym, ap, ◌∙◌, append_assoc, get_or}
+use Rattle.std.proofs.Common.{◌≡◌, ℕ, ◌+◌, ◌-◌, ◌<◌, ◌≤◌, min, List, [], ◌∷◌, ◌++◌, length, take, drop, arith, refl, sym, ap, ◌∙◌, append_assoc, get_or, inl, inr}
 use Rattle.std.proofs.Math.Seq.{take-add}
-use Rattle.std.proofs.lemmas.List.{take_min, append-nil, take_more, length-take, take-append-drop}
+use Rattle.std.proofs.lemmas.Bool.{cases_lt}
+use Rattle.std.proofs.lemmas.List.{take_all, drop_all, take_min, append-nil, take_more, length-take, take-append-drop}
 use Rattle.cull_base.specs.declared.scene_types.Verdict.{Verdict}
 use Rattle.cull_report.specs.Text.{verdict_line, verdict_lines}
 
@@ -21,18 +22,19 @@ verdict_lines-push first xs k d lt =
     ∙ ap (λ (m : ℕ). verdict_lines first (take k xs) ++ verdict_lines m (x ∷ [])) n ∙ ap (λ (t : List ℕ). verdict_lines first (take k xs) ++ t) (append-nil (verdict_line (first + k) x))
 
 -- the lines so far and those of the next verdicts
-pub verdict_lines-batch : (xs : List Verdict) (k n : ℕ) → k ≤ length xs → verdict_lines 0 (take (k + n) xs) ≡ verdict_lines 0 (take k xs) ++ verdict_lines k (take n (drop k xs))
-verdict_lines-batch xs k n le =
-    let m : 0 + length (take k xs) ≡ k = omega (arith, length-take k xs) in
-    ap (verdict_lines 0) (take-add k n xs) ∙ verdict_lines-append 0 (take k xs) (take n (drop k xs)) ∙ ap (λ (i : ℕ). verdict_lines 0 (take k xs) ++ verdict_lines i (take n (drop k xs))) m
+pub verdict_lines-batch : (xs : List Verdict) (k n : ℕ) → verdict_lines 0 (take (k + n) xs) ≡ verdict_lines 0 (take k xs) ++ verdict_lines k (take n (drop k xs))
+verdict_lines-batch xs k n = ap (verdict_lines 0) (take-add k n xs) ∙ verdict_lines-append 0 (take k xs) (take n (drop k xs)) ∙ elim (cases_lt k (length xs)) [
+  | inl lt ↦ (let m : 0 + length (take k xs) ≡ k = omega (arith, lt, length-take k xs) in ap (λ (i : ℕ). verdict_lines 0 (take k xs) ++ verdict_lines i (take n (drop k xs))) m)
+  | inr past ↦ (let none : take n (drop k xs) ≡ [] = ap (take n) (drop_all k xs (omega (arith, past))) ∙ take_all n [] (omega arith) in rw none refl)
+]
 
 -- all lines: those so far, those of the next verdicts and the others
-pub verdict_lines-batches : (xs : List Verdict) (k n : ℕ) → k ≤ length xs → (others : List ℕ) × (verdict_lines 0 xs ≡ verdict_lines 0 (take k xs) ++ (verdict_lines k (take n (drop k xs)) ++ others))
-verdict_lines-batches xs k n le =
+pub verdict_lines-batches : (xs : List Verdict) (k n : ℕ) → (others : List ℕ) × (verdict_lines 0 xs ≡ verdict_lines 0 (take k xs) ++ (verdict_lines k (take n (drop k xs)) ++ others))
+verdict_lines-batches xs k n =
     let rest = drop (k + n) xs in
     let i = 0 + length (take (k + n) xs) in (
       verdict_lines i rest,
-      ap (verdict_lines 0) (sym (take-append-drop (k + n) xs)) ∙ verdict_lines-append 0 (take (k + n) xs) rest ∙ ap (λ (t : List ℕ). t ++ verdict_lines i rest) (verdict_lines-batch xs k n le)
+      ap (verdict_lines 0) (sym (take-append-drop (k + n) xs)) ∙ verdict_lines-append 0 (take (k + n) xs) rest ∙ ap (λ (t : List ℕ). t ++ verdict_lines i rest) (verdict_lines-batch xs k n)
           ∙ append_assoc (verdict_lines 0 (take k xs)) (verdict_lines k (take n (drop k xs))) (verdict_lines i rest),
     )
 

@@ -12,7 +12,7 @@ use Rattle.cull_base.specs.Tiles.{PieceList, ArePieces, tile_list, tile_after}
 use Rattle.cull_base.specs.Pixels.{sub_of_pixel, tile_of_pixel}
 use Rattle.cull_base.proofs.Pixels.{tile_is, tile_of_pixel-is}
 use Rattle.masked_update.proofs.OwnList.{after-tile_list}
-use Rattle.masked_update.specs.TileOf.{TileOf, sub_at, tile_at}
+use Rattle.masked_update.specs.TileOf.{TileOf, sub_at}
 use Rattle.masked_update.specs.Views.{state_in}
 use Rattle.cull_report.proofs.Agreement.{Agrees}
 
@@ -57,5 +57,5 @@ state_after size tile_of pieces px py x y drawn =
     ∙ ap (λ (u : Sub). cond (is_on_screen size u) (after u pieces) empty_state) sub ∙ ap (λ b. cond b (after (sub_of_pixel px py) pieces) empty_state) on
 
 -- tiles that took a list hold at each pixel of the screen the state after it
-pub drawn_agrees : (size : Dimensions) (pieces : List Piece) (tiles : List TileOf) → ((t : ℕ) → t < tile_count_of size → (tile_at tiles t).subs ≡ tile_after size t pieces) → Agrees size (state_in size (tile_at tiles)) (λ u. after u pieces)
-drawn_agrees size pieces tiles drawn px py x y = state_after size (tile_at tiles) pieces px py x y (drawn (tile_of_pixel size px py) (tile_of_pixel-is size px py x y).within)
+pub drawn_agrees : (size : Dimensions) (pieces : List Piece) (tile_of : ℕ → TileOf) → ((t : ℕ) → t < tile_count_of size → (tile_of t).subs ≡ tile_after size t pieces) → Agrees size (state_in size tile_of) (λ u. after u pieces)
+drawn_agrees size pieces tile_of drawn px py x y = state_after size tile_of pieces px py x y (drawn (tile_of_pixel size px py) (tile_of_pixel-is size px py x y).within)

@@ -1,6 +1,7 @@
 pub mod Lines
 pub mod Text
 pub mod Scene
+pub mod Runs
 pub mod Forms
 pub mod Hiding
 pub mod Live

@@ -2,18 +2,24 @@
 #![tactic(auto)]
 
 mod by_workers;
+mod counts;
 mod form;
+mod frame_verdicts;
 mod live_line;
 mod live_text;
 mod objects;
 mod report;
+mod run_pool;
+mod runs;
 #[cfg(test)]
 mod tests;
 mod text;
 
 pub use by_workers::verdicts_by_workers;
+pub use counts::Counts;
+pub use frame_verdicts::FrameVerdicts;
 pub use live_line::{LiveLine, TileCount};
 pub use live_text::write_live;
 pub use objects::{object_area, object_settled, object_verdict, verdicts};
-pub use report::{count_of, write_frame, write_header};
+pub use report::{write_frame, write_header};
 pub use text::{Line, Text};

@@ -1,9 +1,10 @@
 //! The texts of the report.
-ghost use Rattle.std.specs.Prelude.{◌≡◌, ℕ, List, [], ◌∷◌, ◌++◌, ◌+◌, ◌<◌, ◌≤◌, ◌^◌, length, count_by};
-ghost use Rattle.cull_report.specs.Text.{header_text, frame_line, verdict_line, verdict_lines, end_line, frame_text, verdict_word, is_visible, is_occluded, is_outside};
+ghost use Rattle.std.specs.Prelude.{◌≡◌, ℕ, List, [], ◌∷◌, ◌++◌, ◌+◌, ◌<◌, ◌≤◌, ◌^◌, length};
+ghost use Rattle.cull_report.specs.Text.{header_text, frame_line, verdict_line, verdict_lines, end_line, frame_text, verdict_word};
 ghost use Rattle.cull_base.specs.Stream.{Writes};
 ghost use Rattle.cull_report.specs.Scene.{scene_header};
 
+use crate::counts::Counts;
 use crate::text::{Line, Lines};
 use cull_base::{Sink, SinkError, Verdict};
 use scene_reader::Scene;
@@ -11,7 +12,7 @@ use scene_reader::Scene;
 const REPORT_VERSION: u64 = 1;
 
 // How many verdicts' lines are handed to the sink at once.
-const BATCH: usize = 128;
+pub(crate) const BATCH: usize = 128;
 
 #[tactic(auto, unfolding(crate::specs::Text::header_text))]
 fn header_line(width: u16, height: u16, frames: usize, objects: usize) -> Line
@@ -28,7 +29,7 @@ fn header_line(width: u16, height: u16, frames: usize, objects: usize) -> Line
 }
 
 #[tactic(auto, unfolding(crate::specs::Text::frame_line))]
-fn frame_line(frame: u32, pieces: u32) -> Line
+pub(crate) fn frame_line(frame: u32, pieces: u32) -> Line
     ensures { result ≡ frame_line frame pieces }
 {
     let mut line = Line::begin(b"frame");
@@ -52,7 +53,7 @@ pub(crate) fn word_of(verdict: Verdict) -> &'static [u8]
 
 // Appends the line of an object. Condition: there is room for it.
 #[tactic(auto, unfolding(crate::specs::Text::verdict_line))]
-fn push_verdict_line(lines: &mut Lines, object: usize, verdict: Verdict)
+pub(crate) fn push_verdict_line(lines: &mut Lines, object: usize, verdict: Verdict)
     requires { length lines.old + 30 ≤ 4096 }
     ensures value { lines.new ≡ lines.old ++ verdict_line object verdict }
     ensures short { length lines.new ≤ length lines.old + 30 }
@@ -66,17 +67,17 @@ fn push_verdict_line(lines: &mut Lines, object: usize, verdict: Verdict)
 }
 
 #[tactic(auto, unfolding(crate::specs::Text::end_line))]
-fn end_line(frame: u32, visible: usize, occluded: usize, outside: usize) -> Line
-    ensures { result ≡ end_line frame visible occluded outside }
+pub(crate) fn end_line(frame: u32, counts: Counts) -> Line
+    ensures { result ≡ end_line frame counts.visible counts.occluded counts.outside }
 {
     let mut line = Line::begin(b"end");
     line.number(u64::from(frame));
     line.word(b"visible");
-    line.number(visible as u64);
+    line.number(counts.visible as u64);
     line.word(b"occluded");
-    line.number(occluded as u64);
+    line.number(counts.occluded as u64);
     line.word(b"outside");
-    line.number(outside as u64);
+    line.number(counts.outside as u64);
     line.end();
     line
 }
@@ -105,18 +106,6 @@ fn write_verdicts<W: Sink>(sink: &mut W, verdicts: &[Verdict]) -> Result<(), Sin
     Ok(())
 }
 
-/// How many of some verdicts are the wanted one.
-pub fn count_of(verdicts: &[Verdict], wanted: Verdict) -> usize
-    ensures visible { wanted ≡ Verdict.Visible → result ≡ count_by is_visible verdicts.now }
-    ensures occluded { wanted ≡ Verdict.Occluded → result ≡ count_by is_occluded verdicts.now }
-    ensures outside { wanted ≡ Verdict.Outside → result ≡ count_by is_outside verdicts.now }
-{
-    verdicts
-        .iter()
-        .filter(|verdict| **verdict == wanted)
-        .count()
-}
-
 /// Writes a frame's lines: the number of its pieces, each object's verdict, and how many there are of each.
 /// Failed only where the sink's count of faults rose, Memory only where that of refused growths did; after an error
 /// a front of the text that isn't the whole was appended.
@@ -130,10 +119,7 @@ pub fn write_frame<W: Sink>(
 {
     frame_line(frame, pieces).write_to(sink)?;
     write_verdicts(sink, verdicts)?;
-    let visible = count_of(verdicts, Verdict::Visible);
-    let occluded = count_of(verdicts, Verdict::Occluded);
-    let outside = count_of(verdicts, Verdict::Outside);
-    end_line(frame, visible, occluded, outside).write_to(sink)
+    end_line(frame, Counts::of(verdicts)).write_to(sink)
 }
 
 /// Writes the report's first line. Failed and Memory are the sink's, as for a frame.

@@ -3,7 +3,7 @@ ghost use Rattle.std.specs.Prelude.{◌≡◌, ◌<◌, length, All, IfOk};
 ghost use Rattle.cull_base.specs.Screen.{tile_count_of};
 ghost use Rattle.tile_cells.specs.Standing.{AreStanding, IsReading, StandsAt};
 
-use crate::{LiveLine, object_settled, write_live};
+use crate::{LiveLine, object_settled, verdicts_by_workers, write_live};
 use cull_base::{
     BytesSink, FrameList, Memory, NO_PIXELS, Object, Rect, ScreenTri, SinkError, Size, SureSink,
     Verdict, Winding,
@@ -13,6 +13,7 @@ use scene_reader::{Scene, SceneParts};
 use std::alloc::Global;
 use std::sync::Wait;
 use std::test::Fail;
+use std::thread::Threads;
 use tile_cells::{Snapshot, TileCells, TileReader, TileWriter};
 
 // One piece on a screen of this size, with corners in sixteenths of a pixel.
@@ -188,9 +189,8 @@ fn failed_write_leaves_a_front(rt: HostRuntime) -> Result<(), Fail> {
     Ok(())
 }
 
-// A scene without vertices, with one frame and the rectangle of the whole screen at two distances.
-fn rectangles_at(alloc: Global, near: i32, far: i32) -> Result<Scene, Fail> {
-    let rect = pixels(0, 0, 32, 8);
+// A scene of one tile without vertices, with one frame and these objects.
+fn scene_of(alloc: Global, objects: Vec<Object>) -> Result<Scene, Fail> {
     let parts = SceneParts {
         width: 32,
         height: 8,
@@ -199,16 +199,23 @@ fn rectangles_at(alloc: Global, near: i32, far: i32) -> Result<Scene, Fail> {
         vertices: Vec::new(alloc),
         occluders: Vec::new(alloc),
         object_tris: Vec::new(alloc),
-        objects: Vec::from_slice(
-            alloc,
-            &[
-                Object::Area { rect, w: near },
-                Object::Area { rect, w: far },
-            ],
-        )?,
+        objects,
         cameras: Vec::from_slice(alloc, &[[0; 12]])?,
     };
     Ok(Scene::new(parts).ok().ok_or("a scene")?)
+}
+
+// The rectangle of the whole screen at two distances.
+fn rectangles_at(alloc: Global, near: i32, far: i32) -> Result<Scene, Fail> {
+    let rect = pixels(0, 0, 32, 8);
+    let objects = Vec::from_slice(
+        alloc,
+        &[
+            Object::Area { rect, w: near },
+            Object::Area { rect, w: far },
+        ],
+    )?;
+    scene_of(alloc, objects)
 }
 
 // Whether an object of a scene without vertices is settled over the scene's only tile.
@@ -234,5 +241,62 @@ fn rectangle_behind_the_quad_is_settled_and_one_at_its_distance_is_not(
     let scene = rectangles_at(rt.alloc(), 2, 3)?;
     assert!(rt; !is_settled(&scene, 0, tile)?);
     assert!(rt; is_settled(&scene, 1, tile)?);
+    Ok(())
+}
+
+// So many such rectangles, of which each third is far.
+fn many_rectangles(alloc: Global, count: u32, near: i32, far: i32) -> Result<Scene, Fail> {
+    let rect = pixels(0, 0, 32, 8);
+    let mut objects = Vec::new(alloc);
+    for k in 0..count {
+        let w = if k % 3 == 0 { far } else { near };
+        objects.push(Object::Area { rect, w })?;
+    }
+    scene_of(alloc, objects)
+}
+
+// A frame's lines, by so many workers, of a scene without vertices over the scene's only tile.
+fn lines_by<R: Threads + Wait + Sync>(
+    rt: &R,
+    alloc: Global,
+    scene: &Scene,
+    tile: TileState,
+    workers: u32,
+) -> Result<SureSink, Fail> {
+    if scene.size().tile_count() != 1 || scene.cameras().is_empty() {
+        return Err(Fail::new("a scene of one tile"));
+    }
+    if !scene.vertices().is_empty() {
+        return Err(Fail::new("a scene without vertices"));
+    }
+    let tiles = [tile];
+    let view = PlainView::new(&tiles);
+    let settled = vec![in alloc; false; scene.objects().len()]?;
+    let verdicts = verdicts_by_workers(
+        rt,
+        alloc,
+        scene,
+        0,
+        &[],
+        &view,
+        settled.as_slice(),
+        workers,
+    )?;
+    let mut sink = SureSink::new(alloc);
+    verdicts.write_frame(&mut sink, 0, 2)?;
+    Ok(sink)
+}
+
+#[test]
+fn lines_of_two_workers_are_those_of_one(rt: HostRuntime) -> Result<(), Fail> {
+    let mut sub = SubTile::empty();
+    sub.merge(32767, 0xFFFF_FFFF);
+    let tile = TileState::of([sub; 8], 2);
+    let scene = many_rectangles(rt.alloc(), 1500, 2, 3)?;
+    let one = lines_by(&rt, rt.alloc(), &scene, tile, 1)?;
+    let two = lines_by(&rt, rt.alloc(), &scene, tile, 2)?;
+    assert!(rt; one.held() == two.held());
+    let last = b"end 0 visible 1000 occluded 500 outside 0\n".as_slice();
+    assert!(rt; two.held().ends_with(last));
     Ok(())
 }

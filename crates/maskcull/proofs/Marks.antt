@@ -187,9 +187,9 @@ none_settled s frame marks is o d lt mark =
 -- ---- over the tiles of the frame
 
 -- what is occluded after the whole list is so over tiles that took it
-pub settled_over : (s : Parts) (frame : ℕ) (tiles : List TileOf) (marks : List Bool) → TookFrame s frame tiles → AreSettled s frame marks
-    → IsMarkedRight (verdict_in s frame (tile_at tiles)) s.objects marks
-settled_over s frame tiles marks drawn right o d lt mark =
-    let f : Sub → State = state_in (size_of s) (tile_at tiles) in
+pub settled_over : (s : Parts) (frame : ℕ) (tile_of : ℕ → TileOf) (marks : List Bool) → TookFrame s frame tile_of → AreSettled s frame marks
+    → IsMarkedRight (verdict_in s frame tile_of) s.objects marks
+settled_over s frame tile_of marks drawn right o d lt mark =
+    let f : Sub → State = state_in (size_of s) tile_of in
     let whole : Sub → State = λ u. after u (frame_pieces s frame) in
-    shape_alike (size_of s) f whole (object_shape s frame (slice_index_or s.objects o d)) (drawn_agrees (size_of s) (frame_pieces s frame) tiles drawn) ∙ right o d lt mark
+    shape_alike (size_of s) f whole (object_shape s frame (slice_index_or s.objects o d)) (drawn_agrees (size_of s) (frame_pieces s frame) tile_of drawn) ∙ right o d lt mark

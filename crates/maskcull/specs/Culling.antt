@@ -15,7 +15,7 @@ use Rattle.scene_reader.specs.Layout.{Parts, IsScene, layout}
 use Rattle.scene_reader.specs.declared.error.SceneError.{SceneError}
 use Rattle.cull_base.specs.Screen.{tile_count_of}
 use Rattle.cull_base.specs.Tiles.{ArePieces, tile_after}
-use Rattle.masked_update.specs.TileOf.{TileOf, tile_at}
+use Rattle.masked_update.specs.TileOf.{TileOf}
 use Rattle.cull_base.specs.Fold.{after}
 use Rattle.cull_report.specs.Scene.{IsMarkedRight, size_of, frame_pieces, object_verdict, report_text}
 use Rattle.maskcull.specs.declared.failure.Failure.{Failure}
@@ -79,8 +79,8 @@ IsCulled before after report_before report_after =
     IfBytes before (λ bytes. (s : Parts) × IsSceneOf bytes s × (after.left ≡ Some []) × Appends report_before report_after (report_text s) × HidesTruly s)
 
 -- the tiles took the whole list of a frame
-abbrev pub TookFrame : Parts → ℕ → List TileOf → Type 0
-TookFrame s frame tiles = (t : ℕ) → t < tile_count_of (size_of s) → (tile_at tiles t).subs ≡ tile_after (size_of s) t (frame_pieces s frame)
+abbrev pub TookFrame : Parts → ℕ → (ℕ → TileOf) → Type 0
+TookFrame s frame tile_of = (t : ℕ) → t < tile_count_of (size_of s) → (tile_of t).subs ≡ tile_after (size_of s) t (frame_pieces s frame)
 
 -- the objects of a frame that are marked are occluded after its whole list
 abbrev pub AreSettled : Parts → ℕ → List Bool → Type 0

@@ -2,7 +2,8 @@
 ghost use Rattle.std.specs.Prelude.{◌≡◌, ◌<◌, length, IfOk, OnOk};
 ghost use Rattle.cull_base.specs.Tiles.{ArePieces};
 ghost use Rattle.scene_reader.specs.Layout.{IsScene};
-ghost use Rattle.cull_report.specs.Scene.{frame_clips, frame_pieces, frame_verdicts};
+ghost use Rattle.cull_report.specs.Scene.{size_of, frame_clips, frame_pieces, frame_verdicts};
+ghost use Rattle.tile_queues.specs.BinViews.{table_of};
 ghost use Rattle.maskcull.specs.Culling.{Reports, AllArePieces};
 ghost use Rattle.maskcull.specs.Frames.{lines_of, frames_lines};
 ghost use Rattle.maskcull.specs.Words.{AreInRange};
@@ -19,7 +20,7 @@ use scene_reader::Scene;
 use std::alloc::Global;
 use std::sync::Wait;
 use std::thread::Threads;
-use tile_queues::{Gate, draw_plain_frame};
+use tile_queues::{BinTable, BinView, Gate, draw_plain_frame};
 
 /// In bytes, above half of what a frame takes at any time.
 const LARGE: usize = 0x100_0000;
@@ -35,24 +36,27 @@ fn draw_plainly<R: Threads + Wait + Sync, G: Gate>(
     rt: &R,
     alloc: Global,
     settings: &Settings,
+    table: &BinTable,
     scene: &Scene,
     frame: u32,
     clips: &[ClipVertex],
     gate: &G,
 ) -> Result<Frame, Memory>
     requires settings { AreInRange settings.now }
+    requires table { table.now ≡ table_of (size_of scene.now) settings.now.cut }
     requires frame { frame < length scene.now.cameras }
     requires clips { clips.now ≡ frame_clips scene.now frame }
     ensures pieces { IfOk result (λ f. f.pieces ≡ length (frame_pieces scene.now frame)) }
-    ensures verdicts { IfOk result (λ f. f.verdicts.items ≡ frame_verdicts scene.now frame) }
+    ensures verdicts { IfOk result (λ f. f.verdicts ≡ frame_verdicts scene.now frame) }
     ensures valid { OnOk result (ArePieces (frame_pieces scene.now frame)) }
 {
     let workers = settings.workers;
     let list = pieces_of(rt, alloc, scene, frame, clips, workers)?;
     let batch = batch_size(list.len(), settings.batch);
-    let states = draw_plain_frame(rt, alloc, &list, &settings.cut, workers, batch, gate)?;
+    let bins = draw_plain_frame(rt, alloc, &list, &settings.cut, workers, batch, gate)?;
+    let view = BinView::of(table, &bins, &list);
     let settled = unset_marks(alloc, scene.objects().len())?;
-    let verdicts = verdicts_over(rt, alloc, scene, frame, clips, &states, &settled, workers)?;
+    let verdicts = verdicts_over(rt, alloc, scene, frame, clips, &view, &settled, workers)?;
     Ok(Frame {
         pieces: list.len(),
         verdicts,
@@ -65,23 +69,25 @@ fn draw<R: Threads + Wait + Sync, G: Gate>(
     rt: &R,
     alloc: Global,
     settings: &Settings,
+    table: &BinTable,
     scene: &Scene,
     frame: u32,
     clips: &[ClipVertex],
     gate: &G,
 ) -> Result<Frame, Memory>
     requires settings { AreInRange settings.now }
+    requires table { table.now ≡ table_of (size_of scene.now) settings.now.cut }
     requires frame { frame < length scene.now.cameras }
     requires clips { clips.now ≡ frame_clips scene.now frame }
     ensures pieces { IfOk result (λ f. f.pieces ≡ length (frame_pieces scene.now frame)) }
-    ensures verdicts { IfOk result (λ f. f.verdicts.items ≡ frame_verdicts scene.now frame) }
+    ensures verdicts { IfOk result (λ f. f.verdicts ≡ frame_verdicts scene.now frame) }
     ensures valid { OnOk result (ArePieces (frame_pieces scene.now frame)) }
 {
     if settings.early {
         let seen = draw_live(rt, alloc, settings, NO_LOOKS, scene, frame, clips, gate)?;
         return Ok(seen.frame);
     }
-    draw_plainly(rt, alloc, settings, scene, frame, clips, gate)
+    draw_plainly(rt, alloc, settings, table, scene, frame, clips, gate)
 }
 
 // Draws a frame and writes its lines.
@@ -89,6 +95,7 @@ fn report_frame<R: Threads + Wait + Sync, W: Sink, G: Gate>(
     rt: &R,
     alloc: Global,
     settings: &Settings,
+    table: &BinTable,
     lines: FrameLines,
     scene: &Scene,
     frame: u32,
@@ -97,6 +104,7 @@ fn report_frame<R: Threads + Wait + Sync, W: Sink, G: Gate>(
     gate: &G,
 ) -> Result<(), Failure>
     requires settings { AreInRange settings.now }
+    requires table { table.now ≡ table_of (size_of scene.now) settings.now.cut }
     requires frame { frame < length scene.now.cameras }
     requires places { length clips.old ≡ length scene.now.vertices }
     ensures reported { Reports (W.says report.old) (W.says report.new) result (lines_of lines scene.now frame) }
@@ -104,7 +112,7 @@ fn report_frame<R: Threads + Wait + Sync, W: Sink, G: Gate>(
     ensures places { length clips.new ≡ length clips.old }
 {
     clip_frame(rt, scene, frame, clips);
-    let drawn = draw(rt, alloc, settings, scene, frame, clips, gate)?;
+    let drawn = draw(rt, alloc, settings, table, scene, frame, clips, gate)?;
     write_lines(report, lines, frame, &drawn)?;
     Ok(())
 }
@@ -137,9 +145,10 @@ pub fn report_frames<R: Threads + Wait + Sync, W: Sink, G: Gate>(
     keep_freed_memory(alloc)?;
     let nowhere = ClipVertex { x: 0, y: 0, w: 0 };
     let mut clips = vec![in alloc; nowhere; scene.vertices().len()].map_err(|_| Failure::Memory)?;
+    let table = BinTable::of(alloc, scene.size(), &settings.cut)?;
     for frame in 0..scene.cameras().len() as u32 {
         report_frame(
-            rt, alloc, settings, lines, scene, frame, &mut clips, report, gate,
+            rt, alloc, settings, &table, lines, scene, frame, &mut clips, report, gate,
         )?;
     }
     Ok(())

@@ -1,5 +1,5 @@
 //! A frame of a scene: its pieces, the verdicts of its objects, and the lines that are written of it.
-ghost use Rattle.std.specs.Prelude.{◌≡◌, ◌<◌, length, IfOk, replicate, false};
+ghost use Rattle.std.specs.Prelude.{◌≡◌, ℕ, ◌<◌, true, length, IfOk, replicate, false};
 ghost use Rattle.cull_base.specs.Screen.{tile_count_of};
 ghost use Rattle.cull_base.specs.Stream.{Writes};
 ghost use Rattle.scene_reader.specs.Layout.{IsScene};
@@ -9,9 +9,9 @@ ghost use Rattle.maskcull.specs.Frames.{lines_by};
 
 use crate::summary::write_summary;
 use camera_path::{Camera, clip_into};
-use cull_base::{ClipVertex, FrameList, Memory, Sink, SinkError, Verdict};
-use cull_report::{verdicts_by_workers, write_frame};
-use masked_update::{PlainView, TileState};
+use cull_base::{ClipVertex, FrameList, Memory, Sink, SinkError};
+use cull_report::{FrameVerdicts, verdicts_by_workers};
+use masked_update::TileView;
 use scene_reader::Scene;
 use snap_setup::frame_list_by_workers;
 use std::alloc::Global;
@@ -31,7 +31,7 @@ pub enum FrameLines {
 #[derive(Drop)]
 pub struct Frame {
     pub pieces: u32,
-    pub verdicts: Vec<Verdict>,
+    pub verdicts: FrameVerdicts,
 }
 
 /// So many marks, none of them set.
@@ -60,36 +60,27 @@ pub fn clip_frame<R: Threads + Wait + Sync>(
     clip_into(rt, &camera, scene.vertices(), clips);
 }
 
-/// The verdicts over tiles that have taken the whole frame. An object that is marked as settled isn't tested. Condition:
-/// there is a mark for each object, and those that are marked are occluded.
-pub fn verdicts_over<R: Threads + Sync>(
+/// The verdicts over tiles that have taken the whole frame. An object that is marked as settled isn't tested. Conditions:
+/// the view holds every tile, there is a mark for each object, and those that are marked are occluded.
+pub fn verdicts_over<R: Threads + Wait + Sync, V: TileView + Sync>(
     rt: &R,
     alloc: Global,
     scene: &Scene,
     frame: u32,
     clips: &[ClipVertex],
-    states: &[TileState],
+    view: &V,
     settled: &[bool],
     workers: u32,
-) -> Result<Vec<Verdict>, Memory>
+) -> Result<FrameVerdicts, Memory>
     requires frame { frame < length scene.now.cameras }
     requires clips { clips.now ≡ frame_clips scene.now frame }
-    requires tiles { length states.now ≡ tile_count_of (size_of scene.now) }
-    requires drawn { TookFrame scene.now frame states.now }
+    requires holds { (t : ℕ) → t < tile_count_of (size_of scene.now) → V.held view.now t ≡ true }
+    requires drawn { TookFrame scene.now frame (V.tile_of view.now) }
     requires marks { length settled.now ≡ length scene.now.objects }
     requires right { AreSettled scene.now frame settled.now }
-    ensures { IfOk result (λ v. v.items ≡ frame_verdicts scene.now frame) }
+    ensures { IfOk result (λ v. v ≡ frame_verdicts scene.now frame) }
 {
-    verdicts_by_workers(
-        rt,
-        alloc,
-        scene,
-        frame,
-        clips,
-        &PlainView::new(states),
-        settled,
-        workers,
-    )
+    verdicts_by_workers(rt, alloc, scene, frame, clips, view, settled, workers)
 }
 
 /// The pieces of a frame, in submission order. Its clauses alone ask for the frame's number.
@@ -125,10 +116,10 @@ pub fn write_lines<W: Sink>(
     drawn: &Frame,
 ) -> Result<(), SinkError>
     ensures { Writes (W.says report.old) (W.says report.new) result
-        (lines_by lines frame drawn.now.pieces drawn.now.verdicts.items) }
+        (lines_by lines frame drawn.now.pieces drawn.now.verdicts) }
 {
     match lines {
-        FrameLines::Report => write_frame(report, frame, drawn.pieces, &drawn.verdicts),
-        FrameLines::Summary => write_summary(report, frame, drawn.pieces, &drawn.verdicts),
+        FrameLines::Report => drawn.verdicts.write_frame(report, frame, drawn.pieces),
+        FrameLines::Summary => write_summary(report, frame, drawn.pieces, drawn.verdicts.list()),
     }
 }

@@ -21,7 +21,7 @@ use crate::settings::Settings;
 use binning::batch_size;
 use cull_base::{ClipVertex, FrameList, Memory, Sink, SinkError, TileSpan};
 use cull_report::{LiveLine, object_area, write_live};
-use masked_update::TileState;
+use masked_update::{PlainView, TileState};
 use scene_reader::Scene;
 use std::alloc::Global;
 use std::sync::Wait;
@@ -169,7 +169,7 @@ pub fn draw_live<R: Threads + Wait + Sync, G: Gate>(
     requires frame { frame < length scene.now.cameras }
     requires clips { clips.now ≡ frame_clips scene.now frame }
     ensures pieces { IfOk result (λ f. f.frame.pieces ≡ length (frame_pieces scene.now frame)) }
-    ensures verdicts { IfOk result (λ f. f.frame.verdicts.items ≡ frame_verdicts scene.now frame) }
+    ensures verdicts { IfOk result (λ f. f.frame.verdicts ≡ frame_verdicts scene.now frame) }
     ensures valid { OnOk result (ArePieces (frame_pieces scene.now frame)) }
     ensures live { IfOk result (λ f. AreLive scene.now looks.rounds looks.watch frame f.lines.items) }
 {
@@ -179,7 +179,8 @@ pub fn draw_live<R: Threads + Wait + Sync, G: Gate>(
     let mut caller = make_caller(alloc, scene, frame, clips, looks, early, gate)?;
     let states = draw_in_cells(rt, alloc, settings, &list, gate, &mut caller)?;
     let settled = &caller.settled;
-    let verdicts = verdicts_over(rt, alloc, scene, frame, clips, &states, settled, workers)?;
+    let view = PlainView::new(&states);
+    let verdicts = verdicts_over(rt, alloc, scene, frame, clips, &view, settled, workers)?;
     let frame = Frame {
         pieces: list.len(),
         verdicts,

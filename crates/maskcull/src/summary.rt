@@ -6,7 +6,7 @@ ghost use Rattle.maskcull.specs.Summary.{demo_line, counts_line, summary_line};
 
 use crate::demo_scene::{BOXES, FRAMES};
 use cull_base::{Sink, SinkError, Verdict};
-use cull_report::{Line, Text, count_of};
+use cull_report::{Counts, Line, Text};
 
 // A frame's line, which is longer than a line of the report may be.
 type SummaryLine = Text<160>;
@@ -34,14 +34,6 @@ pub fn write_demo_line<W: Sink>(sink: &mut W, seed: u32, triangles: u32) -> Resu
     ensures { Writes (W.says sink.old) (W.says sink.new) result (demo_line seed triangles) }
 {
     demo_line(seed, triangles).write_to(sink)
-}
-
-// How many objects have each verdict.
-#[derive(Drop)]
-struct Counts {
-    visible: usize,
-    occluded: usize,
-    outside: usize,
 }
 
 #[tactic(auto, unfolding(crate::specs::Summary::counts_line))]
@@ -72,10 +64,5 @@ pub fn write_summary<W: Sink>(
 ) -> Result<(), SinkError>
     ensures { Writes (W.says sink.old) (W.says sink.new) result (summary_line frame pieces verdicts.now) }
 {
-    let counts = Counts {
-        visible: count_of(verdicts, Verdict::Visible),
-        occluded: count_of(verdicts, Verdict::Occluded),
-        outside: count_of(verdicts, Verdict::Outside),
-    };
-    counts_line(frame, pieces, counts).write_to(sink)
+    counts_line(frame, pieces, Counts::of(verdicts)).write_to(sink)
 }

@@ -15,11 +15,10 @@ use Rattle.masked_update.proofs.Canvases.{drawn_in}
 use Rattle.tile_cells.proofs.Lists.{same_lists}
 use Rattle.tile_cells.specs.Cells.{AreFresh, Writing}
 use Rattle.tile_cells.specs.Standing.{AreStanding, StandsAt}
-use Rattle.tile_queues.specs.Bins.{AreBinsAt}
 use Rattle.tile_queues.specs.CellBins.{StandsInCells}
 use Rattle.tile_queues.specs.declared.cell_bin.CellBin.{CellBin}
 use Rattle.tile_queues.specs.Owners.{AreHandedBack}
-use Rattle.tile_queues.specs.Plain.{IsPlainAt, StandsPlain}
+use Rattle.tile_queues.specs.Plain.{IsPlainAt}
 use Rattle.tile_queues.specs.QueueParts.{BatchedFrame, BinOfFrame, batches_in, bin_of_frame, places_before}
 use Rattle.tile_queues.specs.Shares.{AreWhole, IsDrainedIn}
 use Rattle.tile_queues.specs.Tasks.{HoldsBin, IsTaskOf, QueuesOf, StandsAtBatches, Tasking, cells_of}
@@ -44,13 +43,6 @@ held_at list cut tile bin c sized valid lt is pieces k =
       within = on;
       states = (drawn_in list c sized pieces k.stands tile (record { on_screen = lt; within = on })).states;
     }
-
--- where the bins of one worker stand at the whole list
-pub held_bin : (list : PieceList) (cut : CutOf) (tile bin : ℕ) (bins : List CanvasOf) (c : CanvasOf) → IsSize list.size.width list.size.height → IsCut cut.columns cut.rows → tile < tile_count_of list.size → bin ≡ bin_of list.size cut tile → bin < bin_count_of cut
-    → ArePieces list.members → AreBinsAt StandsPlain (tt {0}) list cut (length list.members) bins → c ≡ get_or bins bin c → Held list tile c
-held_bin list cut tile bin bins c sized valid lt is below pieces at here =
-    let count = at.count in
-    held_at list cut tile bin c sized valid lt is pieces (subst (IsPlainAt list (bin_span_of list.size cut bin) (length list.members)) (sym here) (at.each bin c (omega (arith, below, count))))
 
 -- the cells of new writers
 pub fresh_cells : (cells : List TableId) (list : PieceList) (ws : List Writing) → AreFresh cells list (length cells) ws → cells_of ws ≡ cells

@@ -4,7 +4,6 @@ pub mod Owning
 pub mod Lists
 pub mod Storing
 pub mod Slotting
-pub mod OneBin
 pub mod QueueKeeps
 pub mod NumberKeeps
 pub mod Intaking
@@ -15,5 +14,6 @@ pub mod Returning
 pub mod Dealing
 pub mod Draining
 pub mod Ending
+pub mod BinLooks
 pub mod PlainTasks
 pub mod Keeping

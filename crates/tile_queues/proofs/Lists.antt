@@ -4,7 +4,7 @@ use Rattle.std.proofs.lemmas.Bool.{cases_lt}
 use Rattle.std.proofs.lemmas.List.{get_or_push, get_or_append_left}
 
 -- one element more, at the end, where elements are read with one value past the end
-pub pushed_or : {X : Type 0} (P : ℕ → X → Type 0) (n : ℕ) (xs : List X) (y d : X) → length xs ≡ n → ((k : ℕ) → k < n → P k (get_or xs k d)) → P n y
+pushed_or : {X : Type 0} (P : ℕ → X → Type 0) (n : ℕ) (xs : List X) (y d : X) → length xs ≡ n → ((k : ℕ) → k < n → P k (get_or xs k d)) → P n y
     → (k : ℕ) → k < n + 1 → P k (get_or (xs ++ y ∷ []) k d)
 pushed_or P n xs y d len old new k lt = elim (cases_lt k n) [
   | inl below ↦ subst (P k) (sym (get_or_append_left xs (y ∷ []) d k (omega (arith, below, len)))) (old k below)

@@ -1,16 +1,16 @@
 -- Plain tasks in the slots of their bins, and the tiles of a task that drew all batches.
-use Rattle.std.proofs.Common.{◌≡◌, ℕ, ◌<◌, ◌≤◌, List, [], None, Some, IfSome, length, get_or, set, get_or-set_other, get_or-set_same, length-set, inl, inr, arith, ap, sym, subst, ◌∙◌}
+use Rattle.std.proofs.Common.{◌≡◌, ℕ, ◌*◌, ◌<◌, ◌≤◌, min, List, [], None, Some, IfSome, length, get_or, set, get_or-set_other, get_or-set_same, length-set, inl, inr, arith, refl, ap, sym, subst, ◌∙◌}
 use Rattle.std.specs.declared.option.Option.{Option}
 use Rattle.std.proofs.lemmas.Bool.{cases_eq}
 use Rattle.binning.specs.Bins.{bin_span_of}
 use Rattle.binning.specs.Cut.{CutOf}
 use Rattle.cull_base.specs.Tiles.{PieceList}
-use Rattle.masked_update.specs.Canvas.{CanvasOf}
+use Rattle.masked_update.specs.Canvas.{CanvasOf, StandsAt}
 use Rattle.tile_queues.specs.Plain.{IsPlainAt, StandsPlain}
-use Rattle.tile_queues.specs.QueueParts.{BatchedFrame, BinOfFrame, batched, batches_in, places_before}
+use Rattle.tile_queues.specs.QueueParts.{BatchedFrame, BinOfFrame, batched, batches_in, bin_of_frame, places_before}
 use Rattle.tile_queues.specs.Shares.{IsDrainedIn}
-use Rattle.tile_queues.specs.Tasks.{QueuesOf, StandsAtBatches}
-use Rattle.tile_queues.specs.Waiting.{AreWaiting, IsPlainTask, IsTaskUnder}
+use Rattle.tile_queues.specs.Tasks.{IsTaskOf, QueuesOf, StandsAtBatches, Tasking, first_task}
+use Rattle.tile_queues.specs.Waiting.{AreWaiting, IsPlainTask, IsSeat, IsSeatUnder}
 use Rattle.tile_queues.specs.declared.task.Task.{Task}
 use Rattle.tile_queues.proofs.Ending.{places_end}
 
@@ -18,24 +18,24 @@ pub same_some : {X : Type 0} (x y : X) → ◌≡◌ {A = Option X} (Some x) (So
 same_some x y same = cc
 
 -- the task of a bin is that of its own
-pub own_bin : (queues : QueuesOf) (frame : BatchedFrame) (bin : ℕ) (t : Task CanvasOf) → IsPlainTask queues frame bin t → IsPlainTask queues frame t.intake.of.bin t
-own_bin queues frame bin t at = subst (λ n. IsPlainTask queues frame n t) (sym (ap (λ (k : BinOfFrame). k.bin) at.of_is)) at
+pub own_bin : (queues : QueuesOf) (frame : BatchedFrame) (bin : ℕ) (t : Task (Option CanvasOf)) → IsSeat queues frame bin t → IsSeat queues frame t.intake.of.bin t
+own_bin queues frame bin t at = subst (λ n. IsSeat queues frame n t) (sym (ap (λ (k : BinOfFrame). k.bin) at.of_is)) at
 
 -- what stands in a slot is the task of its bin
-pub task_in : (queues : QueuesOf) (frame : BatchedFrame) (slots : List (Option (Task CanvasOf))) (bin : ℕ) (slot : Option (Task CanvasOf)) → slot ≡ get_or slots bin slot → bin < length slots → AreWaiting (Some queues) frame slots
-    → IfSome slot (λ t. IsPlainTask queues frame bin t)
+pub task_in : (queues : QueuesOf) (frame : BatchedFrame) (slots : List (Option (Task (Option CanvasOf)))) (bin : ℕ) (slot : Option (Task (Option CanvasOf))) → slot ≡ get_or slots bin slot → bin < length slots → AreWaiting (Some queues) frame slots
+    → IfSome slot (λ t. IsSeat queues frame bin t)
 task_in queues frame slots bin None is lt at = tt
 task_in queues frame slots bin (Some t) is lt at = at.each bin (Some t) t lt (sym is) queues (λ i. Some queues)
 
 -- and that of its own bin, which was taken out
-pub taken : (queues : Option QueuesOf) (frame : BatchedFrame) (slots : List (Option (Task CanvasOf))) (bin : ℕ) (slot : Option (Task CanvasOf)) → slot ≡ get_or slots bin slot → bin < length slots → AreWaiting queues frame slots
-    → IfSome slot (λ t. IsTaskUnder queues frame t.intake.of.bin t)
+pub taken : (queues : Option QueuesOf) (frame : BatchedFrame) (slots : List (Option (Task (Option CanvasOf)))) (bin : ℕ) (slot : Option (Task (Option CanvasOf))) → slot ≡ get_or slots bin slot → bin < length slots → AreWaiting queues frame slots
+    → IfSome slot (λ t. IsSeatUnder queues frame t.intake.of.bin t)
 taken queues frame slots bin None is lt at = tt
 taken queues frame slots bin (Some t) is lt at = λ q picked. own_bin q frame bin t (at.each bin (Some t) t lt (sym is) q picked)
 
 -- one slot is set
-pub put_in : (queues : Option QueuesOf) (frame : BatchedFrame) (slots : List (Option (Task CanvasOf))) (bin : ℕ) (slot : Option (Task CanvasOf)) → AreWaiting queues frame slots
-    → ((t : Task CanvasOf) → slot ≡ Some t → IsTaskUnder queues frame bin t) → AreWaiting queues frame (set slots bin slot)
+pub put_in : (queues : Option QueuesOf) (frame : BatchedFrame) (slots : List (Option (Task (Option CanvasOf)))) (bin : ℕ) (slot : Option (Task (Option CanvasOf))) → AreWaiting queues frame slots
+    → ((t : Task (Option CanvasOf)) → slot ≡ Some t → IsSeatUnder queues frame bin t) → AreWaiting queues frame (set slots bin slot)
 put_in queues frame slots bin slot old new = record {
   count = length-set slots bin slot ∙ old.count;
   each = λ b d t lt is.
@@ -43,10 +43,58 @@ put_in queues frame slots bin slot old new = record {
       let below : b < length slots = omega (arith, lt, same_length) in
       elim (cases_eq b bin) [
         | inl same ↦ (let inside : bin < length slots = omega (arith, below, same) in
-            subst (λ n. IsTaskUnder queues frame n t) (sym same) (new t (sym (ap (λ n. get_or (set slots bin slot) n d) same ∙ get_or-set_same slots bin slot d inside) ∙ is)))
+            subst (λ n. IsSeatUnder queues frame n t) (sym same) (new t (sym (ap (λ n. get_or (set slots bin slot) n d) same ∙ get_or-set_same slots bin slot d inside) ∙ is)))
         | inr other ↦ old.each b d t below (sym (get_or-set_other slots bin b slot d other) ∙ is)
       ];
 }
+
+-- a task with its tiles, as it is put back
+pub put_seat : (queues : QueuesOf) (frame : BatchedFrame) (bin : ℕ) (t : Task CanvasOf) (u : Task (Option CanvasOf)) → u.intake ≡ t.intake → u.keeper ≡ Some t.keeper → IsPlainTask queues frame bin t → IsSeat queues frame bin u
+put_seat queues frame bin t u intake keeper at =
+    let here : IsSeat queues frame bin (record { intake = t.intake; keeper = Some t.keeper }) = record {
+      of_is = at.of_is;
+      queues_are = at.queues_are;
+      told_is = at.told_is;
+      at = record {
+        not_made = λ no. absurd cc;
+        made = λ d is. subst (λ (c : CanvasOf). StandsAtBatches StandsPlain (tt {0}) t.intake c) (same_some t.keeper d is) at.at;
+      };
+    } in
+    subst (λ (x : Tasking × Option CanvasOf). IsSeat queues frame bin (record { intake = x.0; keeper = x.1 })) (λ i. (sym intake i, sym keeper i)) here
+
+-- tiles that are made
+pub made_seat : (queues : QueuesOf) (frame : BatchedFrame) (bin : ℕ) (t : Tasking) (c : CanvasOf) → IsSeat queues frame bin (record { intake = t; keeper = Some c }) → IsPlainTask queues frame bin (record { intake = t; keeper = c })
+made_seat queues frame bin t c at = record { of_is = at.of_is; queues_are = at.queues_are; told_is = at.told_is; at = at.at.made c refl }
+
+-- and that are made now
+pub new_seat : (queues : QueuesOf) (frame : BatchedFrame) (bin : ℕ) (t : Tasking) (c : CanvasOf) → IsSeat queues frame bin (record { intake = t; keeper = None }) → c.window ≡ bin_span_of frame.list.size frame.cut bin
+    → StandsAt frame.list 0 c → IsPlainTask queues frame bin (record { intake = t; keeper = c })
+new_seat queues frame bin t c at window stand =
+    let zero : places_before t.of.frame t.batches ≡ 0 = at.at.not_made refl in
+    let plain : IsPlainAt frame.list (bin_span_of frame.list.size frame.cut bin) 0 c = record { window_is = window; stands = stand } in
+    let named : IsPlainAt t.of.frame.list (bin_span_of t.of.frame.list.size t.of.frame.cut t.of.bin) 0 c = subst (λ (b : BinOfFrame). IsPlainAt b.frame.list (bin_span_of b.frame.list.size b.frame.cut b.bin) 0 c) (sym at.of_is) plain in
+    record {
+      of_is = at.of_is;
+      queues_are = at.queues_are;
+      told_is = at.told_is;
+      at = subst (λ n. IsPlainAt t.of.frame.list (bin_span_of t.of.frame.list.size t.of.frame.cut t.of.bin) n c) (sym zero) named;
+    }
+
+-- a bin's task before its tiles are made
+pub first_seat : (queues : QueuesOf) (frame : BatchedFrame) (bin : ℕ) (t : Tasking) → IsTaskOf queues t → t ≡ first_task t.queue t.number (bin_of_frame frame bin) → IsSeat queues frame bin (record { intake = t; keeper = None })
+first_seat queues frame bin t of first =
+    let none : places_before frame 0 ≡ 0 = (let e : min (0 * frame.size) (length frame.list.members) ≡ 0 = omega arith in e) in
+    let named = ap (λ (k : Tasking). k.of) first in
+    let batches = ap (λ (k : Tasking). k.batches) first in
+    record {
+      of_is = named;
+      queues_are = of;
+      told_is = ap (λ (k : Tasking). k.told) first;
+      at = record {
+        not_made = λ is. ap (λ (b : BinOfFrame). places_before b.frame t.batches) named ∙ ap (places_before frame) batches ∙ none;
+        made = λ d is. absurd cc;
+      };
+    }
 
 -- the tiles of a task that drew all batches stand at the whole list
 pub whole_list : (queues : QueuesOf) (list : PieceList) (cut : CutOf) (size bin : ℕ) (t : Task CanvasOf) → 1 ≤ size

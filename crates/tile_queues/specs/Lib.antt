@@ -1,4 +1,5 @@
 pub mod Bins
+pub mod BinViews
 pub mod Plain
 pub mod CellBins
 pub mod Passing

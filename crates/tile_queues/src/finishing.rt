@@ -6,10 +6,11 @@ ghost use Rattle.tile_queues.specs.Bins.{AreBinsAt, IsBinAt};
 ghost use Rattle.tile_queues.specs.Plain.{StandsPlain};
 ghost use Rattle.tile_queues.specs.QueueParts.{batched, batches_in};
 ghost use Rattle.tile_queues.specs.Tasks.{IsSubmitterOf};
-ghost use Rattle.tile_queues.specs.Waiting.{AreWaiting, IsPlainTask};
+ghost use Rattle.tile_queues.specs.Waiting.{AreWaiting, IsPlainTask, IsSeat};
 
 use crate::drawing::{drain_one, tell_one};
 use crate::gate::Gate;
+use crate::plain_tasks::{Seat, begun};
 use crate::queues::BinQueues;
 use crate::sender::Sender;
 use crate::task::Task;
@@ -94,7 +95,7 @@ fn finish<R: Wait, G: Gate>(
     alloc: Global,
     queues: &BinQueues,
     sender: &mut Sender,
-    slot: Option<Task<Canvas>>,
+    slot: Option<Seat>,
     list: &FrameList,
     cut: &Cut,
     size: u32,
@@ -106,13 +107,16 @@ fn finish<R: Wait, G: Gate>(
     requires sender { IsSubmitterOf queues.now sender.old }
     requires frame { sender.old.frame ≡ batched list.now.list cut.now size [] }
     requires all { sender.old.batches ≡ batches_in sender.old.frame }
-    requires task { IfSome slot (λ t. IsPlainTask queues.now (batched list.now.list cut.now size []) bin t) }
+    requires seat { IfSome slot (λ t. IsSeat queues.now (batched list.now.list cut.now size []) bin t) }
     ensures same { sender.new ≡ sender.old }
     ensures drawn { IfOk result (λ c.
         IsBinAt StandsPlain (tt {0}) list.now.list cut.now (length list.now.list.members) bin c) }
 {
     match slot {
-        Some(task) => Ok(drawn_on(rt, queues, sender, task, list, cut, size, bin, gate)),
+        Some(seat) => {
+            let task = begun(alloc, queues, seat, list, cut, size)?;
+            Ok(drawn_on(rt, queues, sender, task, list, cut, size, bin, gate))
+        }
         None => drawn_anew(alloc, list, cut, size, bin, gate),
     }
 }
@@ -124,7 +128,7 @@ pub(crate) fn finish_all<R: Wait, G: Gate>(
     alloc: Global,
     queues: &BinQueues,
     sender: &mut Sender,
-    slots: Vec<Option<Task<Canvas>>>,
+    slots: Vec<Option<Seat>>,
     list: &FrameList,
     cut: &Cut,
     size: u32,

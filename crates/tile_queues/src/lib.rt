@@ -3,6 +3,7 @@
 
 mod batches;
 mod bin_task;
+mod bin_view;
 mod caller;
 mod cell_bin;
 mod cell_shares;
@@ -34,6 +35,7 @@ mod unbinned;
 mod waiting;
 
 pub use bin_task::BinTask;
+pub use bin_view::{BinTable, BinView};
 pub use caller::Caller;
 pub use frame::draw_frame;
 pub use gate::{Gate, OpenGate};

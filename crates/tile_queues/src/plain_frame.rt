@@ -1,11 +1,9 @@
 //! A frame over plain tiles, which nobody reads while they are drawn.
 ghost use Rattle.std.specs.Prelude.{◌≡◌, ◌≤◌, ◌<◌, ◌+◌, length, IfOk, OnOk};
-ghost use Rattle.cull_base.specs.Screen.{tile_count_of};
-ghost use Rattle.cull_base.specs.Tiles.{ArePieces, tile_after};
+ghost use Rattle.cull_base.specs.Tiles.{ArePieces};
 ghost use Rattle.binning.specs.Cut.{bin_count_of};
 ghost use Rattle.binning.specs.Parts.{batch_count_of};
 ghost use Rattle.tile_queues.specs.Bins.{AreBinsAt};
-ghost use Rattle.tile_queues.specs.Frames.{HaveStates};
 ghost use Rattle.tile_queues.specs.Plain.{StandsPlain};
 
 use crate::finishing::finish_all;
@@ -15,33 +13,32 @@ use crate::plain_tasks::first_tasks;
 use crate::queues::BinQueues;
 use crate::turns::submit_and_take;
 use crate::unbinned::draw_unbinned;
-use binning::{Cut, bin_of_tile, bin_span};
+use binning::{Cut, bin_span};
 use cull_base::{FrameList, Memory};
-use masked_update::{Canvas, TileState};
+use masked_update::Canvas;
 use std::alloc::Global;
 use std::marker::Brand;
 use std::sync::Wait;
 use std::thread::Threads;
 
-// All tiles of a screen that is one bin. It needs neither workers nor parts.
+// The one bin of a screen that isn't cut. It needs neither workers nor parts.
 fn draw_one_bin<G: Gate>(
     alloc: Global,
     list: &FrameList,
     cut: &Cut,
     batch: u32,
     gate: &G,
-) -> Result<Vec<TileState>, Memory>
+) -> Result<Vec<Canvas>, Memory>
     requires one { bin_count_of cut.now ≡ 1 }
     requires batch { 1 ≤ batch }
-    ensures tiles { IfOk result (λ v. length v.items ≡ tile_count_of list.now.list.size) }
-    ensures drawn { IfOk result (λ v. HaveStates list.now.list v.items) }
+    ensures { let drawn = length list.now.list.members in
+        IfOk result (λ v. AreBinsAt StandsPlain (tt {0}) list.now.list cut.now drawn v.items) }
 {
-    let size = list.size();
-    // accessors tell what is held of a size, of a cut and of a list
-    let (_width, _columns, _len) = (size.width(), cut.columns(), list.len());
-    let mut canvas = Canvas::empty(alloc, bin_span(size, cut, 0))?;
+    let mut bins = Vec::with_capacity(alloc, 1).map_err(|_| Memory)?;
+    let mut canvas = Canvas::empty(alloc, bin_span(list.size(), cut, 0))?;
     draw_unbinned(&mut canvas, &(), list, cut, 0, batch, gate);
-    Ok(canvas.into_tiles())
+    bins.push_reserved(canvas);
+    Ok(bins)
 }
 
 // The tiles of all bins, all empty.
@@ -58,60 +55,24 @@ fn empty_bins(alloc: Global, list: &FrameList, cut: &Cut) -> Result<Vec<Canvas>,
     Ok(bins)
 }
 
-// A tile as it stands in its bin.
-fn tile_of(bins: &[Canvas], list: &FrameList, cut: &Cut, tile: u32) -> TileState
-    requires tile { tile < tile_count_of list.now.list.size }
-    requires drawn { let drawn = length list.now.list.members in
-        AreBinsAt StandsPlain (tt {0}) list.now.list cut.now drawn bins.now }
-    ensures { result.subs ≡ tile_after list.now.list.size tile list.now.list.members }
-{
-    let size = list.size();
-    // accessors tell what is held of a size, of a cut and of a list
-    let (_width, _columns, _len) = (size.width(), cut.columns(), list.len());
-    let bin = bin_of_tile(size, cut, tile);
-    bins[bin as usize].tile(size.tile_at(tile))
-}
-
-// All tiles, in order.
-fn tiles_in_order(
-    alloc: Global,
-    bins: &[Canvas],
-    list: &FrameList,
-    cut: &Cut,
-) -> Result<Vec<TileState>, Memory>
-    requires { let drawn = length list.now.list.members in
-        AreBinsAt StandsPlain (tt {0}) list.now.list cut.now drawn bins.now }
-    ensures tiles { IfOk result (λ v. length v.items ≡ tile_count_of list.now.list.size) }
-    ensures drawn { IfOk result (λ v. HaveStates list.now.list v.items) }
-{
-    let count = list.size().tile_count();
-    let mut tiles = Vec::with_capacity(alloc, count as usize).map_err(|_| Memory)?;
-    for tile in 0..count {
-        let state = tile_of(bins, list, cut, tile);
-        tiles.push_reserved(state);
-    }
-    Ok(tiles)
-}
-
-// All tiles, drawn by one worker.
+// All bins, drawn by one worker.
 fn draw_by_one<G: Gate>(
     alloc: Global,
     list: &FrameList,
     cut: &Cut,
     batch: u32,
     gate: &G,
-) -> Result<Vec<TileState>, Memory>
+) -> Result<Vec<Canvas>, Memory>
     requires batch { 1 ≤ batch }
-    ensures tiles { IfOk result (λ v. length v.items ≡ tile_count_of list.now.list.size) }
-    ensures drawn { IfOk result (λ v. HaveStates list.now.list v.items) }
+    ensures { let drawn = length list.now.list.members in
+        IfOk result (λ v. AreBinsAt StandsPlain (tt {0}) list.now.list cut.now drawn v.items) }
 {
     let mut bins = empty_bins(alloc, list, cut)?;
-    let slice = bins.as_mut_slice();
-    draw_batches(alloc, slice, &(), list, cut, batch, gate)?;
-    tiles_in_order(alloc, slice, list, cut)
+    draw_batches(alloc, bins.as_mut_slice(), &(), list, cut, batch, gate)?;
+    Ok(bins)
 }
 
-// All tiles, drawn by so many workers while the batches are binned.
+// All bins, drawn by so many workers while the batches are binned.
 fn draw_by_workers<R: Threads + Wait + Sync, G: Gate>(
     rt: &R,
     alloc: Global,
@@ -120,13 +81,13 @@ fn draw_by_workers<R: Threads + Wait + Sync, G: Gate>(
     workers: u32,
     batch: u32,
     gate: &G,
-) -> Result<Vec<TileState>, Memory>
+) -> Result<Vec<Canvas>, Memory>
     requires some { 0 < workers }
     requires few { workers ≤ 64 }
     requires batch { 1 ≤ batch }
     requires batches { batch_count_of (length list.now.list.members) batch ≤ 2048 }
-    ensures tiles { IfOk result (λ v. length v.items ≡ tile_count_of list.now.list.size) }
-    ensures drawn { IfOk result (λ v. HaveStates list.now.list v.items) }
+    ensures { let drawn = length list.now.list.members in
+        IfOk result (λ v. AreBinsAt StandsPlain (tt {0}) list.now.list cut.now drawn v.items) }
 {
     let (queues, mut sender, intakes) = BinQueues::open(alloc, list, cut, batch, &[])?;
     let slots = first_tasks(alloc, &queues, intakes, list, cut, batch)?;
@@ -142,7 +103,7 @@ fn draw_by_workers<R: Threads + Wait + Sync, G: Gate>(
         workers,
         gate,
     )?;
-    let bins = finish_all(
+    finish_all(
         rt,
         alloc,
         &queues,
@@ -152,16 +113,15 @@ fn draw_by_workers<R: Threads + Wait + Sync, G: Gate>(
         cut,
         batch,
         gate,
-    )?;
-    tiles_in_order(alloc, bins.as_slice(), list, cut)
+    )
 }
 
-/// A frame over plain tiles, which nobody reads while they are drawn: each tile of the screen has the states after the
-/// whole list, whatever the cut, the number of workers and the size of batches. Of counts nothing is said. Two or more
-/// workers draw batches from the queues of bins while these are binned: each takes a bin that waits, owns its tiles while
-/// it draws some of it, and puts it back; one needs no queue, and one bin no parts. The gate is asked before a
-/// batch is binned, and before a bin draws a member, with the number that it has drawn. Err where memory gave out.
-/// Conditions: 1 to 64 workers, and a batch has at least one piece, so that there are at most 2048.
+/// The bins of a frame over plain tiles, which nobody reads while they are drawn, in order: each tile of the screen has
+/// the states after the whole list, whatever the cut, the number of workers and the size of batches. Of counts nothing
+/// is said. Two or more workers draw batches from the queues of bins while these are binned: each takes a bin that
+/// waits, owns its tiles while it draws some of it, and puts it back; one needs no queue, and one bin no parts. The gate
+/// is asked before a batch is binned, and before a bin draws a member, with the number that it has drawn. Err where
+/// memory gave out. Conditions: 1 to 64 workers, and a batch has at least one piece, so that there are at most 2048.
 pub fn draw_plain_frame<R: Threads + Wait + Sync, G: Gate>(
     rt: &R,
     alloc: Global,
@@ -170,13 +130,13 @@ pub fn draw_plain_frame<R: Threads + Wait + Sync, G: Gate>(
     workers: u32,
     batch: u32,
     gate: &G,
-) -> Result<Vec<TileState>, Memory>
+) -> Result<Vec<Canvas>, Memory>
     requires some { 1 ≤ workers }
     requires most { workers ≤ 64 }
     requires batch { 1 ≤ batch }
     requires few { batch_count_of (length list.now.list.members) batch ≤ 2048 }
-    ensures tiles { IfOk result (λ v. length v.items ≡ tile_count_of list.now.list.size) }
-    ensures drawn { IfOk result (λ v. HaveStates list.now.list v.items) }
+    ensures drawn { let drawn = length list.now.list.members in
+        IfOk result (λ v. AreBinsAt StandsPlain (tt {0}) list.now.list cut.now drawn v.items) }
     ensures pieces { OnOk result (ArePieces list.now.list.members) }
 {
     // accessors tell what is held of a cut and of a list

@@ -3,17 +3,19 @@
 ghost use Rattle.std.specs.Prelude.{◌≡◌, ◌*◌, ◌<◌, ◌≤◌, length, IfOk};
 ghost use Rattle.binning.specs.Cut.{bin_count_of};
 ghost use Rattle.binning.specs.Parts.{batch_count_of};
+ghost use Rattle.tile_queues.specs.Bins.{AreBinsAt};
 ghost use Rattle.tile_queues.specs.Callers.{Follows};
+ghost use Rattle.tile_queues.specs.Plain.{StandsPlain};
 
-use crate::{Caller, Gate, OpenGate, draw_frame, draw_plain_frame};
+use crate::{BinTable, BinView, Caller, Gate, OpenGate, draw_frame, draw_plain_frame};
 use binning::{Cut, batch_count, batch_size, bin_rect};
 use cull_base::{FrameList, Memory, ScreenTri, Size};
-use masked_update::{TileState, TileView, draw_plain};
+use masked_update::{Canvas, TileState, TileView, draw_plain};
 use std::alloc::Global;
 use std::sync::Wait;
 use std::sync::atomic::{AtomicU32, Ordering};
 use std::test::Fail;
-use std::thread::Threads;
+use std::thread::{Threads, yield_now};
 use tile_cells::{Snapshot, TileCells, TileReader};
 
 // So many times three pieces with boxes in x from 0 to 10, from 20 to 40 and from 33 to 50, each time nearer.
@@ -43,6 +45,30 @@ fn have_same_states(one: &TileState, other: &TileState) -> bool {
 
 fn are_alike(tiles: &[TileState], others: &[TileState]) -> bool {
     tiles.len() == others.len() && (0..tiles.len()).all(|t| have_same_states(&tiles[t], &others[t]))
+}
+
+// Whether a view holds so many tiles and no more, and they have the states of others.
+fn shows<V: TileView>(view: &V, count: u32, others: &[TileState]) -> bool {
+    others.len() == count as usize
+        && !view.holds(count)
+        && (0..count).all(|tile| view.holds(tile)
+            && have_same_states(&view.state(tile), &others[tile as usize]))
+}
+
+// Whether the bins of a list's frame have the states of these tiles.
+fn bins_show(
+    alloc: Global,
+    bins: &[Canvas],
+    list: &FrameList,
+    cut: &Cut,
+    states: &[TileState],
+) -> Result<bool, Memory>
+    requires { let drawn = length list.now.list.members in
+        AreBinsAt StandsPlain (tt {0}) list.now.list cut.now drawn bins.now }
+{
+    let table = BinTable::of(alloc, list.size(), cut)?;
+    let view = BinView::of(&table, bins, list);
+    Ok(shows(&view, list.size().tile_count(), states))
 }
 
 // Takes a snapshot of the whole screen.
@@ -227,11 +253,12 @@ fn both_are_alike<R: Threads + Wait + Sync>(
     let batches = batch_count(list.len(), batch);
     let states = draw_plain(alloc, list)?;
     let plain = Questions::with_room(alloc, cut.bins(), list.len())?;
-    let tiles = draw_plain_frame(rt, alloc, list, &cut, workers, batch, &plain)?;
+    let bins = draw_plain_frame(rt, alloc, list, &cut, workers, batch, &plain)?;
+    let shown = bins_show(alloc, bins.as_slice(), list, &cut, states.as_slice())?;
     let in_cells = Questions::with_room(alloc, cut.bins(), list.len())?;
     let (held, seen) = drawn_in_cells(rt, alloc, list, &cut, workers, batch, &in_cells)?;
     Ok(
-        are_alike(tiles.as_slice(), states.as_slice())
+        shown
             && are_alike(held.as_slice(), states.as_slice())
             && plain.are_those_of(list, &cut, batches)
             && in_cells.are_those_of(list, &cut, batches)
@@ -246,9 +273,10 @@ fn two_workers_draw_what_one_draws(rt: HostRuntime) -> Result<(), Fail> {
     let states = draw_plain(rt.alloc(), &list)?;
     let batch = batch_size(list.len(), 2);
     assert_eq!(rt; batch, 2);
-    let tiles = draw_plain_frame(&rt, rt.alloc(), &list, &cut, 2, batch, &OpenGate)?;
-    assert_eq!(rt; tiles.len(), 2);
-    assert!(rt; are_alike(tiles.as_slice(), states.as_slice()));
+    assert_eq!(rt; states.len(), 2);
+    let bins = draw_plain_frame(&rt, rt.alloc(), &list, &cut, 2, batch, &OpenGate)?;
+    assert_eq!(rt; bins.len(), 2);
+    assert!(rt; bins_show(rt.alloc(), bins.as_slice(), &list, &cut, states.as_slice())?);
     let (held, seen) = drawn_in_cells(&rt, rt.alloc(), &list, &cut, 2, batch, &OpenGate)?;
     assert_eq!(rt; held.len(), 2);
     assert!(rt; are_alike(held.as_slice(), states.as_slice()));
@@ -299,5 +327,67 @@ fn each_cut_is_drawn_and_asks_once_for_each_member(rt: HostRuntime) -> Result<()
     assert!(rt; both_are_alike(&rt, rt.alloc(), &list, 1, 8, 8, 1)?);
     assert!(rt; both_are_alike(&rt, rt.alloc(), &list, 7, 8, 8, 1)?);
     assert!(rt; both_are_alike(&rt, rt.alloc(), &list, 64, 8, 8, 1)?);
+    Ok(())
+}
+
+// Eight times a piece in each of four columns of 32 pixels, each time nearer.
+fn fours(rt: &HostRuntime) -> Result<FrameList, Fail> {
+    let size = Size::new(128, 8).ok_or("a size")?;
+    let mut list = FrameList::with_room(rt.alloc(), size, 32)?;
+    for near in 9..17 {
+        for x in [
+            [0, 400, 400],
+            [512, 912, 912],
+            [1024, 1424, 1424],
+            [1536, 1936, 1936],
+        ] {
+            let piece = ScreenTri::new(x, [0, 0, 127], [near; 3]).ok_or("a piece")?;
+            if list.len() < 32 {
+                list.push(piece);
+            }
+        }
+    }
+    Ok(list)
+}
+
+// Holds the first piece of bin 0 until three other bins drew one, or it looked very often.
+#[derive(Drop)]
+struct Holding {
+    others: AtomicU32,
+    saw_all: AtomicU32,
+}
+
+impl Gate for Holding {
+    fn before(&self, bin: u32, taken: u32) {
+        if taken == 0 && bin > 0 {
+            self.others.fetch_add(1, Ordering::SeqCst);
+        }
+        if taken == 0 && bin == 0 {
+            for _ in 0..20_000_000u32 {
+                if self.others.load(Ordering::SeqCst) == 3 {
+                    self.saw_all.store(1, Ordering::SeqCst);
+                    return;
+                }
+                yield_now();
+            }
+        }
+    }
+}
+
+// While one of two workers is held in a bin, the other comes to each of the other three.
+#[test]
+fn no_bin_is_tied_to_a_worker(rt: HostRuntime) -> Result<(), Fail> {
+    let list = fours(&rt)?;
+    let cut = Cut::new(4, 1).ok_or("a cut")?;
+    let states = draw_plain(rt.alloc(), &list)?;
+    let gate = Holding {
+        others: AtomicU32::new(0),
+        saw_all: AtomicU32::new(0),
+    };
+    let batch = batch_size(list.len(), 4);
+    assert_eq!(rt; batch_count(list.len(), batch), 8);
+    let bins = draw_plain_frame(&rt, rt.alloc(), &list, &cut, 2, batch, &gate)?;
+    assert_eq!(rt; gate.saw_all.load(Ordering::SeqCst), 1);
+    assert!(rt; bins_show(rt.alloc(), bins.as_slice(), &list, &cut, states.as_slice())?);
     Ok(())
 }

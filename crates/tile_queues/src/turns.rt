@@ -3,10 +3,11 @@ ghost use Rattle.std.specs.Prelude.{◌≡◌, ◌≤◌, ◌<◌, ◌+◌, [], 
 ghost use Rattle.binning.specs.Cut.{bin_count_of};
 ghost use Rattle.tile_queues.specs.QueueParts.{batched, batches_in};
 ghost use Rattle.tile_queues.specs.Tasks.{IsSubmitterOf};
-ghost use Rattle.tile_queues.specs.Waiting.{AreWaiting, IsPlainTask, IsTaskUnder};
+ghost use Rattle.tile_queues.specs.Waiting.{AreWaiting, IsPlainTask, IsSeatUnder, IsTaskUnder};
 
 use crate::batches::submit_next_ones;
 use crate::gate::Gate;
+use crate::plain_tasks::{Seat, begun};
 use crate::queues::BinQueues;
 use crate::sender::Sender;
 use crate::task::Task;
@@ -20,10 +21,10 @@ use std::sync::{Mutex, Wait};
 use std::thread::{Threads, yield_now};
 
 /// Of so many batches one is submitted before the workers begin.
-const AHEAD: u32 = 8;
+const AHEAD: u32 = 32;
 
 /// A worker draws at least so many pieces of a bin, where they are submitted, before it puts the bin back.
-const TURN: u32 = 64;
+const TURN: u32 = 128;
 
 /// A worker that finds no new batch so often in a row ends: it doesn't wait for the submitter.
 const LOOKS: u32 = 0x1_0000;
@@ -47,8 +48,8 @@ fn draw_some<R: Wait, G: Gate>(
     before < task.intake.batches()
 }
 
-fn take<F: OfFrame, R: Wait>(rt: &R, waiting: &Mutex<Waiting<F>>) -> Option<Task<Canvas>>
-    ensures { IfSome result (λ t. IsTaskUnder F.queues F.frame t.intake.of.bin t) }
+fn take<F: OfFrame, R: Wait>(rt: &R, waiting: &Mutex<Waiting<F>>) -> Option<Seat>
+    ensures { IfSome result (λ t. IsSeatUnder F.queues F.frame t.intake.of.bin t) }
 {
     waiting.lock(rt).take()
 }
@@ -60,9 +61,11 @@ fn put_back<F: OfFrame, R: Wait>(rt: &R, waiting: &Mutex<Waiting<F>>, task: Task
     waiting.lock(rt).put_back(task);
 }
 
-// Takes a bin, draws some of it and puts it back. Whether something was drawn; None where no bin waits.
+// Takes a bin, draws some of it and puts it back. Whether something was drawn; None where no bin waits, or memory gave
+// out for the bin's tiles.
 fn take_turn<F: OfFrame, R: Wait, G: Gate>(
     rt: &R,
+    alloc: Global,
     queues: &BinQueues,
     waiting: &Mutex<Waiting<F>>,
     list: &FrameList,
@@ -74,8 +77,11 @@ fn take_turn<F: OfFrame, R: Wait, G: Gate>(
     requires frame { F.frame ≡ batched list.now.list cut.now size [] }
 {
     let _bins = cut.bins();
-    let mut task = take(rt, waiting)?;
-    let _bin = task.intake.bin();
+    let seat = take(rt, waiting)?;
+    let _bin = seat.intake.bin();
+    let Ok(mut task) = begun(alloc, queues, seat, list, cut, size) else {
+        return None;
+    };
     let drew = draw_some(rt, queues, &mut task, list, cut, size, gate);
     put_back(rt, waiting, task);
     Some(drew)
@@ -84,6 +90,7 @@ fn take_turn<F: OfFrame, R: Wait, G: Gate>(
 // Draws bins turn by turn, until none waits or nothing new comes.
 fn take_turns<F: OfFrame, R: Wait, G: Gate>(
     rt: &R,
+    alloc: Global,
     queues: &BinQueues,
     waiting: &Mutex<Waiting<F>>,
     list: &FrameList,
@@ -96,7 +103,7 @@ fn take_turns<F: OfFrame, R: Wait, G: Gate>(
 {
     let mut looks = 0u32;
     for _ in rt.forever() {
-        match take_turn(rt, queues, waiting, list, cut, size, gate) {
+        match take_turn(rt, alloc, queues, waiting, list, cut, size, gate) {
             None => return,
             Some(true) => looks = 0,
             Some(false) if looks < LOOKS => {
@@ -116,13 +123,13 @@ pub(crate) fn submit_and_take<F: OfFrame + Send, R: Threads + Wait + Sync, G: Ga
     alloc: Global,
     queues: &BinQueues,
     sender: &mut Sender,
-    slots: Vec<Option<Task<Canvas>>>,
+    slots: Vec<Option<Seat>>,
     list: &FrameList,
     cut: &Cut,
     size: u32,
     workers: u32,
     gate: &G,
-) -> Result<Vec<Option<Task<Canvas>>>, Memory>
+) -> Result<Vec<Option<Seat>>, Memory>
     requires size { 1 ≤ size }
     requires queues { F.queues ≡ Some queues.now }
     requires of { F.frame ≡ batched list.now.list cut.now size [] }
@@ -148,7 +155,7 @@ pub(crate) fn submit_and_take<F: OfFrame + Send, R: Threads + Wait + Sync, G: Ga
         &|_worker: usize, _start: &mut ()|
             requires queues { F.queues ≡ Some queues.now }
             requires frame { F.frame ≡ batched list.now.list cut.now size [] }
-        { take_turns(rt, queues, waiting, list, cut, size, gate) },
+        { take_turns(rt, alloc, queues, waiting, list, cut, size, gate) },
         &mut || -> Result<(), Memory>
             requires queues { IsSubmitterOf queues.now sender.now }
             requires list { sender.now.frame.list ≡ list.now.list }

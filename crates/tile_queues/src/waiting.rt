@@ -1,8 +1,9 @@
 //! The bins of a frame that wait to be drawn. Who takes one owns its tiles until they are put back.
 ghost use Rattle.std.specs.Prelude.{◌<◌, IfSome};
 ghost use Rattle.binning.specs.Cut.{bin_count_of};
-ghost use Rattle.tile_queues.specs.Waiting.{AreWaiting, IsTaskUnder};
+ghost use Rattle.tile_queues.specs.Waiting.{AreWaiting, IsSeatUnder, IsTaskUnder};
 
+use crate::plain_tasks::{Seat, seat_of};
 use crate::task::Task;
 use masked_update::Canvas;
 use std::marker::{Brand, PhantomData};
@@ -30,7 +31,7 @@ impl OfFrame for Brand {
 /// A slot for each bin: the bin's task stands in it but while a worker draws the bin.
 #[derive(Drop)]
 pub(crate) struct Waiting<F: OfFrame> {
-    slots: Vec<Option<Task<Canvas>>>,
+    slots: Vec<Option<Seat>>,
     batches: u32,
     of: PhantomData<F>,
     ghost all: { AreWaiting F.queues F.frame slots.items },
@@ -38,7 +39,7 @@ pub(crate) struct Waiting<F: OfFrame> {
 
 impl<F: OfFrame> Waiting<F> {
     /// The tasks of a frame of so many batches.
-    pub(crate) fn of(slots: Vec<Option<Task<Canvas>>>, batches: u32) -> Waiting<F>
+    pub(crate) fn of(slots: Vec<Option<Seat>>, batches: u32) -> Waiting<F>
         requires { AreWaiting F.queues F.frame slots.items }
     {
         Waiting {
@@ -54,8 +55,8 @@ impl<F: OfFrame> Waiting<F> {
     fn next(&self) -> usize {
         let (mut least, mut next) = (self.batches, self.slots.len());
         for bin in 0..self.slots.len() {
-            if let Some(task) = &self.slots[bin] {
-                let batches = task.intake.batches();
+            if let Some(seat) = &self.slots[bin] {
+                let batches = seat.intake.batches();
                 if batches < least {
                     (least, next) = (batches, bin);
                 }
@@ -65,8 +66,8 @@ impl<F: OfFrame> Waiting<F> {
     }
 
     /// The task of the bin that is to be drawn next. None where no bin waits that isn't drawn whole.
-    pub(crate) fn take(&mut self) -> Option<Task<Canvas>>
-        ensures { IfSome result (λ t. IsTaskUnder F.queues F.frame t.intake.of.bin t) }
+    pub(crate) fn take(&mut self) -> Option<Seat>
+        ensures { IfSome result (λ t. IsSeatUnder F.queues F.frame t.intake.of.bin t) }
     {
         let bin = self.next();
         if bin < self.slots.len() {
@@ -82,10 +83,10 @@ impl<F: OfFrame> Waiting<F> {
         requires bin { task.intake.of.bin < bin_count_of F.frame.cut }
     {
         let bin = task.intake.bin() as usize;
-        self.slots[bin] = Some(task);
+        self.slots[bin] = Some(seat_of(task));
     }
 
-    pub(crate) fn into_slots(self) -> Vec<Option<Task<Canvas>>>
+    pub(crate) fn into_slots(self) -> Vec<Option<Seat>>
         ensures { AreWaiting F.queues F.frame result.items }
     {
         self.slots

@@ -1,4 +1,4 @@
-use Rattle.std.proofs.Common.{◌≡◌, ℕ, ◌++◌, List, Err, refl}
+use Rattle.std.proofs.Common.{◌≡◌, ℕ, ◌++◌, List, Err}
 use Rattle.std.specs.Prelude.{count_by}
 use Rattle.std.proofs.lemmas.Result.{err_from_is_err_and}
 use Rattle.cull_report.specs.Text.{frame_line, verdict_lines, end_line, frame_text, is_visible, is_occluded, is_outside}
@@ -39,11 +39,8 @@ returns g c =
     let s1 = g.W.Sink.says c.write_to.new.sink in
     let s2 = g.W.Sink.says c.write_verdicts.new.sink in
     let s3 = g.W.Sink.says c.write_to-2.new.sink in
-    let visible = c.count_of-visible.ensures.visible refl in
-    let occluded = c.count_of-occluded.ensures.occluded refl in
-    let outside = c.count_of-outside.ensures.outside refl in
     let last : List ℕ = end_line c.args.frame (count_by is_visible verdicts) (count_by is_occluded verdicts) (count_by is_outside verdicts) in
-    let is : c.end_line.result ≡ last = rw (← visible, ← occluded, ← outside) c.end_line.ensures in
+    let is : c.end_line.result ≡ last = rw (← c.of.ensures.visible, ← c.of.ensures.occluded, ← c.of.ensures.outside) c.end_line.ensures in
     let first : Writes s0 s1 c.write_to.result (frame_line c.args.frame c.args.pieces) = rw (← c.frame_line.ensures) c.write_to.ensures in
     let ended : Writes s2 s3 c.write_to-2.result last = rw (← is) c.write_to-2.ensures in
     writes_then s0 s1 s3 c.write_to-2.result (frame_line c.args.frame c.args.pieces) (verdict_lines 0 verdicts ++ last)

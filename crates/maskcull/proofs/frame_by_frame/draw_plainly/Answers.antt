@@ -1,25 +1,43 @@
-use Rattle.std.proofs.Common.{◌≡◌, length, subst, ap, ◌∙◌}
-use Rattle.cull_base.specs.Tiles.{PieceList, ArePieces}
+use Rattle.std.proofs.Common.{◌≡◌, ℕ, ◌<◌, true, List, length, subst, sym, ap, ◌∙◌}
+use Rattle.binning.specs.Cut.{CutOf}
 use Rattle.cull_base.specs.Screen.{tile_count_of}
-use Rattle.tile_queues.specs.Frames.{HaveStates}
+use Rattle.cull_base.specs.Tiles.{PieceList, ArePieces, tile_after}
 use Rattle.cull_report.specs.Scene.{frame_list}
+use Rattle.masked_update.specs.Canvas.{CanvasOf}
+use Rattle.tile_queues.specs.Bins.{AreBinsAt}
+use Rattle.tile_queues.specs.BinViews.{TableOf, holds_in, tile_in_bins}
+use Rattle.tile_queues.specs.Plain.{StandsPlain}
 use Rattle.maskcull.proofs.frame_by_frame.draw_plainly.Goals as goal
 
-pub verdicts_over-requires-clause-tiles : goal.verdicts_over-requires-clause-tiles
+pub of-view-requires-clause-size : goal.of-view-requires-clause-size
 unfolding frame_list
-verdicts_over-requires-clause-tiles g c =
-    λ lifetimes within. rw c.deref.ensures.value (subst (λ (l : PieceList). length c.in_ok-states.states.items ≡ tile_count_of l.size) c.in_ok-list.ensures.list c.in_ok-states.ensures.tiles)
+of-view-requires-clause-size g c = ap (λ (t : TableOf). t.size) c.requires.table ∙ sym (ap (λ (l : PieceList). l.size) c.in_ok-list.ensures.list)
+
+pub of-view-requires-clause-drawn : goal.of-view-requires-clause-drawn
+of-view-requires-clause-drawn g c =
+    let l = c.in_ok-list.list.list in
+    let cut = sym (ap (λ (t : TableOf). t.cut) c.requires.table) in
+    subst (λ (x : CutOf × List CanvasOf). AreBinsAt StandsPlain (tt {0}) l x.0 (length l.members) x.1) (λ i. (cut i, sym c.deref.ensures.value i)) c.in_ok-bins.ensures.drawn
+
+pub verdicts_over-requires-clause-holds : goal.verdicts_over-requires-clause-holds
+unfolding frame_list
+verdicts_over-requires-clause-holds g c =
+    let v = c.of-view.result in
+    let holds : (t : ℕ) → t < tile_count_of (frame_list c.args.scene.now c.args.frame).size → holds_in v.table.now v.bins.now t ≡ true =
+    subst (λ (l : PieceList). (t : ℕ) → t < tile_count_of l.size → holds_in v.table.now v.bins.now t ≡ true) c.in_ok-list.ensures.list c.of-view.ensures.holds in
+    λ lifetimes within t lt. holds t lt
 
 pub verdicts_over-requires-clause-drawn : goal.verdicts_over-requires-clause-drawn
 unfolding frame_list
 verdicts_over-requires-clause-drawn g c =
-    let drawn : HaveStates (frame_list c.args.scene.now c.args.frame) c.deref.result.now =
-    rw c.deref.ensures.value (subst (λ (l : PieceList). HaveStates l c.in_ok-states.states.items) c.in_ok-list.ensures.list c.in_ok-states.ensures.drawn) in
-    λ lifetimes within t lt. drawn t lt
+    let v = c.of-view.result in
+    let states : (let l = frame_list c.args.scene.now c.args.frame in (t : ℕ) → t < tile_count_of l.size → (tile_in_bins v.table.now v.bins.now t).subs ≡ tile_after l.size t l.members) =
+    subst (λ (l : PieceList). (t : ℕ) → t < tile_count_of l.size → (tile_in_bins v.table.now v.bins.now t).subs ≡ tile_after l.size t l.members) c.in_ok-list.ensures.list c.of-view.ensures.states in
+    λ lifetimes within t lt. states t lt
 
 pub returns-clause-pieces : goal.returns-clause-pieces
 returns-clause-pieces g c = c.len-2.ensures.value ∙ ap (λ (l : PieceList). length l.members) c.in_ok-list.ensures.list
 
 pub returns-clause-valid : goal.returns-clause-valid
 returns-clause-valid g c =
-    (subst (λ (l : PieceList). ArePieces l.members) c.in_ok-list.ensures.list c.in_ok-states.ensures.pieces)
+    (subst (λ (l : PieceList). ArePieces l.members) c.in_ok-list.ensures.list c.in_ok-bins.ensures.pieces)

@@ -1,8 +1,10 @@
-use Rattle.std.proofs.Common.{◌≡◌, length, subst, ◌∙◌}
+use Rattle.std.proofs.Common.{◌≡◌, true, nat_lt, List, length, arith, subst, sym, ap, ◌∙◌}
+use Rattle.std.proofs.lemmas.Bool.Decides.{nat_tests}
 use Rattle.cull_base.specs.Tiles.{PieceList, ArePieces}
 use Rattle.cull_base.specs.Screen.{tile_count_of}
 use Rattle.tile_queues.specs.Frames.{HaveStates}
-use Rattle.cull_report.specs.Scene.{frame_list}
+use Rattle.masked_update.specs.TileOf.{TileOf}
+use Rattle.cull_report.specs.Scene.{frame_list, size_of}
 use Rattle.maskcull.specs.Culling.{AreSettled}
 use Rattle.maskcull.proofs.LiveTexts.{kept_is_live}
 use Rattle.maskcull.proofs.Marks.{settled_in_end}
@@ -16,17 +18,21 @@ returns-clause-live g c =
     kept_is_live c.args.scene.now c.args.looks.rounds c.args.looks.watch c.args.frame new.watched.scene.now new.watched.frame new.watched.objects new.lines.items c.in_ok-states.ensures.done.1.0
     (kept.0 ∙ made.scene) (kept.1 ∙ made.frame) (kept.2 ∙ made.objects) (kept.3 ∙ made.lines)
 
-pub verdicts_over-requires-clause-tiles : goal.verdicts_over-requires-clause-tiles
+pub verdicts_over-requires-clause-holds : goal.verdicts_over-requires-clause-holds
 unfolding frame_list
-verdicts_over-requires-clause-tiles g c =
-    λ lifetimes within. rw c.deref.ensures.value (subst (λ (l : PieceList). length c.in_ok-states.states.items ≡ tile_count_of l.size) c.in_ok-list.ensures.list c.in_ok-states.ensures.tiles)
+verdicts_over-requires-clause-holds g c =
+    let s = c.args.scene.now in
+    let count : length c.new-view.result.states.now ≡ tile_count_of (frame_list s c.args.frame).size =
+    ap length (c.new-view.ensures ∙ c.deref.ensures.value) ∙ subst (λ (l : PieceList). length c.in_ok-states.states.items ≡ tile_count_of l.size) c.in_ok-list.ensures.list c.in_ok-states.ensures.tiles in
+    λ lifetimes within t lt. let e : nat_lt t (tile_count_of (size_of s)) ≡ true = grind (arith, nat_tests) in subst (λ n. nat_lt t n ≡ true) (sym count) e
 
 pub verdicts_over-requires-clause-drawn : goal.verdicts_over-requires-clause-drawn
 unfolding frame_list
 verdicts_over-requires-clause-drawn g c =
-    let drawn : HaveStates (frame_list c.args.scene.now c.args.frame) c.deref.result.now =
-    rw c.deref.ensures.value (subst (λ (l : PieceList). HaveStates l c.in_ok-states.states.items) c.in_ok-list.ensures.list c.in_ok-states.ensures.drawn) in
-    λ lifetimes within t lt. drawn t lt
+    let list = frame_list c.args.scene.now c.args.frame in
+    let drawn : HaveStates list c.in_ok-states.states.items = subst (λ (l : PieceList). HaveStates l c.in_ok-states.states.items) c.in_ok-list.ensures.list c.in_ok-states.ensures.drawn in
+    let seen : HaveStates list c.new-view.result.states.now = subst (λ (ts : List TileOf). HaveStates list ts) (sym (c.new-view.ensures ∙ c.deref.ensures.value)) drawn in
+    λ lifetimes within t lt. seen t lt
 
 pub verdicts_over-requires-clause-right : goal.verdicts_over-requires-clause-right
 verdicts_over-requires-clause-right g c =

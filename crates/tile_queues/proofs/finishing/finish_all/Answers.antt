@@ -9,8 +9,8 @@ use Rattle.tile_queues.proofs.Lists.{pushed_at}
 use Rattle.tile_queues.proofs.PlainTasks.{task_in}
 use Rattle.tile_queues.proofs.finishing.finish_all.Goals as goal
 
-pub finish-requires-clause-task : goal.finish-requires-clause-task
-finish-requires-clause-task g c κs within =
+pub finish-requires-clause-seat : goal.finish-requires-clause-seat
+finish-requires-clause-seat g c κs within =
     let i = c.loop-slot.invariant in
     let t = turn c.args.slots.items c.loop-slot.bin c.in-Some.slot _ (sym i.2 ∙ c.in-Some.ensures.steps.0) in
     task_in c.args.queues.now (batched c.args.list.now.list c.args.cut.now c.args.size []) c.args.slots.items c.loop-slot.bin c.in-Some.slot t.1 t.2 c.requires.slots

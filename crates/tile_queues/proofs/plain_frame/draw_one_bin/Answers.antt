@@ -1,12 +1,22 @@
-use Rattle.std.proofs.Common.{◌∙◌, subst}
-use Rattle.cull_base.specs.Screen.{Dimensions, IsSize}
-use Rattle.tile_queues.proofs.OneBin.{all_states, all_tiles}
+use Rattle.std.proofs.Common.{◌≡◌, ◌∷◌, [], List, length, get_or, arith, ap, ◌∙◌, sym, subst, rules}
+use Rattle.std.proofs.lemmas.Grind.{common_steps}
+use Rattle.std.proofs.lemmas.List.{length-append}
+use Rattle.masked_update.specs.Canvas.{CanvasOf}
+use Rattle.tile_queues.specs.Bins.{IsBinAt}
+use Rattle.tile_queues.specs.Plain.{StandsPlain}
+use Rattle.tile_queues.proofs.Lists.{pushed_at}
 use Rattle.tile_queues.proofs.plain_frame.draw_one_bin.Goals as goal
 
-pub returns-clause-tiles : goal.returns-clause-tiles
-returns-clause-tiles g c = c.into_tiles.ensures.whole ∙ all_tiles c.args.list.now.list c.args.cut.now c.columns-columns.ensures.valid c.requires.one c.draw_unbinned.new.keeper c.draw_unbinned.ensures
-
-pub returns-clause-drawn : goal.returns-clause-drawn
-returns-clause-drawn g c =
-    let sized = subst (λ (s : Dimensions). IsSize s.width s.height) c.size-size.ensures c.width-width.ensures.valid in
-    all_states c.args.list.now.list c.args.cut.now c.columns-columns.ensures.valid c.requires.one c.draw_unbinned.new.keeper c.draw_unbinned.ensures c.into_tiles.result.items sized c.len-len.ensures.pieces c.into_tiles.ensures.tiles
+pub returns : goal.returns
+returns g c =
+    let l = c.args.list.now.list in let cut = c.args.cut.now in
+    let items = c.push_reserved.ensures.items in
+    let canvas = c.draw_unbinned.new.keeper in
+    let none : length c.in_ok-bins.bins.items ≡ 0 = first_of (search rules, grind (arith, common_steps)) in
+    let grown = ap length items in
+    let one : length c.push_reserved.new.self.items ≡ 1 = omega (arith, grown, length-append c.in_ok-bins.bins.items (canvas ∷ []), none) in
+    record {
+      count = one ∙ sym c.requires.one;
+      each = λ b d lt. subst (λ (xs : List CanvasOf). IsBinAt StandsPlain (tt {0}) l cut (length l.members) b (get_or xs b d)) (sym items)
+          (pushed_at (λ k x. IsBinAt StandsPlain (tt {0}) l cut (length l.members) k x) 0 c.in_ok-bins.bins.items canvas none (λ k e below. absurd (omega (arith, below))) c.draw_unbinned.ensures b d (omega (arith, lt, one)));
+    }

@@ -1,0 +1,43 @@
+-- Runs of a frame's objects, so many each, with their verdicts and lines.
+use Rattle.std.specs.Prelude.{ℕ, ◌≡◌, ◌*◌, ◌<◌, ◌≤◌, List, [], Some, length, take, drop, vec_capacity, slice_index_or}
+use Rattle.std.specs.declared.option.Option.{Option}
+use Rattle.cull_base.specs.declared.scene_types.Verdict.{Verdict}
+use Rattle.cull_report.specs.Text.{verdict_lines}
+use Rattle.cull_report.specs.declared.runs.Run.{Run}
+
+-- a run has at least one object and at most so many, whose lines a text has room for
+pub record IsRunSize (size : ℕ) : Type 0 where
+  pub some : 0 < size
+  pub few : size ≤ 128
+
+-- the verdicts of a run, by its number
+abbrev pub run_of : List Verdict → ℕ → ℕ → List Verdict
+run_of all size number = take size (drop (size * number) all)
+
+-- a run that waits: it has an object, and room for the verdicts and the lines of so many
+pub record IsWaitingRun (all : List Verdict) (size : ℕ) (r : Run) : Type 0 where
+  pub some : size * r.number < length all
+  pub no_verdicts : r.verdicts.items ≡ []
+  pub no_lines : r.lines.items ≡ []
+  pub verdict_room : size ≤ vec_capacity r.verdicts
+  pub line_room : 30 * size ≤ vec_capacity r.lines
+
+-- a run that is made: its verdicts, and their lines
+pub record IsMadeRun (all : List Verdict) (size number : ℕ) (r : Run) : Type 0 where
+  pub verdicts_are : r.verdicts.items ≡ run_of all size number
+  pub lines_are : r.lines.items ≡ verdict_lines (size * number) (run_of all size number)
+
+-- in each slot stands no other run than that of its number
+abbrev pub AreMadeIn : List Verdict → ℕ → List (Option Run) → Type 0
+AreMadeIn all size slots =
+    (k : ℕ) (d : Option Run) (r : Run) → k < length slots → slice_index_or slots k d ≡ Some r → IsMadeRun all size k r
+
+-- so many runs have all objects, and each has one
+pub record AreRunsFor (objects size count : ℕ) : Type 0 where
+  pub whole : objects ≤ size * count
+  pub some : (k : ℕ) → k < count → size * k < objects
+
+-- all runs in order
+pub record AreRunsOf (all : List Verdict) (size : ℕ) (runs : List Run) : Type 0 where
+  pub each : (k : ℕ) (d : Run) → k < length runs → IsMadeRun all size k (slice_index_or runs k d)
+  pub whole : length all ≤ size * length runs
