@@ -24,7 +24,7 @@ pub use divisor::Divisor;
 pub use extent::Extent;
 pub use frame_list::FrameList;
 pub use memory::{Failed, Memory, SinkError};
-pub use nearness::{GRADE_TOP, HELD_TOP};
+pub use nearness::{GRADE_TOP, HELD_TOP, tops};
 pub use place::{Sample, Sub, Tile};
 pub use rect::{NO_PIXELS, Rect};
 pub use scene_types::{Object, Tri, Verdict};
