@@ -17,10 +17,10 @@ use Rattle.maskcull.specs.declared.failure.Failure.{Failure}
 use Rattle.maskcull.specs.declared.frames.FrameLines.{FrameLines}
 use Rattle.maskcull.specs.declared.frames.FrameLines.TheVariants.{Report, Summary}
 use Rattle.maskcull.specs.Frames.{lines_of, frames_lines}
-use Rattle.maskcull.specs.Demo.{demo_of, frame_count}
+use Rattle.demo_scene.specs.Demo.{demo_of, frame_count}
 use Rattle.maskcull.specs.Summary.{frames_summary}
 use Rattle.std.specs.Prelude.{OnOk}
-use Rattle.maskcull.proofs.Ranges.{flat_map-next, flat_map-begins}
+use Rattle.demo_scene.proofs.Ranges.{flat_map-next, flat_map-begins}
 use Rattle.maskcull.specs.Culling.{Reports, AllArePieces, IsReportFailure}
 use Rattle.maskcull.specs.Outcome.{sink_failure}
 

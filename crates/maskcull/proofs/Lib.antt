@@ -9,10 +9,7 @@ pub mod DefaultTexts
 pub mod Builders
 pub mod OptionNumbers
 pub mod AskedWords
-pub mod Ranges
 pub mod FrameByFrame
-pub mod Draws
-pub mod DemoScene
 pub mod ClosedCells
 pub mod LiveLooks
 pub mod Marks

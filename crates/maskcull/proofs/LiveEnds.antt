@@ -23,7 +23,7 @@ use Rattle.maskcull.specs.LiveFrames.{AreLive}
 use Rattle.maskcull.specs.LiveRuns.{GainsLive, StopsAtNotes}
 use Rattle.maskcull.specs.LiveScenes.{CountsStay, GainsRising, HasLive, IsLiveFailure, IsUnnoted, NotesLines, ReportsFrame, ReportsLive}
 use Rattle.maskcull.specs.Outcome.{notes_failure, sink_failure}
-use Rattle.maskcull.proofs.Ranges.{flat_map-next, flat_map-begins}
+use Rattle.demo_scene.proofs.Ranges.{flat_map-next, flat_map-begins}
 use Rattle.maskcull.proofs.LiveLooks.{with_at, at_same, at_other}
 use Rattle.maskcull.proofs.LiveTexts.{flat_map-alike}
 

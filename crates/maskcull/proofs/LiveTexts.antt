@@ -13,7 +13,7 @@ use Rattle.scene_reader.specs.Layout.{Parts}
 use Rattle.cull_report.specs.Live.{IsBefore, IsLine, IsRisingIn, IsStated, LiveLineOf, frame_live, object_line, round_lines, text_of_line, watched}
 use Rattle.cull_report.specs.Scene.{frame_list, size_of}
 use Rattle.maskcull.specs.LiveFrames.{AreLive, AreLooks, HaveLooked, Tells}
-use Rattle.maskcull.proofs.Ranges.{flat_map-next}
+use Rattle.demo_scene.proofs.Ranges.{flat_map-next}
 
 -- functions that agree below n
 pub flat_map-alike : {A : Type 0} (f g : ℕ → List A) (n : ℕ) → ((i : ℕ) → i < n → f i ≡ g i) → flat_map f (range_with_len 0 n) ≡ flat_map g (range_with_len 0 n)

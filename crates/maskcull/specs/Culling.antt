@@ -3,7 +3,7 @@ use Rattle.std.specs.Prelude.{ℕ, Bool, ◌≡◌, ◌<◌, ◌≤◌, List, []
 use Rattle.cull_base.specs.Stream.{SourceSays, SinkSays, Rose, Appends, AppendsPrefix, IsNoted}
 use Rattle.scene_reader.specs.Fault.{first_fault, IsRefusal}
 use Rattle.maskcull.specs.Notes.{refusal_text}
-use Rattle.maskcull.specs.Demo.{demo_of}
+use Rattle.demo_scene.specs.Demo.{demo_of}
 use Rattle.maskcull.specs.Summary.{summary_text}
 use Rattle.maskcull.specs.Words.{request_of}
 use Rattle.maskcull.specs.declared.request.Command.{Command}

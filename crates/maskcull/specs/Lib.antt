@@ -1,6 +1,5 @@
 pub mod App
 pub mod Words
-pub mod Demo
 pub mod Summary
 pub mod Frames
 pub mod LiveFrames

@@ -7,7 +7,7 @@ use Rattle.scene_reader.specs.Layout.{Parts}
 use Rattle.cull_report.specs.Lines.{line}
 use Rattle.cull_report.specs.Scene.{frame_pieces, frame_verdicts}
 use Rattle.cull_report.specs.Text.{is_visible, is_occluded, is_outside}
-use Rattle.maskcull.specs.Demo.{demo_of, box_count, frame_count}
+use Rattle.demo_scene.specs.Demo.{demo_of, box_count, frame_count}
 
 unfoldable pub demo_line : ℕ → ℕ → List ℕ
 demo_line seed m = line (codes "demo" ∷ codes "seed" ∷ decimal seed ∷ codes "triangles" ∷ decimal m

@@ -2,11 +2,11 @@
 ghost use Rattle.std.specs.Prelude.{◌≡◌, ℕ, ◌≤◌, OnOk};
 ghost use Rattle.cull_report.specs.Hiding.{HidesTruly};
 ghost use Rattle.maskcull.specs.Culling.{Reports};
-ghost use Rattle.maskcull.specs.Demo.{demo_of};
+ghost use Rattle.demo_scene.specs.Demo.{demo_of};
 ghost use Rattle.maskcull.specs.Summary.{summary_text};
 ghost use Rattle.maskcull.specs.Words.{AreInRange};
 
-use crate::demo_scene::demo_scene;
+use demo_scene::demo_scene;
 use crate::failure::Failure;
 use crate::frame_by_frame::report_frames;
 use crate::frames::FrameLines;

@@ -4,11 +4,9 @@
 mod adapters;
 mod cull;
 mod demo;
-mod demo_scene;
 mod failure;
 mod frame_by_frame;
 mod frames;
-mod generator;
 mod live;
 mod live_caller;
 mod live_frame;

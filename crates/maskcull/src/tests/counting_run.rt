@@ -1,7 +1,7 @@
 //! A run whose gate counts what it is asked: each bin draws each piece that meets it, once in each frame.
 ghost use Rattle.std.specs.Prelude.{◌<◌, length};
 
-use crate::demo_scene::demo_scene;
+use demo_scene::demo_scene;
 use crate::failure::Status;
 use crate::frames::pieces_of;
 use crate::run::run;

@@ -1,6 +1,5 @@
-//! The command `demo`, and the generator of its scene.
+//! The command `demo`.
 use crate::failure::Status;
-use crate::generator::Generator;
 use crate::tests::scenes::run_with;
 use std::alloc::Global;
 use std::process::Abort;
@@ -35,17 +34,6 @@ fn assert_summary<R: Threads + Wait + Sync + Abort>(
     assert_eq!(rt; ended.report.as_slice(), text.as_bytes());
     assert_eq!(rt; ended.status, Status::Done);
     assert_eq!(rt; ended.notes.len(), 0);
-    Ok(())
-}
-
-#[test]
-fn the_first_draws_of_seed_0(rt: HostRuntime) -> Result<(), Fail> {
-    let mut generator = Generator { state: 0 };
-    assert_eq!(rt; generator.next(16_001), 5311);
-    assert_eq!(rt; generator.state, 1_442_695_040_888_963_407);
-    assert_eq!(rt; generator.state >> 33, 167_951_807);
-    let mut again = Generator { state: 0 };
-    assert_eq!(rt; again.centre().x, -2689);
     Ok(())
 }
 

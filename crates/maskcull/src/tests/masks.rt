@@ -1,7 +1,7 @@
 //! The coverage masks of a frame's pieces, beside a plain loop over the samples.
 ghost use Rattle.std.specs.Prelude.{◌<◌};
 
-use crate::demo_scene::demo_scene;
+use demo_scene::demo_scene;
 use crate::frames::{clip_frame, pieces_of};
 use cull_base::{ClipVertex, FrameList, Memory, ScreenTri, Side, Sub};
 use edge_lanes::Edges;

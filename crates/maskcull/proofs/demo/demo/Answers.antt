@@ -5,7 +5,7 @@ use Rattle.scene_reader.specs.Layout.{Parts}
 use Rattle.cull_report.specs.Hiding.{HidesTruly}
 use Rattle.maskcull.specs.declared.frames.FrameLines.TheVariants.{Summary}
 use Rattle.maskcull.specs.Culling.{Reports}
-use Rattle.maskcull.specs.Demo.{demo_of, frame_count}
+use Rattle.demo_scene.specs.Demo.{demo_of, frame_count}
 use Rattle.maskcull.specs.Frames.{frames_lines}
 use Rattle.maskcull.specs.Outcome.{sink_failure}
 use Rattle.maskcull.specs.Summary.{demo_line, frames_summary, summary_text}
