@@ -300,7 +300,10 @@ fn the_version_is_told(rt: HostRuntime) -> Result<(), Fail> {
     let alloc = rt.alloc();
     for word in ["--version", "-V"] {
         let notes = assert_usage(&rt, alloc, &["maskcull", word])?;
-        assert_eq!(rt; notes.as_slice(), b"usage refused\nmaskcull 0.1.0\n".as_slice());
+        assert_eq!(rt;
+            notes.as_slice(),
+            b"usage refused\nmaskcull 0.1.0\n".as_slice()
+        );
     }
     Ok(())
 }

@@ -82,7 +82,15 @@ fn assert_met<R: Threads + Wait + Sync + Abort>(
     let mut report = SureSink::new(alloc);
     let mut notes = SureSink::new(alloc);
     let words = words(alloc, given)?;
-    let status = run(rt, alloc, &words, &mut input, &mut report, &mut notes, &gate);
+    let status = run(
+        rt,
+        alloc,
+        &words,
+        &mut input,
+        &mut report,
+        &mut notes,
+        &gate,
+    );
     assert_eq!(rt; gate.come.load(Ordering::SeqCst), BINS);
     assert!(rt; !gate.late.load(Ordering::SeqCst));
     assert_eq!(rt; report.held(), REPORT.as_bytes());
