@@ -14,6 +14,7 @@ pub mod ClosedCells
 pub mod LiveLooks
 pub mod Marks
 pub mod LiveTexts
+pub mod ScenePieces
 pub mod LiveEnds
 pub mod RunEnds
 pub mod RunStatus

@@ -26,6 +26,7 @@ use Rattle.maskcull.specs.Outcome.{notes_failure, sink_failure}
 use Rattle.demo_scene.proofs.Ranges.{flat_map-next, flat_map-begins}
 use Rattle.maskcull.proofs.LiveLooks.{with_at, at_same, at_other}
 use Rattle.maskcull.proofs.LiveTexts.{flat_map-alike}
+use Rattle.maskcull.proofs.ScenePieces.{lines_hide}
 
 -- ---- texts on sinks
 
@@ -181,7 +182,7 @@ lines_are_front s rounds watch counts k m lt le =
     )
 
 -- what the notes gained of a live text, by the frame under way
-pub gains_rising : (s : Parts) (rounds watch : ℕ) (counts : Counts) (f : Failure) (k m : ℕ) (r0 r n0 n : SinkSays) → IsRising s rounds watch counts → k < length s.cameras
+pub gains_rising : (s : Parts) (rounds watch : ℕ) (counts : Counts) (f : Failure) (k m : ℕ) (r0 r n0 n : SinkSays) → IsScene s → IsRising s rounds watch counts → k < length s.cameras
     → AppendsPrefix r0 r (scene_header s ++ frames_text s (k + 1))
     → (0 < k → (more : List ℕ) × Appends r0 r ((scene_header s ++ frames_text s k) ++ more))
     → m ≤ length (frame_live s rounds watch (counts k) k)
@@ -189,7 +190,7 @@ pub gains_rising : (s : Parts) (rounds watch : ℕ) (counts : Counts) (f : Failu
     → (f ≡ ReportFault → m ≡ 0)
     → Appends n0 n (frames_live s rounds watch counts k ++ take m (frame_live s rounds watch (counts k) k))
     → GainsRising s rounds watch f r0 r n0 n
-gains_rising s rounds watch counts f k m r0 r n0 n rising lt reported earlier within joined none noted =
+gains_rising s rounds watch counts f k m r0 r n0 n scene rising lt reported earlier within joined none noted =
     let (size, le, is) = lines_are_front s rounds watch counts k m lt within in
     record {
       counts = counts;
@@ -199,20 +200,21 @@ gains_rising s rounds watch counts f k m r0 r n0 n rising lt reported earlier wi
       lines = record { frame = k; is_frame = lt; reported = reported; earlier = earlier; size = m; within = within; joined = joined; spelled = is };
       whole_frames = none;
       gained = subst (Appends n0 n) (sym is) noted;
+      hidden = lines_hide s rounds watch counts scene;
     }
 
 -- nothing was noted, and of the report at most the header written
-pub nothing_rises : (s : Parts) (rounds watch : ℕ) (f : Failure) (r0 r n0 n : SinkSays) → 0 < length s.cameras → AppendsPrefix r0 r (scene_header s) → Appends n0 n [] → GainsRising s rounds watch f r0 r n0 n
-nothing_rises s rounds watch f r0 r n0 n some h none =
+pub nothing_rises : (s : Parts) (rounds watch : ℕ) (f : Failure) (r0 r n0 n : SinkSays) → IsScene s → AppendsPrefix r0 r (scene_header s) → Appends n0 n [] → GainsRising s rounds watch f r0 r n0 n
+nothing_rises s rounds watch f r0 r n0 n scene h none =
     let unseen : Counts = λ f r o t. 0 in
-    gains_rising s rounds watch unseen f 0 0 r0 r n0 n (λ frame lt. none_rise s rounds watch frame) some (front_of_more r0 r (scene_header s) (frames_text s (0 + 1)) h) (λ lt. absurd (omega arith)) (omega arith)
+    gains_rising s rounds watch unseen f 0 0 r0 r n0 n scene (λ frame lt. none_rise s rounds watch frame) (omega (arith, scene.some_frames)) (front_of_more r0 r (scene_header s) (frames_text s (0 + 1)) h) (λ lt. absurd (omega arith)) (omega arith)
     (λ lt. absurd (omega arith)) (λ is. refl)
     (subst (λ (t : List ℕ). Appends n0 n (t ++ [])) (sym (frames_live-none s rounds watch unseen)) none)
 
 -- a frame failed before its lines were noted
-unnoted_end : (s : Parts) (rounds watch : ℕ) (counts : Counts) (k : ℕ) (f : Failure) (r0 r r' n0 n n' : SinkSays) → LiveSoFar s rounds watch counts k r0 r n0 n → k < length s.cameras
+unnoted_end : (s : Parts) (rounds watch : ℕ) (counts : Counts) (k : ℕ) (f : Failure) (r0 r r' n0 n n' : SinkSays) → IsScene s → LiveSoFar s rounds watch counts k r0 r n0 n → k < length s.cameras
     → IsUnnoted s k f r r' n n' → ReportsFrame s rounds watch k r r' n n' (Err f) → ReportsLive s rounds watch r0 r' n0 n' (Err f)
-unnoted_end s rounds watch counts k f r0 r r' n0 n n' so lt un frame =
+unnoted_end s rounds watch counts k f r0 r r' n0 n n' scene so lt un frame =
     let (rest, e) = report_begins s k lt in
     let here = front_then r0 r r' (scene_header s ++ frames_text s k) (frame_report s k) so.reported un.reported in
     let there : AppendsPrefix r0 r' (scene_header s ++ frames_text s (k + 1)) = subst (AppendsPrefix r0 r') (sym (report_next s k)) here in
@@ -222,7 +224,7 @@ unnoted_end s rounds watch counts k f r0 r r' n0 n n' so lt un frame =
     record {
       ok = tt;
       err = subst (AppendsPrefix r0 r') (sym e) (front_of_more r0 r' (scene_header s ++ frames_text s (k + 1)) rest there);
-      front = λ other. gains_rising s rounds watch counts f k 0 r0 r' n0 n' so.rising lt there (λ some. (take m (frame_report s k), earlier)) (omega arith) (λ some. absurd (omega arith)) (λ is. refl) noted;
+      front = λ other. gains_rising s rounds watch counts f k 0 r0 r' n0 n' scene so.rising lt there (λ some. (take m (frame_report s k), earlier)) (omega arith) (λ some. absurd (omega arith)) (λ is. refl) noted;
       stops = λ is. let e : f ≡ NotesFault = cc in absurd (un.cause e);
       cause = cause_then f r0 r r' n0 n n' so.report_stays so.stay.faults frame.cause;
       report_stays = omega (arith, so.report_stays, frame.report_stays);
@@ -230,9 +232,9 @@ unnoted_end s rounds watch counts k f r0 r r' n0 n n' so lt un frame =
     }
 
 -- a frame's lines couldn't be noted
-noted_end : (s : Parts) (rounds watch : ℕ) (counts : Counts) (k : ℕ) (f : Failure) (r0 r r' n0 n n' : SinkSays) → LiveSoFar s rounds watch counts k r0 r n0 n → k < length s.cameras
+noted_end : (s : Parts) (rounds watch : ℕ) (counts : Counts) (k : ℕ) (f : Failure) (r0 r r' n0 n n' : SinkSays) → IsScene s → LiveSoFar s rounds watch counts k r0 r n0 n → k < length s.cameras
     → (f ≡ ReportFault → ⊥) → HasLive s rounds watch k r r' (AppendsProperPrefix n n') → ReportsFrame s rounds watch k r r' n n' (Err f) → ReportsLive s rounds watch r0 r' n0 n' (Err f)
-noted_end s rounds watch counts k f r0 r r' n0 n n' so lt written has frame =
+noted_end s rounds watch counts k f r0 r r' n0 n n' scene so lt written has frame =
     let c = has.counts in
     let counts' = with_at counts k c in
     let (m, proper, gained) = has.noted_is in
@@ -250,7 +252,7 @@ noted_end s rounds watch counts k f r0 r r' n0 n n' so lt written has frame =
     record {
       ok = tt;
       err = subst (AppendsPrefix r0 r') (sym e) (whole_is_front r0 r' (scene_header s ++ frames_text s (k + 1)) rest reported);
-      front = λ other. gains_rising s rounds watch counts' f k m r0 r' n0 n' rising lt (all_is_front r0 r' (scene_header s ++ frames_text s (k + 1)) reported) (λ some. (frame_report s k, earlier)) (omega (arith, fits))
+      front = λ other. gains_rising s rounds watch counts' f k m r0 r' n0 n' scene rising lt (all_is_front r0 r' (scene_header s ++ frames_text s (k + 1)) reported) (λ some. (frame_report s k, earlier)) (omega (arith, fits))
           (λ some. reported) (λ fault. absurd (written fault)) noted;
       stops = λ stop. record {
         counts = counts';
@@ -261,17 +263,18 @@ noted_end s rounds watch counts k f r0 r r' n0 n n' so lt written has frame =
         size = m;
         proper = fits;
         gained = noted;
+        hidden = lines_hide s rounds watch counts' scene;
       };
       cause = cause_then f r0 r r' n0 n n' so.report_stays so.stay.faults frame.cause;
       report_stays = omega (arith, so.report_stays, frame.report_stays);
       stay = stay_then n0 n n' so.stay frame.stay;
     }
 
-pub live_ends : (s : Parts) (rounds watch : ℕ) (counts : Counts) (k : ℕ) (f : Failure) (r0 r r' n0 n n' : SinkSays) → LiveSoFar s rounds watch counts k r0 r n0 n → k < length s.cameras
+pub live_ends : (s : Parts) (rounds watch : ℕ) (counts : Counts) (k : ℕ) (f : Failure) (r0 r r' n0 n n' : SinkSays) → IsScene s → LiveSoFar s rounds watch counts k r0 r n0 n → k < length s.cameras
     → ReportsFrame s rounds watch k r r' n n' (Err f) → ReportsLive s rounds watch r0 r' n0 n' (Err f)
-live_ends s rounds watch counts k f r0 r r' n0 n n' so lt frame = elim frame.err [
-  | inl un ↦ unnoted_end s rounds watch counts k f r0 r r' n0 n n' so lt un frame
-  | inr has ↦ noted_end s rounds watch counts k f r0 r r' n0 n n' so lt has.0 has.1 frame
+live_ends s rounds watch counts k f r0 r r' n0 n n' scene so lt frame = elim frame.err [
+  | inl un ↦ unnoted_end s rounds watch counts k f r0 r r' n0 n n' scene so lt un frame
+  | inr has ↦ noted_end s rounds watch counts k f r0 r r' n0 n n' scene so lt has.0 has.1 frame
 ]
 
 -- all frames were drawn
@@ -296,7 +299,7 @@ pub header_ends : (s : Parts) (rounds watch : ℕ) (f : Failure) (r0 r n : SinkS
 header_ends s rounds watch f r0 r n scene h other cause stays = record {
   ok = tt;
   err = subst (AppendsPrefix r0 r) (sym (report_text-is s)) (front_of_more r0 r (scene_header s) (frames_text s (length s.cameras)) h);
-  front = λ no. nothing_rises s rounds watch f r0 r n n (omega (arith, scene.some_frames)) h (nothing_appended n);
+  front = λ no. nothing_rises s rounds watch f r0 r n n scene h (nothing_appended n);
   stops = λ is. let e : f ≡ NotesFault = cc in absurd (other e);
   cause = cause;
   report_stays = stays;

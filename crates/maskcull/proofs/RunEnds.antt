@@ -70,7 +70,7 @@ noted_behind n0 n1 n2 front note h stay noted = elim noted [
 
 -- of a scene that wasn't drawn
 pub nothing_gained : (s : Parts) (rounds watch : ℕ) (f : Failure) (r n : SinkSays) → IsScene s → GainsRising s rounds watch f r r n n
-nothing_gained s rounds watch f r n scene = nothing_rises s rounds watch f r r n n (omega (arith, scene.some_frames)) (0, omega arith, nothing_appended r) (nothing_appended n)
+nothing_gained s rounds watch f r n scene = nothing_rises s rounds watch f r r n n scene (0, omega arith, nothing_appended r) (nothing_appended n)
 
 of_report_fault : (f : Failure) → status_of f ≡ statuses.ReportFault → f ≡ ReportFault
 of_report_fault (Scene e) is = absurd cc
@@ -89,6 +89,7 @@ front_noted s rounds watch f r0 r1 n0 n1 n2 gains stay noted = record {
   lines = gains.lines;
   whole_frames = λ is. gains.whole_frames (of_report_fault f is);
   gained = noted_behind n0 n1 n2 (take gains.size (live_text s rounds watch gains.counts)) (status_text (status_of f)) gains.gained stay noted;
+  hidden = gains.hidden;
 }
 
 -- nothing but a note that memory was wanted

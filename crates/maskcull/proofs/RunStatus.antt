@@ -127,6 +127,7 @@ stops_then s rounds watch r0 r1 n0 n1 n2 none stops = record {
   size = stops.size;
   proper = stops.proper;
   gained = appends_no_more n0 n1 n2 (frames_live s rounds watch stops.counts stops.frame ++ take stops.size (frame_live s rounds watch (stops.counts stops.frame) stops.frame)) stops.gained none;
+  hidden = stops.hidden;
 }
 
 -- the lines of a frame couldn't be noted, and no more was

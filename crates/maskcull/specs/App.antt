@@ -73,8 +73,8 @@ unflagged_shape name options = record (new_shape name) { rules = map rule_for op
 abbrev pub command_shape : Text → List Numbered → Shape
 command_shape name options = record (new_shape name) { rules = map rule_for options ++ early_rule ∷ [] }
 
--- the program: one of its commands must be named
+-- the program: it has a version, and one of its commands must be named
 abbrev pub the_app : App
 the_app =
-    with_subcommand (with_subcommand (with_subcommand (on_top (λ s. record s { subcommand_required = true }) (new_app (codes "maskcull")))
+    with_subcommand (with_subcommand (with_subcommand (on_top (λ s. record s { has_version = true; subcommand_required = true }) (new_app (codes "maskcull")))
     (command_shape (codes "cull") cull_options)) (command_shape (codes "live") live_options)) (command_shape (codes "demo") demo_options)

@@ -28,7 +28,8 @@ pub record AreJoined (s : Parts) (rounds watch : ℕ) (counts : Counts) (report_
   pub spelled : text ≡ frames_live s rounds watch counts frame ++ take size (frame_live s rounds watch (counts frame) frame)
 
 -- They gained a front of such a text, and behind it the status's note, or a front of the note where one of the sink's counts rose. The front has lines of
--- frames that were joined, and no other; after a report that couldn't be written none of the frame under way.
+-- frames that were joined, and no other; after a report that couldn't be written none of the frame under way. What a line calls occluded is hidden by the
+-- members that it states.
 pub record GainsLiveFront (s : Parts) (rounds watch : ℕ) (report_before report_after before after : SinkSays) (status : Status) : Type 0 where
   pub counts : Counts
   pub rising : IsRising s rounds watch counts
@@ -37,9 +38,10 @@ pub record GainsLiveFront (s : Parts) (rounds watch : ℕ) (report_before report
   pub lines : AreJoined s rounds watch counts report_before report_after (take size (live_text s rounds watch counts))
   pub whole_frames : status ≡ ReportFault → lines.size ≡ 0
   pub gained : IsNotedBehind before after (take size (live_text s rounds watch counts)) (status_text status)
+  pub hidden : HidesLive s rounds watch counts
 
 -- The lines of a frame couldn't be noted. The report gained its header and the frames up to this one, and the notes the lines of the frames before
--- it, and a front of its own lines that isn't the whole.
+-- it, and a front of its own lines that isn't the whole. What a line calls occluded is hidden by the members that it states.
 pub record StopsAtNotes (s : Parts) (rounds watch : ℕ) (report_before report_after before after : SinkSays) : Type 0 where
   pub counts : Counts
   pub rising : IsRising s rounds watch counts
@@ -50,3 +52,4 @@ pub record StopsAtNotes (s : Parts) (rounds watch : ℕ) (report_before report_a
   pub proper : size < length (frame_live s rounds watch (counts frame) frame)
   pub gained : Appends before after
       (frames_live s rounds watch counts frame ++ take size (frame_live s rounds watch (counts frame) frame))
+  pub hidden : HidesLive s rounds watch counts

@@ -2,7 +2,7 @@
 use Rattle.std.specs.Prelude.{ℕ, ◌≡◌, ◌⊎◌, ◌≤◌, [], List, length, take, Result, OnOk, OnErr, IfErr, IsErrOf}
 use Rattle.cull_base.specs.Stream.{SinkSays, Rose, Appends, AppendsPrefix, AppendsProperPrefix}
 use Rattle.scene_reader.specs.Layout.{Parts}
-use Rattle.cull_report.specs.Live.{Counts, IsRising, IsRisingIn, frame_live, live_text}
+use Rattle.cull_report.specs.Live.{Counts, HidesLive, IsRising, IsRisingIn, frame_live, live_text}
 use Rattle.cull_report.specs.Scene.{frame_report, report_text}
 use Rattle.maskcull.specs.LiveRuns.{AreJoined, GainsLive, StopsAtNotes}
 use Rattle.maskcull.specs.declared.failure.Failure.{Failure}
@@ -48,7 +48,7 @@ pub record ReportsFrame (s : Parts) (rounds watch frame : ℕ) (report_before re
   pub stay : CountsStay before after
 
 -- The notes gained a front of a live text of counts that rise: lines of frames that were joined, and no other. After a report that couldn't be written there
--- is none of the frame under way.
+-- is none of the frame under way. What a line calls occluded is hidden by the members that it states.
 pub record GainsRising (s : Parts) (rounds watch : ℕ) (f : Failure) (report_before report_after before after : SinkSays) : Type 0 where
   pub counts : Counts
   pub rising : IsRising s rounds watch counts
@@ -57,6 +57,7 @@ pub record GainsRising (s : Parts) (rounds watch : ℕ) (f : Failure) (report_be
   pub lines : AreJoined s rounds watch counts report_before report_after (take size (live_text s rounds watch counts))
   pub whole_frames : f ≡ ReportFault → lines.size ≡ 0
   pub gained : Appends before after (take size (live_text s rounds watch counts))
+  pub hidden : HidesLive s rounds watch counts
 
 -- A scene's report was written and its live text noted; or after a failure a front of each.
 pub record ReportsLive (s : Parts) (rounds watch : ℕ) (report_before report_after before after : SinkSays) (result : Result (Unit {0}) Failure) : Type 0 where

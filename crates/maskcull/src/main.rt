@@ -27,6 +27,9 @@ use std::io::{BufReader, ErrorKind, Stdin};
 use std::process::ExitCode;
 use tile_queues::OpenGate;
 
+/// The version of the program and of the library for C.
+pub const VERSION: &str = "0.1.0";
+
 // The words that the program was started with; none where one isn't UTF-8, which is no command.
 fn words_of(rt: &HostRuntime, alloc: Global) -> Result<Vec<String>, Memory> {
     let mut words = Vec::new(alloc);

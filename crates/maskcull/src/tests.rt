@@ -11,6 +11,7 @@ mod last_numbers;
 mod live;
 mod live_verdicts;
 mod masks;
+mod meeting_run;
 mod objects;
 mod scenes;
 mod waiting;

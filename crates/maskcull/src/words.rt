@@ -24,7 +24,7 @@ use std::alloc::Global;
 pub enum Refusal {
     /// Memory was wanted.
     Memory,
-    /// The words are refused, or help was asked for: what there is to say of it, if there was memory for it.
+    /// The words are refused, or help or the version was asked for: what there is to say, if there was memory for it.
     Words(Option<String>),
 }
 

@@ -63,6 +63,7 @@ fn words_that_are_no_command_are_refused(rt: HostRuntime) -> Result<(), Fail> {
         &["maskcull", "draw"],
         &["maskcull", "live", "x"],
         &["maskcull", "cull", "x"],
+        &["maskcull", "cull", "--version"],
         &["maskcull", "--early", "cull"],
         &["maskcull", "cull", "--early", "1"],
         &["maskcull", "cull", "--seed", "1"],
@@ -110,8 +111,33 @@ fn a_flag_given_twice_or_with_a_value_is_refused(rt: HostRuntime) -> Result<(), 
     Ok(())
 }
 
+// The words make the whole report of the first scene, and nothing is noted.
+fn assert_same_report<R: Threads + Wait + Sync + Abort>(
+    rt: &R,
+    alloc: Global,
+    given: &[&str],
+) -> Result<(), Fail> {
+    let ended = run_with(rt, alloc, given, Vec::from_slice(alloc, &FIRST)?)?;
+    assert_eq!(rt; ended.report.as_slice(), OCCLUDED.as_bytes());
+    assert_eq!(rt; ended.status, Status::Done);
+    assert_eq!(rt; ended.notes.len(), 0);
+    Ok(())
+}
+
+// One bin has the tile; of sixty-four all others have none.
 #[test]
 fn settings_change_no_byte(rt: HostRuntime) -> Result<(), Fail> {
+    let alloc = rt.alloc();
+    for workers in ["1", "7", "64"] {
+        for bins in ["1", "8"] {
+            assert_same_report(&rt, alloc, &options(workers, bins, bins, "1"))?;
+        }
+    }
+    Ok(())
+}
+
+#[test]
+fn some_options_and_large_batches_change_no_byte(rt: HostRuntime) -> Result<(), Fail> {
     let alloc = rt.alloc();
     for given in [
         ["maskcull", "cull", "--workers=64"].as_slice(),
@@ -124,12 +150,9 @@ fn settings_change_no_byte(rt: HostRuntime) -> Result<(), Fail> {
             "--workers",
             "2",
         ],
-        &options("7", "8", "8", "1"),
         &options("64", "8", "8", "4096"),
     ] {
-        let ended = run_with(&rt, alloc, given, Vec::from_slice(alloc, &FIRST)?)?;
-        assert_eq!(rt; ended.report.as_slice(), OCCLUDED.as_bytes());
-        assert_eq!(rt; ended.status, Status::Done);
+        assert_same_report(&rt, alloc, given)?;
     }
     Ok(())
 }
@@ -249,6 +272,7 @@ fn help_tells_options_and_statuses(rt: HostRuntime) -> Result<(), Fail> {
         (&all, "cull"),
         (&all, "live"),
         (&all, "demo"),
+        (&all, "--version"),
         (&all, "6  the notes couldn't be written"),
         (&all, "7  memory was wanted"),
         (&cull, "--workers <workers>"),
@@ -267,6 +291,19 @@ fn help_tells_options_and_statuses(rt: HostRuntime) -> Result<(), Fail> {
     ] {
         let text = str::from_utf8(page).ok().expect(&rt, "the page is text");
         assert!(rt; text.contains(wanted), "no {wanted}");
+    }
+    Ok(())
+}
+
+#[test]
+fn the_version_is_told(rt: HostRuntime) -> Result<(), Fail> {
+    let alloc = rt.alloc();
+    for word in ["--version", "-V"] {
+        let notes = assert_usage(&rt, alloc, &["maskcull", word])?;
+        assert_eq!(rt;
+            notes.as_slice(),
+            b"usage refused\nmaskcull 0.1.0\n".as_slice()
+        );
     }
     Ok(())
 }

@@ -2,7 +2,7 @@
 ghost use Rattle.std.specs.Prelude.{◌≤◌};
 
 use crate::run::run;
-use crate::tests::scenes::{Ended, FIRST, OCCLUDED, assert_refused, words};
+use crate::tests::scenes::{Ended, FIRST, OCCLUDED, QUAD, TWO, assert_refused, scene, words};
 use cull_base::{BytesSink, BytesSource};
 use std::alloc::{AllocError, Global};
 use std::process::Abort;
@@ -16,8 +16,11 @@ const CULL: [&str; 2] = ["maskcull", "cull"];
 // Calls are numbered from 1.
 const NEVER: u64 = 0;
 
-// More than any text here is long.
+// More than any text of the first scene is long.
 const WHOLE: usize = 1000;
+
+// More than the report of 1024 objects is long.
+const LARGE: usize = 100_000;
 
 // The first so many bytes of the first scene, one by one; the read of that number fails.
 fn first_bytes(alloc: Global, count: usize, call: u64) -> Result<BytesSource, AllocError>
@@ -188,5 +191,30 @@ fn a_refusal_that_cannot_be_noted_is_told_by_the_status(rt: HostRuntime) -> Resu
     assert_eq!(rt; ended.status.code(), 3);
     assert_eq!(rt; ended.report.len(), 0);
     assert_eq!(rt; ended.notes.len(), 0);
+    Ok(())
+}
+
+// The quad, with the rectangle of the whole screen 1024 times behind it.
+fn many_objects(alloc: Global) -> Result<BytesSource, AllocError> {
+    let mut bytes = scene(alloc, 0, &QUAD, &TWO, &[[0, 0, 32, 8, 3]; 1024])?;
+    // the second byte of the number of objects
+    if 29 < bytes.len() {
+        bytes[29] = 4;
+    }
+    Ok(BytesSource::new(bytes, 4096, Vec::new(alloc)))
+}
+
+// The second piece of verdicts is the fourth write: before it stand the header, the line of the frame and the first one.
+#[test]
+fn lines_of_128_verdicts_or_of_a_run_are_a_piece(rt: HostRuntime) -> Result<(), Fail> {
+    let alloc = rt.alloc();
+    for (workers, lines) in [("1", 130), ("2", 66), ("64", 66)] {
+        let given = ["maskcull", "cull", "--workers", workers];
+        let (report, notes) = (sink(alloc, LARGE, 4)?, sink(alloc, WHOLE, NEVER)?);
+        let ended = run_over(&rt, alloc, &given, many_objects(alloc)?, report, notes)?;
+        assert_eq!(rt; ended.status.code(), 5);
+        let text = str::from_utf8(ended.report.as_slice()).map_err(|_| Fail::from("a text"))?;
+        assert_eq!(rt; text.lines().count(), lines);
+    }
     Ok(())
 }

@@ -1,10 +1,11 @@
-//! The program as `clap` knows it: its commands, their options, and what help says of them.
+//! The program as `clap` knows it: its version, its commands, their options, and what help says of them.
 ghost use Rattle.std.specs.Prelude.{◌≡◌, pos, IfOk, IfErr, Some, [], ◌∷◌, false, codes};
 ghost use Rattle.clap.specs.Words.{app_of, kind_of, new_rule, rule_of};
 ghost use Rattle.clap.specs.declared.builder.Command.TheViews.{out-Command as fields_of};
 ghost use Rattle.clap.specs.declared.builder.value_parser.ValueParser.TheVariants.{Signed};
 ghost use Rattle.maskcull.specs.App.{rule_for, workers, bins_x, bins_y, batch, early_rule, rounds, watch, seed, triangles, sharing_options, cull_options, live_options, demo_options, command_shape, unflagged_shape, the_app};
 
+use crate::VERSION;
 use clap::error::ErrorKind;
 use clap::{Arg, ArgAction, Command, Error, value_parser};
 use std::alloc::Global;
@@ -15,7 +16,7 @@ const MORE: &str = "A command's own help says what it reads and writes. Notes go
 
 Exit status:
   0  done: the input was read and the report written
-  2  the words were refused, or help was asked for
+  2  the words were refused, or help or the version was asked for
   3  the input is no scene
   4  the input couldn't be read
   5  the report couldn't be written
@@ -218,6 +219,7 @@ pub fn program<'a>(alloc: Global) -> Result<Command<'a>, Error>
     ensures app { IfOk result (λ c. app_of c ≡ the_app) }
 {
     let program = Command::new(alloc, "maskcull")
+        .version(VERSION)
         .about(ABOUT)
         .after_help(MORE)
         .subcommand_required(true);

@@ -44,7 +44,7 @@ returns-in_err-live_frame-clause-reported g c =
     let (counts, so) = c.loop-frame.invariant.so_far in
     let e = c.in_err-live_frame.field-0.0 in
     let p = err_from_is_err_and c.from_residual-in_err-live_frame.result c.from_residual-in_err-live_frame.ensures.1 in
-    rw (p.1, p.2) (live_ends s looks.rounds looks.watch counts k e r0 r r' n0 n n' so (let m = ap length c.cameras.ensures.value in omega (arith, m, c.loop-frame-test.true)) c.in_err-live_frame.ensures.reported)
+    rw (p.1, p.2) (live_ends s looks.rounds looks.watch counts k e r0 r r' n0 n n' c.near-near.ensures.valid so (let m = ap length c.cameras.ensures.value in omega (arith, m, c.loop-frame-test.true)) c.in_err-live_frame.ensures.reported)
 
 pub loop-frame-preserved : goal.loop-frame-preserved
 loop-frame-preserved g c =
