@@ -1,15 +1,15 @@
 -- Tiles that follow each other, each part after lists of its own, or with pieces merged into it.
-use Rattle.std.proofs.Common.{◌≡◌, inl, inr, ℕ, ◌+◌, ◌-◌, ◌<◌, ◌≤◌, ◌&&◌, Bool, true, false, cond, nat_le, nat_lt, List, [], ◌++◌, length, replicate, arith, refl, ap, ◌∙◌, sym, subst}
+use Rattle.std.proofs.Common.{◌≡◌, inl, inr, ℕ, ◌+◌, ◌-◌, ◌<◌, ◌≤◌, ◌&&◌, true, false, nat_le, nat_lt, List, [], ◌++◌, length, replicate, add-mul, arith, refl, ap, ◌∙◌, sym, subst}
 use Rattle.std.proofs.Math.Seq.{get_or-append_right}
 use Rattle.std.proofs.lemmas.Bool.{cases_lt}
 use Rattle.std.proofs.lemmas.Bool.Decides.{nat_tests}
 use Rattle.std.proofs.lemmas.List.{get_or_append_left, get_or-append-add, get_or-replicate, length-append, length-replicate}
 use Rattle.cull_base.specs.Piece.{Piece}
-use Rattle.cull_base.specs.Screen.{Dimensions}
+use Rattle.cull_base.specs.Screen.{Dimensions, tile_columns_of}
 use Rattle.cull_base.specs.Tiles.{ArePieces, tile_after}
 use Rattle.masked_update.specs.TileOf.{TileOf, empty_tile, no_tile, tile_at}
 use Rattle.maskcull_c.specs.Bands.{AreMerged, merged_with}
-use Rattle.maskcull_c.specs.Tiles.{IsAfter, lists_from, none_between}
+use Rattle.maskcull_c.specs.Tiles.{AreRows, IsAfter, lists_from, none_between, row_start}
 use Rattle.maskcull_c.proofs.Clearing.{fresh}
 use Rattle.maskcull_c.proofs.Merged.{merged_once}
 
@@ -102,6 +102,10 @@ join_merged size first pieces a b upper lower m n = record {
 
 pub drawn_joined : (size : Dimensions) (first : ℕ) (pieces : List Piece) (a b upper lower whole : List TileOf) → AreMerged size first pieces a upper → AreMerged size (first + length a) pieces b lower → AreMerged size first pieces (a ++ b) whole → whole ≡ upper ++ lower
 drawn_joined size first pieces a b upper lower whole m n all = merged_once size first pieces (a ++ b) whole (upper ++ lower) all (join_merged size first pieces a b upper lower m n)
+
+-- the tiles of the row after a band have the numbers that follow
+pub next_band : (size : Dimensions) (first_row : ℕ) (tiles : List TileOf) (band : AreRows size first_row tiles) → row_start size first_row + length tiles ≡ row_start size (first_row + band.rows)
+next_band size first_row tiles band = ap (λ n. row_start size first_row + n) band.whole ∙ sym (add-mul first_row band.rows (tile_columns_of size))
 
 -- inside, and outside on either side
 inside_is : (from to t : ℕ) (lists : ℕ → List Piece) → from ≤ t → t < to → [] ≡ none_between from to lists t

@@ -4,10 +4,11 @@ ghost use Rattle.cull_base.specs.Piece.{Piece};
 ghost use Rattle.cull_base.specs.Screen.{Dimensions};
 ghost use Rattle.masked_update.specs.TileOf.{TileOf, empty_tile, tile_at};
 ghost use Rattle.maskcull_c.specs.Bands.{AreMerged};
-ghost use Rattle.maskcull_c.specs.Tiles.{IsAfter, IsSoundFor, lists_from, none_between};
+ghost use Rattle.maskcull_c.specs.Tiles.{AreRows, IsAfter, IsSoundFor, lists_from, none_between, row_start};
 
 /// Tiles that follow each other, each part after lists of its own, are together after all of these lists, and each part
-/// is after the lists that all are after. What is drawn onto the parts is what one draw onto all leaves.
+/// is after the lists that all are after. What is drawn onto the parts is what one draw onto all leaves. Behind a band's
+/// tiles those of the row after it follow.
 pub fn bands_join()
     ensures own { (size : Dimensions) (first : ℕ) (before from : ℕ → List Piece) (a b : List TileOf)
         → IsAfter size first before a → IsAfter size (first + length a) from b
@@ -22,6 +23,9 @@ pub fn bands_join()
         (a b upper lower whole : List TileOf)
         → AreMerged size first pieces a upper → AreMerged size (first + length a) pieces b lower
         → AreMerged size first pieces (a ++ b) whole → whole ≡ upper ++ lower }
+    ensures next { (size : Dimensions) (first_row : ℕ) (tiles : List TileOf)
+        → (band : AreRows size first_row tiles)
+        → row_start size first_row + length tiles ≡ row_start size (first_row + band.rows) }
 {}
 
 /// Where some tiles are emptied, these are after no piece, and the others after their lists.

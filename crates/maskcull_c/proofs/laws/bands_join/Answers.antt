@@ -1,4 +1,4 @@
-use Rattle.maskcull_c.proofs.Joined.{drawn_joined, join, join_own, part}
+use Rattle.maskcull_c.proofs.Joined.{drawn_joined, join, join_own, next_band, part}
 use Rattle.maskcull_c.proofs.laws.bands_join.Goals as goal
 
 pub returns : goal.returns
@@ -7,4 +7,5 @@ returns c = record {
   same = join;
   parts = part;
   drawn = drawn_joined;
+  next = next_band;
 }
