@@ -133,7 +133,7 @@ typedef struct maskcull_subtile_state {
  * rows. The answer is 0 where there is no such screen. */
 uint32_t maskcull_tile_count(uint32_t width, uint32_t height);
 
-/* Empties tiles, as many as are given. */
+/* Empties tiles, as many as are given: all of a screen, or some of them. The others stay as they were. */
 void maskcull_clear(maskcull_tile *tiles, size_t tile_count);
 
 /* Draws occluder triangles onto all tiles of the screen, after all that was drawn before: any number of calls, in any

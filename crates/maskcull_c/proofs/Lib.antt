@@ -4,4 +4,6 @@ mod AllTiles
 mod Codes
 mod Eight
 mod Hiding
+mod Joined
+mod Merged
 mod Triangles

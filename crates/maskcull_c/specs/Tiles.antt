@@ -1,19 +1,30 @@
--- What tiles hold after some calls.
-use Rattle.std.specs.Prelude.{ℕ, ◌≡◌, ◌+◌, ◌*◌, ◌<◌, ◌≤◌, ◌⊎◌, true, List, length}
+-- What tiles hold after some calls, each with a list of pieces of its own.
+use Rattle.std.specs.Prelude.{ℕ, ◌≡◌, ◌+◌, ◌*◌, ◌<◌, ◌≤◌, ◌&&◌, ◌⊎◌, true, cond, nat_le, nat_lt, List, [], length}
+use Rattle.cull_base.specs.Fold.{IsSound}
 use Rattle.cull_base.specs.Nearer.{HasNearerPiece}
 use Rattle.cull_base.specs.Piece.{Piece, middle}
-use Rattle.cull_base.specs.Screen.{Dimensions, tile_columns_of, tile_rows_of, tile_count_of}
+use Rattle.cull_base.specs.Pixels.{tile_of_pixel}
+use Rattle.cull_base.specs.Screen.{Dimensions, is_on_screen, tile_columns_of, tile_rows_of, tile_count_of, tile_sub}
 use Rattle.cull_base.specs.Shape.{Shape, has_sample, near_at}
 use Rattle.cull_base.specs.Tiles.{ArePieces, tile_after}
 use Rattle.cull_base.specs.declared.scene_types.Verdict.{Verdict}
 use Rattle.cull_base.specs.declared.scene_types.Verdict.TheVariants.{Visible, Occluded, Outside}
-use Rattle.masked_update.specs.TileOf.{TileOf, tile_at}
+use Rattle.masked_update.specs.TileOf.{TileOf, sub_at, tile_at}
 use Rattle.maskcull_c.specs.declared.status.TheConstants.{VISIBLE, OCCLUDED, OUTSIDE}
 
--- The tiles are those of a screen from one number on, and each has the states after the same pieces. Of counts nothing is said.
-pub record IsAfter (size : Dimensions) (first : ℕ) (pieces : List Piece) (tiles : List TileOf) : Type 0 where
-  pub states : (t : ℕ) → t < length tiles → (tile_at tiles t).subs ≡ tile_after size (first + t) pieces
-  pub valid : ArePieces pieces
+-- The tiles are those of a screen from one number on, and each has the states after the list that its number has. Of
+-- counts nothing is said.
+pub record IsAfter (size : Dimensions) (first : ℕ) (lists : ℕ → List Piece) (tiles : List TileOf) : Type 0 where
+  pub states : (t : ℕ) → t < length tiles → (tile_at tiles t).subs ≡ tile_after size (first + t) (lists (first + t))
+  pub valid : (t : ℕ) → t < length tiles → ArePieces (lists (first + t))
+
+-- the lists of tiles up to a number, and others from it on
+abbrev pub lists_from : ℕ → (ℕ → List Piece) → (ℕ → List Piece) → ℕ → List Piece
+lists_from n before from t = cond (nat_lt t n) (before t) (from t)
+
+-- no piece for the tiles from one number to before another, and their lists for the others
+abbrev pub none_between : ℕ → ℕ → (ℕ → List Piece) → ℕ → List Piece
+none_between from to lists t = cond (nat_le from t && nat_lt t to) [] (lists t)
 
 -- as many tiles as the screen has
 abbrev pub AreAll : Dimensions → List TileOf → Type 0
@@ -35,12 +46,20 @@ code_of Visible = VISIBLE
 code_of Occluded = OCCLUDED
 code_of Outside = OUTSIDE
 
--- Where the tiles of the whole screen are after some pieces, an object that is called occluded has at each of its
--- samples in the screen one of these pieces strictly nearer than it is there.
+-- The tile with a number on the screen is sound for some pieces: each of its subtiles on the screen is.
+pub record IsSoundFor (size : Dimensions) (number : ℕ) (pieces : List Piece) (tile : TileOf) : Type 0 where
+  pub subs : (j : ℕ) → j < 8 → is_on_screen size (tile_sub size number j) ≡ true
+      → IsSound (tile_sub size number j) pieces (sub_at tile j)
+  pub valid : ArePieces pieces
+
+-- With a list for each tile, an object that is called occluded has at each of its samples in the screen a piece of the
+-- list of the sample's tile strictly nearer than it is there, where this tile is sound for its list.
 abbrev pub Hides : Dimensions → List TileOf → Shape → ℕ → Type 0
 Hides size tiles shape code =
-    (pieces : List Piece) (px py : ℕ) → IsAfter size 0 pieces tiles → code ≡ OCCLUDED → px < size.width → py < size.height
-    → has_sample shape px py ≡ true → HasNearerPiece pieces (middle px py) (near_at shape px py)
+    (lists : ℕ → List Piece) (px py : ℕ)
+    → let t = tile_of_pixel size px py in IsSoundFor size t (lists t) (tile_at tiles t)
+    → code ≡ OCCLUDED → px < size.width → py < size.height → has_sample shape px py ≡ true
+    → HasNearerPiece (lists t) (middle px py) (near_at shape px py)
 
 -- a verdict, or one of the refusals from 1 to the last
 abbrev pub IsAnswer : ℕ → ℕ → Type 0

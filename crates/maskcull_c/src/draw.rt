@@ -1,12 +1,12 @@
 //! Occluder triangles, drawn after all that were drawn before.
-ghost use Rattle.std.specs.Prelude.{◌≡◌, ◌≢◌, ◌≤◌, ◌⊎◌, List, length, map, ◌++◌, MatchOption};
+ghost use Rattle.std.specs.Prelude.{◌≡◌, ◌≢◌, ℕ, ◌<◌, ◌≤◌, ◌⊎◌, length, map, MatchOption};
 ghost use Rattle.std.specs.List.{All};
-ghost use Rattle.cull_base.specs.Piece.{Piece};
 ghost use Rattle.cull_base.specs.declared.nearness.TheConstants.{GRADE_TOP};
+ghost use Rattle.masked_update.specs.TileOf.{tile_at};
 ghost use Rattle.snap_setup.specs.Pieces.{list_of_clips};
-ghost use Rattle.maskcull_c.specs.Bands.{Adds, IsBand, first_in};
+ghost use Rattle.maskcull_c.specs.Bands.{Adds, AreMerged, IsBand, first_in};
 ghost use Rattle.maskcull_c.specs.Given.{IsAmong, IsSetup, clip_of, pieces_drawn, size_of, tri_of};
-ghost use Rattle.maskcull_c.specs.Tiles.{AreAll, AreRows, IsAfter, row_start};
+ghost use Rattle.maskcull_c.specs.Tiles.{AreAll, AreRows, row_start};
 ghost use Rattle.maskcull_c.specs.declared.status.TheConstants.{DONE, BAD_SETUP, BAD_TILES, BAD_INDEX};
 
 use crate::band::draw_piece;
@@ -20,8 +20,7 @@ use snap_setup::{Pieces, set_up};
 #[inline(always)]
 fn draw_pieces(tiles: &mut [TileState], window: TileSpan, pieces: &Pieces, size: Size)
     requires { IsBand size window tiles.old }
-    ensures adds { Adds size (first_in size window) pieces.now tiles.old tiles.new }
-    ensures whole { length tiles.new ≡ length tiles.old }
+    ensures { AreMerged size (first_in size window) pieces.now tiles.old tiles.new }
 {
     for k in 0..pieces.len() {
         draw_piece(tiles, window, &pieces.get(k), size);
@@ -42,7 +41,7 @@ fn draw_triangles(
     requires near_least { 1 ≤ near }
     requires near_most { near ≤ 1024 }
     requires indices { All (IsAmong (length vertices.now)) triangles.now }
-    ensures { Adds size (first_in size window)
+    ensures { AreMerged size (first_in size window)
         (list_of_clips (map clip_of vertices.now) (map tri_of triangles.now) GRADE_TOP near size winding)
         tiles.old tiles.new }
 {
@@ -64,9 +63,11 @@ fn draw_onto(
     requires band { IsBand checked.now.size window tiles.old }
     requires near_least { 1 ≤ checked.now.near }
     requires near_most { checked.now.near ≤ 1024 }
-    ensures adds { result ≡ DONE → Adds checked.now.size (first_in checked.now.size window)
-        (list_of_clips (map clip_of vertices.now) (map tri_of triangles.now) GRADE_TOP checked.now.near checked.now.size
-        checked.now.winding) tiles.old tiles.new }
+    ensures merged { result ≡ DONE → AreMerged checked.now.size (first_in checked.now.size window)
+        (list_of_clips (map clip_of vertices.now) (map tri_of triangles.now) GRADE_TOP checked.now.near
+        checked.now.size checked.now.winding) tiles.old tiles.new }
+    ensures counts { (t : ℕ) → t < length tiles.old
+        → (tile_at tiles.new t).count ≡ (tile_at tiles.old t).count }
     ensures accepted { All (IsAmong (length vertices.now)) triangles.now → result ≡ DONE }
     ensures bad_index { result ≡ BAD_INDEX → All (IsAmong (length vertices.now)) triangles.now → ⊥ }
     ensures refuses_index { (All (IsAmong (length vertices.now)) triangles.now → ⊥) → result ≡ BAD_INDEX }
@@ -114,8 +115,12 @@ pub extern "C" fn maskcull_draw(
     vertices: &[Vertex],
     triangles: &[Triangle],
 ) -> u32
-    ensures drawn { result ≡ DONE → (pieces : List Piece) → IsAfter (size_of setup.now) 0 pieces tiles.old
-        → IsAfter (size_of setup.now) 0 (pieces ++ pieces_drawn setup.now vertices.now triangles.now) tiles.new }
+    ensures drawn { result ≡ DONE → Adds (size_of setup.now) 0
+        (pieces_drawn setup.now vertices.now triangles.now) tiles.old tiles.new }
+    ensures merged { result ≡ DONE → AreMerged (size_of setup.now) 0
+        (pieces_drawn setup.now vertices.now triangles.now) tiles.old tiles.new }
+    ensures counts { (t : ℕ) → t < length tiles.old
+        → (tile_at tiles.new t).count ≡ (tile_at tiles.old t).count }
     ensures accepted { IsSetup setup.now → AreAll (size_of setup.now) tiles.old
         → All (IsAmong (length vertices.now)) triangles.now → result ≡ DONE }
     ensures bad_setup { result ≡ BAD_SETUP → IsSetup setup.now → ⊥ }
@@ -139,7 +144,7 @@ pub extern "C" fn maskcull_draw(
 }
 
 /// The same onto some rows of the screen's tiles, from row first_row on. Calls on tiles that don't overlap may run at the
-/// same time, and what they draw together is what one call draws.
+/// same time, and what they draw together is what one call draws (`bands_join`).
 #[unsafe(no_mangle)]
 pub extern "C" fn maskcull_draw_band(
     setup: &Setup,
@@ -148,10 +153,12 @@ pub extern "C" fn maskcull_draw_band(
     vertices: &[Vertex],
     triangles: &[Triangle],
 ) -> u32
-    ensures drawn { result ≡ DONE → (pieces : List Piece)
-        → IsAfter (size_of setup.now) (row_start (size_of setup.now) first_row) pieces tiles.old
-        → IsAfter (size_of setup.now) (row_start (size_of setup.now) first_row)
-        (pieces ++ pieces_drawn setup.now vertices.now triangles.now) tiles.new }
+    ensures drawn { result ≡ DONE → Adds (size_of setup.now) (row_start (size_of setup.now) first_row)
+        (pieces_drawn setup.now vertices.now triangles.now) tiles.old tiles.new }
+    ensures merged { result ≡ DONE → AreMerged (size_of setup.now) (row_start (size_of setup.now) first_row)
+        (pieces_drawn setup.now vertices.now triangles.now) tiles.old tiles.new }
+    ensures counts { (t : ℕ) → t < length tiles.old
+        → (tile_at tiles.new t).count ≡ (tile_at tiles.old t).count }
     ensures accepted { IsSetup setup.now → AreRows (size_of setup.now) first_row tiles.old
         → All (IsAmong (length vertices.now)) triangles.now → result ≡ DONE }
     ensures bad_setup { result ≡ BAD_SETUP → IsSetup setup.now → ⊥ }

@@ -8,6 +8,7 @@ mod ask_tests;
 mod band;
 mod draw;
 mod given;
+mod laws;
 mod mesh;
 mod status;
 #[cfg(test)]
@@ -17,5 +18,6 @@ mod tiles;
 pub use ask::{maskcull_test, maskcull_test_box, maskcull_test_mesh};
 pub use draw::{maskcull_draw, maskcull_draw_band};
 pub use given::{Area, Corners, Setup, Triangle, Vertex};
+pub use laws::{after_is_sound, bands_join, part_cleared};
 pub use status::{BAD_INDEX, BAD_SETUP, BAD_TILES, DONE, OCCLUDED, OUTSIDE, VISIBLE};
 pub use tiles::{SubtileState, maskcull_clear, maskcull_subtile, maskcull_tile_count};

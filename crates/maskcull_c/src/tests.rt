@@ -1,6 +1,6 @@
-//! A quad over the whole screen, refusals, and rows of tiles drawn one after another.
+//! A quad over the whole screen, refusals, rows of tiles drawn one after another or with lists of their own, counts.
 use super::*;
-use masked_update::TileState;
+use masked_update::{SubTile, TileState};
 use std::test::Fail;
 
 const SETUP: Setup = Setup {
@@ -28,6 +28,14 @@ const VERTICES: [Vertex; 5] = [
 ];
 
 const QUAD: [Triangle; 2] = [Triangle { a: 0, b: 1, c: 2 }, Triangle { a: 0, b: 2, c: 3 }];
+
+// The corners of the screen at distance 4.
+const FARTHER: [Vertex; 4] = [
+    Vertex { x: -4, y: 4, w: 4 },
+    Vertex { x: 4, y: 4, w: 4 },
+    Vertex { x: 4, y: -4, w: 4 },
+    Vertex { x: -4, y: -4, w: 4 },
+];
 
 const SLANTED: [Triangle; 2] = [Triangle { a: 0, b: 1, c: 4 }, Triangle { a: 0, b: 2, c: 3 }];
 
@@ -126,6 +134,7 @@ fn rows_of_tiles_make_the_screen(rt: HostRuntime) -> Result<(), Fail> {
         maskcull_draw_band(&WIDE, upper, 0, &VERTICES, &SLANTED),
         DONE
     );
+    bands_join();
     for tile in 0..4 {
         for subtile in 0..8 {
             assert_eq!(rt;
@@ -134,6 +143,61 @@ fn rows_of_tiles_make_the_screen(rt: HostRuntime) -> Result<(), Fail> {
                 "tile {tile}, subtile {subtile}"
             );
         }
+    }
+    Ok(())
+}
+
+#[test]
+fn each_row_hides_by_what_was_drawn_onto_it(rt: HostRuntime) -> Result<(), Fail> {
+    let upper = Area {
+        x0: 0,
+        y0: 0,
+        x1: 64,
+        y1: 8,
+    };
+    let lower = Area {
+        y0: 8,
+        y1: 16,
+        ..upper
+    };
+    let mut tiles = [TileState::empty(); 4];
+    assert_eq!(rt; maskcull_draw(&WIDE, &mut tiles, &VERTICES, &QUAD), DONE);
+    assert_eq!(rt; maskcull_test(&WIDE, &tiles, &lower, 3), OCCLUDED);
+    let (_, second_row) = tiles.split_at_mut(2);
+    maskcull_clear(second_row);
+    part_cleared();
+    assert_eq!(rt; maskcull_test(&WIDE, &tiles, &upper, 3), OCCLUDED);
+    assert_eq!(rt; maskcull_test(&WIDE, &tiles, &lower, 5), VISIBLE);
+    let (_, second_row) = tiles.split_at_mut(2);
+    assert_eq!(rt;
+        maskcull_draw_band(&WIDE, second_row, 1, &FARTHER, &QUAD),
+        DONE
+    );
+    after_is_sound();
+    assert_eq!(rt; maskcull_test(&WIDE, &tiles, &upper, 3), OCCLUDED);
+    assert_eq!(rt; maskcull_test(&WIDE, &tiles, &lower, 3), VISIBLE);
+    assert_eq!(rt; maskcull_test(&WIDE, &tiles, &lower, 5), OCCLUDED);
+    // and all rows again
+    assert_eq!(rt; maskcull_draw(&WIDE, &mut tiles, &VERTICES, &QUAD), DONE);
+    assert_eq!(rt; maskcull_test(&WIDE, &tiles, &lower, 3), OCCLUDED);
+    Ok(())
+}
+
+#[test]
+fn a_draw_leaves_the_count(rt: HostRuntime) -> Result<(), Fail> {
+    let mut tiles = [TileState::of([SubTile::empty(); 8], 7); 1];
+    assert_eq!(rt; maskcull_draw(&SETUP, &mut tiles, &VERTICES, &QUAD), DONE);
+    assert_eq!(rt; held(&tiles, 0, 0), (32767, 0, 0));
+    assert_eq!(rt;
+        maskcull_draw_band(&SETUP, &mut tiles, 0, &VERTICES, &QUAD),
+        DONE
+    );
+    for tile in &tiles {
+        assert_eq!(rt; tile.count(), 7);
+    }
+    maskcull_clear(&mut tiles);
+    for tile in &tiles {
+        assert_eq!(rt; tile.count(), 0);
     }
     Ok(())
 }

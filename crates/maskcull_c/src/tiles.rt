@@ -35,7 +35,7 @@ pub extern "C" fn maskcull_tile_count(width: u32, height: u32) -> u32
 #[unsafe(no_mangle)]
 pub extern "C" fn maskcull_clear(tiles: &mut [TileState])
     ensures empty { tiles.new ≡ replicate (length tiles.old) empty_tile }
-    ensures fresh { (size : Dimensions) (first : ℕ) → IsAfter size first [] tiles.new }
+    ensures fresh { (size : Dimensions) (first : ℕ) → IsAfter size first (λ t. []) tiles.new }
 {
     tiles.fill(TileState::empty());
 }

@@ -1,4 +1,4 @@
-use Rattle.std.proofs.Common.{◌≡◌, ℕ, FitsSigned, w32, arith, ap, ◌∙◌, subst, inr}
+use Rattle.std.proofs.Common.{◌≡◌, ℕ, FitsSigned, w32, arith, ap, ◌∙◌, inr}
 use Rattle.std.proofs.lemmas.Int.{to_z-of_z}
 use Rattle.cull_base.specs.declared.nearness.TheConstants.{GRADE_TOP}
 use Rattle.cull_base.specs.Screen.{Dimensions}
@@ -6,7 +6,7 @@ use Rattle.rect_query.specs.Rectangles.{rectangle_shape}
 use Rattle.cull_report.proofs.Occluders.{rectangle_has_pieces}
 use Rattle.maskcull_c.specs.Asked.{shape_of_area, verdict_over}
 use Rattle.maskcull_c.specs.Given.{rect_of, size_of}
-use Rattle.maskcull_c.specs.Tiles.{AreAll, code_of}
+use Rattle.maskcull_c.specs.Tiles.{code_of}
 use Rattle.maskcull_c.proofs.Codes.{code_between}
 use Rattle.maskcull_c.proofs.Hiding.{hides_by_verdict, told_at}
 use Rattle.maskcull_c.proofs.ask.maskcull_test.Goals as goal
@@ -25,8 +25,7 @@ returns-clause-hides c =
     let fits : FitsSigned w32 c.args.w = c.ranges.w in
     let P : Dimensions → ℕ → Type 0 = λ size near. c.rectangle_verdict.result ≡ verdict_over size c.args.tiles.now (rectangle_shape GRADE_TOP near size (rect_of c.args.area.now) c.args.w) in
     let told : P c.in-Some.checked.size c.in-Some.checked.near = rw c.rect.ensures at (simp to_z-of_z at c.rectangle_verdict.ensures) in
-    let all : AreAll (size_of s) c.args.tiles.now = subst (λ (size : Dimensions). AreAll size c.args.tiles.now) c.in-Some.ensures.size (c.are_all.ensures.0 c.if-not-are_all.false) in
-    hides_by_verdict (size_of s) c.args.tiles.now (shape_of_area s c.args.area.now c.args.w) c.rectangle_verdict.result c.code.result all
+    hides_by_verdict (size_of s) c.args.tiles.now (shape_of_area s c.args.area.now c.args.w) c.rectangle_verdict.result c.code.result
     (rectangle_has_pieces GRADE_TOP s.near (size_of s) (rect_of c.args.area.now) c.args.w)
     (told_at P c.in-Some.checked.size (size_of s) c.in-Some.checked.near s.near c.in-Some.ensures.size c.in-Some.ensures.near told) c.code.ensures
 

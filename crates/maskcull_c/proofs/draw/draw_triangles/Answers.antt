@@ -1,5 +1,4 @@
-use Rattle.std.proofs.Common.{◌≡◌, ◌<◌, List, [], ◌++◌, length, get_or, map, take, append-nil, arith, refl, ap, ◌∙◌, sym, subst}
-use mathlib.Core.List.{append_assoc}
+use Rattle.std.proofs.Common.{◌≡◌, ◌<◌, List, [], length, get_or, map, take, arith, refl, ap, ◌∙◌, sym, subst}
 use Rattle.std.proofs.lemmas.List.{get_or-map, length-map, take_all}
 use Rattle.cull_base.specs.Piece.{Piece}
 use Rattle.cull_base.specs.declared.nearness.TheConstants.{GRADE_TOP}
@@ -7,20 +6,18 @@ use Rattle.cull_base.specs.declared.scene_types.Tri.{Tri}
 use Rattle.near_clip.specs.NearPart.{corner}
 use Rattle.snap_setup.specs.Pieces.{list_of_clips, pieces_at}
 use Rattle.snap_setup.proofs.FrameLists.{by_corners, list_more, list_none}
-use Rattle.maskcull_c.specs.Bands.{first_in}
+use Rattle.maskcull_c.specs.Bands.{AreMerged, first_in}
 use Rattle.maskcull_c.specs.Given.{clip_of, tri_of}
-use Rattle.maskcull_c.specs.Tiles.{IsAfter}
 use Rattle.maskcull_c.specs.declared.given.Triangle.{Triangle}
 use Rattle.maskcull_c.proofs.Bands.{band_still}
+use Rattle.maskcull_c.proofs.Merged.{merged_none, merged_then}
 use Rattle.maskcull_c.proofs.draw.draw_triangles.Goals as goal
 
 pub loop-triangle-init : goal.loop-triangle-init
-loop-triangle-init c = record {
-  whole = refl;
-  adds = λ before is.
-      subst (λ (ps : List Piece). IsAfter c.args.size (first_in c.args.size c.args.window) ps c.args.tiles.now)
-      (sym (append-nil before) ∙ ap (λ ps. before ++ ps) (list_none (map clip_of c.args.vertices.now) GRADE_TOP c.args.near c.args.size c.args.winding)) is;
-}
+loop-triangle-init c =
+    subst (λ (ps : List Piece). AreMerged c.args.size (first_in c.args.size c.args.window) ps c.args.tiles.now c.args.tiles.now)
+    (list_none (map clip_of c.args.vertices.now) GRADE_TOP c.args.near c.args.size c.args.winding)
+    (merged_none c.args.size (first_in c.args.size c.args.window) c.args.tiles.now)
 
 pub draw_pieces-requires : goal.draw_pieces-requires
 draw_pieces-requires c = band_still c.args.size c.args.window c.args.tiles.now c.loop-triangle.tiles c.loop-triangle.invariant.whole c.requires.band
@@ -31,7 +28,6 @@ loop-triangle-preserved c =
     let near = c.args.near in
     let winding = c.args.winding in
     let window = c.args.window in
-    let inv = c.loop-triangle.invariant in
     let triangles = c.args.triangles.now in
     let clips = map clip_of c.args.vertices.now in
     let tris = map tri_of triangles in
@@ -48,17 +44,13 @@ loop-triangle-preserved c =
     = c.set_up-pieces.ensures.value ∙ by_corners clips (corner v 0) (corner v 1) (corner v 2) GRADE_TOP near size winding (tri_of (get_or triangles i first)) e.first e.second e.third
     ∙ ap (λ (t : Tri). pieces_at clips GRADE_TOP near size winding t) (sym at) in
     let more = list_more clips tris GRADE_TOP near size winding i none now c.set_up-pieces.result lt refl these in
-    record {
-      whole = c.draw_pieces.ensures.whole ∙ inv.whole;
-      adds = λ before is.
-          subst (λ (ps : List Piece). IsAfter size (first_in size window) ps c.draw_pieces.new.tiles) (append_assoc before now c.set_up-pieces.result ∙ ap (λ ps. before ++ ps) more)
-          (c.draw_pieces.ensures.adds (before ++ now) (inv.adds before is));
-    }
+    subst (λ (ps : List Piece). AreMerged size (first_in size window) ps c.args.tiles.now c.draw_pieces.new.tiles) more
+    (merged_then size (first_in size window) now c.set_up-pieces.result c.args.tiles.now c.loop-triangle.tiles c.draw_pieces.new.tiles c.loop-triangle.invariant c.draw_pieces.ensures)
 
 pub returns : goal.returns
-returns c before is =
+returns c =
     let tris = map tri_of c.args.triangles.now in
     let i = c.loop-triangle.triangle-index in
     let whole = take_all i tris (omega (arith, c.loop-triangle-test.false, length-map c.args.triangles.now tri_of)) in
-    subst (λ ts. IsAfter c.args.size (first_in c.args.size c.args.window) (before ++ list_of_clips (map clip_of c.args.vertices.now) ts GRADE_TOP c.args.near c.args.size c.args.winding) c.loop-triangle.tiles) whole
-    (c.loop-triangle.invariant.adds before is)
+    subst (λ ts. AreMerged c.args.size (first_in c.args.size c.args.window) (list_of_clips (map clip_of c.args.vertices.now) ts GRADE_TOP c.args.near c.args.size c.args.winding) c.args.tiles.now c.loop-triangle.tiles) whole
+    c.loop-triangle.invariant

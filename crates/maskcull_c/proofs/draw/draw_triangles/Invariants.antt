@@ -1,12 +1,10 @@
-use Rattle.std.proofs.Common.{◌≡◌, length, map, take}
+use Rattle.std.proofs.Common.{map, take}
 use Rattle.cull_base.specs.declared.nearness.TheConstants.{GRADE_TOP}
 use Rattle.snap_setup.specs.Pieces.{list_of_clips}
-use Rattle.maskcull_c.specs.Bands.{Adds, first_in}
+use Rattle.maskcull_c.specs.Bands.{AreMerged, first_in}
 use Rattle.maskcull_c.specs.Given.{clip_of, tri_of}
 use Rattle.maskcull_c.proofs.draw.draw_triangles.Given as goal
 
 abbrev pub invariant-loop-triangle : goal.invariant-loop-triangle
-invariant-loop-triangle l = record {
-  whole : length l.tiles ≡ length l.initial.tiles;
-  adds : Adds l.size (first_in l.size l.window) (list_of_clips (map clip_of l.vertices) (take l.triangle-index (map tri_of l.triangles)) GRADE_TOP l.near l.size l.winding) l.initial.tiles l.tiles;
-}
+invariant-loop-triangle l =
+    AreMerged l.size (first_in l.size l.window) (list_of_clips (map clip_of l.vertices) (take l.triangle-index (map tri_of l.triangles)) GRADE_TOP l.near l.size l.winding) l.initial.tiles l.tiles
