@@ -37,8 +37,8 @@ void put(clip_point &point, unsigned axis, std::uint32_t bits) {
     put(axis == 0 ? point.x : axis == 1 ? point.y : point.w, bits);
 }
 
-// The bits of number / 64 times a power of two, also where that is below the least normal number: by whole numbers, since
-// such floats may be taken for 0.
+// The bits of number / 64 times a power of two, also where that is below the least normal number: by whole numbers,
+// since such floats may be taken for 0.
 std::uint32_t bits_of(int number, int power) {
     std::uint32_t size = static_cast<std::uint32_t>(number < 0 ? -number : number), top = 0;
     if (size == 0) return 0;
@@ -203,7 +203,7 @@ void try_units() {
         expect(are_same(frame, at_one), "the wall is drawn otherwise in other units", 0, 0, bits);
         if (!frame) continue;
         expect(is_hidden(*frame, box_between(-4 * 64, 64, 8 * 64, power)), "a box isn't hidden", 0, 0, bits);
-        expect(!is_hidden(*frame, box_between(4 * 64, 64, 8 * 64, power)), "a box beside the wall is hidden", 0, 0, bits);
+        expect(!is_hidden(*frame, box_between(4 * 64, 64, 8 * 64, power)), "a box beside it is hidden", 0, 0, bits);
         expect(!is_hidden(*frame, box_between(-32, 64, 8 * 64, power)), "a box is hidden past the wall", 0, 0, bits);
         expect(!is_hidden(*frame, box_between(-4 * 64, 64, 2 * 64, power)), "a nearer box is hidden", 0, 0, bits);
     }

@@ -1,3 +1,5 @@
+// SPDX-License-Identifier: MIT OR Apache-2.0
+//
 // maskcull for C++17 programs that reckon in floats: clip coordinates of a view in perspective go in as they are.
 //
 // The library takes whole numbers. What is rounded here is rounded so that an occluder never stands nearer and an
@@ -14,9 +16,9 @@
 // 16384 near distances: 1.6 km for 10 cm. What shows only through a slit between two occluders that is narrower than a
 // pixel may be called hidden, since a pixel is asked at its middle.
 //
-// All this holds too in a program that is compiled with -ffast-math, -ffinite-math-only or -Ofast: what is infinite or no
-// number is found by its bits as they lie in memory, and what a compiler may round otherwise is within the slack of each
-// bound. checks/c-library tries it with g++ and clang++. The same is meant for MSVC with /fp:fast, where it is untried.
+// All this holds too in a program that is compiled with -ffast-math, -ffinite-math-only or -Ofast: what is infinite or
+// no number is found by its bits as they lie in memory, and what a compiler may round otherwise is within the slack of
+// each bound. checks/c-library tries it with g++ and clang++. It is meant so for MSVC with /fp:fast, and untried there.
 #ifndef MASKCULL_HPP
 #define MASKCULL_HPP
 
@@ -146,7 +148,7 @@ private:
         double3 operator-(const double3 &o) const { return {x - o.x, y - o.y, w - o.w}; }
     };
 
-    // A point, and by how much it has to be moved away from the eye for the sake of the triangles that it is a corner of.
+    // A point, and by how much it has to be moved away from the eye for the triangles that it is a corner of.
     struct corner {
         double3 v;
         double factor = 1;
@@ -157,8 +159,8 @@ private:
 
     // A float as a double; false where it is infinite or no number. Under -ffinite-math-only a compiler takes it that a
     // float which is handed over by value, or which it has seen reckoned, is neither, and leaves out what asks for it,
-    // even of its bits. So floats are handed over by their places, and read as volatile. And in a program that is linked
-    // with -ffast-math the processor takes what is below the least normal number for 0: so that is made of its bits.
+    // even of its bits. So floats are handed over by their places, and read as volatile. And in a program that is
+    // linked with -ffast-math the processor takes what is below the least normal number for 0: it is made of its bits.
     static bool read(const volatile float &kept, double &value) {
         const float number = kept;
         std::uint32_t bits;
