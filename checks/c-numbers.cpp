@@ -210,9 +210,17 @@ void try_units() {
 }
 
 // What this program itself has reckoned: infinity as a product, and no number as a difference of infinities. A compiler
-// that sees both the sum and the call may know that there is no such thing.
-void try_reckoned(const maskcull::frame &frame, const volatile float &great, const volatile float &infinity,
-                  const volatile float &other_infinity) {
+// that sees both how it is reckoned and the call may take it that there is no such thing. The numbers are volatile, so
+// that it doesn't see what they are.
+volatile float great, infinity, other_infinity;
+
+void try_reckoned(const maskcull::frame &frame) {
+    float number;
+    put(number, greatest);
+    great = number;
+    put(number, infinite);
+    infinity = number;
+    other_infinity = number;
     for (unsigned k = 0; k < 8; k++) {
         box wide = box_between(0, 64, 8 * 64), odd = wide, off = wide;
         wide.corners[k].x = great * 4.0f;
@@ -233,16 +241,12 @@ void try_reckoned(const maskcull::frame &frame, const volatile float &great, con
 int main() {
     const auto frame = drawn(wall(), {upper, lower});
     if (!frame) return 1;
-    float great, infinity, other_infinity;
-    put(great, greatest);
-    put(infinity, infinite);
-    put(other_infinity, infinite);
     try_near_distances();
     try_bad_corners(*frame);
     try_good_corners(*frame);
     try_bad_occluders();
     try_units();
-    try_reckoned(*frame, great, infinity, other_infinity);
+    try_reckoned(*frame);
     std::printf("%u answers, %u of them wrong\n", answers, wrong);
     return wrong == 0 ? 0 : 1;
 }

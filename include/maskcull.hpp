@@ -12,9 +12,10 @@
 //     if (!frame->is_hidden(corners, 8)) draw_the_house();
 //
 // A point is (x, y, w) of clip space as a vertex shader hands it on: x / w from -1 to 1 to the right, y / w from -1 to
-// 1 upwards (where it runs downwards, as in Vulkan, hand over -y), w the distance along the view. Occluders reach to
-// 16384 near distances: 1.6 km for 10 cm. What shows only through a slit between two occluders that is narrower than a
-// pixel may be called hidden, since a pixel is asked at its middle.
+// 1 upwards (where it runs downwards, as in Vulkan, hand over -y), w the distance along the view. Occluders reach from
+// 8/7 of a near distance to 16384 near distances: 1.6 km for 10 cm. What shows only through a slit between two
+// occluders, or between one and the screen's edge, may be called hidden where the slit is narrower than a pixel, since a
+// pixel is asked at its middle; or than three, where the occluders are at the near plane and rounding moves their edges.
 //
 // All this holds too in a program that is compiled with -ffast-math, -ffinite-math-only or -Ofast: what is infinite or
 // no number is found by its bits as they lie in memory, and what a compiler may round otherwise is within the slack of
@@ -56,7 +57,7 @@ public:
         double distance;
         if (count == 0 || !read(near_distance, distance) || !(distance > 0)) return std::nullopt;
         const maskcull_setup setup{width, height, finest, static_cast<std::uint32_t>(winding)};
-        return frame(setup, finest / distance, count);
+        return frame(setup, finest / (beyond_near * distance), count);
     }
 
     frame(frame &&) = default;
@@ -109,8 +110,8 @@ public:
     }
 
     /// Whether all within some points is hidden, as within the eight corners of a box. False also where it isn't on the
-    /// screen, and where a point is no number, infinite or before the near distance. It may be further than occluders
-    /// can be.
+    /// screen, and where a point is no number, infinite or before 8/7 of the near distance. It may be further than
+    /// occluders can be.
     bool is_hidden(const clip_point *points, std::size_t count) const {
         if (tiles_.empty() || count == 0) return false;
         const double half_width = setup_.width * 0.5, half_height = setup_.height * 0.5;
@@ -134,7 +135,11 @@ public:
     }
 
 private:
-    // The greatest near distance there is, so the finest whole numbers: a unit is 1/1024 of the near distance.
+    // The library's near plane stands a little beyond the near distance. What is drawn of a triangle is up to 1/15 further
+    // from the eye than the triangle, and rounding adds less than 1/16: so it is a part of the triangle that a renderer,
+    // which cuts at the near distance, draws too.
+    static constexpr double beyond_near = 8.0 / 7;
+    // The greatest near distance there is, so the finest whole numbers: a unit is 1/1024 of the library's near distance.
     static constexpr std::uint32_t finest = 1024;
     // Further from 0 than the guard, 16384 times `finest`, and well within 32 bits.
     static constexpr double most = 1e9;
@@ -191,7 +196,7 @@ private:
     // lose.
     static double margin(std::uint32_t pixels) { return 0.5 + pixels * 0.5 / finest + 1.0 / 16 + 1.0 / 1024; }
 
-    // In units of 1/1024 of the near distance: a triangle's plane is a x + b y + c w = 1. Rounding moves a vertex by
+    // In units: a triangle's plane is a x + b y + c w = 1. Rounding moves a vertex by
     // up to half a unit along each axis, which lowers the left side by `rounding` at most, and snapping by a sixteenth
     // of a pixel at most, which lowers it by w * `snapping`. So a vertex that is taken away from the eye by the factor
     // below has a left side of 1 at least: no point of the drawn triangle is nearer than the plane there. A vertex of
