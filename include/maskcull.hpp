@@ -14,8 +14,8 @@
 // A point is (x, y, w) of clip space as a vertex shader hands it on: x / w from -1 to 1 to the right, y / w from -1 to
 // 1 upwards (where it runs downwards, as in Vulkan, hand over -y), w the distance along the view. Occluders reach from
 // 8/7 of a near distance to 16384 near distances: 1.6 km for 10 cm. What shows only through a slit between two
-// occluders, or between one and the screen's edge, may be called hidden where the slit is narrower than a pixel, since a
-// pixel is asked at its middle; or than three, where the occluders are at the near plane and rounding moves their edges.
+// occluders, or between one and the screen's edge, may be called hidden where the slit is narrower than a pixel, since
+// a pixel is asked at its middle; or than three where occluders are at the near plane, since rounding moves their edges.
 //
 // All this holds too in a program that is compiled with -ffast-math, -ffinite-math-only or -Ofast: what is infinite or
 // no number is found by its bits as they lie in memory, and what a compiler may round otherwise is within the slack of
@@ -135,11 +135,11 @@ public:
     }
 
 private:
-    // The library's near plane stands a little beyond the near distance. What is drawn of a triangle is up to 1/15 further
-    // from the eye than the triangle, and rounding adds less than 1/16: so it is a part of the triangle that a renderer,
-    // which cuts at the near distance, draws too.
+    // The library's near plane stands a little beyond the near distance. What is drawn of a triangle is up to 1/15
+    // further from the eye than the triangle, and rounding adds less than 1/16: so no part is drawn of what a renderer,
+    // which cuts at the near distance, leaves out.
     static constexpr double beyond_near = 8.0 / 7;
-    // The greatest near distance there is, so the finest whole numbers: a unit is 1/1024 of the library's near distance.
+    // The greatest near distance there is, so the finest whole numbers: a unit is 1/1024 of the library's.
     static constexpr std::uint32_t finest = 1024;
     // Further from 0 than the guard, 16384 times `finest`, and well within 32 bits.
     static constexpr double most = 1e9;
@@ -171,7 +171,7 @@ private:
         std::uint32_t bits;
         std::memcpy(&bits, &number, sizeof bits);
         const std::uint32_t size = bits & 0x7fffffff;
-        value = number;
+        value = static_cast<double>(number);
         if (size - least_normal < infinity - least_normal) return true;
         value = (bits == size ? 0x1p-149 : -0x1p-149) * size;
         return size < least_normal;
