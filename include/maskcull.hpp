@@ -15,7 +15,7 @@
 // 1 upwards (where it runs downwards, as in Vulkan, hand over -y), w the distance along the view. Occluders reach from
 // 8/7 of a near distance to 16384 near distances: 1.6 km for 10 cm. What shows only through a slit between two
 // occluders, or between one and the screen's edge, may be called hidden where the slit is narrower than a pixel, since
-// a pixel is asked at its middle; or than three where occluders are at the near plane, since rounding moves their edges.
+// a pixel is asked at its middle; or than three where occluders are at the near plane and rounding moves their edges.
 //
 // All this holds too in a program that is compiled with -ffast-math, -ffinite-math-only or -Ofast: what is infinite or
 // no number is found by its bits as they lie in memory, and what a compiler may round otherwise is within the slack of
@@ -196,11 +196,11 @@ private:
     // lose.
     static double margin(std::uint32_t pixels) { return 0.5 + pixels * 0.5 / finest + 1.0 / 16 + 1.0 / 1024; }
 
-    // In units: a triangle's plane is a x + b y + c w = 1. Rounding moves a vertex by
-    // up to half a unit along each axis, which lowers the left side by `rounding` at most, and snapping by a sixteenth
-    // of a pixel at most, which lowers it by w * `snapping`. So a vertex that is taken away from the eye by the factor
-    // below has a left side of 1 at least: no point of the drawn triangle is nearer than the plane there. A vertex of
-    // more triangles takes their greatest factor, so that neighbours keep their common edge without a gap.
+    // In units: a triangle's plane is a x + b y + c w = 1. Rounding moves a vertex by up to half a unit along each axis,
+    // which lowers the left side by `rounding` at most, and snapping by a sixteenth of a pixel at most, which lowers it
+    // by w * `snapping`. So a vertex that is taken away from the eye by the factor below has a left side of 1 at least:
+    // no point of the drawn triangle is nearer than the plane there. A vertex of more triangles takes their greatest
+    // factor, so that neighbours keep their common edge without a gap.
     bool stretch(corner &first, corner &second, corner &third) const {
         const double3 &v0 = first.v, &v1 = second.v, &v2 = third.v;
         if (!(std::max({v0.x, v1.x, v2.x}) < most)) return false;
