@@ -196,11 +196,11 @@ private:
     // lose.
     static double margin(std::uint32_t pixels) { return 0.5 + pixels * 0.5 / finest + 1.0 / 16 + 1.0 / 1024; }
 
-    // In units: a triangle's plane is a x + b y + c w = 1. Rounding moves a vertex by up to half a unit along each axis,
-    // which lowers the left side by `rounding` at most, and snapping by a sixteenth of a pixel at most, which lowers it
-    // by w * `snapping`. So a vertex that is taken away from the eye by the factor below has a left side of 1 at least:
-    // no point of the drawn triangle is nearer than the plane there. A vertex of more triangles takes their greatest
-    // factor, so that neighbours keep their common edge without a gap.
+    // In units: a triangle's plane is a x + b y + c w = 1. Rounding moves a vertex by up to half a unit along each
+    // axis, which lowers the left side by `rounding` at most, and snapping by a sixteenth of a pixel at most, which
+    // lowers it by w * `snapping`. So a vertex that is taken away from the eye by the factor below has a left side of 1
+    // at least: no point of the drawn triangle is nearer than the plane there. A vertex of more triangles takes their
+    // greatest factor, so that neighbours keep their common edge without a gap.
     bool stretch(corner &first, corner &second, corner &third) const {
         const double3 &v0 = first.v, &v1 = second.v, &v2 = third.v;
         if (!(std::max({v0.x, v1.x, v2.x}) < most)) return false;
