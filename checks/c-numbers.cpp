@@ -194,6 +194,17 @@ void try_bad_occluders() {
     }
 }
 
+// A wall before the near distance, by however little, is cut off by a renderer, and drawn here neither.
+void try_near_plane() {
+    const auto none = drawn(wall(), {});
+    for (const std::uint32_t bits : {0x3f7fffffu, 0x3f7fff00u, 0x3f7ff800u, 0x3f7f0000u, 0x3fa00000u}) {
+        wall w;
+        for (unsigned k = 0; k < 4; k++) put(w.corners[k], 2, bits);
+        const bool is_before = bits < 0x3f800000;
+        expect(are_same(drawn(w, {upper, lower}), none) == is_before, "a wall about the near distance", 0, 2, bits);
+    }
+}
+
 // The same scene in other units, down to where all its numbers are below the least normal one: the same answers.
 void try_units() {
     const auto at_one = drawn(wall(false), {upper, lower});
@@ -245,6 +256,7 @@ int main() {
     try_bad_corners(*frame);
     try_good_corners(*frame);
     try_bad_occluders();
+    try_near_plane();
     try_units();
     try_reckoned(*frame);
     std::printf("%u answers, %u of them wrong\n", answers, wrong);
