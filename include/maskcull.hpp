@@ -67,6 +67,7 @@ public:
 
     void clear() { maskcull_checked_clear(tiles_.data(), tiles_.size()); }
 
+    /// To be read by maskcull_subtile. What maskcull.h says of copies holds of these tiles too.
     const std::vector<maskcull_tile> &tiles() const { return tiles_; }
 
     std::uint32_t row_count() const { return (setup_.height + 7) / 8; }
@@ -158,6 +159,10 @@ private:
         double3 v;
         double factor = 1;
     };
+
+    static_assert(sizeof(float) == 4 && std::numeric_limits<float>::digits == 24
+                      && std::numeric_limits<float>::max_exponent == 128,
+                  "maskcull.hpp tells by the bits of a float whether it is a number: hand over IEEE 754's floats");
 
     // Bits without the sign: of the least normal number, and of infinity, above which are those of no number.
     static constexpr std::uint32_t least_normal = 0x00800000, infinity = 0x7f800000;
