@@ -1,4 +1,6 @@
-/* maskcull for C and C++: tells, before a picture is drawn, what is hidden in it. C11 or C++17.
+/* SPDX-License-Identifier: MIT OR Apache-2.0
+ *
+ * maskcull for C and C++: tells, before a picture is drawn, what is hidden in it. C11 or C++17.
  *
  * The picture is cut into tiles of 32 by 8 pixels, and each tile into eight subtiles of 8 by 4. Large triangles that
  * stand in front, the occluders, are drawn onto the tiles, which keep two depths and a mask for each subtile. Then
@@ -36,14 +38,18 @@
  *   Safety
  *   1. No pointer is null, also where the count beside it is 0, and each is aligned as its type asks, to 4 bytes. It
  *      stands for as many elements as its count says. (The maskcull_checked_ forms below answer for null.)
- *   2. Each tile is all zero bytes, which is an empty tile, or was last written by these calls. So tiles come from
- *      maskcull_open, calloc, or std::vector<maskcull_tile>(count), never from malloc alone; a copy by memcpy is fine.
+ *   2. Each tile is all zero bytes, which is an empty tile, or was last written by these calls, or is a copy of such a
+ *      tile. So tiles come from maskcull_open, calloc, std::vector<maskcull_tile>(count), or by memcpy from tiles, and
+ *      never from malloc alone.
  *   3. The tiles of a call that writes them overlap nothing else that is handed to it.
  *   4. While a call runs no other thread writes what it reads, or touches the tiles that it writes. Tests may run side
  *      by side, and so may maskcull_draw_band on tiles that don't overlap.
  *   Meaning
  *   5. From one clearing to the next all calls on some tiles have the same width, height and near distance. The winding
- *      may change from call to call. */
+ *      may change from call to call.
+ *   6. Tiles are copied all together, those of a whole screen, each to the place that it had, and the copy is used with
+ *      the width, height and near distance of what it is a copy of. A tile that is copied to another place, or from a
+ *      frame of another size or near distance, is safe to read, but what it hides may be in sight. */
 #ifndef MASKCULL_H
 #define MASKCULL_H
 
@@ -51,6 +57,10 @@
 #include <stddef.h>
 #include <stdint.h>
 #include <stdlib.h>
+
+/* The version of this header and its library. As a number: 10,000 times the first, 100 times the second, the third. */
+#define MASKCULL_VERSION "0.1.0"
+#define MASKCULL_VERSION_NUMBER 100
 
 #ifdef __cplusplus
 extern "C" {

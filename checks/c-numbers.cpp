@@ -1,0 +1,264 @@
+// What maskcull.hpp answers for floats that are no number, infinite, below the least normal number, or at a limit. The
+// right answers are the same whatever flags it is compiled with: checks/c-library makes it with those that let a
+// compiler take it that there are no such floats, and runs it. It prints each wrong answer, and how many there were.
+//
+// Floats are written by their bits, and never handed over or returned by value, since under such a flag what is no
+// number may get lost on the way, before the library sees it.
+#include "maskcull.hpp"
+
+#include <cstdio>
+#include <cstring>
+
+using maskcull::clip_point;
+
+namespace {
+
+constexpr std::uint32_t infinite = 0x7f800000, greatest = 0x7f7fffff, least_normal = 0x00800000, sign = 0x80000000;
+// No number, quiet and signalling, of either sign, and both infinities.
+constexpr std::uint32_t bad[] = {0x7fc00000, 0xffc00000, 0x7f800001, 0xff800001, 0x7fffffff, 0xffffffff,
+                                 infinite,   infinite | sign};
+// 20000 and the greatest number, of either sign: past the guard for an occluder at a near distance of 1.
+constexpr std::uint32_t far_off[] = {0x469c4000, 0x469c4000 | sign, greatest, greatest | sign};
+
+unsigned answers = 0, wrong = 0;
+
+void expect(bool is_so, const char *what, unsigned place = 0, unsigned axis = 0, std::uint32_t bits = 0) {
+    answers++;
+    if (is_so) return;
+    wrong++;
+    std::printf("wrong: %s, point %u, coordinate %u, bits %08x\n", what, place, axis, static_cast<unsigned>(bits));
+}
+
+void put(float &place, std::uint32_t bits) {
+    std::memcpy(&place, &bits, sizeof place);
+}
+
+void put(clip_point &point, unsigned axis, std::uint32_t bits) {
+    put(axis == 0 ? point.x : axis == 1 ? point.y : point.w, bits);
+}
+
+// The bits of number / 64 times a power of two, also where that is below the least normal number: by whole numbers,
+// since such floats may be taken for 0.
+std::uint32_t bits_of(int number, int power) {
+    std::uint32_t size = static_cast<std::uint32_t>(number < 0 ? -number : number), top = 0;
+    if (size == 0) return 0;
+    while (size >> (top + 1) != 0) top++;
+    const int exponent = static_cast<int>(top) - 6 + power;
+    const std::uint32_t normal = (static_cast<std::uint32_t>(exponent + 127) << 23) | ((size << (23 - top)) & 0x7fffff);
+    return (number < 0 ? sign : 0) | (exponent < -126 ? size << (power - 6 + 149) : normal);
+}
+
+struct place {
+    int x, y, w; // in 64ths
+};
+
+void put(clip_point &point, const place &at, int power) {
+    put(point.x, bits_of(at.x, power));
+    put(point.y, bits_of(at.y, power));
+    put(point.w, bits_of(at.w, power));
+}
+
+struct box {
+    clip_point corners[8];
+};
+
+// From w = near_w to 9, and as far to all sides as half_size from a middle at the height of the eye.
+box box_between(int middle_x, int half_size, int near_w, int power = 0) {
+    box made;
+    for (int k = 0; k < 8; k++) {
+        const place at = {middle_x + (k & 1 ? half_size : -half_size), k & 2 ? half_size : -half_size,
+                          k & 4 ? near_w : 9 * 64};
+        put(made.corners[k], at, power);
+    }
+    return made;
+}
+
+// At w = 4, from the left edge of the screen to its right edge or its middle.
+struct wall {
+    clip_point corners[4];
+
+    explicit wall(bool is_whole = true, int power = 0) {
+        const int left = -5 * 64, right = is_whole ? 5 * 64 : 0, up = 5 * 64, w = 4 * 64;
+        const place at[4] = {{left, up, w}, {right, up, w}, {right, -up, w}, {left, -up, w}};
+        for (int k = 0; k < 4; k++) put(corners[k], at[k], power);
+    }
+};
+
+constexpr maskcull_triangle upper = {0, 1, 2}, lower = {0, 2, 3};
+
+std::optional<maskcull::frame> frame_of(int power = 0) {
+    float near_distance;
+    put(near_distance, bits_of(64, power));
+    return maskcull::frame::make(128, 64, near_distance);
+}
+
+// A frame with some triangles of a wall, or none where they couldn't be drawn.
+std::optional<maskcull::frame> drawn(const wall &w, const std::vector<maskcull_triangle> &triangles, int power = 0) {
+    auto frame = frame_of(power);
+    if (frame && frame->draw(frame->prepare(w.corners, 4, triangles.data(), triangles.size())) != MASKCULL_DONE) {
+        return std::nullopt;
+    }
+    return frame;
+}
+
+bool are_same(const std::optional<maskcull::frame> &one, const std::optional<maskcull::frame> &other) {
+    if (!one || !other || one->tiles().size() != other->tiles().size()) return false;
+    return std::memcmp(one->tiles().data(), other->tiles().data(), one->tiles().size() * sizeof(maskcull_tile)) == 0;
+}
+
+bool is_hidden(const maskcull::frame &frame, const box &b) {
+    return frame.is_hidden(b.corners, 8);
+}
+
+// A near distance that isn't a finite number above 0 makes no frame, each other one does.
+void try_near_distances() {
+    float distance;
+    for (const std::uint32_t bits : bad) {
+        put(distance, bits);
+        expect(!maskcull::frame::make(128, 64, distance), "a frame of a bad near distance", 0, 0, bits);
+    }
+    for (const std::uint32_t bits : {0x00000000u, sign, 0xbf800000u, sign | 1, sign | greatest}) {
+        put(distance, bits);
+        expect(!maskcull::frame::make(128, 64, distance), "a frame of a near distance that isn't above 0", 0, 0, bits);
+    }
+    for (const std::uint32_t bits : {1u, least_normal - 1, least_normal, 0x3f800000u, greatest}) {
+        put(distance, bits);
+        expect(maskcull::frame::make(128, 64, distance).has_value(), "no frame of a good near distance", 0, 0, bits);
+    }
+}
+
+// One coordinate of one corner is bad: not hidden.
+void try_bad_corners(const maskcull::frame &frame) {
+    for (unsigned k = 0; k < 8; k++) {
+        for (unsigned axis = 0; axis < 3; axis++) {
+            for (const std::uint32_t bits : bad) {
+                box b = box_between(0, 64, 8 * 64);
+                put(b.corners[k], axis, bits);
+                expect(!is_hidden(frame, b), "a box with a bad corner is hidden", k, axis, bits);
+                expect(!frame.is_hidden(&b.corners[k], 1), "a bad point is hidden", k, axis, bits);
+            }
+        }
+        // 0, below the near distance, and behind the eye
+        for (const std::uint32_t bits : {0u, sign, 1u, sign | 1, 0x3f7fffffu, 0xbf800000u, sign | greatest}) {
+            box b = box_between(0, 64, 8 * 64);
+            put(b.corners[k], 2, bits);
+            expect(!is_hidden(frame, b), "a box with a corner before the near distance is hidden", k, 2, bits);
+        }
+    }
+}
+
+// What is odd and no fault: a zero's sign, what is below the least normal number, and the greatest distance.
+void try_good_corners(const maskcull::frame &frame) {
+    expect(is_hidden(frame, box_between(0, 64, 8 * 64)), "a box behind the wall isn't hidden");
+    expect(!is_hidden(frame, box_between(0, 64, 3 * 64)), "a box that reaches in front of the wall is hidden");
+    for (unsigned k = 0; k < 8; k++) {
+        for (unsigned axis = 0; axis < 2; axis++) {
+            for (const std::uint32_t bits : {0u, sign, 1u, sign | 1, least_normal - 1, sign | least_normal}) {
+                box b = box_between(0, 64, 8 * 64);
+                put(b.corners[k], axis, bits);
+                expect(is_hidden(frame, b), "a box with a corner at 0, or about there, isn't hidden", k, axis, bits);
+            }
+        }
+        box b = box_between(0, 64, 8 * 64);
+        put(b.corners[k], 2, greatest);
+        expect(is_hidden(frame, b), "a box that reaches to the greatest distance isn't hidden", k, 2, greatest);
+    }
+}
+
+// One coordinate of one corner of the wall is bad or past the guard: only what hasn't this corner is drawn.
+void try_bad_occluders() {
+    const std::vector<maskcull_triangle> both = {upper, lower};
+    const auto none = drawn(wall(), {}), whole = drawn(wall(), both);
+    const auto upper_alone = drawn(wall(), {upper}), lower_alone = drawn(wall(), {lower});
+    expect(!are_same(whole, none) && !are_same(upper_alone, none) && !are_same(lower_alone, none), "nothing is drawn");
+    for (unsigned k = 0; k < 4; k++) {
+        const auto &left_over = k == 1 ? lower_alone : k == 3 ? upper_alone : none;
+        const auto try_bits = [&](unsigned axis, std::uint32_t bits) {
+            wall w;
+            put(w.corners[k], axis, bits);
+            expect(are_same(drawn(w, both), left_over), "a wall with a bad corner is drawn otherwise", k, axis, bits);
+        };
+        for (unsigned axis = 0; axis < 3; axis++) {
+            for (const std::uint32_t bits : bad) try_bits(axis, bits);
+            for (const std::uint32_t bits : far_off) try_bits(axis, bits);
+        }
+    }
+    // a wall over the left half, whose right corners are at a zero of either sign or about there
+    const auto half = drawn(wall(false), both);
+    expect(!are_same(half, whole) && !are_same(half, none), "half a wall is a whole one or none");
+    for (const std::uint32_t bits : {sign, 1u, sign | 1, least_normal - 1, sign | least_normal}) {
+        wall w(false);
+        put(w.corners[1].x, bits);
+        put(w.corners[2].x, bits);
+        expect(are_same(drawn(w, both), half), "a wall that ends at 0, or about there, is drawn otherwise", 1, 0, bits);
+    }
+}
+
+// A wall before the near distance, by however little, is cut off by a renderer, and drawn here neither.
+void try_near_plane() {
+    const auto none = drawn(wall(), {});
+    for (const std::uint32_t bits : {0x3f7fffffu, 0x3f7fff00u, 0x3f7ff800u, 0x3f7f0000u, 0x3fa00000u}) {
+        wall w;
+        for (unsigned k = 0; k < 4; k++) put(w.corners[k], 2, bits);
+        const bool is_before = bits < 0x3f800000;
+        expect(are_same(drawn(w, {upper, lower}), none) == is_before, "a wall about the near distance", 0, 2, bits);
+    }
+}
+
+// The same scene in other units, down to where all its numbers are below the least normal one: the same answers.
+void try_units() {
+    const auto at_one = drawn(wall(false), {upper, lower});
+    for (const int power : {0, 1, 60, 120, -60, -120, -126, -128, -131, -140}) {
+        const auto bits = bits_of(64, power);
+        const auto frame = drawn(wall(false, power), {upper, lower}, power);
+        expect(are_same(frame, at_one), "the wall is drawn otherwise in other units", 0, 0, bits);
+        if (!frame) continue;
+        expect(is_hidden(*frame, box_between(-4 * 64, 64, 8 * 64, power)), "a box isn't hidden", 0, 0, bits);
+        expect(!is_hidden(*frame, box_between(4 * 64, 64, 8 * 64, power)), "a box beside it is hidden", 0, 0, bits);
+        expect(!is_hidden(*frame, box_between(-32, 64, 8 * 64, power)), "a box is hidden past the wall", 0, 0, bits);
+        expect(!is_hidden(*frame, box_between(-4 * 64, 64, 2 * 64, power)), "a nearer box is hidden", 0, 0, bits);
+    }
+}
+
+// What this program itself has reckoned: infinity as a product, and no number as a difference of infinities. A compiler
+// that sees both how it is reckoned and the call may take it that there is no such thing. The numbers are volatile, so
+// that it doesn't see what they are.
+volatile float great, infinity, other_infinity;
+
+void try_reckoned(const maskcull::frame &frame) {
+    float number;
+    put(number, greatest);
+    great = number;
+    put(number, infinite);
+    infinity = number;
+    other_infinity = number;
+    for (unsigned k = 0; k < 8; k++) {
+        box wide = box_between(0, 64, 8 * 64), odd = wide, off = wide;
+        wide.corners[k].x = great * 4.0f;
+        odd.corners[k].y = infinity - other_infinity;
+        off.corners[k].w = great * great;
+        expect(!is_hidden(frame, wide), "a box with a product as a corner is hidden", k, 0);
+        expect(!is_hidden(frame, odd), "a box with a difference as a corner is hidden", k, 1);
+        expect(!is_hidden(frame, off), "a box with a square as a corner is hidden", k, 2);
+    }
+    wall w;
+    w.corners[0].x = infinity - other_infinity;
+    expect(are_same(drawn(w, {upper, lower}), drawn(w, {})), "a wall with a difference as a corner is drawn", 0, 0);
+    expect(!maskcull::frame::make(128, 64, great * great), "a frame of a square as the near distance");
+}
+
+} // namespace
+
+int main() {
+    const auto frame = drawn(wall(), {upper, lower});
+    if (!frame) return 1;
+    try_near_distances();
+    try_bad_corners(*frame);
+    try_good_corners(*frame);
+    try_bad_occluders();
+    try_near_plane();
+    try_units();
+    try_reckoned(*frame);
+    std::printf("%u answers, %u of them wrong\n", answers, wrong);
+    return wrong == 0 ? 0 : 1;
+}
