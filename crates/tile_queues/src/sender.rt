@@ -52,7 +52,8 @@ fn push_all<R: Wait>(
     requires parts { let frame = frame_of passes.old.items in
         parts.items ≡ parts_of frame.list frame.cut frame.size _batch }
     ensures same { queues_of passes.new.items ≡ queues_of passes.old.items }
-    ensures pushed { HavePushed (frame_of passes.old.items) (_batch + 1) 0 passes.new.items }
+    ensures frame { frame_of passes.new.items ≡ frame_of passes.old.items }
+    ensures pushed { HavePushed (frame_of passes.new.items) (_batch + 1) 0 passes.new.items }
 {
     let mut bin = 0usize;
     for part in parts {
@@ -66,12 +67,12 @@ fn publish<R: Wait>(
     rt: &R,
     number: &Number,
     pass: &mut NumberPass,
-    _passes: &[QueuePass],
+    _passes: &Vec<QueuePass>,
     batches: u32,
 )
     requires own { pass.old.table_id ≡ number.now.table.shared.table_id }
     requires before { cell_view pass.old ≡ publisher batches }
-    requires pushed { HavePushed (frame_of _passes.now) (batches + 1) 0 _passes.now }
+    requires pushed { HavePushed (frame_of _passes.now.items) (batches + 1) 0 _passes.now.items }
     ensures own { IsSamePass pass.old pass.new }
     ensures published { cell_view pass.new ≡ publisher (batches + 1) }
 {
@@ -119,13 +120,7 @@ impl Sender {
         ensures { self.new ≡ record self.old { batches = self.old.batches + 1 } }
     {
         push_all(rt, queues, &mut self.passes, parts, self.batches);
-        publish(
-            rt,
-            number,
-            &mut self.number,
-            self.passes.as_slice(),
-            self.batches,
-        );
+        publish(rt, number, &mut self.number, &self.passes, self.batches);
         self.batches += 1;
     }
 
