@@ -3,7 +3,7 @@ ghost use Rattle.std.specs.Prelude.{◌≡◌, ◌<◌, length, IfOk, OnOk};
 ghost use Rattle.cull_base.specs.Tiles.{ArePieces};
 ghost use Rattle.scene_reader.specs.Layout.{IsScene};
 ghost use Rattle.cull_report.specs.Scene.{size_of, frame_clips, frame_pieces, frame_verdicts};
-ghost use Rattle.tile_queues.specs.BinViews.{table_of};
+ghost use Rattle.bin_tiles.specs.BinViews.{table_of};
 ghost use Rattle.maskcull.specs.Culling.{Reports, AllArePieces};
 ghost use Rattle.maskcull.specs.Frames.{lines_of, frames_lines};
 ghost use Rattle.maskcull.specs.Words.{AreInRange};

@@ -4,11 +4,10 @@ use Rattle.std.proofs.Math.Nat.{le-div_iff_mul-le}
 use Rattle.std.proofs.lemmas.Bool.{cases_lt, cases_order}
 use Rattle.std.proofs.lemmas.List.{get_or_append_left, get_or_push, length-append}
 use Rattle.std.proofs.lemmas.Nat.{div-add-mod', mod_below}
-use Rattle.tile_queues.specs.Bins.{bins_owned}
-use Rattle.tile_queues.specs.Shares.{AreDealt, AreIdle, IsGiven, IsShare}
+use Rattle.tile_queues.specs.Shares.{bins_owned, AreDealt, AreIdle, IsGiven, IsShare}
 use Rattle.tile_queues.specs.declared.share.Share.{Share}
 use Rattle.tile_queues.specs.declared.task.Task.{Task}
-use Rattle.tile_queues.proofs.Lists.{pushed_at}
+use Rattle.bin_tiles.proofs.Lists.{pushed_at}
 
 -- one element of a list that has some
 pub one_of : {X : Type 0} (xs : List X) (n : ℕ) → n < length xs → X

@@ -1,26 +1,20 @@
 -- Tasks of a frame: as they are made, as they drain, and as they are told.
-use Rattle.std.proofs.Common.{◌≡◌, ℕ, ◌<◌, ◌*◌, min, max, List, Some, length, arith, ap, ◌∙◌, sym, subst}
-use Rattle.std.specs.Prelude.{slice_get, slice_index_or}
+use Rattle.std.proofs.Common.{◌≡◌, ℕ, ◌+◌, ◌*◌, min, max, List, length, arith, ap, ◌∙◌, sym, subst}
 use Rattle.atomic_table.specs.Seated.{TableId}
 use Rattle.binning.specs.Bins.{bin_span_of}
+use Rattle.binning.specs.Cut.{CutOf}
 use Rattle.cull_base.specs.Tiles.{PieceList}
 use Rattle.cull_base.specs.declared.tile_span.TileSpan.{TileSpan}
 use Rattle.masked_update.specs.Canvas.{CanvasOf, StandsAt}
-use Rattle.tile_queues.specs.CellBins.{StandsInCells}
+use Rattle.tile_queues.specs.CellBins.{StandsInCells, HoldsBin}
 use Rattle.tile_queues.specs.declared.cell_bin.CellBin.{CellBin}
-use Rattle.tile_queues.specs.Owners.{AreFirstTasks}
-use Rattle.tile_queues.specs.Plain.{IsPlainAt, StandsPlain}
-use Rattle.tile_queues.specs.QueueParts.{BatchedFrame, BinOfFrame, bin_of_frame, places_before}
-use Rattle.tile_queues.specs.Shares.{IsTaskIn}
-use Rattle.tile_queues.specs.Tasks.{HoldsBin, IsSubmitterOf, IsTaskOf, QueuesOf, StandsAtBatches, Submitting, Tasking, first_task}
+use Rattle.bin_queues.specs.Tasks.{IsTaskOf, QueuesOf, Tasking, after_part, first_task}
+use Rattle.bin_tiles.specs.Bins.{drawn_of}
+use Rattle.bin_tiles.specs.Plain.{IsPlainAt, StandsPlain}
+use Rattle.bin_queues.specs.QueueParts.{BatchedFrame, BinOfFrame, bin_of_frame, places_before, taken_before}
+use Rattle.bin_queues.proofs.GoingOn.{task_of}
+use Rattle.tile_queues.specs.Drains.{IsTaskIn, StandsAtBatches}
 use Rattle.tile_queues.specs.declared.task.Task.{Task}
-
--- the same task of the same queues
-pub task_of : (queues : QueuesOf) (t t' : Tasking) → t'.queue ≡ t.queue → t'.number ≡ t.number → t'.of ≡ t.of → IsTaskOf queues t → IsTaskOf queues t'
-task_of queues t t' queue number of at = record {
-  queue = ap (λ (b : BinOfFrame). slice_get queues.queues b.bin) of ∙ at.queue ∙ ap (λ (q : TableId). Some q) (sym queue);
-  number = number ∙ at.number;
-}
 
 module _ {X B : Type 0} (stands : X → B → PieceList → TileSpan → ℕ → Type 0) (beside : B) (queues : QueuesOf) (frame : BatchedFrame) (bin : ℕ) (t t' : Task X) where
   pub told_in : (batches told : ℕ) → IsTaskIn stands beside queues frame 0 bin t → t'.intake ≡ record t.intake { told = max t.intake.told batches } → t'.keeper ≡ t.keeper → batches ≡ told → IsTaskIn stands beside queues frame told bin t'
@@ -62,12 +56,10 @@ first_plain queues frame bin t c of first window stand =
       at = subst (λ (k : Tasking). StandsAtBatches StandsPlain (tt {0}) k c) (sym first) at;
     }
 
--- a submitter that submitted more is of the same queues
-pub submitter_on : (queues : QueuesOf) (s s' : Submitting) (n : ℕ) → s' ≡ record s { batches = n } → IsSubmitterOf queues s → IsSubmitterOf queues s'
-submitter_on queues s s' n is at = subst (IsSubmitterOf queues) (sym is) (record { queues_are = at.queues_are; number = at.number; room = at.room })
-
--- the task whose turn it is
-pub first_task_at : (queues : QueuesOf) (frame : BatchedFrame) (tasks : List Tasking) (bin : ℕ) (t : Tasking) → t ≡ slice_index_or tasks bin t → bin < length tasks → AreFirstTasks queues frame tasks
-    → IsTaskOf queues t × (t ≡ first_task t.queue t.number (bin_of_frame frame bin))
-first_task_at queues frame tasks bin t is lt first =
-    subst (λ (k : Tasking). IsTaskOf queues k × (k ≡ first_task k.queue k.number (bin_of_frame frame bin))) (sym is) (first.of bin t lt, first.first bin t lt)
+-- what it drew before the part
+pub taken_drawn : (t t' : Tasking) (list : PieceList) (cut : CutOf) (batch from taken bin : ℕ) → t' ≡ after_part t → t.of.frame.list ≡ list → cut ≡ t'.of.frame.cut → batch ≡ t.batches → from ≡ places_before t.of.frame batch → bin ≡ t.of.bin
+    → taken ≡ taken_before t.of t.batches → taken ≡ drawn_of list cut from bin
+taken_drawn t t' list cut batch from taken bin after of_list of_cut counted at of_bin sum =
+    let cuts : t.of.frame.cut ≡ cut = sym (of_cut ∙ ap (λ (w : Tasking). w.of.frame.cut) after) in
+    let first : places_before t.of.frame t.batches ≡ from = sym (at ∙ ap (places_before t.of.frame) counted) in
+    sum ∙ (λ i. drawn_of (of_list i) (cuts i) (first i) (sym of_bin i))

@@ -1,48 +1,24 @@
 -- Frames whose tasks drew all batches have the tiles of the whole list.
-use Rattle.std.proofs.Common.{◌≡◌, ℕ, ◌-◌, ◌<◌, ◌≤◌, List, length, get_or, option_map, true, arith, ap, ◌∙◌, sym, subst}
+use Rattle.std.proofs.Common.{◌≡◌, ℕ, ◌-◌, ◌<◌, ◌≤◌, List, length, get_or, option_map, arith, ap, ◌∙◌, sym, subst}
 use Rattle.std.proofs.lemmas.List.{length-map}
 use Rattle.std.proofs.lemmas.Option.{slice_get-get_or, slice_get-map}
 use Rattle.atomic_table.specs.Seated.{TableId}
-use Rattle.binning.specs.Bins.{bin_of, bin_span_of}
-use Rattle.binning.specs.Cut.{CutOf, IsCut, bin_count_of}
-use Rattle.binning.proofs.BinSpans.{in_span}
-use Rattle.binning.proofs.Laws.{batches_end}
-use Rattle.cull_base.specs.Screen.{IsSize, tile_count_of, tile_place}
-use Rattle.cull_base.specs.Span.{has_tile}
-use Rattle.cull_base.specs.Tiles.{ArePieces, PieceList, tile_after}
-use Rattle.masked_update.specs.Canvas.{CanvasOf, tile_in}
-use Rattle.masked_update.proofs.Canvases.{drawn_in}
+use Rattle.binning.specs.Cut.{bin_count_of}
+use Rattle.cull_base.specs.Screen.{tile_count_of}
+use Rattle.cull_base.specs.Tiles.{PieceList}
 use Rattle.tile_cells.proofs.Lists.{same_lists}
 use Rattle.tile_cells.specs.Cells.{AreFresh, Writing}
 use Rattle.tile_cells.specs.Standing.{AreStanding, StandsAt}
-use Rattle.tile_queues.specs.CellBins.{StandsInCells}
+use Rattle.tile_queues.specs.CellBins.{StandsInCells, HoldsBin}
 use Rattle.tile_queues.specs.declared.cell_bin.CellBin.{CellBin}
-use Rattle.tile_queues.specs.Owners.{AreHandedBack}
-use Rattle.tile_queues.specs.Plain.{IsPlainAt}
-use Rattle.tile_queues.specs.QueueParts.{BatchedFrame, BinOfFrame, batches_in, bin_of_frame, places_before}
-use Rattle.tile_queues.specs.Shares.{AreWhole, IsDrainedIn}
-use Rattle.tile_queues.specs.Tasks.{HoldsBin, IsTaskOf, QueuesOf, StandsAtBatches, Tasking, cells_of}
+use Rattle.tile_queues.specs.Owners.{AreHandedBack, cells_of}
+use Rattle.bin_queues.specs.QueueParts.{BatchedFrame, BinOfFrame, batches_in, bin_of_frame, places_before}
+use Rattle.tile_queues.specs.Drains.{IsDrainedIn, StandsAtBatches}
+use Rattle.tile_queues.specs.Shares.{AreWhole}
+use Rattle.bin_queues.specs.Tasks.{IsTaskOf, QueuesOf, Tasking}
 use Rattle.tile_queues.specs.declared.task.Task.{Task}
+use Rattle.bin_queues.proofs.Intaking.{places_end}
 use Rattle.tile_queues.proofs.Dealing.{one_of}
-
--- all batches have the whole list
-pub places_end : (frame : BatchedFrame) → 1 ≤ frame.size → places_before frame (batches_in frame) ≡ length frame.list.members
-places_end frame some = batches_end (length frame.list.members) frame.size (omega (arith, some))
-
--- a tile stands in a canvas and has the states after the whole list there
-pub record Held (list : PieceList) (tile : ℕ) (c : CanvasOf) : Type 0 where
-  pub within : has_tile c.window (tile_place list.size tile) ≡ true
-  pub states : (tile_in list.size c tile).subs ≡ tile_after list.size tile list.members
-
--- so does one in the canvas of its bin, at the whole list
-pub held_at : (list : PieceList) (cut : CutOf) (tile bin : ℕ) (c : CanvasOf) → IsSize list.size.width list.size.height → IsCut cut.columns cut.rows → tile < tile_count_of list.size → bin ≡ bin_of list.size cut tile → ArePieces list.members
-    → IsPlainAt list (bin_span_of list.size cut bin) (length list.members) c → Held list tile c
-held_at list cut tile bin c sized valid lt is pieces k =
-    let on : has_tile c.window (tile_place list.size tile) ≡ true = subst (λ win. has_tile win (tile_place list.size tile) ≡ true) (sym k.window_is) (in_span list.size cut bin tile sized valid lt (sym is)) in
-    record {
-      within = on;
-      states = (drawn_in list c sized pieces k.stands tile (record { on_screen = lt; within = on })).states;
-    }
 
 -- the cells of new writers
 pub fresh_cells : (cells : List TableId) (list : PieceList) (ws : List Writing) → AreFresh cells list (length cells) ws → cells_of ws ≡ cells

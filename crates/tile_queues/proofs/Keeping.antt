@@ -2,10 +2,10 @@
 use Rattle.std.proofs.Common.{◌≡◌, ℕ, ◌<◌, List, length, set, length-set, arith, ap, ◌∙◌, sym, subst}
 use Rattle.std.specs.Prelude.{slice_index_or}
 use Rattle.tile_cells.proofs.Lists.{same_at, set_each}
-use Rattle.tile_queues.specs.Owners.{AreFirstTasks, AreTasksOf}
-use Rattle.tile_queues.specs.QueueParts.{BatchedFrame, BinOfFrame}
-use Rattle.tile_queues.specs.Tasks.{GoesOn, IsTaskOf, QueuesOf, Tasking}
-use Rattle.tile_queues.proofs.Draining.{task_of}
+use Rattle.bin_queues.specs.Tasks.{AreFirstTasks, GoesOn, IsTaskOf, QueuesOf, Tasking}
+use Rattle.tile_queues.specs.Owners.{AreTasksOf}
+use Rattle.bin_queues.specs.QueueParts.{BatchedFrame, BinOfFrame}
+use Rattle.bin_queues.proofs.GoingOn.{task_of}
 
 -- the tasks before the first batch are those of the frame
 pub first_are : (queues : QueuesOf) (frame : BatchedFrame) (tasks : List Tasking) → AreFirstTasks queues frame tasks → AreTasksOf queues frame tasks

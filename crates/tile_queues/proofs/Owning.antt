@@ -2,7 +2,7 @@
 use Rattle.std.proofs.Common.{◌≡◌, ℕ, ◌+◌, ◌*◌, ◌/◌, ◌%◌, ◌<◌, ◌≤◌, arith}
 use Rattle.std.proofs.Math.Nat.{le-div_iff_mul-le}
 use Rattle.std.proofs.lemmas.Nat.{div-add-mod', mod_below}
-use Rattle.tile_queues.specs.Bins.{bins_owned}
+use Rattle.tile_queues.specs.Shares.{bins_owned}
 
 more : (j workers : ℕ) → (j + 1) * workers ≡ j * workers + workers
 more j workers = omega arith

@@ -6,13 +6,13 @@ use Rattle.binning.specs.Bins.{bin_span_of}
 use Rattle.binning.specs.Cut.{CutOf}
 use Rattle.cull_base.specs.Tiles.{PieceList}
 use Rattle.masked_update.specs.Canvas.{CanvasOf, StandsAt}
-use Rattle.tile_queues.specs.Plain.{IsPlainAt, StandsPlain}
-use Rattle.tile_queues.specs.QueueParts.{BatchedFrame, BinOfFrame, batched, batches_in, bin_of_frame, places_before}
-use Rattle.tile_queues.specs.Shares.{IsDrainedIn}
-use Rattle.tile_queues.specs.Tasks.{IsTaskOf, QueuesOf, StandsAtBatches, Tasking, first_task}
+use Rattle.bin_tiles.specs.Plain.{IsPlainAt, StandsPlain}
+use Rattle.bin_queues.specs.QueueParts.{BatchedFrame, BinOfFrame, batched, batches_in, bin_of_frame, places_before}
+use Rattle.tile_queues.specs.Drains.{IsDrainedIn, StandsAtBatches}
+use Rattle.bin_queues.specs.Tasks.{IsTaskOf, QueuesOf, Tasking, first_task}
 use Rattle.tile_queues.specs.Waiting.{AreWaiting, IsPlainTask, IsSeat, IsSeatUnder}
 use Rattle.tile_queues.specs.declared.task.Task.{Task}
-use Rattle.tile_queues.proofs.Ending.{places_end}
+use Rattle.bin_queues.proofs.Intaking.{places_end}
 
 pub same_some : {X : Type 0} (x y : X) → ◌≡◌ {A = Option X} (Some x) (Some y) → x ≡ y
 same_some x y same = cc

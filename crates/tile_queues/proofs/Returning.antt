@@ -19,10 +19,10 @@ use Rattle.tile_cells.specs.Cells.{Writing}
 use Rattle.tile_cells.specs.Standing.{StandsAt}
 use Rattle.tile_cells.proofs.Lists.{same_at}
 use Rattle.tile_queues.specs.declared.cell_bin.CellBin.{CellBin}
-use Rattle.tile_queues.specs.CellBins.{tile_numbered}
+use Rattle.tile_queues.specs.CellBins.{tile_numbered, HoldsBin}
 use Rattle.tile_queues.specs.Owners.{AreBackTo, AreBinsOf, ArePut, AreTasksOf, IsHandedBack, IsPut}
-use Rattle.tile_queues.specs.QueueParts.{BatchedFrame, IsBatched, places_before}
-use Rattle.tile_queues.specs.Tasks.{QueuesOf, Tasking, HoldsBin}
+use Rattle.bin_queues.specs.QueueParts.{BatchedFrame, IsBatched, places_before}
+use Rattle.bin_queues.specs.Tasks.{QueuesOf, Tasking}
 use Rattle.tile_queues.proofs.Slotting.{numbered}
 
 pub put_none : (ws : List Writing) (slots : List (Option Writing)) → ArePut ws 0 slots slots

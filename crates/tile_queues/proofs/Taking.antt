@@ -12,11 +12,11 @@ use Rattle.cull_base.specs.declared.tile_span.TileSpan.{TileSpan}
 use Rattle.tile_cells.specs.Cells.{Writing}
 use Rattle.tile_cells.specs.Standing.{StandsAt}
 use Rattle.tile_queues.specs.declared.cell_bin.CellBin.{CellBin}
-use Rattle.tile_queues.specs.CellBins.{AreWritersAt, tile_numbered}
+use Rattle.tile_queues.specs.CellBins.{AreWritersAt, tile_numbered, HoldsBin}
 use Rattle.cull_base.specs.Tiles.{PieceList}
 use Rattle.tile_queues.specs.Owners.{AreLeft, IsFull, MayTake}
-use Rattle.tile_queues.specs.QueueParts.{BatchedFrame, BinOfFrame, bin_of_frame, places_before}
-use Rattle.tile_queues.specs.Tasks.{Tasking, HoldsBin}
+use Rattle.bin_queues.specs.QueueParts.{BatchedFrame, BinOfFrame, bin_of_frame, places_before}
+use Rattle.bin_queues.specs.Tasks.{Tasking}
 use Rattle.tile_queues.proofs.Slotting.{by_tile, numbered}
 
 full_some : (frame : BatchedFrame) (t : ℕ) (o : Option Writing) → IsFull frame t o → IsSome o

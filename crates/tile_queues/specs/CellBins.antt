@@ -12,6 +12,8 @@ use Rattle.masked_update.specs.Canvas.{IsInWindow}
 use Rattle.masked_update.specs.Walk.{is_in_row}
 use Rattle.tile_cells.specs.Cells.{Writing}
 use Rattle.tile_cells.specs.Standing.{StandsAt}
+use Rattle.bin_queues.specs.Tasks.{Tasking}
+use Rattle.tile_queues.specs.Drains.{StandsAtBatches}
 use Rattle.tile_queues.specs.declared.cell_bin.CellBin.{CellBin}
 
 -- The writers of the tiles of a window, row by row. Each took those of the list's first k members that are its own, and
@@ -53,3 +55,7 @@ tile_numbered size window n =
 -- the writer took those of the list's first k members that are its tile's
 abbrev pub Stands : List TableId → PieceList → ℕ → Writing → Type 0
 Stands cells list k w = StandsAt cells list k w.tile w
+
+-- the bin's writers took the members of the batches that the task drew
+abbrev pub HoldsBin : Tasking → CellBin → Type 0
+HoldsBin t c = StandsAtBatches StandsInCells t.of.frame.cells t c

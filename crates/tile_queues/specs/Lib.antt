@@ -1,16 +1,8 @@
-pub mod Bins
-pub mod BinViews
-pub mod Plain
+pub mod Drains
 pub mod CellBins
 pub mod Passing
 pub mod Callers
 pub mod Frames
-pub mod QueueParts
-pub mod QueueRule
-pub mod NumberRule
-pub mod Tasks
-pub mod Intakes
-pub mod Submitters
 pub mod Owners
 pub mod Shares
 pub mod Waiting

@@ -1,6 +1,7 @@
 -- How writers come to bins' tasks, and how they are handed back.
-use Rattle.std.specs.Prelude.{◌≡◌, ◌⊎◌, ℕ, ◌<◌, ◌≤◌, List, Some, length, slice_index_or, MatchOption}
+use Rattle.std.specs.Prelude.{◌≡◌, ◌⊎◌, ℕ, ◌<◌, ◌≤◌, List, Some, length, map, slice_index_or, MatchOption}
 use Rattle.std.specs.declared.option.Option.{Option}
+use Rattle.atomic_table.specs.Seated.{TableId}
 use Rattle.binning.specs.Bins.{bin_of, bin_span_of}
 use Rattle.binning.specs.Cut.{bin_count_of}
 use Rattle.cull_base.specs.Screen.{tile_count_of, tile_place}
@@ -8,8 +9,12 @@ use Rattle.cull_base.specs.Span.{number_in}
 use Rattle.cull_base.specs.Tiles.{PieceList}
 use Rattle.tile_cells.specs.Cells.{Writing, first_at}
 use Rattle.tile_cells.specs.Standing.{StandsAt}
-use Rattle.tile_queues.specs.QueueParts.{BatchedFrame, IsBatched, bin_of_frame, places_before}
-use Rattle.tile_queues.specs.Tasks.{QueuesOf, Tasking, IsTaskOf, first_task}
+use Rattle.bin_queues.specs.QueueParts.{BatchedFrame, IsBatched, bin_of_frame, places_before}
+use Rattle.bin_queues.specs.Tasks.{QueuesOf, Tasking, IsTaskOf}
+
+-- the cells of writers
+abbrev pub cells_of : List Writing → List TableId
+cells_of ws = map (λ (w : Writing). w.cell) ws
 
 -- the writers of all tiles in tile order, before the first member of this list
 pub record AreFirst (list : PieceList) (ws : List Writing) : Type 0 where
@@ -20,13 +25,6 @@ pub record AreFirst (list : PieceList) (ws : List Writing) : Type 0 where
 pub record AreFirstOf (frame : BatchedFrame) (tasks : List Tasking) : Type 0 where
   pub bins : (b : ℕ) (d : Tasking) → b < length tasks → (slice_index_or tasks b d).of ≡ bin_of_frame frame b
   pub first : (b : ℕ) (d : Tasking) → b < length tasks → (slice_index_or tasks b d).batches ≡ 0
-
--- the tasks of all bins of a frame in order, before the first batch
-pub record AreFirstTasks (queues : QueuesOf) (frame : BatchedFrame) (tasks : List Tasking) : Type 0 where
-  pub count : length tasks ≡ bin_count_of frame.cut
-  pub of : (b : ℕ) (d : Tasking) → b < length tasks → IsTaskOf queues (slice_index_or tasks b d)
-  pub first : (b : ℕ) (d : Tasking) → b < length tasks
-      → let t = slice_index_or tasks b d in t ≡ first_task t.queue t.number (bin_of_frame frame b)
 
 -- a slot has a writer of its tile, which took nothing
 abbrev pub IsFull : BatchedFrame → ℕ → Option Writing → Type 0

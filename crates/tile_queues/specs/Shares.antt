@@ -1,29 +1,18 @@
 -- The tasks of a frame's bins, and the workers to which they are dealt.
-use Rattle.std.specs.Prelude.{◌≡◌, ℕ, ◌+◌, ◌*◌, ◌<◌, ◌≤◌, ◌++◌, List, [], ◌∷◌, length, slice_index_or}
+use Rattle.std.specs.Prelude.{◌≡◌, ℕ, ◌+◌, ◌-◌, ◌*◌, ◌/◌, ◌<◌, ◌≤◌, ◌++◌, List, [], ◌∷◌, length, slice_index_or}
 use Rattle.binning.specs.Cut.{bin_count_of}
 use Rattle.cull_base.specs.Tiles.{PieceList}
 use Rattle.cull_base.specs.declared.tile_span.TileSpan.{TileSpan}
-use Rattle.tile_queues.specs.Bins.{bins_owned}
 use Rattle.tile_queues.specs.Owners.{AreTasksOf}
-use Rattle.tile_queues.specs.QueueParts.{BatchedFrame, bin_of_frame, batches_in}
-use Rattle.tile_queues.specs.Tasks.{QueuesOf, Tasking, IsTaskOf, StandsAtBatches}
+use Rattle.bin_queues.specs.QueueParts.{BatchedFrame, batches_in}
+use Rattle.bin_queues.specs.Tasks.{QueuesOf, Tasking}
+use Rattle.tile_queues.specs.Drains.{IsDrainedIn, IsTaskIn}
 use Rattle.tile_queues.specs.declared.share.Share.{Share}
 use Rattle.tile_queues.specs.declared.task.Task.{Task}
 
--- The task of a bin of this frame and of these queues, which was told of so many batches. Its tiles took the members of
--- those that it drew.
-pub record IsTaskIn {X B : Type 0} (stands : X → B → PieceList → TileSpan → ℕ → Type 0) (beside : B)
-    (queues : QueuesOf) (frame : BatchedFrame) (told bin : ℕ) (t : Task X) : Type 0 where
-  pub of_is : t.intake.of ≡ bin_of_frame frame bin
-  pub queues_are : IsTaskOf queues t.intake
-  pub told_is : t.intake.told ≡ told
-  pub at : StandsAtBatches stands beside t.intake t.keeper
-
--- and which drew them all, where it was told of all
-pub record IsDrainedIn {X B : Type 0} (stands : X → B → PieceList → TileSpan → ℕ → Type 0) (beside : B)
-    (queues : QueuesOf) (frame : BatchedFrame) (told bin : ℕ) (t : Task X) : Type 0 where
-  pub task : IsTaskIn stands beside queues frame told bin t
-  pub whole : told ≡ batches_in frame → t.intake.batches ≡ batches_in frame
+-- how many bins a worker owns, of so many: bin b is that of worker b mod workers
+abbrev pub bins_owned : ℕ → ℕ → ℕ → ℕ
+bins_owned bins workers worker = (bins + workers - 1 - worker) / workers
 
 -- of so many bins a worker has those that are its own: its task j is that of bin j * workers + worker. What holds of the
 -- task of a bin is given.

@@ -5,10 +5,10 @@ use Rattle.binning.specs.Cut.{bin_count_of}
 use Rattle.cull_base.specs.Tiles.{PieceList}
 use Rattle.cull_base.specs.declared.tile_span.TileSpan.{TileSpan}
 use Rattle.masked_update.specs.Canvas.{CanvasOf}
-use Rattle.tile_queues.specs.Plain.{IsPlainAt, StandsPlain}
-use Rattle.tile_queues.specs.QueueParts.{BatchedFrame}
-use Rattle.tile_queues.specs.Shares.{IsTaskIn}
-use Rattle.tile_queues.specs.Tasks.{QueuesOf}
+use Rattle.bin_tiles.specs.Plain.{IsPlainAt, StandsPlain}
+use Rattle.bin_queues.specs.QueueParts.{BatchedFrame}
+use Rattle.tile_queues.specs.Drains.{IsTaskIn}
+use Rattle.bin_queues.specs.Tasks.{QueuesOf}
 use Rattle.tile_queues.specs.declared.task.Task.{Task}
 
 -- the task of a bin of this frame, with the bin's plain tiles, which was told of nothing yet

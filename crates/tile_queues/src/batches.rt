@@ -1,11 +1,10 @@
 //! The batches of a frame, binned and submitted one after another.
 ghost use Rattle.std.specs.Prelude.{◌≡◌, ◌≤◌, ◌<◌, ◌+◌, length, OnOk};
-ghost use Rattle.tile_queues.specs.QueueParts.{batches_in};
-ghost use Rattle.tile_queues.specs.Tasks.{IsSubmitterOf};
+ghost use Rattle.bin_queues.specs.QueueParts.{batches_in};
+ghost use Rattle.bin_queues.specs.Tasks.{IsSubmitterOf};
 
-use crate::gate::Gate;
-use crate::queues::BinQueues;
-use crate::sender::Sender;
+use bin_queues::{PartQueues, Sender};
+use bin_tiles::Gate;
 use binning::{Cut, bin_batch};
 use cull_base::{FrameList, Memory};
 use std::alloc::Global;
@@ -15,7 +14,7 @@ use std::sync::Wait;
 fn submit_next<R: Wait, G: Gate>(
     rt: &R,
     alloc: Global,
-    queues: &BinQueues,
+    queues: &PartQueues,
     sender: &mut Sender,
     list: &FrameList,
     cut: &Cut,
@@ -45,7 +44,7 @@ fn submit_next<R: Wait, G: Gate>(
 pub(crate) fn submit_next_ones<R: Wait, G: Gate>(
     rt: &R,
     alloc: Global,
-    queues: &BinQueues,
+    queues: &PartQueues,
     sender: &mut Sender,
     list: &FrameList,
     cut: &Cut,

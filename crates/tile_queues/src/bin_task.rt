@@ -1,15 +1,15 @@
 //! A bin's task over the cells of its tiles.
 ghost use Rattle.std.specs.Prelude.{◌≡◌, ◌≤◌, ◌<◌};
 ghost use Rattle.binning.specs.Cut.{bin_count_of};
-ghost use Rattle.tile_queues.specs.QueueParts.{batches_in, taken_before};
-ghost use Rattle.tile_queues.specs.Tasks.{GoesOn, HoldsBin, IsAnswer};
+ghost use Rattle.bin_queues.specs.QueueParts.{batches_in, taken_before};
+ghost use Rattle.bin_queues.specs.Tasks.{GoesOn, IsTaskOf};
+ghost use Rattle.tile_queues.specs.CellBins.{HoldsBin};
+ghost use Rattle.tile_queues.specs.Drains.{IsAnswer};
 
 use crate::cell_bin::{CellBin, InCells};
-use crate::gate::Gate;
-use crate::intake::Intake;
-use crate::number_rule::Number;
-use crate::queue_rule::Queue;
 use crate::task::{Drained, Task, drain_task};
+use bin_queues::{Intake, PartQueues};
+use bin_tiles::Gate;
 use cull_base::FrameList;
 use std::marker::Model;
 use std::sync::Wait;
@@ -23,7 +23,8 @@ pub struct BinTask {
 }
 
 impl Model for BinTask {
-    ghost use Rattle.tile_queues.specs.Tasks.{Tasking, HoldsBin};
+    ghost use Rattle.bin_queues.specs.Tasks.{Tasking};
+    ghost use Rattle.tile_queues.specs.CellBins.{HoldsBin};
 
     ghost Value = { Tasking };
 
@@ -66,18 +67,16 @@ impl BinTask {
         self.task.intake.taken()
     }
 
-    /// Draws what is in the queue.
+    /// Draws what is in the bin's queue.
     pub(crate) fn draw<R: Wait, G: Gate>(
         &mut self,
         rt: &R,
-        queue: &Queue,
-        number: &Number,
+        queues: &PartQueues,
         cells: &TileCells,
         list: &FrameList,
         gate: &G,
     ) -> Drained
-        requires queue { self.old.queue ≡ queue.now.table.shared.table_id }
-        requires number { self.old.number ≡ number.now.table.shared.table_id }
+        requires queues { IsTaskOf queues.now self.old }
         requires cells { self.old.of.frame.cells ≡ cells.now }
         requires list { self.old.of.frame.list ≡ list.now.list }
         ensures on { GoesOn self.old self.new }
@@ -85,7 +84,7 @@ impl BinTask {
         ensures answer { IsAnswer result self.old self.new }
     {
         let beside = InCells { rt, cells };
-        let drained = drain_task(rt, queue, number, &mut self.task, &beside, list, gate);
+        let drained = drain_task(rt, queues, &mut self.task, &beside, list, gate);
         // an accessor tells what is held of an intake
         let _taken = self.task.intake.taken();
         drained

@@ -7,7 +7,7 @@ ghost use Rattle.cull_base.specs.Span.{IsPartOf, IsSpan, has_tile};
 ghost use Rattle.tile_cells.specs.Standing.{StandsAt};
 ghost use Rattle.tile_queues.specs.CellBins.{HasMet, HasStored, Stands, is_passed};
 
-use crate::keeper::Keeper;
+use bin_tiles::Keeper;
 use binning::Cut;
 use cull_base::{FrameList, TileSpan};
 use masked_update::PieceSetup;

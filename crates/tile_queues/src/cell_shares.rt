@@ -2,15 +2,16 @@
 ghost use Rattle.std.specs.Prelude.{◌≡◌, ◌≤◌, ◌<◌, ◌+◌, [], length, vec_capacity, IfOk, OnOk};
 ghost use Rattle.binning.specs.Cut.{bin_count_of};
 ghost use Rattle.tile_queues.specs.CellBins.{StandsInCells};
-ghost use Rattle.tile_queues.specs.Owners.{AreFirstTasks, AreTasksOf};
-ghost use Rattle.tile_queues.specs.QueueParts.{batched, batches_in};
+ghost use Rattle.bin_queues.specs.Tasks.{AreFirstTasks};
+ghost use Rattle.tile_queues.specs.Owners.{AreTasksOf};
+ghost use Rattle.bin_queues.specs.QueueParts.{batched, batches_in};
 ghost use Rattle.tile_queues.specs.Shares.{AreDrained, AreIdle, AreShares, AreWhole};
 
 use crate::bin_task::BinTask;
 use crate::cell_bin::CellBin;
-use crate::queues::BinQueues;
 use crate::share::{Share, empty_shares, give, take_back};
 use crate::task::Task;
+use bin_queues::PartQueues;
 use binning::Cut;
 use cull_base::{FrameList, Memory};
 use std::alloc::Global;
@@ -19,7 +20,7 @@ use tile_cells::TileCells;
 // Gives each task to the worker to which its bin belongs.
 fn deal_to(
     shares: &mut [Share<CellBin>],
-    _queues: &BinQueues,
+    _queues: &PartQueues,
     tasks: Vec<BinTask>,
     _cells: &TileCells,
     _list: &FrameList,
@@ -46,7 +47,7 @@ fn deal_to(
 /// So many workers with the tasks of their bins. Err where memory gave out.
 pub(crate) fn deal(
     alloc: Global,
-    queues: &BinQueues,
+    queues: &PartQueues,
     tasks: Vec<BinTask>,
     cells: &TileCells,
     list: &FrameList,
@@ -69,7 +70,7 @@ pub(crate) fn deal(
 fn take_from(
     shares: &mut [Share<CellBin>],
     mut tasks: Vec<BinTask>,
-    _queues: &BinQueues,
+    _queues: &PartQueues,
     _cells: &TileCells,
     _list: &FrameList,
     cut: &Cut,
@@ -95,7 +96,7 @@ fn take_from(
 /// The tasks of all bins, which drew all batches. Err where memory gave out.
 pub(crate) fn take_tasks(
     alloc: Global,
-    queues: &BinQueues,
+    queues: &PartQueues,
     mut shares: Vec<Share<CellBin>>,
     cells: &TileCells,
     list: &FrameList,

@@ -1,15 +1,15 @@
-//! How queues are closed: the tasks hand back their writers.
+//! How the tasks of a frame hand back their writers.
 ghost use Rattle.std.specs.Prelude.{◌≡◌, ◌≤◌, ◌<◌, ℕ, [], None, Some, All, length, slice_index_or, vec_capacity, IsSome};
 ghost use Rattle.cull_base.specs.Screen.{tile_count_of};
 ghost use Rattle.tile_cells.specs.Cells.{Writing};
 ghost use Rattle.tile_queues.specs.Owners.{AreBackTo, AreBinsOf, AreHandedBack, ArePut, AreTasksOf};
-ghost use Rattle.tile_queues.specs.QueueParts.{BatchedFrame};
-ghost use Rattle.tile_queues.specs.Tasks.{IsSubmitterOf};
+ghost use Rattle.bin_queues.specs.QueueParts.{BatchedFrame};
+ghost use Rattle.bin_queues.specs.Tasks.{IsSubmitterOf};
 
 use crate::bin_task::BinTask;
-use crate::queues::BinQueues;
 use crate::submitter::Submitter;
 use crate::tile_slots::take_from;
+use bin_queues::PartQueues;
 use tile_cells::TileWriter;
 
 // Puts writers into the slots of their tiles.
@@ -57,16 +57,17 @@ fn empty_slots(slots: &mut [Option<TileWriter>], mut room: Vec<TileWriter>) -> V
     room
 }
 
-impl BinQueues {
-    /// The writers of all tiles, in tile order, each after the batches that the task of its bin drew. Conditions: the
-    /// submitter and the tasks are of these queues and of one frame, and there is one task for each bin, in any order.
-    pub fn close(self, submitter: Submitter, tasks: Vec<BinTask>) -> Vec<TileWriter>
-        requires submitter { IsSubmitterOf self submitter }
-        requires tasks { AreTasksOf self submitter.frame tasks.items }
-        ensures { AreHandedBack submitter.frame tasks.items result.items }
-    {
-        let (mut slots, room) = submitter.into_room();
-        put_tasks(slots.as_mut_slice(), tasks);
-        empty_slots(slots.as_mut_slice(), room)
-    }
+/// What `BinQueues::close` gives.
+pub(crate) fn hand_back(
+    _queues: &PartQueues,
+    submitter: Submitter,
+    tasks: Vec<BinTask>,
+) -> Vec<TileWriter>
+    requires submitter { IsSubmitterOf _queues.now submitter }
+    requires tasks { AreTasksOf _queues.now submitter.frame tasks.items }
+    ensures { AreHandedBack submitter.frame tasks.items result.items }
+{
+    let (mut slots, room) = submitter.into_room();
+    put_tasks(slots.as_mut_slice(), tasks);
+    empty_slots(slots.as_mut_slice(), room)
 }

@@ -1,17 +1,16 @@
 //! The drawing of all batches: binned, submitted and drained at once, and drained to the end.
 ghost use Rattle.std.specs.Prelude.{◌≡◌, ◌≤◌, ◌<◌, ◌+◌, length, OnOk};
 ghost use Rattle.binning.specs.Cut.{bin_count_of};
-ghost use Rattle.tile_queues.specs.QueueParts.{batched, batches_in};
-ghost use Rattle.tile_queues.specs.Shares.{AreDealt, AreDrained, AreOutside, AreShares, HoldsFrom, IsDrainedIn, IsShare, IsTaskIn};
-ghost use Rattle.tile_queues.specs.Tasks.{IsSubmitterOf};
+ghost use Rattle.bin_queues.specs.QueueParts.{batched, batches_in};
+ghost use Rattle.tile_queues.specs.Drains.{IsDrainedIn, IsTaskIn};
+ghost use Rattle.tile_queues.specs.Shares.{AreDealt, AreDrained, AreOutside, AreShares, HoldsFrom, IsShare};
+ghost use Rattle.bin_queues.specs.Tasks.{IsSubmitterOf};
 
 use crate::batches::submit_next_ones;
-use crate::gate::Gate;
-use crate::keeper::Keeper;
-use crate::queues::BinQueues;
-use crate::sender::Sender;
 use crate::share::Share;
-use crate::task::Task;
+use crate::task::{Task, drain_any};
+use bin_queues::{PartQueues, Sender};
+use bin_tiles::{Gate, Keeper};
 use binning::{Cut, batch_count};
 use cull_base::{FrameList, Memory};
 use side_by_side::for_each_beside;
@@ -25,7 +24,7 @@ const AHEAD: u32 = 3;
 /// Draws what is in the queue of a task's bin.
 pub(crate) fn drain_one<R: Wait, B, K: Keeper<B>, G: Gate>(
     rt: &R,
-    queues: &BinQueues,
+    queues: &PartQueues,
     task: &mut Task<K>,
     beside: &B,
     list: &FrameList,
@@ -40,13 +39,13 @@ pub(crate) fn drain_one<R: Wait, B, K: Keeper<B>, G: Gate>(
     ensures { let frame = batched list.now.list _cut.now _size (K.cells beside.now) in
         IsDrainedIn K.stands beside.now queues.now frame _told _bin task.new }
 {
-    queues.drain_any(rt, task, beside, list, gate);
+    drain_any(rt, queues, task, beside, list, gate);
 }
 
 // Draws what is in the queues of some of a worker's bins, bin by bin.
 fn drain_some<R: Wait, B, K: Keeper<B>, G: Gate>(
     rt: &R,
-    queues: &BinQueues,
+    queues: &PartQueues,
     tasks: &mut [Task<K>],
     from: usize,
     to: usize,
@@ -90,7 +89,7 @@ fn drain_some<R: Wait, B, K: Keeper<B>, G: Gate>(
 // There most is drawn, so that the submitter is ahead when bins come that are drawn faster than it bins.
 fn drain_each<R: Wait, B, K: Keeper<B>, G: Gate>(
     rt: &R,
-    queues: &BinQueues,
+    queues: &PartQueues,
     tasks: &mut [Task<K>],
     beside: &B,
     list: &FrameList,
@@ -129,7 +128,7 @@ fn has_begun<K>(tasks: &[Task<K>]) -> bool {
 // those have come that were submitted while it drew.
 fn drain_share<R: Wait, B, K: Keeper<B>, G: Gate>(
     rt: &R,
-    queues: &BinQueues,
+    queues: &PartQueues,
     tasks: &mut [Task<K>],
     beside: &B,
     list: &FrameList,
@@ -162,7 +161,7 @@ fn drain_share<R: Wait, B, K: Keeper<B>, G: Gate>(
 // With no threads it draws behind that.
 fn drain_all<R: Threads + Wait + Sync, B: Sync, K: Keeper<B> + Send, G: Gate, O: FnMut() -> A, A>(
     rt: &R,
-    queues: &BinQueues,
+    queues: &PartQueues,
     shares: &mut [Share<K>],
     beside: &B,
     list: &FrameList,
@@ -217,7 +216,7 @@ fn drain_all<R: Threads + Wait + Sync, B: Sync, K: Keeper<B> + Send, G: Gate, O:
 
 /// Tells a task how many batches were submitted.
 pub(crate) fn tell_one<B, K: Keeper<B>>(
-    queues: &BinQueues,
+    queues: &PartQueues,
     sender: &mut Sender,
     task: &mut Task<K>,
     _beside: &B,
@@ -239,7 +238,7 @@ pub(crate) fn tell_one<B, K: Keeper<B>>(
 
 // Tells each task of a worker.
 fn tell_share<B, K: Keeper<B>>(
-    queues: &BinQueues,
+    queues: &PartQueues,
     sender: &mut Sender,
     tasks: &mut [Task<K>],
     beside: &B,
@@ -280,7 +279,7 @@ fn tell_share<B, K: Keeper<B>>(
 
 // Tells each task of a worker, which is lent whole.
 fn tell_worker<B, K: Keeper<B>>(
-    queues: &BinQueues,
+    queues: &PartQueues,
     sender: &mut Sender,
     own: &mut Share<K>,
     beside: &B,
@@ -310,7 +309,7 @@ fn tell_worker<B, K: Keeper<B>>(
 
 // Tells the tasks of all workers.
 fn tell_all<B, K: Keeper<B>>(
-    queues: &BinQueues,
+    queues: &PartQueues,
     sender: &mut Sender,
     shares: &mut [Share<K>],
     beside: &B,
@@ -351,7 +350,7 @@ fn tell_all<B, K: Keeper<B>>(
 fn submit_and_drain<R: Threads + Wait + Sync, B: Sync, K: Keeper<B> + Send, G: Gate>(
     rt: &R,
     alloc: Global,
-    queues: &BinQueues,
+    queues: &PartQueues,
     sender: &mut Sender,
     shares: &mut [Share<K>],
     beside: &B,
@@ -426,7 +425,7 @@ fn threads_for_rest<K>(shares: &[Share<K>], batches: u32, workers: u32) -> u32 {
 pub(crate) fn draw_all<R: Threads + Wait + Sync, B: Sync, K: Keeper<B> + Send, G: Gate>(
     rt: &R,
     alloc: Global,
-    queues: &BinQueues,
+    queues: &PartQueues,
     sender: &mut Sender,
     shares: &mut [Share<K>],
     beside: &B,

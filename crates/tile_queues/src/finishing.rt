@@ -2,19 +2,17 @@
 ghost use Rattle.std.specs.Prelude.{◌≡◌, ◌≤◌, ◌<◌, [], Some, length, IfOk, IfSome};
 ghost use Rattle.binning.specs.Cut.{bin_count_of};
 ghost use Rattle.binning.specs.Parts.{batch_count_of};
-ghost use Rattle.tile_queues.specs.Bins.{AreBinsAt, IsBinAt};
-ghost use Rattle.tile_queues.specs.Plain.{StandsPlain};
-ghost use Rattle.tile_queues.specs.QueueParts.{batched, batches_in};
-ghost use Rattle.tile_queues.specs.Tasks.{IsSubmitterOf};
+ghost use Rattle.bin_tiles.specs.Bins.{AreBinsAt, IsBinAt};
+ghost use Rattle.bin_tiles.specs.Plain.{StandsPlain};
+ghost use Rattle.bin_queues.specs.QueueParts.{batched, batches_in};
+ghost use Rattle.bin_queues.specs.Tasks.{IsSubmitterOf};
 ghost use Rattle.tile_queues.specs.Waiting.{AreWaiting, IsPlainTask, IsSeat};
 
 use crate::drawing::{drain_one, tell_one};
-use crate::gate::Gate;
 use crate::plain_tasks::{Seat, begun};
-use crate::queues::BinQueues;
-use crate::sender::Sender;
 use crate::task::Task;
-use crate::unbinned::draw_unbinned;
+use bin_queues::{PartQueues, Sender};
+use bin_tiles::{Gate, draw_unbinned};
 use binning::{Cut, batch_count, bin_span};
 use cull_base::{FrameList, Memory};
 use masked_update::Canvas;
@@ -24,7 +22,7 @@ use std::sync::Wait;
 // The bin of a task, drawn to the end.
 fn drawn_on<R: Wait, G: Gate>(
     rt: &R,
-    queues: &BinQueues,
+    queues: &PartQueues,
     sender: &mut Sender,
     task: Task<Canvas>,
     list: &FrameList,
@@ -93,7 +91,7 @@ fn drawn_anew<G: Gate>(
 fn finish<R: Wait, G: Gate>(
     rt: &R,
     alloc: Global,
-    queues: &BinQueues,
+    queues: &PartQueues,
     sender: &mut Sender,
     slot: Option<Seat>,
     list: &FrameList,
@@ -126,7 +124,7 @@ fn finish<R: Wait, G: Gate>(
 pub(crate) fn finish_all<R: Wait, G: Gate>(
     rt: &R,
     alloc: Global,
-    queues: &BinQueues,
+    queues: &PartQueues,
     sender: &mut Sender,
     slots: Vec<Option<Seat>>,
     list: &FrameList,

@@ -8,19 +8,20 @@ ghost use Rattle.tile_cells.specs.Cells.{AreFresh};
 ghost use Rattle.tile_cells.specs.Standing.{AreStanding, IsReading};
 ghost use Rattle.tile_queues.specs.CellBins.{StandsInCells};
 ghost use Rattle.tile_queues.specs.Callers.{Follows};
-ghost use Rattle.tile_queues.specs.QueueParts.{batched, batches_in};
+ghost use Rattle.bin_queues.specs.QueueParts.{batched, batches_in};
 ghost use Rattle.tile_queues.specs.Shares.{AreDrained, AreShares};
-ghost use Rattle.tile_queues.specs.Tasks.{IsSubmitterOf};
+ghost use Rattle.bin_queues.specs.Tasks.{IsSubmitterOf};
 
 use crate::caller::Caller;
 use crate::cell_bin::{CellBin, InCells};
 use crate::cell_shares::{deal, take_tasks};
+use crate::close_queues::hand_back;
 use crate::drawing::draw_all;
-use crate::gate::Gate;
-use crate::queues::BinQueues;
-use crate::sender::Sender;
+use crate::make_queues::make_over_cells;
 use crate::share::Share;
 use crate::submitter::Submitter;
+use bin_queues::{PartQueues, Sender};
+use bin_tiles::Gate;
 use binning::Cut;
 use cull_base::{FrameList, Memory};
 use std::alloc::Global;
@@ -32,7 +33,7 @@ use tile_cells::{TileCells, TileReader, TileWriter};
 fn draw_cells<R: Threads + Wait + Sync, G: Gate>(
     rt: &R,
     alloc: Global,
-    queues: &BinQueues,
+    queues: &PartQueues,
     sender: &mut Sender,
     shares: &mut [Share<CellBin>],
     cells: &TileCells,
@@ -83,7 +84,7 @@ fn read_cells<R: Threads + Wait + Sync, C: Caller>(
 fn draw_and_read<R: Threads + Wait + Sync, G: Gate, C: Caller>(
     rt: &R,
     alloc: Global,
-    queues: &BinQueues,
+    queues: &PartQueues,
     sender: &mut Sender,
     shares: &mut [Share<CellBin>],
     cells: &TileCells,
@@ -185,7 +186,7 @@ pub fn draw_frame<R: Threads + Wait + Sync, G: Gate, C: Caller>(
     // accessors tell what is held of a cut and of a list
     let (_columns, _len) = (cut.columns(), list.len());
     let workers = workers.min(cut.bins());
-    let (queues, submitter, tasks) = BinQueues::make(rt, alloc, list, cut, batch, writers)?;
+    let (queues, submitter, tasks) = make_over_cells(alloc, list, cut, batch, writers)?;
     let (mut sender, slots, room) = submitter.into_parts();
     let mut shares = deal(alloc, &queues, tasks, cells, list, cut, batch, workers)?;
     draw_and_read(
@@ -204,5 +205,5 @@ pub fn draw_frame<R: Threads + Wait + Sync, G: Gate, C: Caller>(
         caller,
     )?;
     let tasks = take_tasks(alloc, &queues, shares, cells, list, cut, batch, workers)?;
-    Ok(queues.close(Submitter::of(sender, slots, room), tasks))
+    Ok(hand_back(&queues, Submitter::of(sender, slots, room), tasks))
 }

@@ -3,16 +3,14 @@ ghost use Rattle.std.specs.Prelude.{◌≡◌, ◌≤◌, ◌<◌, ◌+◌, leng
 ghost use Rattle.cull_base.specs.Tiles.{ArePieces};
 ghost use Rattle.binning.specs.Cut.{bin_count_of};
 ghost use Rattle.binning.specs.Parts.{batch_count_of};
-ghost use Rattle.tile_queues.specs.Bins.{AreBinsAt};
-ghost use Rattle.tile_queues.specs.Plain.{StandsPlain};
+ghost use Rattle.bin_tiles.specs.Bins.{AreBinsAt};
+ghost use Rattle.bin_tiles.specs.Plain.{StandsPlain};
 
 use crate::finishing::finish_all;
-use crate::gate::Gate;
-use crate::one_worker::draw_batches;
 use crate::plain_tasks::first_tasks;
-use crate::queues::BinQueues;
 use crate::turns::submit_and_take;
-use crate::unbinned::draw_unbinned;
+use bin_queues::PartQueues;
+use bin_tiles::{Gate, draw_batches, draw_unbinned};
 use binning::{Cut, bin_span};
 use cull_base::{FrameList, Memory};
 use masked_update::Canvas;
@@ -89,7 +87,7 @@ fn draw_by_workers<R: Threads + Wait + Sync, G: Gate>(
     ensures { let drawn = length list.now.list.members in
         IfOk result (λ v. AreBinsAt StandsPlain (tt {0}) list.now.list cut.now drawn v.items) }
 {
-    let (queues, mut sender, intakes) = BinQueues::open(alloc, list, cut, batch, &[])?;
+    let (queues, mut sender, intakes) = PartQueues::open(alloc, list, cut, batch)?;
     let slots = first_tasks(alloc, &queues, intakes, list, cut, batch)?;
     let slots = submit_and_take::<Brand, R, G>(
         rt,

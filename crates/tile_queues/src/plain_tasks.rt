@@ -1,15 +1,14 @@
 //! The tasks of all bins over plain tiles, before the first batch.
 ghost use Rattle.std.specs.Prelude.{◌≡◌, ◌<◌, [], None, Some, length, IfOk};
-ghost use Rattle.tile_queues.specs.Owners.{AreFirstTasks};
-ghost use Rattle.tile_queues.specs.QueueParts.{batched};
+ghost use Rattle.bin_queues.specs.Tasks.{AreFirstTasks};
+ghost use Rattle.bin_queues.specs.QueueParts.{batched};
 ghost use Rattle.tile_queues.specs.Waiting.{AreWaiting, IsPlainTask, IsSeat};
 ghost use Rattle.tile_queues.specs.declared.task.Task.{Task};
 ghost use Rattle.masked_update.specs.Canvas.{CanvasOf};
 ghost use Rattle.std.specs.declared.option.Option.{Option};
 
-use crate::intake::Intake;
-use crate::queues::BinQueues;
 use crate::task::Task;
+use bin_queues::{Intake, PartQueues};
 use binning::{Cut, bin_span};
 use cull_base::{FrameList, Memory};
 use masked_update::Canvas;
@@ -32,7 +31,7 @@ pub(crate) fn seat_of(task: Task<Canvas>) -> Seat
 // A bin's tiles: empty ones where none are made yet.
 fn made(
     alloc: Global,
-    _queues: &BinQueues,
+    _queues: &PartQueues,
     intake: &Intake,
     keeper: Option<Canvas>,
     list: &FrameList,
@@ -54,7 +53,7 @@ fn made(
 /// frame.
 pub(crate) fn begun(
     alloc: Global,
-    queues: &BinQueues,
+    queues: &PartQueues,
     seat: Seat,
     list: &FrameList,
     cut: &Cut,
@@ -72,7 +71,7 @@ pub(crate) fn begun(
 /// The tasks of all bins, none of which has its tiles yet. Err where memory gave out.
 pub(crate) fn first_tasks(
     alloc: Global,
-    _queues: &BinQueues,
+    _queues: &PartQueues,
     intakes: Vec<Intake>,
     _list: &FrameList,
     cut: &Cut,

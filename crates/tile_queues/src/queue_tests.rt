@@ -2,8 +2,8 @@
 ghost use Rattle.std.specs.Prelude.{◌≡◌, ◌≤◌, ◌<◌, ◌+◌, length, IfOk, OnOk};
 ghost use Rattle.binning.specs.Parts.{batch_count_of};
 ghost use Rattle.tile_queues.specs.Owners.{AreTasksOf};
-ghost use Rattle.tile_queues.specs.QueueParts.{batched, batches_in};
-ghost use Rattle.tile_queues.specs.Tasks.{IsSubmitterOf};
+ghost use Rattle.bin_queues.specs.QueueParts.{batched, batches_in};
+ghost use Rattle.bin_queues.specs.Tasks.{IsSubmitterOf};
 
 use crate::{BinQueues, BinTask, Drained, Gate, Submitter};
 use binning::{BinPart, Cut, batch_count, batch_size, bin_batch};

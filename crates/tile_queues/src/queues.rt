@@ -1,67 +1,62 @@
-//! The queues of all bins, through which batches go from the submitter to the bins' tasks.
-ghost use Rattle.std.specs.Prelude.{◌≡◌, ◌≤◌, ◌<◌, ◌+◌, max, map, All, length};
-ghost use Rattle.binning.specs.Parts.{parts_of};
-ghost use Rattle.crossbeam_queue.specs.Passes.{ruled_capacity};
-ghost use Rattle.tile_cells.specs.Cells.{IsAt};
-ghost use Rattle.tile_queues.specs.QueueParts.{batches_in, taken_before};
-ghost use Rattle.tile_queues.specs.Tasks.{GoesOn, IsAnswer, IsSubmitterOf, IsTaskOf, StandsAtBatches};
+//! The queues of all bins over cells, through which batches go from the submitter to the bins' tasks.
+ghost use Rattle.std.specs.Prelude.{◌≡◌, ◌≤◌, ◌<◌, ◌+◌, length, IfOk};
+ghost use Rattle.binning.specs.Parts.{batch_count_of, parts_of};
+ghost use Rattle.bin_queues.specs.QueueParts.{batched, batches_in, taken_before};
+ghost use Rattle.bin_queues.specs.Tasks.{AreFirstTasks, GoesOn, IsSubmitterOf, IsTaskOf};
+ghost use Rattle.tile_queues.specs.Drains.{IsAnswer};
+ghost use Rattle.tile_queues.specs.Owners.{AreFirst, AreHandedBack, AreTasksOf, cells_of};
 
 use crate::bin_task::BinTask;
-use crate::gate::Gate;
-use crate::intake::Intake;
-use crate::keeper::Keeper;
-use crate::number_rule::Number;
-use crate::queue_rule::Queue;
-use crate::sender::Sender;
+use crate::close_queues::hand_back;
+use crate::make_queues::make_over_cells;
 use crate::submitter::Submitter;
-use crate::task::{Drained, Task, drain_some, drain_task};
-use binning::BinPart;
-use cull_base::FrameList;
+use crate::task::Drained;
+use bin_queues::PartQueues;
+use bin_tiles::Gate;
+use binning::{BinPart, Cut};
+use cull_base::{FrameList, Memory};
+use std::alloc::Global;
 use std::marker::Model;
 use std::sync::Wait;
-use tile_cells::TileCells;
+use tile_cells::{TileCells, TileWriter};
 
 /// One queue for each bin, with room for the parts of all batches, and the number of batches that were submitted.
 #[derive(Drop)]
 pub struct BinQueues {
-    queues: Vec<Queue>,
-    number: Number,
-    most: u32,
+    queues: PartQueues,
 }
 
 impl Model for BinQueues {
-    ghost use Rattle.std.specs.Prelude.{map};
-    ghost use Rattle.tile_queues.specs.Tasks.{QueuesOf};
+    ghost use Rattle.bin_queues.specs.Tasks.{QueuesOf};
 
     ghost Value = { QueuesOf };
 
-    ghost view = { λ s. record {
-      queues = map (λ q. q.table.shared.table_id) s.queues.items;
-      number = s.number.table.shared.table_id;
-      room = s.most;
-    } };
-
-    ghost use Rattle.std.specs.Prelude.{◌≤◌, All};
-    ghost use Rattle.crossbeam_queue.specs.Passes.{ruled_capacity};
-
-    ghost invariant = { λ s. All (λ q. s.most ≤ ruled_capacity q) s.queues.items };
+    ghost view = { λ s. s.queues };
 }
 
 impl BinQueues {
-    /// Condition: each queue has room for so many parts.
-    pub(crate) fn of(queues: Vec<Queue>, number: Number, most: u32) -> BinQueues
-        requires { All (λ q. most ≤ ruled_capacity q) queues.items }
-        ensures { result ≡ record {
-          queues = map (λ q. q.table.shared.table_id) queues.items;
-          number = number.table.shared.table_id;
-          room = most;
-        } }
+    /// The queues of all bins of a cut, all empty, with their submitter and a task for each bin, in order, which owns the
+    /// writers of the bin's tiles. Err where memory gave out; then the writers are given up. All memory is taken here,
+    /// also that which `close` needs. Conditions: a batch has at least one piece, there are at most 2048 batches, and the
+    /// writers are those of a new frame of this list, in tile order.
+    pub fn make<R: Wait>(
+        _rt: &R,
+        alloc: Global,
+        list: &FrameList,
+        cut: &Cut,
+        batch: u32,
+        writers: Vec<TileWriter>,
+    ) -> Result<(BinQueues, Submitter, Vec<BinTask>), Memory>
+        requires batch { 1 ≤ batch }
+        requires few { batch_count_of (length list.now.list.members) batch ≤ 2048 }
+        requires writers { AreFirst list.now.list writers.items }
+        ensures submitter { IfOk result (λ r. IsSubmitterOf r.0 r.1) }
+        ensures frame { IfOk result (λ r.
+            (r.1.frame ≡ batched list.now.list cut.now batch (cells_of writers.items)) × (r.1.batches ≡ 0)) }
+        ensures tasks { IfOk result (λ r. AreFirstTasks r.0 r.1.frame r.2.items) }
     {
-        BinQueues {
-            queues,
-            number,
-            most,
-        }
+        let (queues, submitter, tasks) = make_over_cells(alloc, list, cut, batch, writers)?;
+        Ok((BinQueues { queues }, submitter, tasks))
     }
 
     /// Submits the next batch: appends each part to its bin's queue, and then raises the number of batches that tasks
@@ -73,18 +68,7 @@ impl BinQueues {
             parts.items ≡ parts_of frame.list frame.cut frame.size submitter.old.batches }
         ensures { submitter.new ≡ record submitter.old { batches = submitter.old.batches + 1 } }
     {
-        submitter.submit(rt, self, parts);
-    }
-
-    /// As `submit`, with what the submitter submits with.
-    pub(crate) fn send<R: Wait>(&self, rt: &R, sender: &mut Sender, parts: Vec<BinPart>)
-        requires queues { IsSubmitterOf self.now sender.old }
-        requires short { sender.old.batches < batches_in sender.old.frame }
-        requires parts { let frame = sender.old.frame in
-            parts.items ≡ parts_of frame.list frame.cut frame.size sender.old.batches }
-        ensures { sender.new ≡ record sender.old { batches = sender.old.batches + 1 } }
-    {
-        sender.submit(rt, self.queues.as_slice(), &self.number, parts);
+        submitter.submit(rt, &self.queues, parts);
     }
 
     /// Draws the parts of a task's bin in order, each once. Whole where all batches are drawn then. Empty where fewer
@@ -106,64 +90,16 @@ impl BinQueues {
         ensures answer { IsAnswer result task.old task.new }
         ensures told { task.old.told ≡ batches_in task.old.of.frame → result ≡ Drained.Whole }
     {
-        let queue = &self.queues[task.bin() as usize];
-        task.draw(rt, queue, &self.number, cells, list, gate)
+        task.draw(rt, &self.queues, cells, list, gate)
     }
 
-    /// As `drain`, whatever keeps the bin's tiles, and the answer is not needed. A task that was told of all batches draws
-    /// them all.
-    pub(crate) fn drain_any<R: Wait, B, K: Keeper<B>, G: Gate>(
-        &self,
-        rt: &R,
-        task: &mut Task<K>,
-        beside: &B,
-        list: &FrameList,
-        gate: &G,
-    )
-        requires queues { IsTaskOf self.now task.old.intake }
-        requires list { task.old.intake.of.frame.list ≡ list.now.list }
-        requires stands { StandsAtBatches K.stands beside.now task.old.intake task.old.keeper }
-        ensures on { GoesOn task.old.intake task.new.intake }
-        ensures stands { StandsAtBatches K.stands beside.now task.new.intake task.new.keeper }
-        ensures whole { task.old.intake.told ≡ batches_in task.old.intake.of.frame
-            → task.new.intake.batches ≡ batches_in task.new.intake.of.frame }
+    /// The writers of all tiles, in tile order, each after the batches that the task of its bin drew. Conditions: the
+    /// submitter and the tasks are of these queues and of one frame, and there is one task for each bin, in any order.
+    pub fn close(self, submitter: Submitter, tasks: Vec<BinTask>) -> Vec<TileWriter>
+        requires submitter { IsSubmitterOf self submitter }
+        requires tasks { AreTasksOf self submitter.frame tasks.items }
+        ensures { AreHandedBack submitter.frame tasks.items result.items }
     {
-        let queue = &self.queues[task.intake.bin() as usize];
-        drain_task(rt, queue, &self.number, task, beside, list, gate);
-    }
-
-    /// As `drain_any`, but no more than some: the bin may be put back once so many members are drawn.
-    pub(crate) fn drain_some<R: Wait, B, K: Keeper<B>, G: Gate>(
-        &self,
-        rt: &R,
-        task: &mut Task<K>,
-        beside: &B,
-        list: &FrameList,
-        gate: &G,
-        most: u32,
-    )
-        requires queues { IsTaskOf self.now task.old.intake }
-        requires list { task.old.intake.of.frame.list ≡ list.now.list }
-        requires stands { StandsAtBatches K.stands beside.now task.old.intake task.old.keeper }
-        ensures on { GoesOn task.old.intake task.new.intake }
-        ensures stands { StandsAtBatches K.stands beside.now task.new.intake task.new.keeper }
-    {
-        let queue = &self.queues[task.intake.bin() as usize];
-        drain_some(rt, queue, &self.number, task, beside, list, gate, most);
-    }
-
-    /// Tells a task how many batches were submitted. Condition: the submitter and the task are of these queues and of one
-    /// frame.
-    pub(crate) fn tell(&self, sender: &mut Sender, intake: &mut Intake)
-        requires sender { IsSubmitterOf self.now sender.old }
-        requires task { IsTaskOf self.now intake.old }
-        requires same { intake.old.of.frame ≡ sender.old.frame }
-        ensures sender { sender.new ≡ sender.old }
-        ensures told { intake.new ≡ record intake.old { told = max intake.old.told sender.old.batches } }
-    {
-        let bin = intake.bin();
-        let queue = &self.queues[bin as usize];
-        let note = sender.note(queue, bin);
-        intake.hear(queue, note);
+        hand_back(&self.queues, submitter, tasks)
     }
 }

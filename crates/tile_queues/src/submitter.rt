@@ -2,11 +2,10 @@
 ghost use Rattle.std.specs.Prelude.{◌≡◌, ◌≤◌, ◌<◌, ◌+◌, [], length, vec_capacity};
 ghost use Rattle.binning.specs.Parts.{parts_of};
 ghost use Rattle.cull_base.specs.Screen.{tile_count_of};
-ghost use Rattle.tile_queues.specs.QueueParts.{IsBatched, batches_in};
-ghost use Rattle.tile_queues.specs.Tasks.{IsSubmitterOf};
+ghost use Rattle.bin_queues.specs.QueueParts.{IsBatched, batches_in};
+ghost use Rattle.bin_queues.specs.Tasks.{IsSubmitterOf};
 
-use crate::queues::BinQueues;
-use crate::sender::Sender;
+use bin_queues::{PartQueues, Sender};
 use binning::BinPart;
 use std::marker::Model;
 use std::sync::Wait;
@@ -24,7 +23,7 @@ pub struct Submitter {
 impl Model for Submitter {
     ghost use Rattle.std.specs.Prelude.{◌≡◌, ◌≤◌, [], length, vec_capacity};
     ghost use Rattle.cull_base.specs.Screen.{tile_count_of};
-    ghost use Rattle.tile_queues.specs.Tasks.{Submitting};
+    ghost use Rattle.bin_queues.specs.Tasks.{Submitting};
 
     ghost Value = { Submitting };
 
@@ -87,7 +86,7 @@ impl Submitter {
     }
 
     /// Submits the next batch. Conditions: those of `BinQueues::submit`.
-    pub(crate) fn submit<R: Wait>(&mut self, rt: &R, queues: &BinQueues, parts: Vec<BinPart>)
+    pub(crate) fn submit<R: Wait>(&mut self, rt: &R, queues: &PartQueues, parts: Vec<BinPart>)
         requires queues { IsSubmitterOf queues.now self.old }
         requires short { self.old.batches < batches_in self.old.frame }
         requires parts { let frame = self.old.frame in

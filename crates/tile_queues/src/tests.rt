@@ -3,9 +3,9 @@
 ghost use Rattle.std.specs.Prelude.{◌≡◌, ◌*◌, ◌<◌, ◌≤◌, length, IfOk};
 ghost use Rattle.binning.specs.Cut.{bin_count_of};
 ghost use Rattle.binning.specs.Parts.{batch_count_of};
-ghost use Rattle.tile_queues.specs.Bins.{AreBinsAt};
+ghost use Rattle.bin_tiles.specs.Bins.{AreBinsAt};
 ghost use Rattle.tile_queues.specs.Callers.{Follows};
-ghost use Rattle.tile_queues.specs.Plain.{StandsPlain};
+ghost use Rattle.bin_tiles.specs.Plain.{StandsPlain};
 
 use crate::{BinTable, BinView, Caller, Gate, OpenGate, draw_frame, draw_plain_frame};
 use binning::{Cut, batch_count, batch_size, bin_rect};

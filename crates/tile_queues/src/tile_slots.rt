@@ -3,14 +3,13 @@ ghost use Rattle.std.specs.Prelude.{◌≡◌, ◌≤◌, ◌<◌, ◌+◌, None
 ghost use Rattle.binning.specs.Cut.{bin_count_of};
 ghost use Rattle.cull_base.specs.Screen.{tile_count_of};
 ghost use Rattle.cull_base.specs.Span.{IsSpan, tiles_in};
-ghost use Rattle.tile_queues.specs.CellBins.{tile_numbered};
+ghost use Rattle.tile_queues.specs.CellBins.{tile_numbered, HoldsBin};
 ghost use Rattle.tile_queues.specs.Owners.{AreLeft, MayTake};
-ghost use Rattle.tile_queues.specs.QueueParts.{BatchedFrame};
-ghost use Rattle.tile_queues.specs.Tasks.{HoldsBin};
+ghost use Rattle.bin_queues.specs.QueueParts.{BatchedFrame};
 
 use crate::bin_task::BinTask;
 use crate::cell_bin::CellBin;
-use crate::intake::Intake;
+use bin_queues::Intake;
 use binning::bin_span;
 use cull_base::{FrameList, Memory, Size, TileSpan};
 use std::alloc::Global;

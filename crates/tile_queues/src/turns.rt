@@ -1,17 +1,16 @@
 //! The drawing of bins that wait: each worker takes a bin, draws some of it and puts it back.
 ghost use Rattle.std.specs.Prelude.{◌≡◌, ◌≤◌, ◌<◌, ◌+◌, [], Some, length, IfOk, IfSome, OnOk};
 ghost use Rattle.binning.specs.Cut.{bin_count_of};
-ghost use Rattle.tile_queues.specs.QueueParts.{batched, batches_in};
-ghost use Rattle.tile_queues.specs.Tasks.{IsSubmitterOf};
+ghost use Rattle.bin_queues.specs.QueueParts.{batched, batches_in};
+ghost use Rattle.bin_queues.specs.Tasks.{IsSubmitterOf};
 ghost use Rattle.tile_queues.specs.Waiting.{AreWaiting, IsPlainTask, IsSeatUnder, IsTaskUnder};
 
 use crate::batches::submit_next_ones;
-use crate::gate::Gate;
 use crate::plain_tasks::{Seat, begun};
-use crate::queues::BinQueues;
-use crate::sender::Sender;
-use crate::task::Task;
+use crate::task::{Task, drain_some};
 use crate::waiting::{OfFrame, Waiting};
+use bin_queues::{PartQueues, Sender};
+use bin_tiles::Gate;
 use binning::{Cut, batch_count};
 use cull_base::{FrameList, Memory};
 use masked_update::Canvas;
@@ -32,7 +31,7 @@ const LOOKS: u32 = 0x1_0000;
 // Draws some of a task's bin. Whether it drew anything.
 fn draw_some<R: Wait, G: Gate>(
     rt: &R,
-    queues: &BinQueues,
+    queues: &PartQueues,
     task: &mut Task<Canvas>,
     list: &FrameList,
     cut: &Cut,
@@ -44,7 +43,7 @@ fn draw_some<R: Wait, G: Gate>(
     ensures bin { task.new.intake.of.bin ≡ task.old.intake.of.bin }
 {
     let before = task.intake.batches();
-    queues.drain_some(rt, task, &(), list, gate, TURN);
+    drain_some(rt, queues, task, &(), list, gate, TURN);
     before < task.intake.batches()
 }
 
@@ -66,7 +65,7 @@ fn put_back<F: OfFrame, R: Wait>(rt: &R, waiting: &Mutex<Waiting<F>>, task: Task
 fn take_turn<F: OfFrame, R: Wait, G: Gate>(
     rt: &R,
     alloc: Global,
-    queues: &BinQueues,
+    queues: &PartQueues,
     waiting: &Mutex<Waiting<F>>,
     list: &FrameList,
     cut: &Cut,
@@ -91,7 +90,7 @@ fn take_turn<F: OfFrame, R: Wait, G: Gate>(
 fn take_turns<F: OfFrame, R: Wait, G: Gate>(
     rt: &R,
     alloc: Global,
-    queues: &BinQueues,
+    queues: &PartQueues,
     waiting: &Mutex<Waiting<F>>,
     list: &FrameList,
     cut: &Cut,
@@ -121,7 +120,7 @@ fn take_turns<F: OfFrame, R: Wait, G: Gate>(
 pub(crate) fn submit_and_take<F: OfFrame + Send, R: Threads + Wait + Sync, G: Gate>(
     rt: &R,
     alloc: Global,
-    queues: &BinQueues,
+    queues: &PartQueues,
     sender: &mut Sender,
     slots: Vec<Option<Seat>>,
     list: &FrameList,

@@ -11,8 +11,8 @@ use std::marker::{Brand, PhantomData};
 /// Of which queues and which frame the tasks under a lock are, picked at the call.
 pub(crate) trait OfFrame {
     ghost use Rattle.std.specs.declared.option.Option.{Option};
-    ghost use Rattle.tile_queues.specs.QueueParts.{BatchedFrame};
-    ghost use Rattle.tile_queues.specs.Tasks.{QueuesOf};
+    ghost use Rattle.bin_queues.specs.QueueParts.{BatchedFrame};
+    ghost use Rattle.bin_queues.specs.Tasks.{QueuesOf};
 
     ghost queues: { Option QueuesOf };
 
@@ -21,7 +21,7 @@ pub(crate) trait OfFrame {
 
 impl OfFrame for Brand {
     ghost use Rattle.std.specs.Prelude.{None};
-    ghost use Rattle.tile_queues.specs.QueueRule.{no_bin};
+    ghost use Rattle.bin_queues.specs.QueueRule.{no_bin};
 
     ghost queues = { None };
 

@@ -148,18 +148,20 @@ fn first_list<R: Threads + Wait + Sync>(rt: &R, alloc: Global) -> Result<FrameLi
     Ok(pieces_of(rt, alloc, &scene, 0, &clips, 1)?)
 }
 
-// The two pieces are drawn as they are on one thread, and the caller sees the tile between them.
+// The two pieces are drawn as they are on one thread, and the caller sees the tile between them. The screen is cut into
+// so many bins in a row, of which the first has its one tile.
 fn assert_held<R: Threads + Wait + Sync + Abort>(
     rt: &R,
     alloc: Global,
     workers: u32,
+    bins: u8,
 ) -> Result<(), Fail>
     requires some { 1 ≤ workers }
     requires workers { workers ≤ 64 }
 {
     let list = first_list(rt, alloc)?;
     assert_eq!(rt; list.len(), 2);
-    let cut = Cut::new(1, 1).ok_or("a cut")?;
+    let cut = Cut::new(bins, 1).ok_or("a cut")?;
     let batch = batch_size(list.len(), 1);
     assert_eq!(rt; batch, 1);
     let gate = HoldingGate {
@@ -181,10 +183,11 @@ fn assert_held<R: Threads + Wait + Sync + Abort>(
 
 #[test]
 fn holding_gate(rt: HostRuntime) -> Result<(), Fail> {
-    assert_held(&rt, rt.alloc(), 1)
+    assert_held(&rt, rt.alloc(), 1, 1)
 }
 
+// There are as many bins as workers, since a worker without a bin isn't started.
 #[test]
 fn holding_gate_with_eight_workers(rt: HostRuntime) -> Result<(), Fail> {
-    assert_held(&rt, rt.alloc(), 8)
+    assert_held(&rt, rt.alloc(), 8, 8)
 }

@@ -1,7 +1,7 @@
 use Rattle.std.proofs.Common.{◌≡◌, ◌+◌, arith, ap, ◌∙◌}
-use Rattle.tile_queues.specs.QueueParts.{batches_in}
-use Rattle.tile_queues.specs.Tasks.{Submitting}
-use Rattle.tile_queues.proofs.Draining.{submitter_on}
+use Rattle.bin_queues.specs.QueueParts.{batches_in}
+use Rattle.bin_queues.specs.Tasks.{Submitting}
+use Rattle.bin_queues.proofs.GoingOn.{submitter_on}
 use Rattle.tile_queues.proofs.batches.submit_next_ones.Goals as goal
 
 pub loop-init : goal.loop-init

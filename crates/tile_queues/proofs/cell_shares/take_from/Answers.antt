@@ -3,12 +3,13 @@ use Rattle.std.proofs.lemmas.List.{length-append}
 use Rattle.std.proofs.lemmas.Nat.{mod_below}
 use Rattle.binning.specs.Cut.{bin_count_of}
 use Rattle.tile_queues.specs.CellBins.{StandsInCells}
-use Rattle.tile_queues.specs.QueueParts.{batched, batches_in}
-use Rattle.tile_queues.specs.Shares.{AreDealt, IsDrainedIn}
-use Rattle.tile_queues.specs.Tasks.{Tasking}
+use Rattle.bin_queues.specs.QueueParts.{batched, batches_in}
+use Rattle.tile_queues.specs.Drains.{IsDrainedIn}
+use Rattle.tile_queues.specs.Shares.{AreDealt}
+use Rattle.bin_queues.specs.Tasks.{Tasking}
 use Rattle.tile_queues.proofs.Dealing.{some_task, taken_back, taken_holds}
 use Rattle.tile_queues.proofs.Ending.{IsWholeTask, all_whole, holds_whole, whole_task}
-use Rattle.tile_queues.proofs.Lists.{pushed_at}
+use Rattle.bin_tiles.proofs.Lists.{pushed_at}
 use Rattle.tile_queues.proofs.cell_shares.take_from.Goals as goal
 
 pub loop-taken-init : goal.loop-taken-init

@@ -1,8 +1,9 @@
 use Rattle.std.proofs.Common.{◌≡◌, ℕ, ◌-◌, ◌<◌, ◌≤◌, length, get_or, vec_capacity}
 use Rattle.tile_queues.specs.CellBins.{StandsInCells}
-use Rattle.tile_queues.specs.QueueParts.{batched, batches_in}
-use Rattle.tile_queues.specs.Shares.{AreDealt, IsDrainedIn}
-use Rattle.tile_queues.specs.Tasks.{Tasking}
+use Rattle.bin_queues.specs.QueueParts.{batched, batches_in}
+use Rattle.tile_queues.specs.Drains.{IsDrainedIn}
+use Rattle.tile_queues.specs.Shares.{AreDealt}
+use Rattle.bin_queues.specs.Tasks.{Tasking}
 use Rattle.tile_queues.proofs.Ending.{IsWholeTask}
 use Rattle.tile_queues.proofs.cell_shares.take_from.Given as goal
 

@@ -3,8 +3,8 @@ use Rattle.cull_base.specs.Screen.{tile_count_of}
 use Rattle.binning.specs.Cut.{bin_count_of}
 use Rattle.tile_cells.proofs.Lists.{turn}
 use Rattle.tile_queues.specs.Owners.{AreBackTo}
-use Rattle.tile_queues.specs.QueueParts.{BatchedFrame, IsBatched}
-use Rattle.tile_queues.specs.Tasks.{Tasking}
+use Rattle.bin_queues.specs.QueueParts.{BatchedFrame, IsBatched}
+use Rattle.bin_queues.specs.Tasks.{Tasking}
 use Rattle.tile_queues.proofs.Returning.{back_more, bin_writer}
 use Rattle.tile_queues.proofs.close_queues.put_tasks.Goals as goal
 

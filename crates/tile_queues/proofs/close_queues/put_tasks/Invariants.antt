@@ -2,7 +2,7 @@ use Rattle.std.proofs.Common.{◌≡◌, ◌+◌, drop, length}
 use Rattle.std.specs.Vec.Iter.{into_iter_items, into_iter_len}
 use Rattle.cull_base.specs.Screen.{tile_count_of}
 use Rattle.tile_queues.specs.Owners.{AreBackTo, AreBinsOf}
-use Rattle.tile_queues.specs.QueueParts.{BatchedFrame}
+use Rattle.bin_queues.specs.QueueParts.{BatchedFrame}
 use Rattle.tile_queues.proofs.close_queues.put_tasks.Given as goal
 
 abbrev pub invariant-loop-task : goal.invariant-loop-task

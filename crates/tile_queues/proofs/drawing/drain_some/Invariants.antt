@@ -1,6 +1,6 @@
 use Rattle.std.proofs.Common.{◌≡◌, ℕ, ◌+◌, ◌*◌, ◌<◌, ◌≤◌, length, get_or}
-use Rattle.tile_queues.specs.QueueParts.{batched}
-use Rattle.tile_queues.specs.Shares.{IsDrainedIn, IsTaskIn}
+use Rattle.bin_queues.specs.QueueParts.{batched}
+use Rattle.tile_queues.specs.Drains.{IsDrainedIn, IsTaskIn}
 use Rattle.tile_queues.specs.declared.task.Task.{Task}
 use Rattle.tile_queues.proofs.drawing.drain_some.Given as goal
 

@@ -1,5 +1,5 @@
 use Rattle.std.proofs.Common.{ap, refl}
-use Rattle.tile_queues.specs.QueueParts.{BinOfFrame}
+use Rattle.bin_queues.specs.QueueParts.{BinOfFrame}
 use Rattle.tile_queues.proofs.Draining.{told_in}
 use Rattle.tile_queues.proofs.drawing.tell_one.Goals as goal
 

@@ -1,5 +1,5 @@
 use Rattle.std.proofs.Common.{◌≡◌, ℕ, ◌+◌, ◌*◌, ◌<◌, ◌≤◌, length, get_or}
-use Rattle.tile_queues.specs.Shares.{IsTaskIn}
+use Rattle.tile_queues.specs.Drains.{IsTaskIn}
 use Rattle.tile_queues.specs.declared.task.Task.{Task}
 use Rattle.tile_queues.proofs.drawing.tell_share.Given as goal
 

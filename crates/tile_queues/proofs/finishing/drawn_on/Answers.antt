@@ -1,8 +1,8 @@
 use Rattle.std.proofs.Common.{◌≡◌, [], ap, subst, ◌∙◌}
 use Rattle.binning.specs.Parts.{batch_count_of}
-use Rattle.tile_queues.specs.Plain.{StandsPlain}
-use Rattle.tile_queues.specs.QueueParts.{batched, batches_in}
-use Rattle.tile_queues.specs.Shares.{IsDrainedIn}
+use Rattle.bin_tiles.specs.Plain.{StandsPlain}
+use Rattle.bin_queues.specs.QueueParts.{batched, batches_in}
+use Rattle.tile_queues.specs.Drains.{IsDrainedIn}
 use Rattle.tile_queues.proofs.PlainTasks.{whole_list}
 use Rattle.tile_queues.proofs.finishing.drawn_on.Goals as goal
 

@@ -2,10 +2,10 @@ use Rattle.std.proofs.Common.{◌∷◌, [], List, length, get_or, arith, sym, s
 use Rattle.std.proofs.lemmas.List.{length-append}
 use Rattle.masked_update.specs.Canvas.{CanvasOf}
 use Rattle.tile_cells.proofs.Lists.{turn}
-use Rattle.tile_queues.specs.Bins.{IsBinAt}
-use Rattle.tile_queues.specs.Plain.{StandsPlain}
-use Rattle.tile_queues.specs.QueueParts.{batched}
-use Rattle.tile_queues.proofs.Lists.{pushed_at}
+use Rattle.bin_tiles.specs.Bins.{IsBinAt}
+use Rattle.bin_tiles.specs.Plain.{StandsPlain}
+use Rattle.bin_queues.specs.QueueParts.{batched}
+use Rattle.bin_tiles.proofs.Lists.{pushed_at}
 use Rattle.tile_queues.proofs.PlainTasks.{task_in}
 use Rattle.tile_queues.proofs.finishing.finish_all.Goals as goal
 

@@ -1,8 +1,8 @@
 use Rattle.std.proofs.Common.{◌≡◌, ℕ, ◌+◌, ◌<◌, ◌≤◌, drop, length, get_or, vec_capacity}
 use Rattle.std.specs.Vec.Iter.{into_iter_items, into_iter_len}
 use Rattle.masked_update.specs.Canvas.{CanvasOf}
-use Rattle.tile_queues.specs.Bins.{IsBinAt}
-use Rattle.tile_queues.specs.Plain.{StandsPlain}
+use Rattle.bin_tiles.specs.Bins.{IsBinAt}
+use Rattle.bin_tiles.specs.Plain.{StandsPlain}
 use Rattle.tile_queues.proofs.finishing.finish_all.Given as goal
 
 abbrev pub invariant-loop-slot : goal.invariant-loop-slot

@@ -2,9 +2,9 @@ use Rattle.std.proofs.Common.{◌≡◌, ◌∷◌, [], List, length, get_or, ar
 use Rattle.std.proofs.lemmas.Grind.{common_steps}
 use Rattle.std.proofs.lemmas.List.{length-append}
 use Rattle.masked_update.specs.Canvas.{CanvasOf}
-use Rattle.tile_queues.specs.Bins.{IsBinAt}
-use Rattle.tile_queues.specs.Plain.{StandsPlain}
-use Rattle.tile_queues.proofs.Lists.{pushed_at}
+use Rattle.bin_tiles.specs.Bins.{IsBinAt}
+use Rattle.bin_tiles.specs.Plain.{StandsPlain}
+use Rattle.bin_tiles.proofs.Lists.{pushed_at}
 use Rattle.tile_queues.proofs.plain_frame.draw_one_bin.Goals as goal
 
 pub returns : goal.returns

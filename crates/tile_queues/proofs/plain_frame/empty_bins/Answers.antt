@@ -3,9 +3,9 @@ use Rattle.std.proofs.lemmas.List.{length-append}
 use Rattle.cull_base.specs.Screen.{Dimensions}
 use Rattle.binning.specs.Bins.{bin_span_of}
 use Rattle.masked_update.specs.Canvas.{CanvasOf}
-use Rattle.tile_queues.specs.Bins.{IsBinAt}
-use Rattle.tile_queues.specs.Plain.{StandsPlain}
-use Rattle.tile_queues.proofs.Lists.{pushed_at}
+use Rattle.bin_tiles.specs.Bins.{IsBinAt}
+use Rattle.bin_tiles.specs.Plain.{StandsPlain}
+use Rattle.bin_tiles.proofs.Lists.{pushed_at}
 use Rattle.tile_queues.proofs.plain_frame.empty_bins.Goals as goal
 
 pub loop-bin-preserved : goal.loop-bin-preserved

@@ -1,7 +1,7 @@
 use Rattle.std.proofs.Common.{◌≡◌, ℕ, ◌<◌, ◌≤◌, length, get_or, vec_capacity}
 use Rattle.masked_update.specs.Canvas.{CanvasOf}
-use Rattle.tile_queues.specs.Bins.{IsBinAt}
-use Rattle.tile_queues.specs.Plain.{StandsPlain}
+use Rattle.bin_tiles.specs.Bins.{IsBinAt}
+use Rattle.bin_tiles.specs.Plain.{StandsPlain}
 use Rattle.tile_queues.proofs.plain_frame.empty_bins.Given as goal
 
 abbrev pub invariant-loop-bin : goal.invariant-loop-bin

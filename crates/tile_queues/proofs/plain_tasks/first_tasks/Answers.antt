@@ -3,12 +3,12 @@ use Rattle.std.proofs.lemmas.List.{length-append}
 use Rattle.std.specs.declared.option.Option.{Option}
 use Rattle.masked_update.specs.Canvas.{CanvasOf}
 use Rattle.tile_cells.proofs.Lists.{turn}
-use Rattle.tile_queues.specs.QueueParts.{batched}
-use Rattle.tile_queues.specs.Tasks.{QueuesOf}
+use Rattle.bin_queues.specs.QueueParts.{batched}
+use Rattle.bin_queues.specs.Tasks.{QueuesOf}
 use Rattle.tile_queues.specs.Waiting.{IsSeat}
 use Rattle.tile_queues.specs.declared.task.Task.{Task}
-use Rattle.tile_queues.proofs.Draining.{first_task_at}
-use Rattle.tile_queues.proofs.Lists.{pushed_at}
+use Rattle.bin_queues.proofs.GoingOn.{first_task_at}
+use Rattle.bin_tiles.proofs.Lists.{pushed_at}
 use Rattle.tile_queues.proofs.PlainTasks.{first_seat, same_some}
 use Rattle.tile_queues.proofs.plain_tasks.first_tasks.Goals as goal
 

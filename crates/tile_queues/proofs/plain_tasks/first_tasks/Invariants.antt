@@ -2,7 +2,7 @@ use Rattle.std.proofs.Common.{◌≡◌, ℕ, ◌+◌, ◌<◌, ◌≤◌, [], S
 use Rattle.std.specs.Vec.Iter.{into_iter_items, into_iter_len}
 use Rattle.std.specs.declared.option.Option.{Option}
 use Rattle.masked_update.specs.Canvas.{CanvasOf}
-use Rattle.tile_queues.specs.QueueParts.{batched}
+use Rattle.bin_queues.specs.QueueParts.{batched}
 use Rattle.tile_queues.specs.Waiting.{IsSeat}
 use Rattle.tile_queues.specs.declared.task.Task.{Task}
 use Rattle.tile_queues.proofs.plain_tasks.first_tasks.Given as goal

@@ -1,6 +1,6 @@
 use Rattle.std.proofs.Common.{sym, subst}
 use Rattle.tile_queues.specs.Owners.{AreTasksOf}
-use Rattle.tile_queues.specs.QueueParts.{BatchedFrame}
+use Rattle.bin_queues.specs.QueueParts.{BatchedFrame}
 use Rattle.tile_queues.proofs.queue_tests.close.Goals as goal
 
 pub close-requires-clause-tasks : goal.close-requires-clause-tasks

@@ -1,4 +1,4 @@
-use Rattle.tile_queues.specs.QueueParts.{batched}
+use Rattle.bin_queues.specs.QueueParts.{batched}
 use Rattle.tile_queues.proofs.Keeping.{still_tasks}
 use Rattle.tile_queues.proofs.queue_tests.drain_at.Goals as goal
 

@@ -1,7 +1,7 @@
 use Rattle.std.proofs.Common.{◌≡◌, List, ap, ◌∙◌, subst}
 use Rattle.atomic_table.specs.Seated.{TableId}
 use Rattle.tile_queues.specs.Owners.{AreTasksOf}
-use Rattle.tile_queues.specs.QueueParts.{BatchedFrame, batched}
+use Rattle.bin_queues.specs.QueueParts.{BatchedFrame, batched}
 use Rattle.tile_queues.proofs.Ending.{fresh_cells}
 use Rattle.tile_queues.proofs.Keeping.{first_are}
 use Rattle.tile_queues.proofs.queue_tests.open.Goals as goal

@@ -2,7 +2,7 @@ use Rattle.std.proofs.Common.{◌≡◌, ◌+◌, ◌∷◌, [], ◌++◌, drop,
 use Rattle.std.specs.Vec.Iter.{into_iter_items}
 use Rattle.std.proofs.lemmas.List.{length-append, take_more, take_all}
 use Rattle.tile_cells.proofs.Lists.{turn}
-use Rattle.tile_queues.specs.Tasks.{Tasking}
+use Rattle.bin_queues.specs.Tasks.{Tasking}
 use Rattle.tile_queues.proofs.Taking.{turn_of, turn_done}
 use Rattle.tile_queues.proofs.tile_slots.make_tasks.Goals as goal
 

@@ -1,7 +1,7 @@
 use Rattle.std.proofs.Common.{◌≡◌, ◌≤◌, ◌+◌, drop, take, length, vec_capacity}
 use Rattle.std.specs.Vec.Iter.{into_iter_items, into_iter_len}
 use Rattle.tile_queues.specs.Owners.{MayTake}
-use Rattle.tile_queues.specs.QueueParts.{BatchedFrame}
+use Rattle.bin_queues.specs.QueueParts.{BatchedFrame}
 use Rattle.tile_queues.proofs.tile_slots.make_tasks.Given as goal
 
 abbrev pub invariant-loop-intake : goal.invariant-loop-intake

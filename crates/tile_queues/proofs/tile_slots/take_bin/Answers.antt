@@ -8,7 +8,7 @@ use Rattle.cull_base.specs.declared.tile_span.TileSpan.{TileSpan}
 use Rattle.tile_cells.specs.Cells.{Writing}
 use Rattle.tile_cells.specs.Standing.{StandsAt}
 use Rattle.tile_queues.specs.CellBins.{tile_numbered}
-use Rattle.tile_queues.proofs.Lists.{pushed_at}
+use Rattle.bin_tiles.proofs.Lists.{pushed_at}
 use Rattle.tile_queues.proofs.Taking.{holds_first, next_bin, one_less, slot_is_full, writer_is}
 use Rattle.tile_queues.proofs.tile_slots.take_bin.Goals as goal
 

@@ -1,6 +1,6 @@
 use Rattle.std.proofs.Common.{[], ap, sym, subst}
-use Rattle.tile_queues.specs.QueueParts.{BatchedFrame, batched}
-use Rattle.tile_queues.specs.Tasks.{Tasking}
+use Rattle.bin_queues.specs.QueueParts.{BatchedFrame, batched}
+use Rattle.bin_queues.specs.Tasks.{Tasking}
 use Rattle.tile_queues.specs.Waiting.{IsPlainTask, IsSeat}
 use Rattle.tile_queues.proofs.turns.take_turn.Goals as goal
 

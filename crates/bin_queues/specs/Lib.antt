@@ -1,0 +1,6 @@
+pub mod QueueParts
+pub mod QueueRule
+pub mod NumberRule
+pub mod Tasks
+pub mod Intakes
+pub mod Submitters

@@ -1,0 +1,4 @@
+pub mod Counting
+pub mod PlacesInTurn
+pub mod Lists
+pub mod BinLooks

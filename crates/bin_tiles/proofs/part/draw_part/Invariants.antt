@@ -1,0 +1,5 @@
+use Rattle.bin_tiles.proofs.PlacesInTurn.{StandsWalked}
+use Rattle.bin_tiles.proofs.part.draw_part.Given as goal
+
+abbrev pub invariant-loop-index : goal.invariant-loop-index
+invariant-loop-index g l = StandsWalked g.K.Keeper.stands l.beside l.list.list l.cut l.fn.bin l._to l.indices l.index-index l.drawn l.keeper

@@ -1,0 +1,5 @@
+use Rattle.tile_queues.specs.Owners.{cells_of}
+use Rattle.tile_queues.proofs.make_queues.make_over_cells.Given as goal
+
+abbrev pub ghost-open_over : goal.ghost-open_over
+ghost-open_over a = cells_of a._writers.now

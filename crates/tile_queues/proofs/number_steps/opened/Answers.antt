@@ -1,6 +1,0 @@
-use Rattle.std.proofs.Common.{rules}
-use Rattle.tile_queues.proofs.NumberKeeps.{begins}
-use Rattle.tile_queues.proofs.number_steps.opened.Goals as goal
-
-pub ruled-requires : goal.ruled-requires
-ruled-requires c = (search rules, (search rules, begins))

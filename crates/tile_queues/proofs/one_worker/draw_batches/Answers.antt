@@ -1,6 +1,0 @@
-use Rattle.std.proofs.Common.{ℕ, List, sym, subst}
-use Rattle.tile_queues.specs.Bins.{HaveTaken}
-use Rattle.tile_queues.proofs.one_worker.draw_batches.Goals as goal
-
-pub draw_in_rooms-requires-clause-taken : goal.draw_in_rooms-requires-clause-taken
-draw_in_rooms-requires-clause-taken g c κs within = subst (λ (taken : List ℕ). HaveTaken c.args.list.now.list c.args.cut.now 0 taken) (sym c.as_mut_slice-taken.ensures.value) (c.in_ok-taken.ensures c.args.list.now.list)

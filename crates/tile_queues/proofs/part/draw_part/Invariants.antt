@@ -1,5 +1,0 @@
-use Rattle.tile_queues.proofs.PlacesInTurn.{StandsWalked}
-use Rattle.tile_queues.proofs.part.draw_part.Given as goal
-
-abbrev pub invariant-loop-index : goal.invariant-loop-index
-invariant-loop-index g l = StandsWalked g.K.Keeper.stands l.beside l.list.list l.cut l.fn.bin l._to l.indices l.index-index l.drawn l.keeper
