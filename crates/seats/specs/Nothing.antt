@@ -1,0 +1,8 @@
+-- What holds of no task, where seats aren't picked.
+use Rattle.std.specs.Prelude.{ℕ}
+
+abbrev pub Never : Type 0
+Never = ⊥
+
+pub never_twice : IsProp Never
+never_twice x y = absurd x
