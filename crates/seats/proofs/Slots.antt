@@ -3,9 +3,8 @@ use Rattle.std.proofs.Common.{◌≡◌, ℕ, ◌+◌, ◌<◌, zero, suc, List,
 use Rattle.std.specs.declared.option.Option.{Option}
 use Rattle.std.proofs.Math.Logic.{∥∥₁_elim}
 use Rattle.std.proofs.lemmas.Bool.{cases_eq}
-use Rattle.std.proofs.lemmas.List.{length-map}
 use Rattle.std.proofs.lemmas.List.Sums.{sum_by-set, sum_by-cons}
-use Rattle.seats.specs.Seats.{ArePlaced, AreSeated, IsLoan, IsSeated, Known, gap, gaps, seal_of, seals_of}
+use Rattle.seats.specs.Seats.{ArePlaced, AreSeated, IsLoan, IsSeated, Known, gap, gaps}
 use Rattle.seats.specs.declared.seats.Loan.{Loan}
 
 pub same_some : {X : Type 0} (x y : X) → ◌≡◌ {A = Option X} (Some x) (Some y) → x ≡ y
@@ -89,36 +88,4 @@ pub placed_seated : {X : Type 0} (holds : ℕ → X → Type 0) (names : List �
 placed_seated holds names seats fact are none = record {
   count = are.count;
   each = λ i d lt. in_place holds names i (get_or seats i d) fact (none_empty seats i d none lt) (λ l is. are.each i d l lt is);
-}
-
--- a seat that a new task begins in
-pub record IsFirst {X : Type 0} (holds : ℕ → X → Type 0) (seat : ℕ) (l : Loan X) : Type 0 where
-  pub seat_is : l.seat ≡ seat
-  pub seal_parts : l.seal.parts ≡ 1
-  pub at : holds seat l.task
-
-abbrev pub BeginsWith : {X : Type 0} → (ℕ → X → Type 0) → ℕ → Option (Loan X) → Type 0
-BeginsWith holds seat None = ⊥
-BeginsWith holds seat (Some l) = IsFirst holds seat l
-
-seal_at : {X : Type 0} (seats : List (Option (Loan X))) (i : ℕ) (d : Option (Loan X)) → i < length seats → seal_of (get_or seats i d) ≡ slice_index (seals_of seats) i
-seal_at [] i d lt = absurd (omega arith)
-seal_at (x ∷ xs) zero d lt = refl
-seal_at (x ∷ xs) (suc i) d lt = seal_at xs i d (omega arith)
-
--- the seals of new tasks name their seats
-first_seated : {X : Type 0} (holds : ℕ → X → Type 0) (names : List ℕ) (seat : ℕ) (o : Option (Loan X)) → seat < length names → seal_of o ≡ slice_index names seat → BeginsWith holds seat o → IsSeated holds names seat o
-first_seated holds names seat None lt name first = first
-first_seated holds names seat (Some l) lt name first = record {
-  seat_is = first.seat_is;
-  there = lt;
-  seal_is = name;
-  seal_parts = first.seal_parts;
-  at = first.at;
-}
-
-pub all_seated : {X : Type 0} (holds : ℕ → X → Type 0) (seats : List (Option (Loan X))) → ((i : ℕ) (d : Option (Loan X)) → i < length seats → BeginsWith holds i (get_or seats i d)) → AreSeated holds (seals_of seats) seats
-all_seated holds seats first = record {
-  count = sym (length-map seats seal_of);
-  each = λ i d lt. first_seated holds (seals_of seats) i (get_or seats i d) (omega (arith, lt, length-map seats seal_of)) (seal_at seats i d lt) (first i d lt);
 }

@@ -1,5 +1,4 @@
 -- What holds of no task, where seats aren't picked.
-use Rattle.std.specs.Prelude.{ℕ}
 
 abbrev pub Never : Type 0
 Never = ⊥

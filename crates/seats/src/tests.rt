@@ -1,5 +1,5 @@
 //! Tallies that wait in seats, and that several workers count up in turn.
-ghost use Rattle.std.specs.Prelude.{◌≡◌, IfOk};
+ghost use Rattle.std.specs.Prelude.{◌≡◌, ◌+◌, ◌<◌, IfOk};
 ghost use Rattle.seats.specs.Seats.{AreSeated, IsLoan, Means, seals_of};
 
 use crate::{Hand, Loan, Seating, Seats, give_back, take_from};
@@ -78,6 +78,7 @@ fn count_under<P: Seating<Tally> + Send, R: Threads + Wait + Sync>(
     requires name { blank.name ≡ P.name }
     requires parts { blank.parts ≡ P.parts }
     requires workers { blank.parts ≡ workers + 1 }
+    requires some { 0 < workers }
     requires means { Means P.holds (λ seat t. t.seat ≡ seat) }
     requires slots { AreSeated P.holds P.names slots.items }
     ensures { IfOk result (λ v. AreSeated P.holds P.names v.items) }
@@ -102,6 +103,7 @@ fn counted_by<R: Threads + Wait + Sync>(
     workers: u32,
     counted: &AtomicU64,
 ) -> Result<Vec<Option<Loan<Tally>>>, AllocError>
+    requires { 0 < workers }
     ensures { IfOk result (λ v. AreSeated (λ seat t. t.seat ≡ seat) (seals_of v.items) v.items) }
 {
     let slots = tallies(alloc)?;

@@ -1,4 +1,4 @@
-use Rattle.std.proofs.Common.{◌≡◌, ◌<◌, None, Some, IfSome, arith, length, set, length-set, get_or-set_same, ap, sym, subst, ◌∙◌}
+use Rattle.std.proofs.Common.{◌≡◌, ◌<◌, None, Some, arith, length, set, length-set, get_or-set_same, ap, sym, subst, ◌∙◌}
 use Rattle.std.specs.declared.option.Option.{Option}
 use Rattle.seats.specs.Seats.{IsLoan, Known, gap}
 use Rattle.seats.specs.declared.seats.Loan.{Loan}
