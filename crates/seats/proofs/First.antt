@@ -3,7 +3,7 @@ use Rattle.std.proofs.Common.{◌≡◌, ℕ, ◌<◌, zero, suc, List, [], ◌�
 use Rattle.std.specs.declared.option.Option.{Option}
 use Rattle.std.proofs.lemmas.Bool.{cases_lt}
 use Rattle.std.proofs.lemmas.List.{get_or_append_left, get_or_push, length-append, length-map}
-use Rattle.seats.specs.Seats.{AreSeated, IsSeated, seal_of, seals_of}
+use Rattle.seats.specs.Seats.{AreAllSeated, AreSeated, IsSeated, seal_of, seals_of}
 use Rattle.seats.specs.declared.seats.Loan.{Loan}
 
 -- a seat that a new task begins in
@@ -51,8 +51,29 @@ first_seated holds names seat (Some l) lt name first = record {
   at = first.at;
 }
 
-pub all_seated : {X : Type 0} (holds : ℕ → X → Type 0) (seats : List (Option (Loan X))) → AreFirst holds seats → AreSeated holds (seals_of seats) seats
+pub all_seated : {X : Type 0} (holds : ℕ → X → Type 0) (seats : List (Option (Loan X))) → AreFirst holds seats → AreAllSeated holds seats
 all_seated holds seats first = record {
   count = sym (length-map seats seal_of);
   each = λ i d lt. first_seated holds (seals_of seats) i (get_or seats i d) (omega (arith, lt, length-map seats seal_of)) (seal_at seats i d lt) (first.each i d lt);
 }
+
+-- tasks in their seats are under the seals that are in them
+named_by_own : {X : Type 0} (holds : ℕ → X → Type 0) (names own : List ℕ) (seat : ℕ) (o : Option (Loan X)) → seat < length own → seal_of o ≡ slice_index own seat → IsSeated holds names seat o → IsSeated holds own seat o
+named_by_own holds names own seat None lt name at = at
+named_by_own holds names own seat (Some l) lt name at = record {
+  seat_is = at.seat_is;
+  there = lt;
+  seal_is = name;
+  seal_parts = at.seal_parts;
+  at = at.at;
+}
+
+pub by_own_names : {X : Type 0} (holds : ℕ → X → Type 0) (names : List ℕ) (seats : List (Option (Loan X))) → AreSeated holds names seats → AreAllSeated holds seats
+by_own_names holds names seats are = record {
+  count = sym (length-map seats seal_of);
+  each = λ i d lt. named_by_own holds names (seals_of seats) i (get_or seats i d) (omega (arith, lt, length-map seats seal_of)) (seal_at seats i d lt) (are.each i d lt);
+}
+
+-- what holds of a seat's task that was taken out of its slot
+pub taken_out : {X : Type 0} (holds : ℕ → X → Type 0) (names : List ℕ) (seat : ℕ) (l : Loan X) → IsSeated holds names seat (Some l) → holds seat l.task
+taken_out holds names seat l at = at.at

@@ -50,6 +50,10 @@ seal_of (Some l) = l.seal.name
 abbrev pub seals_of : {X : Type 0} → List (Option (Loan X)) → List ℕ
 seals_of seats = map seal_of seats
 
+-- each seat has its task, under the seal that is in it
+abbrev pub AreAllSeated : {X : Type 0} → (ℕ → X → Type 0) → List (Option (Loan X)) → Type 0
+AreAllSeated holds seats = AreSeated holds (seals_of seats) seats
+
 -- two facts hold of the same tasks
 abbrev pub Means : {X : Type 0} → (ℕ → X → Type 0) → (ℕ → X → Type 0) → Type 0
 Means {X} P Q = (i : ℕ) (x : X) → (P i x → Q i x) × (Q i x → P i x)

@@ -37,7 +37,7 @@ impl<T> Seating<T> for Brand {
 pub struct Loan<T> {
     pub seat: usize,
     pub task: T,
-    pub(crate) seal: Blank,
+    pub seal: Blank,
 }
 
 impl<T> Loan<T> {

@@ -1,6 +1,6 @@
 //! Tallies that wait in seats, and that several workers count up in turn.
 ghost use Rattle.std.specs.Prelude.{◌≡◌, ◌+◌, ◌<◌, IfOk};
-ghost use Rattle.seats.specs.Seats.{AreSeated, IsLoan, Means, seals_of};
+ghost use Rattle.seats.specs.Seats.{AreAllSeated, AreSeated, Means};
 
 use crate::{Hand, Loan, Seating, Seats, give_back, take_from};
 use std::alloc::{AllocError, Global};
@@ -22,7 +22,7 @@ const SEATS: usize = 24;
 const TURNS: usize = 200;
 
 fn tallies(alloc: Global) -> Result<Vec<Option<Loan<Tally>>>, AllocError>
-    ensures { IfOk result (λ v. AreSeated (λ seat t. t.seat ≡ seat) (seals_of v.items) v.items) }
+    ensures { IfOk result (λ v. AreAllSeated (λ seat t. t.seat ≡ seat) v.items) }
 {
     let mut slots = Vec::with_capacity(alloc, SEATS)?;
     for seat in 0..SEATS {
@@ -104,7 +104,7 @@ fn counted_by<R: Threads + Wait + Sync>(
     counted: &AtomicU64,
 ) -> Result<Vec<Option<Loan<Tally>>>, AllocError>
     requires { 0 < workers }
-    ensures { IfOk result (λ v. AreSeated (λ seat t. t.seat ≡ seat) (seals_of v.items) v.items) }
+    ensures { IfOk result (λ v. AreAllSeated (λ seat t. t.seat ≡ seat) v.items) }
 {
     let slots = tallies(alloc)?;
     let blank = Blank::new(u64::from(workers) + 1);
