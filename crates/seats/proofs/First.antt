@@ -1,5 +1,5 @@
 -- Seats that tasks begin in, each under a seal of its own.
-use Rattle.std.proofs.Common.{◌≡◌, ℕ, ◌<◌, zero, suc, List, [], ◌∷◌, ◌++◌, None, Some, length, get_or, slice_index, inl, inr, arith, refl, sym, subst}
+use Rattle.std.proofs.Common.{◌≡◌, ℕ, ◌<◌, zero, suc, List, [], ◌∷◌, ◌++◌, None, Some, MatchOption, length, get_or, slice_index, inl, inr, arith, refl, sym, subst}
 use Rattle.std.specs.declared.option.Option.{Option}
 use Rattle.std.proofs.lemmas.Bool.{cases_lt}
 use Rattle.std.proofs.lemmas.List.{get_or_append_left, get_or_push, length-append, length-map}
@@ -74,6 +74,9 @@ by_own_names holds names seats are = record {
   each = λ i d lt. named_by_own holds names (seals_of seats) i (get_or seats i d) (omega (arith, lt, length-map seats seal_of)) (seal_at seats i d lt) (are.each i d lt);
 }
 
--- what holds of a seat's task that was taken out of its slot
-pub taken_out : {X : Type 0} (holds : ℕ → X → Type 0) (names : List ℕ) (seat : ℕ) (l : Loan X) → IsSeated holds names seat (Some l) → holds seat l.task
-taken_out holds names seat l at = at.at
+-- what a slot has where all tasks are in their seats
+pub there_at : {X : Type 0} (holds : ℕ → X → Type 0) (seats : List (Option (Loan X))) (seat : ℕ) (o : Option (Loan X)) → o ≡ get_or seats seat o → seat < length seats → AreAllSeated holds seats → MatchOption o ⊥ (λ l. holds seat l.task)
+there_at holds seats seat None is lt are = subst (IsSeated holds (seals_of seats) seat) (sym is) (are.each seat None lt)
+there_at holds seats seat (Some l) is lt are =
+    let here : IsSeated holds (seals_of seats) seat (Some l) = subst (IsSeated holds (seals_of seats) seat) (sym is) (are.each seat (Some l) lt) in
+    here.at

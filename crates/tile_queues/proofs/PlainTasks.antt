@@ -1,7 +1,6 @@
--- Plain tasks in the slots of their bins, and the tiles of a task that drew all batches.
-use Rattle.std.proofs.Common.{◌≡◌, ℕ, ◌*◌, ◌<◌, ◌≤◌, min, List, [], None, Some, IfSome, length, get_or, set, get_or-set_other, get_or-set_same, length-set, inl, inr, arith, refl, ap, sym, subst, ◌∙◌}
+-- Plain tasks that wait, and the tiles of a task that drew all batches.
+use Rattle.std.proofs.Common.{◌≡◌, ℕ, ◌*◌, ◌<◌, ◌≤◌, min, [], None, Some, length, arith, refl, ap, sym, subst, ◌∙◌}
 use Rattle.std.specs.declared.option.Option.{Option}
-use Rattle.std.proofs.lemmas.Bool.{cases_eq}
 use Rattle.binning.specs.Bins.{bin_span_of}
 use Rattle.binning.specs.Cut.{CutOf}
 use Rattle.cull_base.specs.Tiles.{PieceList}
@@ -10,7 +9,7 @@ use Rattle.bin_tiles.specs.Plain.{IsPlainAt, StandsPlain}
 use Rattle.bin_queues.specs.QueueParts.{BatchedFrame, BinOfFrame, batched, batches_in, bin_of_frame, places_before}
 use Rattle.tile_queues.specs.Drains.{IsDrainedIn, StandsAtBatches}
 use Rattle.bin_queues.specs.Tasks.{IsTaskOf, QueuesOf, Tasking, first_task}
-use Rattle.tile_queues.specs.Waiting.{AreWaiting, IsPlainTask, IsSeat, IsSeatUnder}
+use Rattle.tile_queues.specs.Waiting.{IsPlainTask, IsWaitingTask}
 use Rattle.tile_queues.specs.declared.task.Task.{Task}
 use Rattle.bin_queues.proofs.Intaking.{places_end}
 
@@ -18,40 +17,13 @@ pub same_some : {X : Type 0} (x y : X) → ◌≡◌ {A = Option X} (Some x) (So
 same_some x y same = cc
 
 -- the task of a bin is that of its own
-pub own_bin : (queues : QueuesOf) (frame : BatchedFrame) (bin : ℕ) (t : Task (Option CanvasOf)) → IsSeat queues frame bin t → IsSeat queues frame t.intake.of.bin t
-own_bin queues frame bin t at = subst (λ n. IsSeat queues frame n t) (sym (ap (λ (k : BinOfFrame). k.bin) at.of_is)) at
-
--- what stands in a slot is the task of its bin
-pub task_in : (queues : QueuesOf) (frame : BatchedFrame) (slots : List (Option (Task (Option CanvasOf)))) (bin : ℕ) (slot : Option (Task (Option CanvasOf))) → slot ≡ get_or slots bin slot → bin < length slots → AreWaiting (Some queues) frame slots
-    → IfSome slot (λ t. IsSeat queues frame bin t)
-task_in queues frame slots bin None is lt at = tt
-task_in queues frame slots bin (Some t) is lt at = at.each bin (Some t) t lt (sym is) queues (λ i. Some queues)
-
--- and that of its own bin, which was taken out
-pub taken : (queues : Option QueuesOf) (frame : BatchedFrame) (slots : List (Option (Task (Option CanvasOf)))) (bin : ℕ) (slot : Option (Task (Option CanvasOf))) → slot ≡ get_or slots bin slot → bin < length slots → AreWaiting queues frame slots
-    → IfSome slot (λ t. IsSeatUnder queues frame t.intake.of.bin t)
-taken queues frame slots bin None is lt at = tt
-taken queues frame slots bin (Some t) is lt at = λ q picked. own_bin q frame bin t (at.each bin (Some t) t lt (sym is) q picked)
-
--- one slot is set
-pub put_in : (queues : Option QueuesOf) (frame : BatchedFrame) (slots : List (Option (Task (Option CanvasOf)))) (bin : ℕ) (slot : Option (Task (Option CanvasOf))) → AreWaiting queues frame slots
-    → ((t : Task (Option CanvasOf)) → slot ≡ Some t → IsSeatUnder queues frame bin t) → AreWaiting queues frame (set slots bin slot)
-put_in queues frame slots bin slot old new = record {
-  count = length-set slots bin slot ∙ old.count;
-  each = λ b d t lt is.
-      let same_length = length-set slots bin slot in
-      let below : b < length slots = omega (arith, lt, same_length) in
-      elim (cases_eq b bin) [
-        | inl same ↦ (let inside : bin < length slots = omega (arith, below, same) in
-            subst (λ n. IsSeatUnder queues frame n t) (sym same) (new t (sym (ap (λ n. get_or (set slots bin slot) n d) same ∙ get_or-set_same slots bin slot d inside) ∙ is)))
-        | inr other ↦ old.each b d t below (sym (get_or-set_other slots bin b slot d other) ∙ is)
-      ];
-}
+pub own_bin : (queues : QueuesOf) (frame : BatchedFrame) (bin : ℕ) (t : Task (Option CanvasOf)) → IsWaitingTask queues frame bin t → IsWaitingTask queues frame t.intake.of.bin t
+own_bin queues frame bin t at = subst (λ n. IsWaitingTask queues frame n t) (sym (ap (λ (k : BinOfFrame). k.bin) at.of_is)) at
 
 -- a task with its tiles, as it is put back
-pub put_seat : (queues : QueuesOf) (frame : BatchedFrame) (bin : ℕ) (t : Task CanvasOf) (u : Task (Option CanvasOf)) → u.intake ≡ t.intake → u.keeper ≡ Some t.keeper → IsPlainTask queues frame bin t → IsSeat queues frame bin u
-put_seat queues frame bin t u intake keeper at =
-    let here : IsSeat queues frame bin (record { intake = t.intake; keeper = Some t.keeper }) = record {
+pub waits_again : (queues : QueuesOf) (frame : BatchedFrame) (bin : ℕ) (t : Task CanvasOf) (u : Task (Option CanvasOf)) → u.intake ≡ t.intake → u.keeper ≡ Some t.keeper → IsPlainTask queues frame bin t → IsWaitingTask queues frame bin u
+waits_again queues frame bin t u intake keeper at =
+    let here : IsWaitingTask queues frame bin (record { intake = t.intake; keeper = Some t.keeper }) = record {
       of_is = at.of_is;
       queues_are = at.queues_are;
       told_is = at.told_is;
@@ -60,16 +32,16 @@ put_seat queues frame bin t u intake keeper at =
         made = λ d is. subst (λ (c : CanvasOf). StandsAtBatches StandsPlain (tt {0}) t.intake c) (same_some t.keeper d is) at.at;
       };
     } in
-    subst (λ (x : Tasking × Option CanvasOf). IsSeat queues frame bin (record { intake = x.0; keeper = x.1 })) (λ i. (sym intake i, sym keeper i)) here
+    subst (λ (x : Tasking × Option CanvasOf). IsWaitingTask queues frame bin (record { intake = x.0; keeper = x.1 })) (λ i. (sym intake i, sym keeper i)) here
 
 -- tiles that are made
-pub made_seat : (queues : QueuesOf) (frame : BatchedFrame) (bin : ℕ) (t : Tasking) (c : CanvasOf) → IsSeat queues frame bin (record { intake = t; keeper = Some c }) → IsPlainTask queues frame bin (record { intake = t; keeper = c })
-made_seat queues frame bin t c at = record { of_is = at.of_is; queues_are = at.queues_are; told_is = at.told_is; at = at.at.made c refl }
+pub made_task : (queues : QueuesOf) (frame : BatchedFrame) (bin : ℕ) (t : Tasking) (c : CanvasOf) → IsWaitingTask queues frame bin (record { intake = t; keeper = Some c }) → IsPlainTask queues frame bin (record { intake = t; keeper = c })
+made_task queues frame bin t c at = record { of_is = at.of_is; queues_are = at.queues_are; told_is = at.told_is; at = at.at.made c refl }
 
 -- and that are made now
-pub new_seat : (queues : QueuesOf) (frame : BatchedFrame) (bin : ℕ) (t : Tasking) (c : CanvasOf) → IsSeat queues frame bin (record { intake = t; keeper = None }) → c.window ≡ bin_span_of frame.list.size frame.cut bin
+pub new_task : (queues : QueuesOf) (frame : BatchedFrame) (bin : ℕ) (t : Tasking) (c : CanvasOf) → IsWaitingTask queues frame bin (record { intake = t; keeper = None }) → c.window ≡ bin_span_of frame.list.size frame.cut bin
     → StandsAt frame.list 0 c → IsPlainTask queues frame bin (record { intake = t; keeper = c })
-new_seat queues frame bin t c at window stand =
+new_task queues frame bin t c at window stand =
     let zero : places_before t.of.frame t.batches ≡ 0 = at.at.not_made refl in
     let plain : IsPlainAt frame.list (bin_span_of frame.list.size frame.cut bin) 0 c = record { window_is = window; stands = stand } in
     let named : IsPlainAt t.of.frame.list (bin_span_of t.of.frame.list.size t.of.frame.cut t.of.bin) 0 c = subst (λ (b : BinOfFrame). IsPlainAt b.frame.list (bin_span_of b.frame.list.size b.frame.cut b.bin) 0 c) (sym at.of_is) plain in
@@ -81,8 +53,8 @@ new_seat queues frame bin t c at window stand =
     }
 
 -- a bin's task before its tiles are made
-pub first_seat : (queues : QueuesOf) (frame : BatchedFrame) (bin : ℕ) (t : Tasking) → IsTaskOf queues t → t ≡ first_task t.queue t.number (bin_of_frame frame bin) → IsSeat queues frame bin (record { intake = t; keeper = None })
-first_seat queues frame bin t of first =
+pub first_waiting : (queues : QueuesOf) (frame : BatchedFrame) (bin : ℕ) (t : Tasking) → IsTaskOf queues t → t ≡ first_task t.queue t.number (bin_of_frame frame bin) → IsWaitingTask queues frame bin (record { intake = t; keeper = None })
+first_waiting queues frame bin t of first =
     let none : places_before frame 0 ≡ 0 = (let e : min (0 * frame.size) (length frame.list.members) ≡ 0 = omega arith in e) in
     let named = ap (λ (k : Tasking). k.of) first in
     let batches = ap (λ (k : Tasking). k.batches) first in

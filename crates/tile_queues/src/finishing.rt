@@ -1,21 +1,22 @@
 //! What is left of the bins after the workers: each is drawn to the end.
-ghost use Rattle.std.specs.Prelude.{◌≡◌, ◌≤◌, ◌<◌, [], Some, length, IfOk, IfSome};
+ghost use Rattle.std.specs.Prelude.{◌≡◌, ◌≤◌, ◌<◌, [], length, IfOk, MatchOption};
 ghost use Rattle.binning.specs.Cut.{bin_count_of};
 ghost use Rattle.binning.specs.Parts.{batch_count_of};
 ghost use Rattle.bin_tiles.specs.Bins.{AreBinsAt, IsBinAt};
 ghost use Rattle.bin_tiles.specs.Plain.{StandsPlain};
 ghost use Rattle.bin_queues.specs.QueueParts.{batched, batches_in};
 ghost use Rattle.bin_queues.specs.Tasks.{IsSubmitterOf};
-ghost use Rattle.tile_queues.specs.Waiting.{AreWaiting, IsPlainTask, IsSeat};
+ghost use Rattle.tile_queues.specs.Waiting.{AreWaiting, IsPlainTask, IsWaitingTask};
 
 use crate::drawing::{drain_one, tell_one};
-use crate::plain_tasks::{Seat, begun};
+use crate::plain_tasks::{WaitingTask, begun};
 use crate::task::Task;
 use bin_queues::{PartQueues, Sender};
-use bin_tiles::{Gate, draw_unbinned};
-use binning::{Cut, batch_count, bin_span};
+use bin_tiles::Gate;
+use binning::{Cut, batch_count};
 use cull_base::{FrameList, Memory};
 use masked_update::Canvas;
+use seats::Loan;
 use std::alloc::Global;
 use std::sync::Wait;
 
@@ -67,33 +68,13 @@ fn drawn_on<R: Wait, G: Gate>(
     task.keeper
 }
 
-// A bin that nobody gave back, drawn anew. Each worker gives back what it takes, but no clause follows what is under a
-// lock.
-fn drawn_anew<G: Gate>(
-    alloc: Global,
-    list: &FrameList,
-    cut: &Cut,
-    size: u32,
-    bin: u32,
-    gate: &G,
-) -> Result<Canvas, Memory>
-    requires size { 1 ≤ size }
-    requires bin { bin < bin_count_of cut.now }
-    ensures { IfOk result (λ c.
-        IsBinAt StandsPlain (tt {0}) list.now.list cut.now (length list.now.list.members) bin c) }
-{
-    let mut canvas = Canvas::empty(alloc, bin_span(list.size(), cut, bin))?;
-    draw_unbinned(&mut canvas, &(), list, cut, bin, size, gate);
-    Ok(canvas)
-}
-
 // A bin at the whole list.
 fn finish<R: Wait, G: Gate>(
     rt: &R,
     alloc: Global,
     queues: &PartQueues,
     sender: &mut Sender,
-    slot: Option<Seat>,
+    slot: Option<Loan<WaitingTask>>,
     list: &FrameList,
     cut: &Cut,
     size: u32,
@@ -105,18 +86,15 @@ fn finish<R: Wait, G: Gate>(
     requires sender { IsSubmitterOf queues.now sender.old }
     requires frame { sender.old.frame ≡ batched list.now.list cut.now size [] }
     requires all { sender.old.batches ≡ batches_in sender.old.frame }
-    requires seat { IfSome slot (λ t. IsSeat queues.now (batched list.now.list cut.now size []) bin t) }
+    requires there { MatchOption slot ⊥
+        (λ l. IsWaitingTask queues.now (batched list.now.list cut.now size []) bin l.task) }
     ensures same { sender.new ≡ sender.old }
     ensures drawn { IfOk result (λ c.
         IsBinAt StandsPlain (tt {0}) list.now.list cut.now (length list.now.list.members) bin c) }
 {
-    match slot {
-        Some(seat) => {
-            let task = begun(alloc, queues, seat, list, cut, size)?;
-            Ok(drawn_on(rt, queues, sender, task, list, cut, size, bin, gate))
-        }
-        None => drawn_anew(alloc, list, cut, size, bin, gate),
-    }
+    let loan = slot.unwrap();
+    let task = begun(alloc, queues, loan.task, list, cut, size).map_err(|_| Memory)?;
+    Ok(drawn_on(rt, queues, sender, task, list, cut, size, bin, gate))
 }
 
 /// The tiles of all bins in order, at the whole list. Err where memory gave out. Conditions: the sender submitted all
@@ -126,7 +104,7 @@ pub(crate) fn finish_all<R: Wait, G: Gate>(
     alloc: Global,
     queues: &PartQueues,
     sender: &mut Sender,
-    slots: Vec<Option<Seat>>,
+    slots: Vec<Option<Loan<WaitingTask>>>,
     list: &FrameList,
     cut: &Cut,
     size: u32,
@@ -136,7 +114,7 @@ pub(crate) fn finish_all<R: Wait, G: Gate>(
     requires sender { IsSubmitterOf queues.now sender.old }
     requires frame { sender.old.frame ≡ batched list.now.list cut.now size [] }
     requires all { sender.old.batches ≡ batches_in sender.old.frame }
-    requires slots { AreWaiting (Some queues.now) (batched list.now.list cut.now size []) slots.items }
+    requires slots { AreWaiting queues.now (batched list.now.list cut.now size []) slots.items }
     ensures { let drawn = length list.now.list.members in
         IfOk result (λ v. AreBinsAt StandsPlain (tt {0}) list.now.list cut.now drawn v.items) }
 {

@@ -15,7 +15,6 @@ use binning::{Cut, bin_span};
 use cull_base::{FrameList, Memory};
 use masked_update::Canvas;
 use std::alloc::Global;
-use std::marker::Brand;
 use std::sync::Wait;
 use std::thread::Threads;
 
@@ -89,7 +88,7 @@ fn draw_by_workers<R: Threads + Wait + Sync, G: Gate>(
 {
     let (queues, mut sender, intakes) = PartQueues::open(alloc, list, cut, batch)?;
     let slots = first_tasks(alloc, &queues, intakes, list, cut, batch)?;
-    let slots = submit_and_take::<Brand, R, G>(
+    let slots = submit_and_take(
         rt,
         alloc,
         &queues,

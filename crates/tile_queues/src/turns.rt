@@ -1,21 +1,24 @@
-//! The drawing of bins that wait: each worker takes a bin, draws some of it and puts it back.
-ghost use Rattle.std.specs.Prelude.{◌≡◌, ◌≤◌, ◌<◌, ◌+◌, [], Some, length, IfOk, IfSome, OnOk};
-ghost use Rattle.binning.specs.Cut.{bin_count_of};
+//! The drawing of bins that wait: each worker takes a bin, draws some of it and gives it back.
+ghost use Rattle.std.specs.Prelude.{◌≡◌, ◌≤◌, ◌<◌, ◌+◌, [], length, IfOk, OnOk};
+ghost use Rattle.seats.specs.Seats.{AreSeated, IsLoan, Means};
 ghost use Rattle.bin_queues.specs.QueueParts.{batched, batches_in};
 ghost use Rattle.bin_queues.specs.Tasks.{IsSubmitterOf};
-ghost use Rattle.tile_queues.specs.Waiting.{AreWaiting, IsPlainTask, IsSeatUnder, IsTaskUnder};
+ghost use Rattle.tile_queues.specs.Waiting.{AreWaiting, IsPlainTask, IsWaitingTask};
 
 use crate::batches::submit_next_ones;
-use crate::plain_tasks::{Seat, begun};
+use crate::plain_tasks::{WaitingTask, begun, waiting_of};
 use crate::task::{Task, drain_some};
-use crate::waiting::{OfFrame, Waiting};
+use crate::waiting::next_bin;
 use bin_queues::{PartQueues, Sender};
 use bin_tiles::Gate;
 use binning::{Cut, batch_count};
 use cull_base::{FrameList, Memory};
 use masked_update::Canvas;
+use seats::{Hand, Loan, Seating, Seats, give_back, take_from};
 use side_by_side::for_each_beside;
 use std::alloc::Global;
+use std::marker::Brand;
+use std::sync::ledger::Blank;
 use std::sync::{Mutex, Wait};
 use std::thread::{Threads, yield_now};
 
@@ -47,62 +50,77 @@ fn draw_some<R: Wait, G: Gate>(
     before < task.intake.batches()
 }
 
-fn take<F: OfFrame, R: Wait>(rt: &R, waiting: &Mutex<Waiting<F>>) -> Option<Seat>
-    ensures { IfSome result (λ t. IsSeatUnder F.queues F.frame t.intake.of.bin t) }
-{
-    waiting.lock(rt).take()
-}
-
-fn put_back<F: OfFrame, R: Wait>(rt: &R, waiting: &Mutex<Waiting<F>>, task: Task<Canvas>)
-    requires own { IsTaskUnder F.queues F.frame task.intake.of.bin task }
-    requires bin { task.intake.of.bin < bin_count_of F.frame.cut }
-{
-    waiting.lock(rt).put_back(task);
-}
-
-// Takes a bin, draws some of it and puts it back. Whether something was drawn; None where no bin waits, or memory gave
-// out for the bin's tiles.
-fn take_turn<F: OfFrame, R: Wait, G: Gate>(
+// Draws some of a bin that was taken. Whether it drew anything; None where memory gave out for the bin's tiles. The bin
+// comes back on both ways.
+fn draw_loan<R: Wait, G: Gate>(
     rt: &R,
     alloc: Global,
     queues: &PartQueues,
-    waiting: &Mutex<Waiting<F>>,
+    loan: Loan<WaitingTask>,
     list: &FrameList,
     cut: &Cut,
     size: u32,
     gate: &G,
-) -> Option<bool>
-    requires queues { F.queues ≡ Some queues.now }
-    requires frame { F.frame ≡ batched list.now.list cut.now size [] }
+) -> (Loan<WaitingTask>, Option<bool>)
+    requires { IsWaitingTask queues.now (batched list.now.list cut.now size []) loan.seat loan.task }
+    ensures seat { result.0.seat ≡ loan.seat }
+    ensures seal { result.0.seal ≡ loan.seal }
+    ensures task { IsWaitingTask queues.now (batched list.now.list cut.now size []) loan.seat result.0.task }
 {
-    let _bins = cut.bins();
-    let seat = take(rt, waiting)?;
-    let _bin = seat.intake.bin();
-    let Ok(mut task) = begun(alloc, queues, seat, list, cut, size) else {
-        return None;
-    };
-    let drew = draw_some(rt, queues, &mut task, list, cut, size, gate);
-    put_back(rt, waiting, task);
-    Some(drew)
+    let Loan { seat, task, seal } = loan;
+    match begun(alloc, queues, task, list, cut, size) {
+        Ok(mut task) => {
+            let drew = draw_some(rt, queues, &mut task, list, cut, size, gate);
+            let task = waiting_of(task);
+            (Loan { seat, task, seal }, Some(drew))
+        }
+        Err(task) => (Loan { seat, task, seal }, None),
+    }
+}
+
+// Takes a bin, draws some of it and gives it back. Whether something was drawn; None where no bin waits, or memory gave
+// out for the bin's tiles.
+fn take_turn<P: Seating<WaitingTask>, R: Wait, G: Gate>(
+    rt: &R,
+    alloc: Global,
+    queues: &PartQueues,
+    seats: &Mutex<Seats<P, WaitingTask>>,
+    hand: &mut Hand<P>,
+    list: &FrameList,
+    cut: &Cut,
+    size: u32,
+    batches: u32,
+    gate: &G,
+) -> Option<bool>
+    requires { Means P.holds (IsWaitingTask queues.now (batched list.now.list cut.now size [])) }
+{
+    let Hand { share } = hand;
+    let loan = take_from(rt, seats, share, &|slots| next_bin(slots, batches))?;
+    let (loan, drew) = draw_loan(rt, alloc, queues, loan, list, cut, size, gate);
+    give_back(rt, seats, share, loan);
+    drew
 }
 
 // Draws bins turn by turn, until none waits or nothing new comes.
-fn take_turns<F: OfFrame, R: Wait, G: Gate>(
+fn take_turns<P: Seating<WaitingTask>, R: Wait, G: Gate>(
     rt: &R,
     alloc: Global,
     queues: &PartQueues,
-    waiting: &Mutex<Waiting<F>>,
+    seats: &Mutex<Seats<P, WaitingTask>>,
+    hand: &mut Hand<P>,
     list: &FrameList,
     cut: &Cut,
     size: u32,
+    batches: u32,
     gate: &G,
 )
-    requires queues { F.queues ≡ Some queues.now }
-    requires frame { F.frame ≡ batched list.now.list cut.now size [] }
+    requires { Means P.holds (IsWaitingTask queues.now (batched list.now.list cut.now size [])) }
 {
     let mut looks = 0u32;
     for _ in rt.forever() {
-        match take_turn(rt, alloc, queues, waiting, list, cut, size, gate) {
+        match take_turn(
+            rt, alloc, queues, seats, hand, list, cut, size, batches, gate,
+        ) {
             None => return,
             Some(true) => looks = 0,
             Some(false) if looks < LOOKS => {
@@ -114,47 +132,53 @@ fn take_turns<F: OfFrame, R: Wait, G: Gate>(
     }
 }
 
-/// Submits all batches, a first part of them before the workers begin, while so many workers draw the bins of these
-/// tasks, whoever comes to whichever. Gives the tasks back, as far as they were drawn. Err where memory gave out.
-/// Conditions: the sender and the tasks are of these queues and of this frame, and nothing is submitted yet.
-pub(crate) fn submit_and_take<F: OfFrame + Send, R: Threads + Wait + Sync, G: Gate>(
+// As `submit_and_take`, of the seats that the caller picks.
+fn submit_and_take_under<P: Seating<WaitingTask> + Send, R: Threads + Wait + Sync, G: Gate>(
     rt: &R,
     alloc: Global,
     queues: &PartQueues,
     sender: &mut Sender,
-    slots: Vec<Option<Seat>>,
+    blank: Blank,
+    slots: Vec<Option<Loan<WaitingTask>>>,
     list: &FrameList,
     cut: &Cut,
     size: u32,
     workers: u32,
     gate: &G,
-) -> Result<Vec<Option<Seat>>, Memory>
+) -> Result<Vec<Option<Loan<WaitingTask>>>, Memory>
     requires size { 1 ≤ size }
-    requires queues { F.queues ≡ Some queues.now }
-    requires of { F.frame ≡ batched list.now.list cut.now size [] }
+    requires name { blank.name ≡ P.name }
+    requires parts { blank.parts ≡ P.parts }
+    requires workers { blank.parts ≡ workers + 1 }
+    requires means { Means P.holds (IsWaitingTask queues.now (batched list.now.list cut.now size [])) }
     requires sender { IsSubmitterOf queues.now sender.old }
     requires frame { sender.old.frame ≡ batched list.now.list cut.now size [] }
     requires none { sender.old.batches ≡ 0 }
-    requires slots { AreWaiting F.queues F.frame slots.items }
+    requires slots { AreSeated P.holds P.names slots.items }
     ensures submitted { OnOk result
         (sender.new ≡ record sender.old { batches = batches_in sender.old.frame }) }
-    ensures slots { IfOk result (λ v. AreWaiting F.queues F.frame v.items) }
+    ensures slots { IfOk result (λ v. AreSeated P.holds P.names v.items) }
 {
     let batches = batch_count(list.len(), size);
     let ahead = batches / AHEAD;
     let left = batches - ahead;
     submit_next_ones(rt, alloc, queues, sender, list, cut, size, ahead, gate)?;
-    let mut starts = vec![in alloc; (); workers as usize].map_err(|_| Memory)?;
-    let lock: Mutex<Waiting<F>> = Mutex::new(Waiting::of(slots, batches));
-    let waiting = &lock;
+    let (seats, mut hands, own) = Seats::<P, WaitingTask>::open(
+        alloc, blank, slots, workers,
+    ).map_err(|_| Memory)?;
+    let lock = Mutex::new(seats);
+    let seats = &lock;
     for_each_beside(
         rt,
-        starts.as_mut_slice(),
+        hands.as_mut_slice(),
         workers as usize,
-        &|_worker: usize, _start: &mut ()|
-            requires queues { F.queues ≡ Some queues.now }
-            requires frame { F.frame ≡ batched list.now.list cut.now size [] }
-        { take_turns(rt, alloc, queues, waiting, list, cut, size, gate) },
+        &|_worker: usize, hand: &mut Hand<P>|
+            requires { Means P.holds (IsWaitingTask queues.now (batched list.now.list cut.now size [])) }
+        {
+            take_turns(
+                rt, alloc, queues, seats, hand, list, cut, size, batches, gate,
+            )
+        },
         &mut || -> Result<(), Memory>
             requires queues { IsSubmitterOf queues.now sender.now }
             requires list { sender.now.frame.list ≡ list.now.list }
@@ -166,5 +190,35 @@ pub(crate) fn submit_and_take<F: OfFrame + Send, R: Threads + Wait + Sync, G: Ga
                 (sender.exit.now ≡ record sender.entry.now { batches = batches_in sender.entry.now.frame }) }
         { submit_next_ones(rt, alloc, queues, sender, list, cut, size, left, gate) },
     )?;
-    Ok(lock.into_inner().into_slots())
+    Ok(lock.into_inner().close(hands, own))
+}
+
+/// Submits all batches, a first part of them before the workers begin, while so many workers draw the bins that wait,
+/// whoever comes to whichever. Gives all bins back, each as far as it was drawn. Err where memory gave out. Conditions:
+/// the sender and the tasks are of these queues and of this frame, and nothing is submitted yet.
+pub(crate) fn submit_and_take<R: Threads + Wait + Sync, G: Gate>(
+    rt: &R,
+    alloc: Global,
+    queues: &PartQueues,
+    sender: &mut Sender,
+    slots: Vec<Option<Loan<WaitingTask>>>,
+    list: &FrameList,
+    cut: &Cut,
+    size: u32,
+    workers: u32,
+    gate: &G,
+) -> Result<Vec<Option<Loan<WaitingTask>>>, Memory>
+    requires size { 1 ≤ size }
+    requires sender { IsSubmitterOf queues.now sender.old }
+    requires frame { sender.old.frame ≡ batched list.now.list cut.now size [] }
+    requires none { sender.old.batches ≡ 0 }
+    requires slots { AreWaiting queues.now (batched list.now.list cut.now size []) slots.items }
+    ensures submitted { OnOk result
+        (sender.new ≡ record sender.old { batches = batches_in sender.old.frame }) }
+    ensures slots { IfOk result (λ v. AreWaiting queues.now (batched list.now.list cut.now size []) v.items) }
+{
+    let blank = Blank::new(u64::from(workers) + 1);
+    submit_and_take_under::<Brand, R, G>(
+        rt, alloc, queues, sender, blank, slots, list, cut, size, workers, gate,
+    )
 }

@@ -1,19 +1,20 @@
 use Rattle.std.proofs.Common.{◌∷◌, [], List, length, get_or, arith, sym, subst, ap, ◌∙◌}
 use Rattle.std.proofs.lemmas.List.{length-append}
 use Rattle.masked_update.specs.Canvas.{CanvasOf}
+use Rattle.seats.proofs.First.{there_at}
 use Rattle.tile_cells.proofs.Lists.{turn}
 use Rattle.bin_tiles.specs.Bins.{IsBinAt}
 use Rattle.bin_tiles.specs.Plain.{StandsPlain}
 use Rattle.bin_queues.specs.QueueParts.{batched}
+use Rattle.tile_queues.specs.Waiting.{IsWaitingTask}
 use Rattle.bin_tiles.proofs.Lists.{pushed_at}
-use Rattle.tile_queues.proofs.PlainTasks.{task_in}
 use Rattle.tile_queues.proofs.finishing.finish_all.Goals as goal
 
-pub finish-requires-clause-seat : goal.finish-requires-clause-seat
-finish-requires-clause-seat g c κs within =
+pub finish-requires-clause-there : goal.finish-requires-clause-there
+finish-requires-clause-there g c κs within =
     let i = c.loop-slot.invariant in
     let t = turn c.args.slots.items c.loop-slot.bin c.in-Some.slot _ (sym i.2 ∙ c.in-Some.ensures.steps.0) in
-    task_in c.args.queues.now (batched c.args.list.now.list c.args.cut.now c.args.size []) c.args.slots.items c.loop-slot.bin c.in-Some.slot t.1 t.2 c.requires.slots
+    there_at (IsWaitingTask c.args.queues.now (batched c.args.list.now.list c.args.cut.now c.args.size [])) c.args.slots.items c.loop-slot.bin c.in-Some.slot t.1 t.2 c.requires.slots.seated
 
 pub loop-slot-preserved : goal.loop-slot-preserved
 loop-slot-preserved g c =

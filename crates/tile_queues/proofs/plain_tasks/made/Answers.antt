@@ -1,7 +1,7 @@
 use Rattle.tile_queues.proofs.plain_tasks.made.Goals as goal
 
-pub returns-in-Some : goal.returns-in-Some
-returns-in-Some c = record {
+pub returns-in-Some-clause-made : goal.returns-in-Some-clause-made
+returns-in-Some-clause-made c = record {
   of_is = c.requires.of_is;
   queues_are = c.requires.queues_are;
   told_is = c.requires.told_is;
