@@ -9,7 +9,7 @@ use std::marker::Brand;
 use std::sync::ledger::{Blank, Book, Ledger, Share};
 
 /// Of which seats tasks are, picked at the call: the names of the seats' seals, and what holds of the task of a seat
-/// while no worker has it, which has at most one proof. The ledger counts the tasks that workers have. It has a part for
+/// while no worker has it, which has at most one proof. The ledger counts the tasks that workers have; it has a part for
 /// each worker, and one for who lends.
 pub trait Seating<T>: Ledger {
     ghost use Rattle.std.specs.Prelude.{ℕ, List};
@@ -79,25 +79,24 @@ fn alone<T: Drop>(loan: Loan<T>, other: Option<Loan<T>>) -> Loan<T>
 }
 
 impl<P: Seating<T>, T: Drop> Seats<P, T> {
-    /// Seats that all have their tasks; a hand for each of so many workers; and the lender's own share, which takes the
-    /// tasks back with the hands. Err where memory gave out for the hands.
+    /// Seats that all have their tasks, a hand for each of so many workers, and one for who lends. Err where memory gave
+    /// out for the hands.
     pub fn open(
         alloc: Global,
         blank: Blank,
         slots: Vec<Option<Loan<T>>>,
         workers: u32,
-    ) -> Result<(Seats<P, T>, Vec<Hand<P>>, Share<P>), AllocError>
+    ) -> Result<(Seats<P, T>, Vec<Hand<P>>, Hand<P>), AllocError>
         requires name { blank.name ≡ P.name }
         requires parts { blank.parts ≡ P.parts }
         requires workers { blank.parts ≡ workers + 1 }
         requires slots { AreSeated P.holds P.names slots.items }
         ensures hands { IfOk result (λ r. vec_len r.1 ≡ workers) }
-        ensures all { IfOk result (λ r. r.2.parts + vec_len r.1 ≡ P.parts) }
-        ensures none { IfOk result (λ r. r.2.amount ≡ 0) }
+        ensures all { IfOk result (λ r. vec_len r.1 + 1 ≡ P.parts) }
     {
-        let (out, mut own) = blank.open::<P>();
-        let hands = hands_of(alloc, &mut own, workers)?;
-        Ok((Seats { slots, out }, hands, own))
+        let (out, mut share) = blank.open::<P>();
+        let hands = hands_of(alloc, &mut share, workers)?;
+        Ok((Seats { slots, out }, hands, Hand { share }))
     }
 
     /// The slots of the seats, in which the tasks are that wait.
@@ -142,14 +141,13 @@ impl<P: Seating<T>, T: Drop> Seats<P, T> {
         slots[seat] = Some(loan);
     }
 
-    /// The tasks, once the workers gave their hands back: each is in its seat.
-    pub fn close(self, hands: Vec<Hand<P>>, own: Share<P>) -> Vec<Option<Loan<T>>>
-        requires all { own.parts + vec_len hands ≡ P.parts }
-        requires none { own.amount ≡ 0 }
+    /// The tasks, once all hands came back: each is in its seat.
+    pub fn close(self, hands: Vec<Hand<P>>, own: Hand<P>) -> Vec<Option<Loan<T>>>
+        requires { vec_len hands + 1 ≡ P.parts }
         ensures { AreSeated P.holds P.names result.items }
     {
         let Seats { slots, mut out } = self;
-        let mut all = own;
+        let Hand { share: mut all } = own;
         merge_all(&mut all, hands);
         out.audit(&mut all);
         slots
