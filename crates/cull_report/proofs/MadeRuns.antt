@@ -1,13 +1,11 @@
--- Runs of verdicts: how one is made, the slots of those that are made, and runs one after the other.
-use Rattle.std.proofs.Common.{◌≡◌, ℕ, ◌+◌, ◌-◌, ◌*◌, ◌<◌, ◌≤◌, min, List, [], ◌∷◌, ◌++◌, map, length, take, drop, get_or, set, get_or-set_other, get_or-set_same, length-set, None, Some, IfSome, inl, inr, arith, sym, ap, subst, ◌∙◌}
-use Rattle.std.specs.declared.option.Option.{Option}
+-- Runs of verdicts: how one is made, those that wait or are made, and runs one after the other.
+use Rattle.std.proofs.Common.{◌≡◌, ℕ, ◌+◌, ◌-◌, ◌*◌, ◌<◌, ◌≤◌, min, List, [], ◌∷◌, ◌++◌, map, length, take, drop, get_or, arith, sym, ap, subst, ◌∙◌}
 use Rattle.std.proofs.Math.Seq.{take-add}
-use Rattle.std.proofs.lemmas.Bool.{cases_eq, cases_lt}
-use Rattle.std.proofs.lemmas.List.{take_all, take_min, take_more, length-drop, length-map, get_or-drop, get_or-map, get_or_append_left, get_or_push, length_push}
+use Rattle.std.proofs.lemmas.List.{take_all, take_min, take_more, length-drop, length-map, length-take, get_or-drop, get_or-map}
 use Rattle.std.proofs.lemmas.Nat.{mul-le}
 use Rattle.cull_base.specs.declared.scene_types.Object.{Object}
 use Rattle.cull_base.specs.declared.scene_types.Verdict.{Verdict}
-use Rattle.cull_report.specs.Runs.{AreMadeIn, AreRunsOf, IsMadeRun, run_of}
+use Rattle.cull_report.specs.Runs.{AreRunsOf, IsMadeRun, IsRunOf, IsWaitingRun, run_of}
 use Rattle.cull_report.specs.Text.{verdict_line, verdict_lines}
 use Rattle.cull_report.specs.declared.runs.Run.{Run}
 use Rattle.cull_report.proofs.ReportLines.{verdict_lines-batch, verdict_lines-push}
@@ -41,37 +39,26 @@ whole_run f objects first size count is =
     let n : count ≡ min size (length rest) = omega (arith, is, length-drop first (map f objects), length-map objects f) in
     ap (λ (m : ℕ). take m rest) n ∙ take_min size rest
 
--- ---- slots
+-- a run that waits
+pub waiting_is_run : (all : List Verdict) (size number : ℕ) (r : Run) → size * number < length all → r.number ≡ number → IsWaitingRun all size r → IsRunOf all size number r
+waiting_is_run all size number r some is waits = record {
+  number_is = is;
+  some = some;
+  waits = λ none. waits;
+  made = λ no. absurd (no waits.no_verdicts);
+}
 
-pub same_some : {X : Type 0} (x y : X) → ◌≡◌ {A = Option X} (Some x) (Some y) → x ≡ y
-same_some x y same = cc
-
--- what stands in a slot is the run of its number
-pub made_in : (all : List Verdict) (size : ℕ) (slots : List (Option Run)) (number : ℕ) (slot : Option Run) → slot ≡ get_or slots number slot → number < length slots → AreMadeIn all size slots
-    → IfSome slot (IsMadeRun all size number)
-made_in all size slots number None is lt at = tt
-made_in all size slots number (Some r) is lt at = at number (Some r) r lt (sym is)
-
--- one slot is set
-pub put_in : (all : List Verdict) (size : ℕ) (slots : List (Option Run)) (number : ℕ) (slot : Option Run) → AreMadeIn all size slots
-    → ((r : Run) → slot ≡ Some r → IsMadeRun all size number r) → AreMadeIn all size (set slots number slot)
-put_in all size slots number slot old new k d r lt is =
-    let same_length = length-set slots number slot in
-    let below : k < length slots = omega (arith, lt, same_length) in
-    elim (cases_eq k number) [
-      | inl same ↦ (let inside : number < length slots = omega (arith, below, same) in
-          subst (λ n. IsMadeRun all size n r) (sym same) (new r (sym (ap (λ n. get_or (set slots number slot) n d) same ∙ get_or-set_same slots number slot d inside) ∙ is)))
-      | inr other ↦ old k d r below (sym (get_or-set_other slots number k slot d other) ∙ is)
-    ]
-
--- one more slot, with nothing in it
-pub empty_pushed : (all : List Verdict) (size : ℕ) (slots : List (Option Run)) → AreMadeIn all size slots → AreMadeIn all size (slots ++ None ∷ [])
-empty_pushed all size slots old k d r lt is = elim (cases_lt k (length slots)) [
-  | inl below ↦ old k d r below (sym (get_or_append_left slots (None ∷ []) d k below) ∙ is)
-  | inr last ↦ (let grown : length (slots ++ None ∷ []) ≡ length slots + 1 = length_push slots None in
-      let same : length slots ≡ k = omega (arith, lt, last, grown) in
-      let no : ◌≡◌ {A = Option Run} None (Some r) = sym (get_or_push slots None d k same) ∙ is in absurd cc)
-]
+-- a run that is made has a verdict
+pub made_is_run : (all : List Verdict) (size number : ℕ) (r : Run) → 0 < size → size * number < length all → r.number ≡ number → IsMadeRun all size number r → IsRunOf all size number r
+made_is_run all size number r sized some is made = record {
+  number_is = is;
+  some = some;
+  waits = λ none.
+      let rest = drop (size * number) all in
+      let empty = ap length (sym made.verdicts_are ∙ none) in
+      absurd (omega (arith, empty, length-take size rest, length-drop (size * number) all, sized, some));
+  made = λ no. made;
+}
 
 -- ---- runs one after the other
 

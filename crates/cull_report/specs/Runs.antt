@@ -1,6 +1,5 @@
 -- Runs of a frame's objects, so many each, with their verdicts and lines.
-use Rattle.std.specs.Prelude.{ℕ, ◌≡◌, ◌*◌, ◌<◌, ◌≤◌, List, [], Some, length, take, drop, vec_capacity, slice_index_or}
-use Rattle.std.specs.declared.option.Option.{Option}
+use Rattle.std.specs.Prelude.{ℕ, ◌≡◌, ◌*◌, ◌<◌, ◌≤◌, List, [], length, take, drop, vec_capacity, slice_index_or}
 use Rattle.cull_base.specs.declared.scene_types.Verdict.{Verdict}
 use Rattle.cull_report.specs.Text.{verdict_lines}
 use Rattle.cull_report.specs.declared.runs.Run.{Run}
@@ -27,10 +26,12 @@ pub record IsMadeRun (all : List Verdict) (size number : ℕ) (r : Run) : Type 0
   pub verdicts_are : r.verdicts.items ≡ run_of all size number
   pub lines_are : r.lines.items ≡ verdict_lines (size * number) (run_of all size number)
 
--- in each slot stands no other run than that of its number
-abbrev pub AreMadeIn : List Verdict → ℕ → List (Option Run) → Type 0
-AreMadeIn all size slots =
-    (k : ℕ) (d : Option Run) (r : Run) → k < length slots → slice_index_or slots k d ≡ Some r → IsMadeRun all size k r
+-- a run of a number, which waits or is made
+pub record IsRunOf (all : List Verdict) (size number : ℕ) (r : Run) : Type 0 where
+  pub number_is : r.number ≡ number
+  pub some : size * number < length all
+  pub waits : r.verdicts.items ≡ [] → IsWaitingRun all size r
+  pub made : (r.verdicts.items ≡ [] → ⊥) → IsMadeRun all size number r
 
 -- so many runs have all objects, and each has one
 pub record AreRunsFor (objects size count : ℕ) : Type 0 where

@@ -11,7 +11,6 @@ use cull_base::{ClipVertex, Memory};
 use masked_update::TileView;
 use scene_reader::Scene;
 use std::alloc::Global;
-use std::marker::Brand;
 use std::sync::Wait;
 use std::thread::Threads;
 
@@ -44,8 +43,16 @@ pub fn verdicts_by_workers<R: Threads + Wait + Sync, V: TileView + Sync>(
         return Ok(FrameVerdicts::plain(alloc, list));
     }
     let size = run_size(object_count(scene), threads);
-    let runs = runs_by_workers::<Brand, R, V>(
-        rt, alloc, scene, frame, clips, view, settled, size, threads,
+    let runs = runs_by_workers(
+        rt,
+        alloc,
+        scene,
+        frame,
+        clips,
+        view,
+        settled,
+        size,
+        threads as u32,
     )?;
     FrameVerdicts::of_runs(alloc, runs, size)
 }

@@ -1,105 +1,46 @@
-//! The runs of a frame, made by workers side by side: who comes takes the next.
-ghost use Rattle.std.specs.Prelude.{◌≡◌, ℕ, ◌<◌, ◌*◌, true, List, map, length, All, IfOk, IfSome};
+//! The runs of a frame, made by workers side by side: who comes takes the next, and each is back in its seat then.
+ghost use Rattle.std.specs.Prelude.{◌≡◌, ℕ, ◌<◌, ◌*◌, ◌+◌, true, List, map, length, vec_len, IfOk, MatchOption};
 ghost use Rattle.cull_base.specs.Screen.{tile_count_of};
 ghost use Rattle.cull_base.specs.declared.scene_types.Verdict.{Verdict};
-ghost use Rattle.cull_report.specs.Runs.{AreMadeIn, AreRunsFor, AreRunsOf, IsMadeRun, IsRunSize, IsWaitingRun};
+ghost use Rattle.cull_report.specs.Runs.{AreRunsFor, AreRunsOf, IsMadeRun, IsRunOf, IsRunSize};
 ghost use Rattle.cull_report.specs.Scene.{IsMarkedRight, size_of, frame_clips, verdict_in};
+ghost use Rattle.seats.specs.Seats.{AreAllSeated, AreSeated, Means};
 
 use crate::objects::object_count;
 use crate::runs::{Run, run_count};
 use cull_base::{ClipVertex, Memory};
 use masked_update::TileView;
 use scene_reader::Scene;
+use seats::{Hand, Loan, Seating, Seats, give_back, take_from};
 use side_by_side::for_each_beside;
 use std::alloc::Global;
-use std::marker::{Brand, PhantomData};
+use std::marker::Brand;
+use std::sync::atomic::{AtomicU64, Ordering};
+use std::sync::ledger::Blank;
 use std::sync::{Mutex, Wait};
 use std::thread::Threads;
 
-/// Of which verdicts and which size the runs under a lock are, picked at the call.
-pub(crate) trait OfVerdicts {
-    ghost use Rattle.std.specs.Prelude.{ℕ, List};
-    ghost use Rattle.cull_base.specs.declared.scene_types.Verdict.{Verdict};
-
-    ghost all: { List Verdict };
-
-    ghost size: { ℕ };
-}
-
-impl OfVerdicts for Brand {
-    ghost use Rattle.std.specs.Prelude.{[]};
-
-    ghost all = { [] };
-
-    ghost size = { 1 };
-}
-
-/// The runs that wait to be made, and each that is made, in the slot of its number.
-#[derive(Drop)]
-pub(crate) struct RunPool<F: OfVerdicts> {
-    waiting: Vec<Run>,
-    made: Vec<Option<Run>>,
-    of: PhantomData<F>,
-    ghost waits: { All (IsWaitingRun F.all F.size) waiting.items },
-    ghost are: { AreMadeIn F.all F.size made.items },
-    ghost count: { AreRunsFor (length F.all) F.size (length made.items) },
-}
-
-impl<F: OfVerdicts> RunPool<F> {
-    // All runs of so many objects, of which none is made. Err where memory gave out.
-    fn with_room(alloc: Global, objects: u32, size: usize) -> Result<RunPool<F>, Memory>
-        requires size { IsRunSize size }
-        requires of { F.size ≡ size }
-        requires objects { objects ≡ length F.all }
-    {
-        let count = run_count(objects, size);
-        let mut waiting = Vec::with_capacity(alloc, count).map_err(|_| Memory)?;
-        let mut made = Vec::with_capacity(alloc, count).map_err(|_| Memory)?;
-        for number in 0..count {
-            waiting.push_reserved(Run::with_room(alloc, size, number)?);
-            made.push_reserved(None);
-        }
-        Ok(RunPool {
-            waiting,
-            made,
-            of: PhantomData,
-        })
-    }
-
-    // A run that waits. None where none does.
-    fn take(&mut self) -> Option<Run>
-        ensures { IfSome result (λ r. IsWaitingRun F.all F.size r) }
-    {
-        self.waiting.pop()
-    }
-
-    // Puts a run that is made into the slot of its number.
-    fn put(&mut self, run: Run)
-        requires { IsMadeRun F.all F.size run.number run }
-    {
-        let number = run.number;
-        if number < self.made.len() {
-            self.made[number] = Some(run);
-        }
-    }
-}
-
-fn take<F: OfVerdicts, R: Wait>(rt: &R, pool: &Mutex<RunPool<F>>) -> Option<Run>
-    ensures { IfSome result (λ r. IsWaitingRun F.all F.size r) }
+// All runs of so many objects in their seats, of which none is made. Err where memory gave out.
+fn first_runs(alloc: Global, objects: u32, size: usize) -> Result<Vec<Option<Loan<Run>>>, Memory>
+    requires { IsRunSize size }
+    ensures count { IfOk result (λ v. AreRunsFor objects size (vec_len v)) }
+    ensures slots { IfOk result (λ v. (all : List Verdict) → length all ≡ objects → AreAllSeated (IsRunOf all size) v.items) }
 {
-    pool.lock(rt).take()
+    let count = run_count(objects, size);
+    let mut slots = Vec::with_capacity(alloc, count).map_err(|_| Memory)?;
+    for number in 0..count {
+        let run = Run::with_room(alloc, size, number)?;
+        slots.push_reserved(Some(Loan::new(number, run)));
+    }
+    Ok(slots)
 }
 
-fn put<F: OfVerdicts, R: Wait>(rt: &R, pool: &Mutex<RunPool<F>>, run: Run)
-    requires { IsMadeRun F.all F.size run.number run }
-{
-    pool.lock(rt).put(run);
-}
-
-// Takes a run and makes it. None where none waits.
-fn make_one<F: OfVerdicts, R: Wait, V: TileView>(
+// Takes the next run, makes it and gives it back. None where none is left.
+fn make_one<P: Seating<Run>, R: Wait, V: TileView>(
     rt: &R,
-    pool: &Mutex<RunPool<F>>,
+    seats: &Mutex<Seats<P, Run>>,
+    next: &AtomicU64,
+    hand: &mut Hand<P>,
     size: usize,
     scene: &Scene,
     frame: u32,
@@ -112,20 +53,25 @@ fn make_one<F: OfVerdicts, R: Wait, V: TileView>(
     requires holds { (t : ℕ) → t < tile_count_of (size_of scene.now) → V.held view.now t ≡ true }
     requires marks { length settled.now ≡ length scene.now.objects }
     requires right { IsMarkedRight (verdict_in scene.now frame (V.tile_of view.now)) scene.now.objects settled.now }
-    requires of { F.all ≡ map (verdict_in scene.now frame (V.tile_of view.now)) scene.now.objects }
     requires size { IsRunSize size }
-    requires sized { F.size ≡ size }
+    requires means { Means P.holds
+        (IsRunOf (map (verdict_in scene.now frame (V.tile_of view.now)) scene.now.objects) size) }
 {
-    let mut run = take(rt, pool)?;
-    run.make(size, scene, frame, clips, view, settled);
-    put(rt, pool, run);
+    let number = next.fetch_add(1, Ordering::SeqCst) as usize;
+    let Hand { share } = hand;
+    let mut loan = take_from(rt, seats, share, &|_| number)?;
+    loan.task
+        .make_unless_made(size, scene, frame, clips, view, settled);
+    give_back(rt, seats, share, loan);
     Some(())
 }
 
-// Makes runs until none waits.
-fn make_some<F: OfVerdicts, R: Wait, V: TileView>(
+// Makes runs until none is left.
+fn make_some<P: Seating<Run>, R: Wait, V: TileView>(
     rt: &R,
-    pool: &Mutex<RunPool<F>>,
+    seats: &Mutex<Seats<P, Run>>,
+    next: &AtomicU64,
+    hand: &mut Hand<P>,
     size: usize,
     scene: &Scene,
     frame: u32,
@@ -138,56 +84,51 @@ fn make_some<F: OfVerdicts, R: Wait, V: TileView>(
     requires holds { (t : ℕ) → t < tile_count_of (size_of scene.now) → V.held view.now t ≡ true }
     requires marks { length settled.now ≡ length scene.now.objects }
     requires right { IsMarkedRight (verdict_in scene.now frame (V.tile_of view.now)) scene.now.objects settled.now }
-    requires of { F.all ≡ map (verdict_in scene.now frame (V.tile_of view.now)) scene.now.objects }
     requires size { IsRunSize size }
-    requires sized { F.size ≡ size }
+    requires means { Means P.holds
+        (IsRunOf (map (verdict_in scene.now frame (V.tile_of view.now)) scene.now.objects) size) }
 {
     for _ in 0..object_count(scene) {
-        if make_one(rt, pool, size, scene, frame, clips, view, settled).is_none() {
+        if make_one(
+            rt, seats, next, hand, size, scene, frame, clips, view, settled,
+        )
+        .is_none()
+        {
             return;
         }
     }
 }
 
-// The run of a slot. One that nobody made is made now: each worker makes what it takes, but no clause follows what is
-// under a lock.
-fn made_or_new<V: TileView>(
-    alloc: Global,
-    slot: Option<Run>,
-    number: usize,
+// The run of a slot. It is made now, if no worker made it.
+fn made<V: TileView>(
+    slot: Option<Loan<Run>>,
+    _number: usize,
     size: usize,
     scene: &Scene,
     frame: u32,
     clips: &[ClipVertex],
     view: &V,
     settled: &[bool],
-) -> Result<Run, Memory>
+) -> Run
     requires frame { frame < length scene.now.cameras }
     requires clips { clips.now ≡ frame_clips scene.now frame }
     requires holds { (t : ℕ) → t < tile_count_of (size_of scene.now) → V.held view.now t ≡ true }
     requires marks { length settled.now ≡ length scene.now.objects }
     requires right { IsMarkedRight (verdict_in scene.now frame (V.tile_of view.now)) scene.now.objects settled.now }
     requires size { IsRunSize size }
-    requires number { size * number < length scene.now.objects }
-    requires slot { IfSome slot
-        (IsMadeRun (map (verdict_in scene.now frame (V.tile_of view.now)) scene.now.objects) size number) }
-    ensures { IfOk result
-        (IsMadeRun (map (verdict_in scene.now frame (V.tile_of view.now)) scene.now.objects) size number) }
+    requires there { MatchOption slot ⊥ (λ l.
+        IsRunOf (map (verdict_in scene.now frame (V.tile_of view.now)) scene.now.objects) size _number l.task) }
+    ensures { IsMadeRun (map (verdict_in scene.now frame (V.tile_of view.now)) scene.now.objects) size _number result }
 {
-    match slot {
-        Some(run) => Ok(run),
-        None => {
-            let mut run = Run::with_room(alloc, size, number)?;
-            run.make(size, scene, frame, clips, view, settled);
-            Ok(run)
-        }
-    }
+    let mut run = slot.unwrap().task;
+    run.make_unless_made(size, scene, frame, clips, view, settled);
+    run
 }
 
-// The runs of all slots in order.
+// The runs of all slots in order, each made.
 fn all_made<V: TileView>(
     alloc: Global,
-    slots: Vec<Option<Run>>,
+    slots: Vec<Option<Loan<Run>>>,
     size: usize,
     scene: &Scene,
     frame: u32,
@@ -202,25 +143,96 @@ fn all_made<V: TileView>(
     requires right { IsMarkedRight (verdict_in scene.now frame (V.tile_of view.now)) scene.now.objects settled.now }
     requires size { IsRunSize size }
     requires runs { AreRunsFor (length scene.now.objects) size (length slots.items) }
-    requires slots { AreMadeIn (map (verdict_in scene.now frame (V.tile_of view.now)) scene.now.objects) size slots.items }
+    requires slots { AreAllSeated
+        (IsRunOf (map (verdict_in scene.now frame (V.tile_of view.now)) scene.now.objects) size) slots.items }
     ensures { IfOk result (λ v.
         AreRunsOf (map (verdict_in scene.now frame (V.tile_of view.now)) scene.now.objects) size v.items) }
 {
     let mut runs = Vec::with_capacity(alloc, slots.len()).map_err(|_| Memory)?;
     let mut number = 0usize;
     for slot in slots {
-        let run = made_or_new(
-            alloc, slot, number, size, scene, frame, clips, view, settled,
-        )?;
+        let run = made(slot, number, size, scene, frame, clips, view, settled);
         runs.push_reserved(run);
         number += 1;
     }
     Ok(runs)
 }
 
-/// The runs of all objects of a frame, made by so many threads and by the caller, which would wait for them otherwise.
-/// Err where memory gave out. Conditions as for `verdicts`.
-pub(crate) fn runs_by_workers<F: OfVerdicts + Send, R: Threads + Wait + Sync, V: TileView + Sync>(
+// Makes the runs of the seats that the caller picks, by so many threads and by the caller, which would wait for them
+// otherwise.
+fn make_under<P: Seating<Run> + Send, R: Threads + Wait + Sync, V: TileView + Sync>(
+    rt: &R,
+    alloc: Global,
+    blank: Blank,
+    slots: Vec<Option<Loan<Run>>>,
+    scene: &Scene,
+    frame: u32,
+    clips: &[ClipVertex],
+    view: &V,
+    settled: &[bool],
+    size: usize,
+    threads: u32,
+) -> Result<Vec<Option<Loan<Run>>>, Memory>
+    requires frame { frame < length scene.now.cameras }
+    requires clips { clips.now ≡ frame_clips scene.now frame }
+    requires holds { (t : ℕ) → t < tile_count_of (size_of scene.now) → V.held view.now t ≡ true }
+    requires marks { length settled.now ≡ length scene.now.objects }
+    requires right { IsMarkedRight (verdict_in scene.now frame (V.tile_of view.now)) scene.now.objects settled.now }
+    requires size { IsRunSize size }
+    requires name { blank.name ≡ P.name }
+    requires parts { blank.parts ≡ P.parts }
+    requires threads { blank.parts ≡ threads + 1 }
+    requires means { Means P.holds
+        (IsRunOf (map (verdict_in scene.now frame (V.tile_of view.now)) scene.now.objects) size) }
+    requires slots { AreSeated P.holds P.names slots.items }
+    ensures { IfOk result (λ v. AreSeated P.holds P.names v.items) }
+{
+    let (seats, mut hands, mut mine) = Seats::<P, Run>::open(alloc, blank, slots, threads).map_err(
+        |_| Memory,
+    )?;
+    let lock = Mutex::new(seats);
+    let seats = &lock;
+    let numbers = AtomicU64::new(0);
+    let next = &numbers;
+    for_each_beside(
+        rt,
+        hands.as_mut_slice(),
+        threads as usize,
+        &|_worker: usize, hand: &mut Hand<P>|
+            requires frame { frame < length scene.now.cameras }
+            requires clips { clips.now ≡ frame_clips scene.now frame }
+            requires holds { (t : ℕ) → t < tile_count_of (size_of scene.now) → V.held view.now t ≡ true }
+            requires marks { length settled.now ≡ length scene.now.objects }
+            requires right { IsMarkedRight (verdict_in scene.now frame (V.tile_of view.now)) scene.now.objects settled.now }
+            requires size { IsRunSize size }
+            requires means { Means P.holds
+                (IsRunOf (map (verdict_in scene.now frame (V.tile_of view.now)) scene.now.objects) size) }
+        {
+            make_some(
+                rt, seats, next, hand, size, scene, frame, clips, view, settled,
+            )
+        },
+        &mut ||
+            requires frame { frame < length scene.now.cameras }
+            requires clips { clips.now ≡ frame_clips scene.now frame }
+            requires holds { (t : ℕ) → t < tile_count_of (size_of scene.now) → V.held view.now t ≡ true }
+            requires marks { length settled.now ≡ length scene.now.objects }
+            requires right { IsMarkedRight (verdict_in scene.now frame (V.tile_of view.now)) scene.now.objects settled.now }
+            requires size { IsRunSize size }
+            requires means { Means P.holds
+                (IsRunOf (map (verdict_in scene.now frame (V.tile_of view.now)) scene.now.objects) size) }
+        {
+            make_some(
+                rt, seats, next, &mut mine, size, scene, frame, clips, view, settled,
+            )
+        },
+    );
+    Ok(lock.into_inner().close(hands, mine))
+}
+
+/// The runs of all objects of a frame, made by so many threads and by the caller. Err where memory gave out. Conditions
+/// as for `verdicts`.
+pub(crate) fn runs_by_workers<R: Threads + Wait + Sync, V: TileView + Sync>(
     rt: &R,
     alloc: Global,
     scene: &Scene,
@@ -229,48 +241,21 @@ pub(crate) fn runs_by_workers<F: OfVerdicts + Send, R: Threads + Wait + Sync, V:
     view: &V,
     settled: &[bool],
     size: usize,
-    threads: usize,
+    threads: u32,
 ) -> Result<Vec<Run>, Memory>
     requires frame { frame < length scene.now.cameras }
     requires clips { clips.now ≡ frame_clips scene.now frame }
     requires holds { (t : ℕ) → t < tile_count_of (size_of scene.now) → V.held view.now t ≡ true }
     requires marks { length settled.now ≡ length scene.now.objects }
     requires right { IsMarkedRight (verdict_in scene.now frame (V.tile_of view.now)) scene.now.objects settled.now }
-    requires of { F.all ≡ map (verdict_in scene.now frame (V.tile_of view.now)) scene.now.objects }
     requires size { IsRunSize size }
-    requires sized { F.size ≡ size }
     ensures { IfOk result (λ v.
         AreRunsOf (map (verdict_in scene.now frame (V.tile_of view.now)) scene.now.objects) size v.items) }
 {
-    let objects = object_count(scene);
-    let mut starts = vec![in alloc; (); threads].map_err(|_| Memory)?;
-    let lock: Mutex<RunPool<F>> = Mutex::new(RunPool::with_room(alloc, objects, size)?);
-    let pool = &lock;
-    for_each_beside(
-        rt,
-        starts.as_mut_slice(),
-        threads,
-        &|_worker: usize, _start: &mut ()|
-            requires frame { frame < length scene.now.cameras }
-            requires clips { clips.now ≡ frame_clips scene.now frame }
-            requires holds { (t : ℕ) → t < tile_count_of (size_of scene.now) → V.held view.now t ≡ true }
-            requires marks { length settled.now ≡ length scene.now.objects }
-            requires right { IsMarkedRight (verdict_in scene.now frame (V.tile_of view.now)) scene.now.objects settled.now }
-            requires of { F.all ≡ map (verdict_in scene.now frame (V.tile_of view.now)) scene.now.objects }
-            requires size { IsRunSize size }
-            requires sized { F.size ≡ size }
-        { make_some(rt, pool, size, scene, frame, clips, view, settled) },
-        &mut ||
-            requires frame { frame < length scene.now.cameras }
-            requires clips { clips.now ≡ frame_clips scene.now frame }
-            requires holds { (t : ℕ) → t < tile_count_of (size_of scene.now) → V.held view.now t ≡ true }
-            requires marks { length settled.now ≡ length scene.now.objects }
-            requires right { IsMarkedRight (verdict_in scene.now frame (V.tile_of view.now)) scene.now.objects settled.now }
-            requires of { F.all ≡ map (verdict_in scene.now frame (V.tile_of view.now)) scene.now.objects }
-            requires size { IsRunSize size }
-            requires sized { F.size ≡ size }
-        { make_some(rt, pool, size, scene, frame, clips, view, settled) },
-    );
-    let slots = lock.into_inner().made;
+    let slots = first_runs(alloc, object_count(scene), size)?;
+    let blank = Blank::new(u64::from(threads) + 1);
+    let slots = make_under::<Brand, R, V>(
+        rt, alloc, blank, slots, scene, frame, clips, view, settled, size, threads,
+    )?;
     all_made(alloc, slots, size, scene, frame, clips, view, settled)
 }

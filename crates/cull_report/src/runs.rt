@@ -2,7 +2,7 @@
 ghost use Rattle.std.specs.Prelude.{◌≡◌, ℕ, List, ◌+◌, ◌*◌, ◌-◌, ◌/◌, ◌<◌, true, map, length, IfOk};
 ghost use Rattle.cull_base.specs.Screen.{tile_count_of};
 ghost use Rattle.cull_base.specs.declared.scene_types.Verdict.{Verdict};
-ghost use Rattle.cull_report.specs.Runs.{AreRunsFor, IsMadeRun, IsRunSize, IsWaitingRun};
+ghost use Rattle.cull_report.specs.Runs.{AreRunsFor, IsMadeRun, IsRunOf, IsRunSize, IsWaitingRun};
 ghost use Rattle.cull_report.specs.Scene.{IsMarkedRight, size_of, frame_clips, verdict_in};
 
 use crate::objects::{object_count, verdict_at};
@@ -55,8 +55,8 @@ impl Run {
         })
     }
 
-    /// Makes a run that waits: the verdicts of its objects, and their lines. Conditions otherwise as for `verdicts`.
-    pub(crate) fn make<V: TileView>(
+    // Makes a run that waits: the verdicts of its objects, and their lines. Conditions otherwise as for `verdicts`.
+    fn make<V: TileView>(
         &mut self,
         size: usize,
         scene: &Scene,
@@ -88,5 +88,32 @@ impl Run {
         let Ok(()) = self.lines.extend_from_slice(lines.as_slice()) else {
             unreachable!()
         };
+    }
+    /// Makes a run that isn't made yet. Conditions otherwise as for `verdicts`.
+    pub(crate) fn make_unless_made<V: TileView>(
+        &mut self,
+        size: usize,
+        scene: &Scene,
+        frame: u32,
+        clips: &[ClipVertex],
+        view: &V,
+        settled: &[bool],
+    )
+        requires frame { frame < length scene.now.cameras }
+        requires clips { clips.now ≡ frame_clips scene.now frame }
+        requires holds { (t : ℕ) → t < tile_count_of (size_of scene.now) → V.held view.now t ≡ true }
+        requires marks { length settled.now ≡ length scene.now.objects }
+        requires right { IsMarkedRight (verdict_in scene.now frame (V.tile_of view.now)) scene.now.objects settled.now }
+        requires size { IsRunSize size }
+        requires run { IsRunOf (map (verdict_in scene.now frame (V.tile_of view.now)) scene.now.objects) size
+            self.old.number self.old }
+        ensures run { IsRunOf (map (verdict_in scene.now frame (V.tile_of view.now)) scene.now.objects) size
+            self.old.number self.new }
+        ensures made { IsMadeRun (map (verdict_in scene.now frame (V.tile_of view.now)) scene.now.objects) size
+            self.old.number self.new }
+    {
+        if self.verdicts.is_empty() {
+            self.make(size, scene, frame, clips, view, settled);
+        }
     }
 }

@@ -6,7 +6,7 @@ use Rattle.std.proofs.lemmas.List.{get_or_append_left, get_or_push, length-appen
 use Rattle.std.proofs.lemmas.Nat.{div-add-mod', mod_below}
 use Rattle.tile_queues.specs.Shares.{bins_owned, AreDealt, AreIdle, IsGiven, IsShare}
 use Rattle.tile_queues.specs.declared.share.Share.{Share}
-use Rattle.tile_queues.specs.declared.task.Task.{Task}
+use Rattle.bin_tasks.specs.declared.task.Task.{Task}
 use Rattle.bin_tiles.proofs.Lists.{pushed_at}
 
 -- one element of a list that has some

@@ -13,10 +13,10 @@ use Rattle.tile_queues.specs.CellBins.{StandsInCells, HoldsBin}
 use Rattle.tile_queues.specs.declared.cell_bin.CellBin.{CellBin}
 use Rattle.tile_queues.specs.Owners.{AreHandedBack, cells_of}
 use Rattle.bin_queues.specs.QueueParts.{BatchedFrame, BinOfFrame, batches_in, bin_of_frame, places_before}
-use Rattle.tile_queues.specs.Drains.{IsDrainedIn, StandsAtBatches}
+use Rattle.bin_tasks.specs.Drains.{IsDrainedIn, StandsAtBatches}
 use Rattle.tile_queues.specs.Shares.{AreWhole}
 use Rattle.bin_queues.specs.Tasks.{IsTaskOf, QueuesOf, Tasking}
-use Rattle.tile_queues.specs.declared.task.Task.{Task}
+use Rattle.bin_tasks.specs.declared.task.Task.{Task}
 use Rattle.bin_queues.proofs.Intaking.{places_end}
 use Rattle.tile_queues.proofs.Dealing.{one_of}
 

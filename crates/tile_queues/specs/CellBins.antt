@@ -13,7 +13,7 @@ use Rattle.masked_update.specs.Walk.{is_in_row}
 use Rattle.tile_cells.specs.Cells.{Writing}
 use Rattle.tile_cells.specs.Standing.{StandsAt}
 use Rattle.bin_queues.specs.Tasks.{Tasking}
-use Rattle.tile_queues.specs.Drains.{StandsAtBatches}
+use Rattle.bin_tasks.specs.Drains.{StandsAtBatches}
 use Rattle.tile_queues.specs.declared.cell_bin.CellBin.{CellBin}
 
 -- The writers of the tiles of a window, row by row. Each took those of the list's first k members that are its own, and

@@ -1,8 +1,6 @@
-pub mod Drains
 pub mod CellBins
 pub mod Passing
 pub mod Callers
 pub mod Frames
 pub mod Owners
 pub mod Shares
-pub mod Waiting

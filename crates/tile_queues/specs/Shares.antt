@@ -6,9 +6,9 @@ use Rattle.cull_base.specs.declared.tile_span.TileSpan.{TileSpan}
 use Rattle.tile_queues.specs.Owners.{AreTasksOf}
 use Rattle.bin_queues.specs.QueueParts.{BatchedFrame, batches_in}
 use Rattle.bin_queues.specs.Tasks.{QueuesOf, Tasking}
-use Rattle.tile_queues.specs.Drains.{IsDrainedIn, IsTaskIn}
+use Rattle.bin_tasks.specs.Drains.{IsDrainedIn, IsTaskIn}
 use Rattle.tile_queues.specs.declared.share.Share.{Share}
-use Rattle.tile_queues.specs.declared.task.Task.{Task}
+use Rattle.bin_tasks.specs.declared.task.Task.{Task}
 
 -- how many bins a worker owns, of so many: bin b is that of worker b mod workers
 abbrev pub bins_owned : ℕ → ℕ → ℕ → ℕ

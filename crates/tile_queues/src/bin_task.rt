@@ -4,11 +4,11 @@ ghost use Rattle.binning.specs.Cut.{bin_count_of};
 ghost use Rattle.bin_queues.specs.QueueParts.{batches_in, taken_before};
 ghost use Rattle.bin_queues.specs.Tasks.{GoesOn, IsTaskOf};
 ghost use Rattle.tile_queues.specs.CellBins.{HoldsBin};
-ghost use Rattle.tile_queues.specs.Drains.{IsAnswer};
+ghost use Rattle.bin_tasks.specs.Drains.{IsAnswer};
 
 use crate::cell_bin::{CellBin, InCells};
-use crate::task::{Drained, Task, drain_task};
 use bin_queues::{Intake, PartQueues};
+use bin_tasks::{Drained, Task, drain_task};
 use bin_tiles::Gate;
 use cull_base::FrameList;
 use std::marker::Model;

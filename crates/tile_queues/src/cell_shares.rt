@@ -10,8 +10,8 @@ ghost use Rattle.tile_queues.specs.Shares.{AreDrained, AreIdle, AreShares, AreWh
 use crate::bin_task::BinTask;
 use crate::cell_bin::CellBin;
 use crate::share::{Share, empty_shares, give, take_back};
-use crate::task::Task;
 use bin_queues::PartQueues;
+use bin_tasks::Task;
 use binning::Cut;
 use cull_base::{FrameList, Memory};
 use std::alloc::Global;

@@ -2,14 +2,13 @@
 ghost use Rattle.std.specs.Prelude.{◌≡◌, ◌≤◌, ◌<◌, ◌+◌, length, OnOk};
 ghost use Rattle.binning.specs.Cut.{bin_count_of};
 ghost use Rattle.bin_queues.specs.QueueParts.{batched, batches_in};
-ghost use Rattle.tile_queues.specs.Drains.{IsDrainedIn, IsTaskIn};
+ghost use Rattle.bin_tasks.specs.Drains.{IsDrainedIn, IsTaskIn};
 ghost use Rattle.tile_queues.specs.Shares.{AreDealt, AreDrained, AreOutside, AreShares, HoldsFrom, IsShare};
 ghost use Rattle.bin_queues.specs.Tasks.{IsSubmitterOf};
 
-use crate::batches::submit_next_ones;
 use crate::share::Share;
-use crate::task::{Task, drain_any};
 use bin_queues::{PartQueues, Sender};
+use bin_tasks::{Task, drain_one, submit_next_ones, tell_one};
 use bin_tiles::{Gate, Keeper};
 use binning::{Cut, batch_count};
 use cull_base::{FrameList, Memory};
@@ -20,27 +19,6 @@ use std::thread::Threads;
 
 /// Of so many batches one is submitted before the workers begin.
 const AHEAD: u32 = 3;
-
-/// Draws what is in the queue of a task's bin.
-pub(crate) fn drain_one<R: Wait, B, K: Keeper<B>, G: Gate>(
-    rt: &R,
-    queues: &PartQueues,
-    task: &mut Task<K>,
-    beside: &B,
-    list: &FrameList,
-    _cut: &Cut,
-    _size: u32,
-    _told: u32,
-    _bin: u32,
-    gate: &G,
-)
-    requires { let frame = batched list.now.list _cut.now _size (K.cells beside.now) in
-        IsTaskIn K.stands beside.now queues.now frame _told _bin task.old }
-    ensures { let frame = batched list.now.list _cut.now _size (K.cells beside.now) in
-        IsDrainedIn K.stands beside.now queues.now frame _told _bin task.new }
-{
-    drain_any(rt, queues, task, beside, list, gate);
-}
 
 // Draws what is in the queues of some of a worker's bins, bin by bin.
 fn drain_some<R: Wait, B, K: Keeper<B>, G: Gate>(
@@ -212,28 +190,6 @@ fn drain_all<R: Threads + Wait + Sync, B: Sync, K: Keeper<B> + Send, G: Gate, O:
         },
         own,
     )
-}
-
-/// Tells a task how many batches were submitted.
-pub(crate) fn tell_one<B, K: Keeper<B>>(
-    queues: &PartQueues,
-    sender: &mut Sender,
-    task: &mut Task<K>,
-    _beside: &B,
-    _list: &FrameList,
-    _cut: &Cut,
-    _size: u32,
-    _batches: u32,
-    _bin: u32,
-)
-    requires sender { IsSubmitterOf queues.now sender.old }
-    requires frame { sender.old.frame ≡ batched _list.now.list _cut.now _size (K.cells _beside.now) }
-    requires all { sender.old.batches ≡ _batches }
-    requires task { IsTaskIn K.stands _beside.now queues.now sender.old.frame 0 _bin task.old }
-    ensures same { sender.new ≡ sender.old }
-    ensures task { IsTaskIn K.stands _beside.now queues.now sender.old.frame _batches _bin task.new }
-{
-    queues.tell(sender, &mut task.intake);
 }
 
 // Tells each task of a worker.

@@ -3,15 +3,15 @@ ghost use Rattle.std.specs.Prelude.{◌≡◌, ◌≤◌, ◌<◌, ◌+◌, leng
 ghost use Rattle.binning.specs.Parts.{batch_count_of, parts_of};
 ghost use Rattle.bin_queues.specs.QueueParts.{batched, batches_in, taken_before};
 ghost use Rattle.bin_queues.specs.Tasks.{AreFirstTasks, GoesOn, IsSubmitterOf, IsTaskOf};
-ghost use Rattle.tile_queues.specs.Drains.{IsAnswer};
+ghost use Rattle.bin_tasks.specs.Drains.{IsAnswer};
 ghost use Rattle.tile_queues.specs.Owners.{AreFirst, AreHandedBack, AreTasksOf, cells_of};
 
 use crate::bin_task::BinTask;
 use crate::close_queues::hand_back;
 use crate::make_queues::make_over_cells;
 use crate::submitter::Submitter;
-use crate::task::Drained;
 use bin_queues::PartQueues;
+use bin_tasks::Drained;
 use bin_tiles::Gate;
 use binning::{BinPart, Cut};
 use cull_base::{FrameList, Memory};

@@ -2,7 +2,7 @@
 ghost use Rattle.std.specs.Prelude.{◌≡◌, ◌<◌, ℕ, length, slice_index_or, IfOk, OnOk};
 ghost use Rattle.tile_queues.specs.Shares.{AreIdle, IsGiven};
 
-use crate::task::Task;
+use bin_tasks::Task;
 use cull_base::Memory;
 use std::alloc::Global;
 

@@ -1,18 +1,18 @@
 use Rattle.std.proofs.Common.{◌∷◌, [], List, length, map, get_or, arith, sym, subst, ap, ◌∙◌}
 use Rattle.std.proofs.lemmas.List.{length-append}
 use Rattle.tile_cells.proofs.Lists.{pushed_at, turn}
-use Rattle.cull_report.specs.Runs.{IsMadeRun}
+use Rattle.seats.proofs.First.{there_at}
+use Rattle.cull_report.specs.Runs.{IsMadeRun, IsRunOf}
 use Rattle.cull_report.specs.Scene.{verdict_in}
 use Rattle.cull_report.specs.declared.runs.Run.{Run}
-use Rattle.cull_report.proofs.MadeRuns.{made_in}
 use Rattle.cull_report.proofs.run_pool.all_made.Goals as goal
 
-pub made_or_new-requires-clause-slot : goal.made_or_new-requires-clause-slot
-made_or_new-requires-clause-slot g c =
+pub made-run-requires-clause-there : goal.made-run-requires-clause-there
+made-run-requires-clause-there g c =
     let i = c.loop-slot.invariant in
     let t = turn c.args.slots.items c.loop-slot.number c.in-Some.slot _ (sym i.2 ∙ c.in-Some.ensures.steps.0) in
     let all = map (verdict_in c.args.scene.now c.args.frame (g.V.TileView.tile_of c.args.view.now)) c.args.scene.now.objects in
-    made_in all c.args.size c.args.slots.items c.loop-slot.number c.in-Some.slot t.1 t.2 c.requires.slots
+    there_at (IsRunOf all c.args.size) c.args.slots.items c.loop-slot.number c.in-Some.slot t.1 t.2 c.requires.slots
 
 pub loop-slot-preserved : goal.loop-slot-preserved
 loop-slot-preserved g c =
@@ -22,13 +22,13 @@ loop-slot-preserved g c =
     let all = map (verdict_in c.args.scene.now c.args.frame (g.V.TileView.tile_of c.args.view.now)) c.args.scene.now.objects in
     let size = c.args.size in
     let items = c.push_reserved.ensures.items in
-    let run = c.in_ok-run.run' in (
+    let run = c.made-run.result in (
       tt,
       tt,
       t.0,
       omega (arith, i.3, s.1),
       (let n = ap length items in omega (arith, n, length-append c.loop-slot.runs.items (run ∷ []), i.4)),
       (λ k d lt. subst (λ (xs : List Run). IsMadeRun all size k (get_or xs k d)) (sym items)
-          (pushed_at (λ j x. IsMadeRun all size j x) c.loop-slot.number c.loop-slot.runs.items run i.4 i.5 c.in_ok-run.ensures k d lt)),
+          (pushed_at (λ j x. IsMadeRun all size j x) c.loop-slot.number c.loop-slot.runs.items run i.4 i.5 c.made-run.ensures k d lt)),
       omega (arith, i.6, c.push_reserved.ensures.capacity),
     )

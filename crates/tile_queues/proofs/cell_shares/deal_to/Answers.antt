@@ -3,10 +3,10 @@ use Rattle.std.proofs.lemmas.Nat.{mod_below}
 use Rattle.tile_cells.proofs.Lists.{turn}
 use Rattle.tile_queues.specs.CellBins.{StandsInCells}
 use Rattle.bin_queues.specs.QueueParts.{batched}
-use Rattle.tile_queues.specs.Drains.{IsTaskIn}
+use Rattle.bin_tasks.specs.Drains.{IsTaskIn}
 use Rattle.tile_queues.specs.Shares.{AreDealt}
 use Rattle.tile_queues.proofs.Dealing.{dealt_more, dealt_none}
-use Rattle.tile_queues.proofs.Draining.{first_in_cells}
+use Rattle.tile_queues.proofs.FirstInCells.{first_in_cells}
 use Rattle.bin_queues.proofs.GoingOn.{first_task_at}
 use Rattle.tile_queues.proofs.cell_shares.deal_to.Goals as goal
 

@@ -2,7 +2,7 @@ use Rattle.std.proofs.Common.{◌≡◌, ◌+◌, drop, length}
 use Rattle.std.specs.Vec.Iter.{into_iter_items, into_iter_len}
 use Rattle.tile_queues.specs.CellBins.{StandsInCells}
 use Rattle.bin_queues.specs.QueueParts.{batched}
-use Rattle.tile_queues.specs.Drains.{IsTaskIn}
+use Rattle.bin_tasks.specs.Drains.{IsTaskIn}
 use Rattle.tile_queues.specs.Shares.{AreDealt}
 use Rattle.tile_queues.proofs.cell_shares.deal_to.Given as goal
 

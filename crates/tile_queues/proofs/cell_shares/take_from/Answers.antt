@@ -4,7 +4,7 @@ use Rattle.std.proofs.lemmas.Nat.{mod_below}
 use Rattle.binning.specs.Cut.{bin_count_of}
 use Rattle.tile_queues.specs.CellBins.{StandsInCells}
 use Rattle.bin_queues.specs.QueueParts.{batched, batches_in}
-use Rattle.tile_queues.specs.Drains.{IsDrainedIn}
+use Rattle.bin_tasks.specs.Drains.{IsDrainedIn}
 use Rattle.tile_queues.specs.Shares.{AreDealt}
 use Rattle.bin_queues.specs.Tasks.{Tasking}
 use Rattle.tile_queues.proofs.Dealing.{some_task, taken_back, taken_holds}

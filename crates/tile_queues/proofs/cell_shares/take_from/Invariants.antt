@@ -1,7 +1,7 @@
 use Rattle.std.proofs.Common.{◌≡◌, ℕ, ◌-◌, ◌<◌, ◌≤◌, length, get_or, vec_capacity}
 use Rattle.tile_queues.specs.CellBins.{StandsInCells}
 use Rattle.bin_queues.specs.QueueParts.{batched, batches_in}
-use Rattle.tile_queues.specs.Drains.{IsDrainedIn}
+use Rattle.bin_tasks.specs.Drains.{IsDrainedIn}
 use Rattle.tile_queues.specs.Shares.{AreDealt}
 use Rattle.bin_queues.specs.Tasks.{Tasking}
 use Rattle.tile_queues.proofs.Ending.{IsWholeTask}

@@ -1,7 +1,7 @@
 use Rattle.std.proofs.Common.{◌≡◌, ℕ, ◌+◌, ◌*◌, ◌<◌, ◌≤◌, length, get_or}
 use Rattle.bin_queues.specs.QueueParts.{batched}
-use Rattle.tile_queues.specs.Drains.{IsDrainedIn, IsTaskIn}
-use Rattle.tile_queues.specs.declared.task.Task.{Task}
+use Rattle.bin_tasks.specs.Drains.{IsDrainedIn, IsTaskIn}
+use Rattle.bin_tasks.specs.declared.task.Task.{Task}
 use Rattle.tile_queues.proofs.drawing.drain_some.Given as goal
 
 abbrev pub invariant-loop-j : goal.invariant-loop-j

@@ -1,6 +1,6 @@
 use Rattle.std.proofs.Common.{◌≡◌, ℕ, ◌<◌, ◌≤◌, length, get_or}
 use Rattle.binning.specs.Cut.{bin_count_of}
-use Rattle.tile_queues.specs.Drains.{IsTaskIn}
+use Rattle.bin_tasks.specs.Drains.{IsTaskIn}
 use Rattle.tile_queues.specs.Shares.{IsShare}
 use Rattle.tile_queues.specs.declared.share.Share.{Share}
 use Rattle.tile_queues.proofs.drawing.tell_all.Given as goal

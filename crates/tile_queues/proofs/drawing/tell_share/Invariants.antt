@@ -1,6 +1,6 @@
 use Rattle.std.proofs.Common.{◌≡◌, ℕ, ◌+◌, ◌*◌, ◌<◌, ◌≤◌, length, get_or}
-use Rattle.tile_queues.specs.Drains.{IsTaskIn}
-use Rattle.tile_queues.specs.declared.task.Task.{Task}
+use Rattle.bin_tasks.specs.Drains.{IsTaskIn}
+use Rattle.bin_tasks.specs.declared.task.Task.{Task}
 use Rattle.tile_queues.proofs.drawing.tell_share.Given as goal
 
 abbrev pub invariant-loop-j : goal.invariant-loop-j

@@ -1,0 +1,38 @@
+use Rattle.std.proofs.Common.{◌≡◌, ◌+◌, arith, ap, ◌∙◌}
+use Rattle.bin_queues.specs.QueueParts.{batches_in}
+use Rattle.bin_queues.specs.Tasks.{Submitting}
+use Rattle.bin_queues.proofs.GoingOn.{submitter_on}
+use Rattle.bin_tasks.proofs.batches.submit_next_ones.Goals as goal
+
+pub loop-init : goal.loop-init
+loop-init g c =
+    let none : c.args.sender.now.batches ≡ c.args.sender.now.batches + 0 = omega arith in
+    λ i. record c.args.sender.now { batches = none i }
+
+pub submit_next-requires-clause-queues : goal.submit_next-requires-clause-queues
+submit_next-requires-clause-queues g c κs within = submitter_on c.args.queues.now c.args.sender.now c.loop.sender (c.args.sender.now.batches + c.loop.counter) c.loop.invariant c.requires.queues
+
+pub submit_next-requires-clause-list : goal.submit_next-requires-clause-list
+submit_next-requires-clause-list g c κs within = ap (λ (s : Submitting). s.frame.list) c.loop.invariant ∙ c.requires.list
+
+pub submit_next-requires-clause-cut : goal.submit_next-requires-clause-cut
+submit_next-requires-clause-cut g c κs within = ap (λ (s : Submitting). s.frame.cut) c.loop.invariant ∙ c.requires.cut
+
+pub submit_next-requires-clause-size : goal.submit_next-requires-clause-size
+submit_next-requires-clause-size g c κs within = ap (λ (s : Submitting). s.frame.size) c.loop.invariant ∙ c.requires.size
+
+pub submit_next-requires-clause-short : goal.submit_next-requires-clause-short
+submit_next-requires-clause-short g c =
+    let counted = ap (λ (s : Submitting). s.batches) c.loop.invariant in
+    let all : batches_in c.loop.sender.frame ≡ batches_in c.args.sender.now.frame = ap (λ (s : Submitting). batches_in s.frame) c.loop.invariant in
+    omega (arith, c.loop-test.true, counted, all, c.requires.left)
+
+pub loop-preserved : goal.loop-preserved
+loop-preserved g c =
+    let more : c.args.sender.now.batches + c.loop.counter + 1 ≡ c.args.sender.now.batches + (c.loop.counter + 1) = omega arith in
+    c.in_ok-submit_next.ensures ∙ ap (λ (s : Submitting). record s { batches = s.batches + 1 }) c.loop.invariant ∙ (λ i. record c.args.sender.now { batches = more i })
+
+pub returns : goal.returns
+returns g c =
+    let last : c.args.sender.now.batches + c.loop.counter ≡ c.args.sender.now.batches + c.args.count = omega (arith, c.loop-test.false, c.loop.auto.counter-end) in
+    c.loop.invariant ∙ (λ i. record c.args.sender.now { batches = last i })

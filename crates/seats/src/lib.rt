@@ -1,0 +1,14 @@
+//! Tasks that wait under a lock until a worker takes one, and that are all there again behind the workers.
+#![tactic(auto)]
+
+mod hands;
+mod locked;
+mod seal;
+mod seats;
+
+pub use hands::Hand;
+pub use locked::{give_back, take_from};
+pub use seats::{Loan, Seating, Seats};
+
+#[cfg(test)]
+mod tests;

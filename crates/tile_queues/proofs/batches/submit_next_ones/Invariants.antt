@@ -1,5 +1,0 @@
-use Rattle.std.proofs.Common.{◌≡◌, ◌+◌}
-use Rattle.tile_queues.proofs.batches.submit_next_ones.Given as goal
-
-abbrev pub invariant-loop : goal.invariant-loop
-invariant-loop g l = l.sender ≡ record l.initial.sender { batches = l.initial.sender.batches + l.counter }

@@ -1,9 +1,0 @@
-use Rattle.tile_queues.proofs.plain_tasks.made.Goals as goal
-
-pub returns-in-Some : goal.returns-in-Some
-returns-in-Some c = record {
-  of_is = c.requires.of_is;
-  queues_are = c.requires.queues_are;
-  told_is = c.requires.told_is;
-  at = c.requires.at.made c.in-Some.canvas c.in-Some.is;
-}
