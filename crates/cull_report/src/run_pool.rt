@@ -1,15 +1,13 @@
 //! The runs of a frame, made by workers side by side: who comes takes the next.
 ghost use Rattle.std.specs.Prelude.{◌≡◌, ℕ, ◌<◌, ◌*◌, true, List, map, length, All, IfOk, IfSome};
-ghost use Rattle.cull_base.specs.Screen.{tile_count_of};
 ghost use Rattle.cull_base.specs.declared.scene_types.Verdict.{Verdict};
 ghost use Rattle.cull_report.specs.Runs.{AreMadeIn, AreRunsFor, AreRunsOf, IsMadeRun, IsRunSize, IsWaitingRun};
-ghost use Rattle.cull_report.specs.Scene.{IsMarkedRight, size_of, frame_clips, verdict_in};
+ghost use Rattle.cull_report.specs.Scene.{verdicts_in};
 
-use crate::objects::object_count;
+use crate::asked::Asked;
 use crate::runs::{Run, run_count};
-use cull_base::{ClipVertex, Memory};
+use cull_base::Memory;
 use masked_update::TileView;
-use scene_reader::Scene;
 use side_by_side::for_each_beside;
 use std::alloc::Global;
 use std::marker::{Brand, PhantomData};
@@ -101,23 +99,14 @@ fn make_one<F: OfVerdicts, R: Wait, V: TileView>(
     rt: &R,
     pool: &Mutex<RunPool<F>>,
     size: usize,
-    scene: &Scene,
-    frame: u32,
-    clips: &[ClipVertex],
-    view: &V,
-    settled: &[bool],
+    asked: &Asked<V>,
 ) -> Option<()>
-    requires frame { frame < length scene.now.cameras }
-    requires clips { clips.now ≡ frame_clips scene.now frame }
-    requires holds { (t : ℕ) → t < tile_count_of (size_of scene.now) → V.held view.now t ≡ true }
-    requires marks { length settled.now ≡ length scene.now.objects }
-    requires right { IsMarkedRight (verdict_in scene.now frame (V.tile_of view.now)) scene.now.objects settled.now }
-    requires of { F.all ≡ map (verdict_in scene.now frame (V.tile_of view.now)) scene.now.objects }
+    requires of { F.all ≡ verdicts_in asked.now.scene.now asked.now.frame (V.tile_of asked.now.view.now) }
     requires size { IsRunSize size }
     requires sized { F.size ≡ size }
 {
     let mut run = take(rt, pool)?;
-    run.make(size, scene, frame, clips, view, settled);
+    run.make(size, asked);
     put(rt, pool, run);
     Some(())
 }
@@ -127,23 +116,14 @@ fn make_some<F: OfVerdicts, R: Wait, V: TileView>(
     rt: &R,
     pool: &Mutex<RunPool<F>>,
     size: usize,
-    scene: &Scene,
-    frame: u32,
-    clips: &[ClipVertex],
-    view: &V,
-    settled: &[bool],
+    asked: &Asked<V>,
 )
-    requires frame { frame < length scene.now.cameras }
-    requires clips { clips.now ≡ frame_clips scene.now frame }
-    requires holds { (t : ℕ) → t < tile_count_of (size_of scene.now) → V.held view.now t ≡ true }
-    requires marks { length settled.now ≡ length scene.now.objects }
-    requires right { IsMarkedRight (verdict_in scene.now frame (V.tile_of view.now)) scene.now.objects settled.now }
-    requires of { F.all ≡ map (verdict_in scene.now frame (V.tile_of view.now)) scene.now.objects }
+    requires of { F.all ≡ verdicts_in asked.now.scene.now asked.now.frame (V.tile_of asked.now.view.now) }
     requires size { IsRunSize size }
     requires sized { F.size ≡ size }
 {
-    for _ in 0..object_count(scene) {
-        if make_one(rt, pool, size, scene, frame, clips, view, settled).is_none() {
+    for _ in 0..asked.count() {
+        if make_one(rt, pool, size, asked).is_none() {
             return;
         }
     }
@@ -156,29 +136,20 @@ fn made_or_new<V: TileView>(
     slot: Option<Run>,
     number: usize,
     size: usize,
-    scene: &Scene,
-    frame: u32,
-    clips: &[ClipVertex],
-    view: &V,
-    settled: &[bool],
+    asked: &Asked<V>,
 ) -> Result<Run, Memory>
-    requires frame { frame < length scene.now.cameras }
-    requires clips { clips.now ≡ frame_clips scene.now frame }
-    requires holds { (t : ℕ) → t < tile_count_of (size_of scene.now) → V.held view.now t ≡ true }
-    requires marks { length settled.now ≡ length scene.now.objects }
-    requires right { IsMarkedRight (verdict_in scene.now frame (V.tile_of view.now)) scene.now.objects settled.now }
     requires size { IsRunSize size }
-    requires number { size * number < length scene.now.objects }
+    requires number { size * number < length asked.now.scene.now.objects }
     requires slot { IfSome slot
-        (IsMadeRun (map (verdict_in scene.now frame (V.tile_of view.now)) scene.now.objects) size number) }
+        (IsMadeRun (verdicts_in asked.now.scene.now asked.now.frame (V.tile_of asked.now.view.now)) size number) }
     ensures { IfOk result
-        (IsMadeRun (map (verdict_in scene.now frame (V.tile_of view.now)) scene.now.objects) size number) }
+        (IsMadeRun (verdicts_in asked.now.scene.now asked.now.frame (V.tile_of asked.now.view.now)) size number) }
 {
     match slot {
         Some(run) => Ok(run),
         None => {
             let mut run = Run::with_room(alloc, size, number)?;
-            run.make(size, scene, frame, clips, view, settled);
+            run.make(size, asked);
             Ok(run)
         }
     }
@@ -189,29 +160,18 @@ fn all_made<V: TileView>(
     alloc: Global,
     slots: Vec<Option<Run>>,
     size: usize,
-    scene: &Scene,
-    frame: u32,
-    clips: &[ClipVertex],
-    view: &V,
-    settled: &[bool],
+    asked: &Asked<V>,
 ) -> Result<Vec<Run>, Memory>
-    requires frame { frame < length scene.now.cameras }
-    requires clips { clips.now ≡ frame_clips scene.now frame }
-    requires holds { (t : ℕ) → t < tile_count_of (size_of scene.now) → V.held view.now t ≡ true }
-    requires marks { length settled.now ≡ length scene.now.objects }
-    requires right { IsMarkedRight (verdict_in scene.now frame (V.tile_of view.now)) scene.now.objects settled.now }
     requires size { IsRunSize size }
-    requires runs { AreRunsFor (length scene.now.objects) size (length slots.items) }
-    requires slots { AreMadeIn (map (verdict_in scene.now frame (V.tile_of view.now)) scene.now.objects) size slots.items }
+    requires runs { AreRunsFor (length asked.now.scene.now.objects) size (length slots.items) }
+    requires slots { AreMadeIn (verdicts_in asked.now.scene.now asked.now.frame (V.tile_of asked.now.view.now)) size slots.items }
     ensures { IfOk result (λ v.
-        AreRunsOf (map (verdict_in scene.now frame (V.tile_of view.now)) scene.now.objects) size v.items) }
+        AreRunsOf (verdicts_in asked.now.scene.now asked.now.frame (V.tile_of asked.now.view.now)) size v.items) }
 {
     let mut runs = Vec::with_capacity(alloc, slots.len()).map_err(|_| Memory)?;
     let mut number = 0usize;
     for slot in slots {
-        let run = made_or_new(
-            alloc, slot, number, size, scene, frame, clips, view, settled,
-        )?;
+        let run = made_or_new(alloc, slot, number, size, asked)?;
         runs.push_reserved(run);
         number += 1;
     }
@@ -219,30 +179,21 @@ fn all_made<V: TileView>(
 }
 
 /// The runs of all objects of a frame, made by so many threads and by the caller, which would wait for them otherwise.
-/// Err where memory gave out. Conditions as for `verdicts`.
+/// Err where memory gave out.
 pub(crate) fn runs_by_workers<F: OfVerdicts + Send, R: Threads + Wait + Sync, V: TileView + Sync>(
     rt: &R,
     alloc: Global,
-    scene: &Scene,
-    frame: u32,
-    clips: &[ClipVertex],
-    view: &V,
-    settled: &[bool],
+    asked: &Asked<V>,
     size: usize,
     threads: usize,
 ) -> Result<Vec<Run>, Memory>
-    requires frame { frame < length scene.now.cameras }
-    requires clips { clips.now ≡ frame_clips scene.now frame }
-    requires holds { (t : ℕ) → t < tile_count_of (size_of scene.now) → V.held view.now t ≡ true }
-    requires marks { length settled.now ≡ length scene.now.objects }
-    requires right { IsMarkedRight (verdict_in scene.now frame (V.tile_of view.now)) scene.now.objects settled.now }
-    requires of { F.all ≡ map (verdict_in scene.now frame (V.tile_of view.now)) scene.now.objects }
+    requires of { F.all ≡ verdicts_in asked.now.scene.now asked.now.frame (V.tile_of asked.now.view.now) }
     requires size { IsRunSize size }
     requires sized { F.size ≡ size }
     ensures { IfOk result (λ v.
-        AreRunsOf (map (verdict_in scene.now frame (V.tile_of view.now)) scene.now.objects) size v.items) }
+        AreRunsOf (verdicts_in asked.now.scene.now asked.now.frame (V.tile_of asked.now.view.now)) size v.items) }
 {
-    let objects = object_count(scene);
+    let objects = asked.count();
     let mut starts = vec![in alloc; (); threads].map_err(|_| Memory)?;
     let lock: Mutex<RunPool<F>> = Mutex::new(RunPool::with_room(alloc, objects, size)?);
     let pool = &lock;
@@ -251,26 +202,16 @@ pub(crate) fn runs_by_workers<F: OfVerdicts + Send, R: Threads + Wait + Sync, V:
         starts.as_mut_slice(),
         threads,
         &|_worker: usize, _start: &mut ()|
-            requires frame { frame < length scene.now.cameras }
-            requires clips { clips.now ≡ frame_clips scene.now frame }
-            requires holds { (t : ℕ) → t < tile_count_of (size_of scene.now) → V.held view.now t ≡ true }
-            requires marks { length settled.now ≡ length scene.now.objects }
-            requires right { IsMarkedRight (verdict_in scene.now frame (V.tile_of view.now)) scene.now.objects settled.now }
-            requires of { F.all ≡ map (verdict_in scene.now frame (V.tile_of view.now)) scene.now.objects }
+            requires of { F.all ≡ verdicts_in asked.now.scene.now asked.now.frame (V.tile_of asked.now.view.now) }
             requires size { IsRunSize size }
             requires sized { F.size ≡ size }
-        { make_some(rt, pool, size, scene, frame, clips, view, settled) },
+        { make_some(rt, pool, size, asked) },
         &mut ||
-            requires frame { frame < length scene.now.cameras }
-            requires clips { clips.now ≡ frame_clips scene.now frame }
-            requires holds { (t : ℕ) → t < tile_count_of (size_of scene.now) → V.held view.now t ≡ true }
-            requires marks { length settled.now ≡ length scene.now.objects }
-            requires right { IsMarkedRight (verdict_in scene.now frame (V.tile_of view.now)) scene.now.objects settled.now }
-            requires of { F.all ≡ map (verdict_in scene.now frame (V.tile_of view.now)) scene.now.objects }
+            requires of { F.all ≡ verdicts_in asked.now.scene.now asked.now.frame (V.tile_of asked.now.view.now) }
             requires size { IsRunSize size }
             requires sized { F.size ≡ size }
-        { make_some(rt, pool, size, scene, frame, clips, view, settled) },
+        { make_some(rt, pool, size, asked) },
     );
     let slots = lock.into_inner().made;
-    all_made(alloc, slots, size, scene, frame, clips, view, settled)
+    all_made(alloc, slots, size, asked)
 }
