@@ -164,7 +164,8 @@ fn all_made<V: TileView>(
 ) -> Result<Vec<Run>, Memory>
     requires size { IsRunSize size }
     requires runs { AreRunsFor (length asked.now.scene.now.objects) size (length slots.items) }
-    requires slots { AreMadeIn (verdicts_in asked.now.scene.now asked.now.frame (V.tile_of asked.now.view.now)) size slots.items }
+    requires slots { AreMadeIn (verdicts_in asked.now.scene.now asked.now.frame (V.tile_of asked.now.view.now)) size
+        slots.items }
     ensures { IfOk result (λ v.
         AreRunsOf (verdicts_in asked.now.scene.now asked.now.frame (V.tile_of asked.now.view.now)) size v.items) }
 {
