@@ -75,6 +75,10 @@ object_verdict s frame state_of object = verdict_of (size_of s) state_of (object
 abbrev pub verdict_in : Parts → ℕ → (ℕ → TileOf) → Object → Verdict
 verdict_in s frame tile_of object = object_verdict s frame (state_in (size_of s) tile_of) object
 
+-- each object's verdict over what tiles hold
+abbrev pub verdicts_in : Parts → ℕ → (ℕ → TileOf) → List Verdict
+verdicts_in s frame tile_of = map (verdict_in s frame tile_of) s.objects
+
 -- each object's verdict over the states after the frame's whole list
 unfoldable pub frame_verdicts : Parts → ℕ → List Verdict
 frame_verdicts s frame = map (object_verdict s frame (λ u. after u (frame_pieces s frame))) s.objects

@@ -1,6 +1,7 @@
 //! The verdicts of a frame, and the texts that are written of it.
 #![tactic(auto)]
 
+mod asked;
 mod by_workers;
 mod counts;
 mod form;
@@ -15,6 +16,7 @@ mod runs;
 mod tests;
 mod text;
 
+pub use asked::Asked;
 pub use by_workers::verdicts_by_workers;
 pub use counts::Counts;
 pub use frame_verdicts::FrameVerdicts;

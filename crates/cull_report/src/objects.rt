@@ -1,5 +1,5 @@
 //! The verdicts of a frame's objects.
-ghost use Rattle.std.specs.Prelude.{◌≡◌, ℕ, ◌+◌, ◌<◌, ◌≤◌, true, map, length, IfOk, IfSome, slice_get, slice_index_or};
+ghost use Rattle.std.specs.Prelude.{◌≡◌, ℕ, ◌+◌, ◌<◌, ◌≤◌, true, length, IfOk, IfSome, slice_get, slice_index_or};
 ghost use Rattle.cull_base.specs.Screen.{tile_count_of};
 ghost use Rattle.cull_base.specs.Shape.{area_of, verdict_of};
 ghost use Rattle.cull_base.specs.declared.scene_types.Object.{Object};
@@ -7,9 +7,10 @@ ghost use Rattle.masked_update.specs.Views.{HoldsMet, state_in};
 ghost use Rattle.scene_reader.specs.Layout.{IsObject, IsScene};
 ghost use Rattle.cull_report.specs.Forms.{shape_of_form, range_of, HasTriangles};
 ghost use Rattle.cull_report.specs.Hiding.{HidesObject};
-ghost use Rattle.cull_report.specs.Scene.{IsMarkedRight, size_of, frame_clips, object_area, verdict_in};
+ghost use Rattle.cull_report.specs.Scene.{IsMarkedRight, size_of, frame_clips, object_area, verdict_in, verdicts_in};
 ghost use Rattle.cull_report.specs.Settled.{SettlesObject, is_settled_shape, settled_in};
 
+use crate::asked::Asked;
 use crate::form::{Form, form_of};
 use cull_base::{ClipVertex, Memory, NO_PIXELS, Object, Rect, Tri, Verdict};
 use masked_update::TileView;
@@ -169,30 +170,6 @@ pub fn object_settled<V: TileView>(
     is_form_settled(scene, frame, form, view)
 }
 
-// The verdict of an object. One that is marked as settled isn't tested. Conditions as for `verdicts`.
-pub(crate) fn verdict_at<V: TileView>(
-    scene: &Scene,
-    frame: u32,
-    clips: &[ClipVertex],
-    object: u32,
-    view: &V,
-    settled: &[bool],
-) -> Verdict
-    requires frame { frame < length scene.now.cameras }
-    requires clips { clips.now ≡ frame_clips scene.now frame }
-    requires object { object < length scene.now.objects }
-    requires holds { (t : ℕ) → t < tile_count_of (size_of scene.now) → V.held view.now t ≡ true }
-    requires marks { length settled.now ≡ length scene.now.objects }
-    requires right { IsMarkedRight (verdict_in scene.now frame (V.tile_of view.now)) scene.now.objects settled.now }
-    ensures { (o : Object) → result ≡ verdict_in scene.now frame (V.tile_of view.now) (slice_index_or scene.now.objects object o) }
-{
-    if settled[object as usize] {
-        Verdict::Occluded
-    } else {
-        object_verdict(scene, frame, clips, object, view)
-    }
-}
-
 /// Each object's verdict in a frame over the view. An object that is marked as settled isn't tested. Conditions: there
 /// is such a frame, the clip vertices are the frame's, the view holds every tile, there is one mark per object, and
 /// each marked object's verdict is occluded.
@@ -209,14 +186,14 @@ pub fn verdicts<V: TileView>(
     requires holds { (t : ℕ) → t < tile_count_of (size_of scene.now) → V.held view.now t ≡ true }
     requires marks { length settled.now ≡ length scene.now.objects }
     requires right { IsMarkedRight (verdict_in scene.now frame (V.tile_of view.now)) scene.now.objects settled.now }
-    ensures { IfOk result (λ v. v.items ≡ map (verdict_in scene.now frame (V.tile_of view.now)) scene.now.objects) }
+    ensures { IfOk result (λ v. v.items ≡ verdicts_in scene.now frame (V.tile_of view.now)) }
 {
-    let count = object_count(scene);
-    let Ok(mut verdicts) = Vec::with_capacity(alloc, count as usize) else {
-        return Err(Memory);
+    let asked = Asked {
+        scene,
+        frame,
+        clips,
+        view,
+        settled,
     };
-    for object in 0..count {
-        verdicts.push_reserved(verdict_at(scene, frame, clips, object, view, settled));
-    }
-    Ok(verdicts)
+    asked.verdicts(alloc)
 }

@@ -1,16 +1,14 @@
 //! The runs of a frame, made by workers side by side: who comes takes the next, and each is back in its seat then.
-ghost use Rattle.std.specs.Prelude.{◌≡◌, ℕ, ◌<◌, ◌*◌, ◌+◌, true, List, map, length, vec_len, IfOk, MatchOption};
-ghost use Rattle.cull_base.specs.Screen.{tile_count_of};
+ghost use Rattle.std.specs.Prelude.{◌≡◌, ℕ, ◌<◌, ◌*◌, ◌+◌, List, length, vec_len, IfOk, MatchOption};
 ghost use Rattle.cull_base.specs.declared.scene_types.Verdict.{Verdict};
 ghost use Rattle.cull_report.specs.Runs.{AreRunsFor, AreRunsOf, IsMadeRun, IsRunOf, IsRunSize};
-ghost use Rattle.cull_report.specs.Scene.{IsMarkedRight, size_of, frame_clips, verdict_in};
+ghost use Rattle.cull_report.specs.Scene.{verdicts_in};
 ghost use Rattle.seats.specs.Seats.{AreAllSeated, AreSeated, Means};
 
-use crate::objects::object_count;
+use crate::asked::Asked;
 use crate::runs::{Run, run_count};
-use cull_base::{ClipVertex, Memory};
+use cull_base::Memory;
 use masked_update::TileView;
-use scene_reader::Scene;
 use seats::{Hand, Loan, Seating, Seats, give_back, take_from};
 use side_by_side::for_each_beside;
 use std::alloc::Global;
@@ -42,26 +40,17 @@ fn make_one<P: Seating<Run>, R: Wait, V: TileView>(
     next: &AtomicU64,
     hand: &mut Hand<P>,
     size: usize,
-    scene: &Scene,
-    frame: u32,
-    clips: &[ClipVertex],
-    view: &V,
-    settled: &[bool],
+    asked: &Asked<V>,
 ) -> Option<()>
-    requires frame { frame < length scene.now.cameras }
-    requires clips { clips.now ≡ frame_clips scene.now frame }
-    requires holds { (t : ℕ) → t < tile_count_of (size_of scene.now) → V.held view.now t ≡ true }
-    requires marks { length settled.now ≡ length scene.now.objects }
-    requires right { IsMarkedRight (verdict_in scene.now frame (V.tile_of view.now)) scene.now.objects settled.now }
     requires size { IsRunSize size }
     requires means { Means P.holds
-        (IsRunOf (map (verdict_in scene.now frame (V.tile_of view.now)) scene.now.objects) size) }
+        (IsRunOf (verdicts_in asked.now.scene.now asked.now.frame (V.tile_of asked.now.view.now)) size) }
 {
     let number = next.fetch_add(1, Ordering::SeqCst) as usize;
     let Hand { share } = hand;
     let mut loan = take_from(rt, seats, share, &|_| number)?;
     loan.task
-        .make_unless_made(size, scene, frame, clips, view, settled);
+        .make_unless_made(size, asked);
     give_back(rt, seats, share, loan);
     Some(())
 }
@@ -73,24 +62,15 @@ fn make_some<P: Seating<Run>, R: Wait, V: TileView>(
     next: &AtomicU64,
     hand: &mut Hand<P>,
     size: usize,
-    scene: &Scene,
-    frame: u32,
-    clips: &[ClipVertex],
-    view: &V,
-    settled: &[bool],
+    asked: &Asked<V>,
 )
-    requires frame { frame < length scene.now.cameras }
-    requires clips { clips.now ≡ frame_clips scene.now frame }
-    requires holds { (t : ℕ) → t < tile_count_of (size_of scene.now) → V.held view.now t ≡ true }
-    requires marks { length settled.now ≡ length scene.now.objects }
-    requires right { IsMarkedRight (verdict_in scene.now frame (V.tile_of view.now)) scene.now.objects settled.now }
     requires size { IsRunSize size }
     requires means { Means P.holds
-        (IsRunOf (map (verdict_in scene.now frame (V.tile_of view.now)) scene.now.objects) size) }
+        (IsRunOf (verdicts_in asked.now.scene.now asked.now.frame (V.tile_of asked.now.view.now)) size) }
 {
-    for _ in 0..object_count(scene) {
+    for _ in 0..asked.count() {
         if make_one(
-            rt, seats, next, hand, size, scene, frame, clips, view, settled,
+            rt, seats, next, hand, size, asked,
         )
         .is_none()
         {
@@ -104,24 +84,15 @@ fn made<V: TileView>(
     slot: Option<Loan<Run>>,
     _number: usize,
     size: usize,
-    scene: &Scene,
-    frame: u32,
-    clips: &[ClipVertex],
-    view: &V,
-    settled: &[bool],
+    asked: &Asked<V>,
 ) -> Run
-    requires frame { frame < length scene.now.cameras }
-    requires clips { clips.now ≡ frame_clips scene.now frame }
-    requires holds { (t : ℕ) → t < tile_count_of (size_of scene.now) → V.held view.now t ≡ true }
-    requires marks { length settled.now ≡ length scene.now.objects }
-    requires right { IsMarkedRight (verdict_in scene.now frame (V.tile_of view.now)) scene.now.objects settled.now }
     requires size { IsRunSize size }
     requires there { MatchOption slot ⊥ (λ l.
-        IsRunOf (map (verdict_in scene.now frame (V.tile_of view.now)) scene.now.objects) size _number l.task) }
-    ensures { IsMadeRun (map (verdict_in scene.now frame (V.tile_of view.now)) scene.now.objects) size _number result }
+        IsRunOf (verdicts_in asked.now.scene.now asked.now.frame (V.tile_of asked.now.view.now)) size _number l.task) }
+    ensures { IsMadeRun (verdicts_in asked.now.scene.now asked.now.frame (V.tile_of asked.now.view.now)) size _number result }
 {
     let mut run = slot.unwrap().task;
-    run.make_unless_made(size, scene, frame, clips, view, settled);
+    run.make_unless_made(size, asked);
     run
 }
 
@@ -130,28 +101,19 @@ fn all_made<V: TileView>(
     alloc: Global,
     slots: Vec<Option<Loan<Run>>>,
     size: usize,
-    scene: &Scene,
-    frame: u32,
-    clips: &[ClipVertex],
-    view: &V,
-    settled: &[bool],
+    asked: &Asked<V>,
 ) -> Result<Vec<Run>, Memory>
-    requires frame { frame < length scene.now.cameras }
-    requires clips { clips.now ≡ frame_clips scene.now frame }
-    requires holds { (t : ℕ) → t < tile_count_of (size_of scene.now) → V.held view.now t ≡ true }
-    requires marks { length settled.now ≡ length scene.now.objects }
-    requires right { IsMarkedRight (verdict_in scene.now frame (V.tile_of view.now)) scene.now.objects settled.now }
     requires size { IsRunSize size }
-    requires runs { AreRunsFor (length scene.now.objects) size (length slots.items) }
+    requires runs { AreRunsFor (length asked.now.scene.now.objects) size (length slots.items) }
     requires slots { AreAllSeated
-        (IsRunOf (map (verdict_in scene.now frame (V.tile_of view.now)) scene.now.objects) size) slots.items }
+        (IsRunOf (verdicts_in asked.now.scene.now asked.now.frame (V.tile_of asked.now.view.now)) size) slots.items }
     ensures { IfOk result (λ v.
-        AreRunsOf (map (verdict_in scene.now frame (V.tile_of view.now)) scene.now.objects) size v.items) }
+        AreRunsOf (verdicts_in asked.now.scene.now asked.now.frame (V.tile_of asked.now.view.now)) size v.items) }
 {
     let mut runs = Vec::with_capacity(alloc, slots.len()).map_err(|_| Memory)?;
     let mut number = 0usize;
     for slot in slots {
-        let run = made(slot, number, size, scene, frame, clips, view, settled);
+        let run = made(slot, number, size, asked);
         runs.push_reserved(run);
         number += 1;
     }
@@ -165,25 +127,16 @@ fn make_under<P: Seating<Run> + Send, R: Threads + Wait + Sync, V: TileView + Sy
     alloc: Global,
     blank: Blank,
     slots: Vec<Option<Loan<Run>>>,
-    scene: &Scene,
-    frame: u32,
-    clips: &[ClipVertex],
-    view: &V,
-    settled: &[bool],
+    asked: &Asked<V>,
     size: usize,
     threads: u32,
 ) -> Result<Vec<Option<Loan<Run>>>, Memory>
-    requires frame { frame < length scene.now.cameras }
-    requires clips { clips.now ≡ frame_clips scene.now frame }
-    requires holds { (t : ℕ) → t < tile_count_of (size_of scene.now) → V.held view.now t ≡ true }
-    requires marks { length settled.now ≡ length scene.now.objects }
-    requires right { IsMarkedRight (verdict_in scene.now frame (V.tile_of view.now)) scene.now.objects settled.now }
     requires size { IsRunSize size }
     requires name { blank.name ≡ P.name }
     requires parts { blank.parts ≡ P.parts }
     requires threads { blank.parts ≡ threads + 1 }
     requires means { Means P.holds
-        (IsRunOf (map (verdict_in scene.now frame (V.tile_of view.now)) scene.now.objects) size) }
+        (IsRunOf (verdicts_in asked.now.scene.now asked.now.frame (V.tile_of asked.now.view.now)) size) }
     requires slots { AreSeated P.holds P.names slots.items }
     ensures { IfOk result (λ v. AreSeated P.holds P.names v.items) }
 {
@@ -199,63 +152,43 @@ fn make_under<P: Seating<Run> + Send, R: Threads + Wait + Sync, V: TileView + Sy
         hands.as_mut_slice(),
         threads as usize,
         &|_worker: usize, hand: &mut Hand<P>|
-            requires frame { frame < length scene.now.cameras }
-            requires clips { clips.now ≡ frame_clips scene.now frame }
-            requires holds { (t : ℕ) → t < tile_count_of (size_of scene.now) → V.held view.now t ≡ true }
-            requires marks { length settled.now ≡ length scene.now.objects }
-            requires right { IsMarkedRight (verdict_in scene.now frame (V.tile_of view.now)) scene.now.objects settled.now }
             requires size { IsRunSize size }
             requires means { Means P.holds
-                (IsRunOf (map (verdict_in scene.now frame (V.tile_of view.now)) scene.now.objects) size) }
+                (IsRunOf (verdicts_in asked.now.scene.now asked.now.frame (V.tile_of asked.now.view.now)) size) }
         {
             make_some(
-                rt, seats, next, hand, size, scene, frame, clips, view, settled,
+                rt, seats, next, hand, size, asked,
             )
         },
         &mut ||
-            requires frame { frame < length scene.now.cameras }
-            requires clips { clips.now ≡ frame_clips scene.now frame }
-            requires holds { (t : ℕ) → t < tile_count_of (size_of scene.now) → V.held view.now t ≡ true }
-            requires marks { length settled.now ≡ length scene.now.objects }
-            requires right { IsMarkedRight (verdict_in scene.now frame (V.tile_of view.now)) scene.now.objects settled.now }
             requires size { IsRunSize size }
             requires means { Means P.holds
-                (IsRunOf (map (verdict_in scene.now frame (V.tile_of view.now)) scene.now.objects) size) }
+                (IsRunOf (verdicts_in asked.now.scene.now asked.now.frame (V.tile_of asked.now.view.now)) size) }
         {
             make_some(
-                rt, seats, next, &mut mine, size, scene, frame, clips, view, settled,
+                rt, seats, next, &mut mine, size, asked,
             )
         },
     );
     Ok(lock.into_inner().close(hands, mine))
 }
 
-/// The runs of all objects of a frame, made by so many threads and by the caller. Err where memory gave out. Conditions
-/// as for `verdicts`.
+/// The runs of all objects of a frame, made by so many threads and by the caller. Err where memory gave out.
 pub(crate) fn runs_by_workers<R: Threads + Wait + Sync, V: TileView + Sync>(
     rt: &R,
     alloc: Global,
-    scene: &Scene,
-    frame: u32,
-    clips: &[ClipVertex],
-    view: &V,
-    settled: &[bool],
+    asked: &Asked<V>,
     size: usize,
     threads: u32,
 ) -> Result<Vec<Run>, Memory>
-    requires frame { frame < length scene.now.cameras }
-    requires clips { clips.now ≡ frame_clips scene.now frame }
-    requires holds { (t : ℕ) → t < tile_count_of (size_of scene.now) → V.held view.now t ≡ true }
-    requires marks { length settled.now ≡ length scene.now.objects }
-    requires right { IsMarkedRight (verdict_in scene.now frame (V.tile_of view.now)) scene.now.objects settled.now }
     requires size { IsRunSize size }
     ensures { IfOk result (λ v.
-        AreRunsOf (map (verdict_in scene.now frame (V.tile_of view.now)) scene.now.objects) size v.items) }
+        AreRunsOf (verdicts_in asked.now.scene.now asked.now.frame (V.tile_of asked.now.view.now)) size v.items) }
 {
-    let slots = first_runs(alloc, object_count(scene), size)?;
+    let slots = first_runs(alloc, asked.count(), size)?;
     let blank = Blank::new(u64::from(threads) + 1);
     let slots = make_under::<Brand, R, V>(
-        rt, alloc, blank, slots, scene, frame, clips, view, settled, size, threads,
+        rt, alloc, blank, slots, asked, size, threads,
     )?;
-    all_made(alloc, slots, size, scene, frame, clips, view, settled)
+    all_made(alloc, slots, size, asked)
 }

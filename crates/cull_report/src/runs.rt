@@ -1,16 +1,14 @@
 //! Runs of a frame's objects, each with its verdicts and their lines.
-ghost use Rattle.std.specs.Prelude.{◌≡◌, ℕ, List, ◌+◌, ◌*◌, ◌-◌, ◌/◌, ◌<◌, true, map, length, IfOk};
-ghost use Rattle.cull_base.specs.Screen.{tile_count_of};
+ghost use Rattle.std.specs.Prelude.{◌≡◌, ℕ, List, ◌+◌, ◌*◌, ◌-◌, ◌/◌, ◌<◌, length, IfOk};
 ghost use Rattle.cull_base.specs.declared.scene_types.Verdict.{Verdict};
 ghost use Rattle.cull_report.specs.Runs.{AreRunsFor, IsMadeRun, IsRunOf, IsRunSize, IsWaitingRun};
-ghost use Rattle.cull_report.specs.Scene.{IsMarkedRight, size_of, frame_clips, verdict_in};
+ghost use Rattle.cull_report.specs.Scene.{verdicts_in};
 
-use crate::objects::{object_count, verdict_at};
+use crate::asked::Asked;
 use crate::report::{BATCH, push_verdict_line};
 use crate::text::Lines;
-use cull_base::{ClipVertex, Memory, Verdict};
+use cull_base::{Memory, Verdict};
 use masked_update::TileView;
-use scene_reader::Scene;
 use std::alloc::Global;
 
 /// At most so many bytes has the line of an object.
@@ -55,33 +53,24 @@ impl Run {
         })
     }
 
-    // Makes a run that waits: the verdicts of its objects, and their lines. Conditions otherwise as for `verdicts`.
+    // Makes a run that waits: the verdicts of its objects, and their lines.
     fn make<V: TileView>(
         &mut self,
         size: usize,
-        scene: &Scene,
-        frame: u32,
-        clips: &[ClipVertex],
-        view: &V,
-        settled: &[bool],
+        asked: &Asked<V>,
     )
-        requires frame { frame < length scene.now.cameras }
-        requires clips { clips.now ≡ frame_clips scene.now frame }
-        requires holds { (t : ℕ) → t < tile_count_of (size_of scene.now) → V.held view.now t ≡ true }
-        requires marks { length settled.now ≡ length scene.now.objects }
-        requires right { IsMarkedRight (verdict_in scene.now frame (V.tile_of view.now)) scene.now.objects settled.now }
         requires size { IsRunSize size }
-        requires waits { IsWaitingRun (map (verdict_in scene.now frame (V.tile_of view.now)) scene.now.objects) size self.old }
+        requires waits { IsWaitingRun (verdicts_in asked.now.scene.now asked.now.frame (V.tile_of asked.now.view.now)) size self.old }
         ensures number { self.new.number ≡ self.old.number }
-        ensures made { IsMadeRun (map (verdict_in scene.now frame (V.tile_of view.now)) scene.now.objects)
+        ensures made { IsMadeRun (verdicts_in asked.now.scene.now asked.now.frame (V.tile_of asked.now.view.now))
             size self.old.number self.new }
     {
         let mut lines = Lines::empty();
         let first = size * self.number;
-        let count = size.min(object_count(scene) as usize - first);
+        let count = size.min(asked.count() as usize - first);
         for k in 0..count {
             let object = first + k;
-            let verdict = verdict_at(scene, frame, clips, object as u32, view, settled);
+            let verdict = asked.verdict_at(object as u32);
             self.verdicts.push_reserved(verdict);
             push_verdict_line(&mut lines, object, verdict);
         }
@@ -89,31 +78,23 @@ impl Run {
             unreachable!()
         };
     }
-    /// Makes a run that isn't made yet. Conditions otherwise as for `verdicts`.
+
+    /// Makes a run that isn't made yet.
     pub(crate) fn make_unless_made<V: TileView>(
         &mut self,
         size: usize,
-        scene: &Scene,
-        frame: u32,
-        clips: &[ClipVertex],
-        view: &V,
-        settled: &[bool],
+        asked: &Asked<V>,
     )
-        requires frame { frame < length scene.now.cameras }
-        requires clips { clips.now ≡ frame_clips scene.now frame }
-        requires holds { (t : ℕ) → t < tile_count_of (size_of scene.now) → V.held view.now t ≡ true }
-        requires marks { length settled.now ≡ length scene.now.objects }
-        requires right { IsMarkedRight (verdict_in scene.now frame (V.tile_of view.now)) scene.now.objects settled.now }
         requires size { IsRunSize size }
-        requires run { IsRunOf (map (verdict_in scene.now frame (V.tile_of view.now)) scene.now.objects) size
+        requires run { IsRunOf (verdicts_in asked.now.scene.now asked.now.frame (V.tile_of asked.now.view.now)) size
             self.old.number self.old }
-        ensures run { IsRunOf (map (verdict_in scene.now frame (V.tile_of view.now)) scene.now.objects) size
+        ensures run { IsRunOf (verdicts_in asked.now.scene.now asked.now.frame (V.tile_of asked.now.view.now)) size
             self.old.number self.new }
-        ensures made { IsMadeRun (map (verdict_in scene.now frame (V.tile_of view.now)) scene.now.objects) size
+        ensures made { IsMadeRun (verdicts_in asked.now.scene.now asked.now.frame (V.tile_of asked.now.view.now)) size
             self.old.number self.new }
     {
         if self.verdicts.is_empty() {
-            self.make(size, scene, frame, clips, view, settled);
+            self.make(size, asked);
         }
     }
 }

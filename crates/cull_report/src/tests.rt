@@ -3,7 +3,7 @@ ghost use Rattle.std.specs.Prelude.{◌≡◌, ◌<◌, length, All, IfOk};
 ghost use Rattle.cull_base.specs.Screen.{tile_count_of};
 ghost use Rattle.tile_cells.specs.Standing.{AreStanding, IsReading, StandsAt};
 
-use crate::{LiveLine, object_settled, verdicts_by_workers, write_live};
+use crate::{Asked, LiveLine, object_settled, verdicts_by_workers, write_live};
 use cull_base::{
     BytesSink, FrameList, Memory, NO_PIXELS, Object, Rect, ScreenTri, SinkError, Size, SureSink,
     Verdict, Winding,
@@ -272,16 +272,14 @@ fn lines_by<R: Threads + Wait + Sync>(
     let tiles = [tile];
     let view = PlainView::new(&tiles);
     let settled = vec![in alloc; false; scene.objects().len()]?;
-    let verdicts = verdicts_by_workers(
-        rt,
-        alloc,
+    let asked = Asked {
         scene,
-        0,
-        &[],
-        &view,
-        settled.as_slice(),
-        workers,
-    )?;
+        frame: 0,
+        clips: &[],
+        view: &view,
+        settled: settled.as_slice(),
+    };
+    let verdicts = verdicts_by_workers(rt, alloc, &asked, workers)?;
     let mut sink = SureSink::new(alloc);
     verdicts.write_frame(&mut sink, 0, 2)?;
     Ok(sink)

@@ -16,6 +16,7 @@ use crate::live_frame::{Looks, draw_live};
 use crate::settings::Settings;
 use binning::batch_size;
 use cull_base::{ClipVertex, Memory, Sink};
+use cull_report::Asked;
 use scene_reader::Scene;
 use std::alloc::Global;
 use std::sync::Wait;
@@ -56,7 +57,14 @@ fn draw_plainly<R: Threads + Wait + Sync, G: Gate>(
     let bins = draw_plain_frame(rt, alloc, &list, &settings.cut, workers, batch, gate)?;
     let view = BinView::of(table, &bins, &list);
     let settled = unset_marks(alloc, scene.objects().len())?;
-    let verdicts = verdicts_over(rt, alloc, scene, frame, clips, &view, &settled, workers)?;
+    let asked = Asked {
+        scene,
+        frame,
+        clips,
+        view: &view,
+        settled: &settled,
+    };
+    let verdicts = verdicts_over(rt, alloc, &asked, workers)?;
     Ok(Frame {
         pieces: list.len(),
         verdicts,

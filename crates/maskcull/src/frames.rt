@@ -1,16 +1,15 @@
 //! A frame of a scene: its pieces, the verdicts of its objects, and the lines that are written of it.
-ghost use Rattle.std.specs.Prelude.{◌≡◌, ℕ, ◌<◌, true, length, IfOk, replicate, false};
-ghost use Rattle.cull_base.specs.Screen.{tile_count_of};
+ghost use Rattle.std.specs.Prelude.{◌≡◌, ◌<◌, length, IfOk, replicate, false};
 ghost use Rattle.cull_base.specs.Stream.{Writes};
 ghost use Rattle.scene_reader.specs.Layout.{IsScene};
-ghost use Rattle.cull_report.specs.Scene.{size_of, frame_clips, frame_list, frame_verdicts};
-ghost use Rattle.maskcull.specs.Culling.{AreSettled, TookFrame};
+ghost use Rattle.cull_report.specs.Scene.{frame_clips, frame_list, frame_verdicts};
+ghost use Rattle.maskcull.specs.Culling.{TookFrame};
 ghost use Rattle.maskcull.specs.Frames.{lines_by};
 
 use crate::summary::write_summary;
 use camera_path::{Camera, clip_into};
 use cull_base::{ClipVertex, FrameList, Memory, Sink, SinkError};
-use cull_report::{FrameVerdicts, verdicts_by_workers};
+use cull_report::{Asked, FrameVerdicts, verdicts_by_workers};
 use masked_update::TileView;
 use scene_reader::Scene;
 use snap_setup::frame_list_by_workers;
@@ -60,27 +59,17 @@ pub fn clip_frame<R: Threads + Wait + Sync>(
     clip_into(rt, &camera, scene.vertices(), clips);
 }
 
-/// The verdicts over tiles that have taken the whole frame. An object that is marked as settled isn't tested. Conditions:
-/// the view holds every tile, there is a mark for each object, and those that are marked are occluded.
+/// The verdicts of a frame's objects over tiles that have taken the whole frame, by so many workers.
 pub fn verdicts_over<R: Threads + Wait + Sync, V: TileView + Sync>(
     rt: &R,
     alloc: Global,
-    scene: &Scene,
-    frame: u32,
-    clips: &[ClipVertex],
-    view: &V,
-    settled: &[bool],
+    asked: &Asked<V>,
     workers: u32,
 ) -> Result<FrameVerdicts, Memory>
-    requires frame { frame < length scene.now.cameras }
-    requires clips { clips.now ≡ frame_clips scene.now frame }
-    requires holds { (t : ℕ) → t < tile_count_of (size_of scene.now) → V.held view.now t ≡ true }
-    requires drawn { TookFrame scene.now frame (V.tile_of view.now) }
-    requires marks { length settled.now ≡ length scene.now.objects }
-    requires right { AreSettled scene.now frame settled.now }
-    ensures { IfOk result (λ v. v ≡ frame_verdicts scene.now frame) }
+    requires { TookFrame asked.now.scene.now asked.now.frame (V.tile_of asked.now.view.now) }
+    ensures { IfOk result (λ v. v ≡ frame_verdicts asked.now.scene.now asked.now.frame) }
 {
-    verdicts_by_workers(rt, alloc, scene, frame, clips, view, settled, workers)
+    verdicts_by_workers(rt, alloc, asked, workers)
 }
 
 /// The pieces of a frame, in submission order. Its clauses alone ask for the frame's number.

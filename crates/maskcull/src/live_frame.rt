@@ -20,7 +20,7 @@ use crate::live_caller::{LiveCaller, Watched};
 use crate::settings::Settings;
 use binning::batch_size;
 use cull_base::{ClipVertex, FrameList, Memory, Sink, SinkError, TileSpan};
-use cull_report::{LiveLine, object_area, write_live};
+use cull_report::{Asked, LiveLine, object_area, write_live};
 use masked_update::{PlainView, TileState};
 use scene_reader::Scene;
 use std::alloc::Global;
@@ -178,9 +178,15 @@ pub fn draw_live<R: Threads + Wait + Sync, G: Gate>(
     let early = settings.early;
     let mut caller = make_caller(alloc, scene, frame, clips, looks, early, gate)?;
     let states = draw_in_cells(rt, alloc, settings, &list, gate, &mut caller)?;
-    let settled = &caller.settled;
     let view = PlainView::new(&states);
-    let verdicts = verdicts_over(rt, alloc, scene, frame, clips, &view, settled, workers)?;
+    let asked = Asked {
+        scene,
+        frame,
+        clips,
+        view: &view,
+        settled: &caller.settled,
+    };
+    let verdicts = verdicts_over(rt, alloc, &asked, workers)?;
     let frame = Frame {
         pieces: list.len(),
         verdicts,

@@ -1,9 +1,9 @@
-use Rattle.std.proofs.Common.{◌∷◌, [], List, length, map, get_or, arith, sym, subst, ap, ◌∙◌}
+use Rattle.std.proofs.Common.{◌∷◌, [], List, length, get_or, arith, sym, subst, ap, ◌∙◌}
 use Rattle.std.proofs.lemmas.List.{length-append}
 use Rattle.tile_cells.proofs.Lists.{pushed_at, turn}
 use Rattle.seats.proofs.First.{there_at}
 use Rattle.cull_report.specs.Runs.{IsMadeRun, IsRunOf}
-use Rattle.cull_report.specs.Scene.{verdict_in}
+use Rattle.cull_report.specs.Scene.{verdicts_in}
 use Rattle.cull_report.specs.declared.runs.Run.{Run}
 use Rattle.cull_report.proofs.run_pool.all_made.Goals as goal
 
@@ -11,7 +11,7 @@ pub made-run-requires-clause-there : goal.made-run-requires-clause-there
 made-run-requires-clause-there g c =
     let i = c.loop-slot.invariant in
     let t = turn c.args.slots.items c.loop-slot.number c.in-Some.slot _ (sym i.2 ∙ c.in-Some.ensures.steps.0) in
-    let all = map (verdict_in c.args.scene.now c.args.frame (g.V.TileView.tile_of c.args.view.now)) c.args.scene.now.objects in
+    let all = verdicts_in c.args.asked.now.scene.now c.args.asked.now.frame (g.V.TileView.tile_of c.args.asked.now.view.now) in
     there_at (IsRunOf all c.args.size) c.args.slots.items c.loop-slot.number c.in-Some.slot t.1 t.2 c.requires.slots
 
 pub loop-slot-preserved : goal.loop-slot-preserved
@@ -19,7 +19,7 @@ loop-slot-preserved g c =
     let i = c.loop-slot.invariant in
     let s = c.in-Some.ensures.steps in
     let t = turn c.args.slots.items c.loop-slot.number c.in-Some.slot _ (sym i.2 ∙ s.0) in
-    let all = map (verdict_in c.args.scene.now c.args.frame (g.V.TileView.tile_of c.args.view.now)) c.args.scene.now.objects in
+    let all = verdicts_in c.args.asked.now.scene.now c.args.asked.now.frame (g.V.TileView.tile_of c.args.asked.now.view.now) in
     let size = c.args.size in
     let items = c.push_reserved.ensures.items in
     let run = c.made-run.result in (

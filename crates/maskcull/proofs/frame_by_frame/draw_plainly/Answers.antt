@@ -4,9 +4,10 @@ use Rattle.cull_base.specs.Screen.{tile_count_of}
 use Rattle.cull_base.specs.Tiles.{PieceList, ArePieces, tile_after}
 use Rattle.cull_report.specs.Scene.{frame_list}
 use Rattle.masked_update.specs.Canvas.{CanvasOf}
-use Rattle.bin_tiles.specs.Bins.{AreBinsAt}
-use Rattle.bin_tiles.specs.BinViews.{TableOf, holds_in, tile_in_bins}
-use Rattle.bin_tiles.specs.Plain.{StandsPlain}
+use Rattle.tile_queues.specs.Bins.{AreBinsAt}
+use Rattle.tile_queues.specs.BinViews.{TableOf, holds_in, tile_in_bins}
+use Rattle.tile_queues.specs.Plain.{StandsPlain}
+use Rattle.maskcull.proofs.Marks.{none_settled, settled_over}
 use Rattle.maskcull.proofs.frame_by_frame.draw_plainly.Goals as goal
 
 pub of-view-requires-clause-size : goal.of-view-requires-clause-size
@@ -19,17 +20,26 @@ of-view-requires-clause-drawn g c =
     let cut = sym (ap (λ (t : TableOf). t.cut) c.requires.table) in
     subst (λ (x : CutOf × List CanvasOf). AreBinsAt StandsPlain (tt {0}) l x.0 (length l.members) x.1) (λ i. (cut i, sym c.deref.ensures.value i)) c.in_ok-bins.ensures.drawn
 
-pub verdicts_over-requires-clause-holds : goal.verdicts_over-requires-clause-holds
+pub invariant_of-asked-clause-holds : goal.invariant_of-asked-clause-holds
 unfolding frame_list
-verdicts_over-requires-clause-holds g c =
+invariant_of-asked-clause-holds g c =
     let v = c.of-view.result in
     let holds : (t : ℕ) → t < tile_count_of (frame_list c.args.scene.now c.args.frame).size → holds_in v.table.now v.bins.now t ≡ true =
     subst (λ (l : PieceList). (t : ℕ) → t < tile_count_of l.size → holds_in v.table.now v.bins.now t ≡ true) c.in_ok-list.ensures.list c.of-view.ensures.holds in
-    λ lifetimes within t lt. holds t lt
+    holds
 
-pub verdicts_over-requires-clause-drawn : goal.verdicts_over-requires-clause-drawn
+pub invariant_of-asked-clause-right : goal.invariant_of-asked-clause-right
 unfolding frame_list
-verdicts_over-requires-clause-drawn g c =
+invariant_of-asked-clause-right g c =
+    let s = c.args.scene.now in
+    let v = c.of-view.result in
+    let states : (let l = frame_list s c.args.frame in (t : ℕ) → t < tile_count_of l.size → (tile_in_bins v.table.now v.bins.now t).subs ≡ tile_after l.size t l.members) =
+    subst (λ (l : PieceList). (t : ℕ) → t < tile_count_of l.size → (tile_in_bins v.table.now v.bins.now t).subs ≡ tile_after l.size t l.members) c.in_ok-list.ensures.list c.of-view.ensures.states in
+    settled_over s c.args.frame (tile_in_bins v.table.now v.bins.now) _ states ?
+
+pub verdicts_over-requires-after_bounds : goal.verdicts_over-requires-after_bounds
+unfolding frame_list
+verdicts_over-requires-after_bounds g c =
     let v = c.of-view.result in
     let states : (let l = frame_list c.args.scene.now c.args.frame in (t : ℕ) → t < tile_count_of l.size → (tile_in_bins v.table.now v.bins.now t).subs ≡ tile_after l.size t l.members) =
     subst (λ (l : PieceList). (t : ℕ) → t < tile_count_of l.size → (tile_in_bins v.table.now v.bins.now t).subs ≡ tile_after l.size t l.members) c.in_ok-list.ensures.list c.of-view.ensures.states in

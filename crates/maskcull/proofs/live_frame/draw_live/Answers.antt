@@ -18,32 +18,34 @@ returns-clause-live g c =
     kept_is_live c.args.scene.now c.args.looks.rounds c.args.looks.watch c.args.frame new.watched.scene.now new.watched.frame new.watched.objects new.lines.items c.in_ok-states.ensures.done.1.0
     (kept.0 ∙ made.scene) (kept.1 ∙ made.frame) (kept.2 ∙ made.objects) (kept.3 ∙ made.lines)
 
-pub verdicts_over-requires-clause-holds : goal.verdicts_over-requires-clause-holds
+pub invariant_of-asked-clause-holds : goal.invariant_of-asked-clause-holds
 unfolding frame_list
-verdicts_over-requires-clause-holds g c =
+invariant_of-asked-clause-holds g c =
     let s = c.args.scene.now in
     let count : length c.new-view.result.states.now ≡ tile_count_of (frame_list s c.args.frame).size =
     ap length (c.new-view.ensures ∙ c.deref.ensures.value) ∙ subst (λ (l : PieceList). length c.in_ok-states.states.items ≡ tile_count_of l.size) c.in_ok-list.ensures.list c.in_ok-states.ensures.tiles in
-    λ lifetimes within t lt. let e : nat_lt t (tile_count_of (size_of s)) ≡ true = grind (arith, nat_tests) in subst (λ n. nat_lt t n ≡ true) (sym count) e
+    λ t lt. let e : nat_lt t (tile_count_of (size_of s)) ≡ true = grind (arith, nat_tests) in subst (λ n. nat_lt t n ≡ true) (sym count) e
 
-pub verdicts_over-requires-clause-drawn : goal.verdicts_over-requires-clause-drawn
+pub verdicts_over-requires-after_bounds : goal.verdicts_over-requires-after_bounds
 unfolding frame_list
-verdicts_over-requires-clause-drawn g c =
+verdicts_over-requires-after_bounds g c =
     let list = frame_list c.args.scene.now c.args.frame in
     let drawn : HaveStates list c.in_ok-states.states.items = subst (λ (l : PieceList). HaveStates l c.in_ok-states.states.items) c.in_ok-list.ensures.list c.in_ok-states.ensures.drawn in
     let seen : HaveStates list c.new-view.result.states.now = subst (λ (ts : List TileOf). HaveStates list ts) (sym (c.new-view.ensures ∙ c.deref.ensures.value)) drawn in
     λ lifetimes within t lt. seen t lt
 
-pub verdicts_over-requires-clause-right : goal.verdicts_over-requires-clause-right
-verdicts_over-requires-clause-right g c =
+pub invariant_of-asked-clause-right : goal.invariant_of-asked-clause-right
+unfolding frame_list
+invariant_of-asked-clause-right g c =
     let s = c.args.scene.now in let frame = c.args.frame in
     let new = c.draw_in_cells.new.caller in
     let kept = c.in_ok-states.ensures.keeps in
     let made = c.in_ok-caller.ensures in
     let pieces = subst (λ (l : PieceList). ArePieces l.members) c.in_ok-list.ensures.list c.in_ok-states.ensures.pieces in
-    let right : AreSettled s frame c.deref-2.result.now = rw c.deref-2.ensures.value
-    (settled_in_end s frame new.watched.scene.now new.watched.frame new.settled.items (kept.0 ∙ made.scene) (kept.1 ∙ made.frame) c.in_ok-states.ensures.done.1.1 pieces) in
-    λ lifetimes within o d lt mark. right o d lt mark
+    let settled = settled_in_end s frame new.watched.scene.now new.watched.frame new.settled.items (kept.0 ∙ made.scene) (kept.1 ∙ made.frame) c.in_ok-states.ensures.done.1.1 pieces in
+    let drawn : HaveStates (frame_list s frame) c.in_ok-states.states.items = subst (λ (l : PieceList). HaveStates l c.in_ok-states.states.items) c.in_ok-list.ensures.list c.in_ok-states.ensures.drawn in
+    let seen : HaveStates (frame_list s frame) c.new-view.result.states.now = subst (λ (ts : List TileOf). HaveStates (frame_list s frame) ts) (sym (c.new-view.ensures ∙ c.deref.ensures.value)) drawn in
+    ?
 
 pub returns-clause-valid : goal.returns-clause-valid
 returns-clause-valid g c = subst (λ (l : PieceList). ArePieces l.members) c.in_ok-list.ensures.list c.in_ok-states.ensures.pieces

@@ -12,13 +12,14 @@ some_object = Area (record { x0 = pos 0; y0 = pos 0; x1 = pos 0; y1 = pos 0 }) (
 
 pub loop-k-preserved : goal.loop-k-preserved
 loop-k-preserved g c =
-    let scene = c.args.scene.now in
-    let f = verdict_in scene c.args.frame (g.V.TileView.tile_of c.args.view.now) in
+    let asked = c.args.asked.now in
+    let scene = asked.scene.now in
+    let f = verdict_in scene asked.frame (g.V.TileView.tile_of asked.view.now) in
     let first = c.args.size * c.args.self.now.number in
     let rest = drop first (map f scene.objects) in
     let k = c.loop-k.k in
     let i = c.loop-k.invariant in
-    let lt : first + k < length scene.objects = omega (arith, c.loop-k-test.true, c.min-count.ensures, c.object_count.ensures) in
+    let lt : first + k < length scene.objects = omega (arith, c.loop-k-test.true, c.min-count.ensures, c.count.ensures) in
     let v = c.verdict_at-verdict.ensures some_object in
     record {
       verdicts_are = c.push_reserved.ensures.items ∙ ap (λ (xs : List Verdict). xs ++ c.verdict_at-verdict.result ∷ []) i.verdicts_are ∙ ap (λ (x : Verdict). take k rest ++ x ∷ []) v
