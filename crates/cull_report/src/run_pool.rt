@@ -49,8 +49,7 @@ fn make_one<P: Seating<Run>, R: Wait, V: TileView>(
     let number = next.fetch_add(1, Ordering::SeqCst) as usize;
     let Hand { share } = hand;
     let mut loan = take_from(rt, seats, share, &|_| number)?;
-    loan.task
-        .make_unless_made(size, asked);
+    loan.task.make_unless_made(size, asked);
     give_back(rt, seats, share, loan);
     Some(())
 }
@@ -69,23 +68,14 @@ fn make_some<P: Seating<Run>, R: Wait, V: TileView>(
         (IsRunOf (verdicts_in asked.now.scene.now asked.now.frame (V.tile_of asked.now.view.now)) size) }
 {
     for _ in 0..asked.count() {
-        if make_one(
-            rt, seats, next, hand, size, asked,
-        )
-        .is_none()
-        {
+        if make_one(rt, seats, next, hand, size, asked).is_none() {
             return;
         }
     }
 }
 
 // The run of a slot. It is made now, if no worker made it.
-fn made<V: TileView>(
-    slot: Option<Loan<Run>>,
-    _number: usize,
-    size: usize,
-    asked: &Asked<V>,
-) -> Run
+fn made<V: TileView>(slot: Option<Loan<Run>>, _number: usize, size: usize, asked: &Asked<V>) -> Run
     requires size { IsRunSize size }
     requires there { MatchOption slot ⊥ (λ l.
         IsRunOf (verdicts_in asked.now.scene.now asked.now.frame (V.tile_of asked.now.view.now)) size _number l.task) }
@@ -155,20 +145,12 @@ fn make_under<P: Seating<Run> + Send, R: Threads + Wait + Sync, V: TileView + Sy
             requires size { IsRunSize size }
             requires means { Means P.holds
                 (IsRunOf (verdicts_in asked.now.scene.now asked.now.frame (V.tile_of asked.now.view.now)) size) }
-        {
-            make_some(
-                rt, seats, next, hand, size, asked,
-            )
-        },
+        { make_some(rt, seats, next, hand, size, asked) },
         &mut ||
             requires size { IsRunSize size }
             requires means { Means P.holds
                 (IsRunOf (verdicts_in asked.now.scene.now asked.now.frame (V.tile_of asked.now.view.now)) size) }
-        {
-            make_some(
-                rt, seats, next, &mut mine, size, asked,
-            )
-        },
+        { make_some(rt, seats, next, &mut mine, size, asked) },
     );
     Ok(lock.into_inner().close(hands, mine))
 }
@@ -187,8 +169,6 @@ pub(crate) fn runs_by_workers<R: Threads + Wait + Sync, V: TileView + Sync>(
 {
     let slots = first_runs(alloc, asked.count(), size)?;
     let blank = Blank::new(u64::from(threads) + 1);
-    let slots = make_under::<Brand, R, V>(
-        rt, alloc, blank, slots, asked, size, threads,
-    )?;
+    let slots = make_under::<Brand, R, V>(rt, alloc, blank, slots, asked, size, threads)?;
     all_made(alloc, slots, size, asked)
 }

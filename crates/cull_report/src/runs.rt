@@ -54,11 +54,7 @@ impl Run {
     }
 
     // Makes a run that waits: the verdicts of its objects, and their lines.
-    fn make<V: TileView>(
-        &mut self,
-        size: usize,
-        asked: &Asked<V>,
-    )
+    fn make<V: TileView>(&mut self, size: usize, asked: &Asked<V>)
         requires size { IsRunSize size }
         requires waits { IsWaitingRun (verdicts_in asked.now.scene.now asked.now.frame (V.tile_of asked.now.view.now)) size self.old }
         ensures number { self.new.number ≡ self.old.number }
@@ -80,11 +76,7 @@ impl Run {
     }
 
     /// Makes a run that isn't made yet.
-    pub(crate) fn make_unless_made<V: TileView>(
-        &mut self,
-        size: usize,
-        asked: &Asked<V>,
-    )
+    pub(crate) fn make_unless_made<V: TileView>(&mut self, size: usize, asked: &Asked<V>)
         requires size { IsRunSize size }
         requires run { IsRunOf (verdicts_in asked.now.scene.now asked.now.frame (V.tile_of asked.now.view.now)) size
             self.old.number self.old }

@@ -3,11 +3,11 @@ use Rattle.std.proofs.lemmas.Bool.Decides.{nat_tests}
 use Rattle.cull_base.specs.Tiles.{PieceList, ArePieces}
 use Rattle.cull_base.specs.Screen.{tile_count_of}
 use Rattle.tile_queues.specs.Frames.{HaveStates}
-use Rattle.masked_update.specs.TileOf.{TileOf}
+use Rattle.masked_update.specs.TileOf.{TileOf, tile_at}
 use Rattle.cull_report.specs.Scene.{frame_list, size_of}
 use Rattle.maskcull.specs.Culling.{AreSettled}
 use Rattle.maskcull.proofs.LiveTexts.{kept_is_live}
-use Rattle.maskcull.proofs.Marks.{settled_in_end}
+use Rattle.maskcull.proofs.Marks.{settled_in_end, settled_over}
 use Rattle.maskcull.proofs.live_frame.draw_live.Goals as goal
 
 pub returns-clause-live : goal.returns-clause-live
@@ -45,7 +45,7 @@ invariant_of-asked-clause-right g c =
     let settled = settled_in_end s frame new.watched.scene.now new.watched.frame new.settled.items (kept.0 ∙ made.scene) (kept.1 ∙ made.frame) c.in_ok-states.ensures.done.1.1 pieces in
     let drawn : HaveStates (frame_list s frame) c.in_ok-states.states.items = subst (λ (l : PieceList). HaveStates l c.in_ok-states.states.items) c.in_ok-list.ensures.list c.in_ok-states.ensures.drawn in
     let seen : HaveStates (frame_list s frame) c.new-view.result.states.now = subst (λ (ts : List TileOf). HaveStates (frame_list s frame) ts) (sym (c.new-view.ensures ∙ c.deref.ensures.value)) drawn in
-    ?
+    rw c.deref-2.ensures.value (settled_over s frame (λ t. tile_at c.new-view.result.states.now t) new.settled.items seen settled)
 
 pub returns-clause-valid : goal.returns-clause-valid
 returns-clause-valid g c = subst (λ (l : PieceList). ArePieces l.members) c.in_ok-list.ensures.list c.in_ok-states.ensures.pieces
