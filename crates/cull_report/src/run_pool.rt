@@ -22,7 +22,8 @@ use std::thread::Threads;
 fn first_runs(alloc: Global, objects: u32, size: usize) -> Result<Vec<Option<Loan<Run>>>, Memory>
     requires { IsRunSize size }
     ensures count { IfOk result (λ v. AreRunsFor objects size (vec_len v)) }
-    ensures slots { IfOk result (λ v. (all : List Verdict) → length all ≡ objects → AreAllSeated (IsRunOf all size) v.items) }
+    ensures slots { IfOk result (λ v. (all : List Verdict) → length all ≡ objects
+        → AreAllSeated (IsRunOf all size) v.items) }
 {
     let count = run_count(objects, size);
     let mut slots = Vec::with_capacity(alloc, count).map_err(|_| Memory)?;
@@ -79,7 +80,8 @@ fn made<V: TileView>(slot: Option<Loan<Run>>, _number: usize, size: usize, asked
     requires size { IsRunSize size }
     requires there { MatchOption slot ⊥ (λ l.
         IsRunOf (verdicts_in asked.now.scene.now asked.now.frame (V.tile_of asked.now.view.now)) size _number l.task) }
-    ensures { IsMadeRun (verdicts_in asked.now.scene.now asked.now.frame (V.tile_of asked.now.view.now)) size _number result }
+    ensures { IsMadeRun (verdicts_in asked.now.scene.now asked.now.frame (V.tile_of asked.now.view.now))
+        size _number result }
 {
     let mut run = slot.unwrap().task;
     run.make_unless_made(size, asked);

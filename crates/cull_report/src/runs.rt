@@ -56,7 +56,8 @@ impl Run {
     // Makes a run that waits: the verdicts of its objects, and their lines.
     fn make<V: TileView>(&mut self, size: usize, asked: &Asked<V>)
         requires size { IsRunSize size }
-        requires waits { IsWaitingRun (verdicts_in asked.now.scene.now asked.now.frame (V.tile_of asked.now.view.now)) size self.old }
+        requires waits { IsWaitingRun (verdicts_in asked.now.scene.now asked.now.frame (V.tile_of asked.now.view.now))
+            size self.old }
         ensures number { self.new.number ≡ self.old.number }
         ensures made { IsMadeRun (verdicts_in asked.now.scene.now asked.now.frame (V.tile_of asked.now.view.now))
             size self.old.number self.new }
