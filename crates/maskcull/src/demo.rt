@@ -6,13 +6,13 @@ ghost use Rattle.demo_scene.specs.Demo.{demo_of};
 ghost use Rattle.maskcull.specs.Summary.{summary_text};
 ghost use Rattle.maskcull.specs.Words.{AreInRange};
 
-use demo_scene::demo_scene;
 use crate::failure::Failure;
 use crate::frame_by_frame::report_frames;
 use crate::frames::FrameLines;
 use crate::settings::Settings;
 use crate::summary::write_demo_line;
 use cull_base::Sink;
+use demo_scene::demo_scene;
 use std::alloc::Global;
 use std::sync::Wait;
 use std::thread::Threads;

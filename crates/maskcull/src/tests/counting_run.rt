@@ -1,7 +1,6 @@
 //! A run whose gate counts what it is asked: each bin draws each piece that meets it, once in each frame.
 ghost use Rattle.std.specs.Prelude.{◌<◌, length};
 
-use demo_scene::demo_scene;
 use crate::failure::Status;
 use crate::frames::pieces_of;
 use crate::run::run;
@@ -9,6 +8,7 @@ use crate::tests::frame_tools::clips_of;
 use crate::tests::scenes::{run_with, words};
 use binning::{Cut, bin_batch};
 use cull_base::{BytesSource, SureSink};
+use demo_scene::demo_scene;
 use scene_reader::Scene;
 use std::alloc::{AllocError, Global};
 use std::process::Abort;

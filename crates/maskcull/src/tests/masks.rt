@@ -1,9 +1,9 @@
 //! The coverage masks of a frame's pieces, beside a plain loop over the samples.
 ghost use Rattle.std.specs.Prelude.{◌<◌};
 
-use demo_scene::demo_scene;
 use crate::frames::{clip_frame, pieces_of};
 use cull_base::{ClipVertex, FrameList, Memory, ScreenTri, Side, Sub};
+use demo_scene::demo_scene;
 use edge_lanes::Edges;
 use std::alloc::Global;
 use std::process::Abort;
