@@ -11,9 +11,10 @@ from .scene import FAR, MOST_FRAMES, MOST_OCCLUDERS, NARROW_TOP, WIDE_TOP, Scene
 
 # The near distance, where none is asked for, and the side of a cell: these parts of the model's diagonal.
 NEAR_PART, CELL_PART = 1000, 16
-# The scene's 0, 0, 0 lies so many units below the model and the eyes on each axis: a change of one in a camera's row
-# then moves the sum at the eye by a part of a unit that differs from axis to axis, which `views` makes use of.
+# The scene's 0, 0, 0 lies so many units off the middle of the model and the eyes on each axis, so that an eye in the
+# middle has no small numbers: a change of one in a camera's row then moves the row's sum there, which `views` needs.
 MARGIN = 40503
+MOST_METRES = 1e15
 FINENESSES = (4, 2, 1)
 
 
@@ -55,7 +56,9 @@ def convert(model, asked):
     if not points:
         raise ModelError("The model has no mesh with a point in the scene that it shows.")
     box = transforms.bounds(points)
+    test_reach("The model", box)
     seen = chosen_views(model, asked, box)
+    test_reach("A view", [view.eye for view in seen])
     diagonal = math.dist(*box)
     near = asked.near or diagonal / NEAR_PART or 1.0
     chosen, notes = chosen_occluders(model, asked, [view.eye for view in seen], diagonal)
@@ -73,6 +76,12 @@ def convert(model, asked):
     )
     notes = model.notes + notes + objects.notes
     return Converted(scene, names_of(model, frame, objects.things, seen), notes)
+
+
+def test_reach(what, points):
+    """Refuses places whose distances couldn't be told exactly enough any more."""
+    if not all(abs(part) < MOST_METRES for point in points for part in point):
+        raise ModelError(f"{what} reaches further than {MOST_METRES:.0e} metres from the middle.")
 
 
 def chosen_views(model, asked, box):
@@ -129,24 +138,29 @@ def drawn(occluders, frame, vertices, asked):
 
 def fitting_frame(near, box, seen, aspect):
     """The finest units in which the model and the eyes fit a scene, and the cameras in these units."""
-    low, high = transforms.bounds([*box, *(view.eye for view in seen)])
+    ends = transforms.bounds([*box, *(view.eye for view in seen)])
+    fitting = finest_frame(near, ends, seen, aspect)
+    if fitting:
+        return fitting
+    reach = max(b - a for a, b in zip(*ends))
+    enough = next((near * 2**k for k in range(1, 60) if finest_frame(near * 2**k, ends, seen, aspect)), None)
+    advice = f"take --near {enough:.3g}" if enough else "take a much larger --near"
+    raise ModelError(
+        f"The model and the eyes reach over {reach:.6g} metres, which is too far for a near distance of {near:.6g}"
+        f" and this field of view: {advice}."
+    )
+
+
+def finest_frame(near, ends, seen, aspect):
+    """The finest units for some near distance, with the cameras, or None where none fit."""
     for fineness in FINENESSES:
-        frame = views.Frame(near, fineness, low)
-        frame.origin = tuple(part - MARGIN / frame.scale for part in low)
-        greatest, = frame.vertices([high], math.ceil)
-        if max(greatest) <= FAR:
-            try:
-                return frame, [frame.camera(view, aspect) for view in seen]
-            except ModelError as error:
-                refusal = error
-        else:
-            reach = max(b - a for a, b in zip(low, high))
-            least = reach * views.NEAR_UNITS / (FAR - MARGIN)
-            refusal = ModelError(
-                f"The model and the eyes reach over {reach:.6g} metres, which is too far for a near distance of"
-                f" {near:.6g}: take --near {least * 1.01:.3g} or more."
-            )
-    raise refusal
+        frame = views.Frame(near, fineness, ends[0])
+        frame.origin = tuple((a + b) / 2 + MARGIN / frame.scale for a, b in zip(*ends))
+        if all(abs(part) < FAR for corner in frame.vertices(ends) for part in corner):
+            cameras = [frame.camera(view, aspect) for view in seen]
+            if all(abs(number) <= FAR for camera in cameras for number in camera):
+                return frame, cameras
+    return None
 
 
 def names_of(model, frame, things, seen):

@@ -56,6 +56,20 @@ class Lens:
         made = (turned(points[0], *pair, winding) for pair in zip(points[1:], points[2:]))
         return [piece for piece in made if piece]
 
+    def pieces_of_all(self, clips, triangles, winding=0):
+        """The pieces of triangles by the numbers of their vertices, one triangle after another."""
+        # most vertices are before the near plane and within the guard, and are shared: these are snapped once
+        near, pieces = self.near, []
+        points = [self.snapped(*v) if v[2] >= near and not self.is_past_guard(*v) else None for v in clips]
+        for a, b, c in triangles:
+            if points[a] and points[b] and points[c]:
+                piece = turned(points[a], points[b], points[c], winding)
+                if piece:
+                    pieces.append(piece)
+            else:
+                pieces += self.pieces((clips[a], clips[b], clips[c]), winding)
+        return pieces
+
 
 def turned(a, b, c, winding):
     """Three points as a clockwise piece, or None where they have no area or the winding drops them."""
@@ -72,8 +86,7 @@ def frame_pieces(scene, frame):
     lens, clips = Lens(scene), scene.clips(frame, scene.vertices)
     pieces, first = [], 0
     for count, winding in scene.batches:
-        for a, b, c in scene.occluders[first : first + count]:
-            pieces += lens.pieces((clips[a], clips[b], clips[c]), winding)
+        pieces += lens.pieces_of_all(clips, scene.occluders[first : first + count], winding)
         first += count
     return pieces
 
@@ -103,10 +116,9 @@ class Edges:
         return begin, end
 
 
-def rows_of(piece, height):
-    """The rows whose samples a piece may have."""
-    downs = [point[1] for point in piece]
-    return range(max(0, -((8 - min(downs)) // 16)), min(height, (max(downs) - 8) // 16 + 1))
+def samples_between(places, count):
+    """The rows or the columns, of so many, whose samples lie between the least and the greatest of some places."""
+    return range(max(0, (min(places) + 7) // 16), min(count, (max(places) + 8) // 16))
 
 
 def plane_of(piece):
@@ -121,9 +133,13 @@ def plane_of(piece):
 
 def spans_of(piece, size, is_object=False):
     """For each row of samples that a piece has: the row, the first pixel, and the depths there, rounded up."""
+    acrosses, downs, _ = zip(*piece)
+    rows = samples_between(downs, size[1])
+    if not rows or not samples_between(acrosses, size[0]):
+        return
     across, down, level, area = plane_of(piece)
     edges, step = Edges(piece, is_object), -16 * across
-    for row in rows_of(piece, size[1]):
+    for row in rows:
         begin, end = edges.span(row, size[0])
         if begin < end:
             first = -(across * (16 * begin + 8) + down * (16 * row + 8) + level)

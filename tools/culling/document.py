@@ -4,13 +4,13 @@ Whatever a file holds, it is refused by a `ModelError` whose text is a sentence;
 import base64
 import binascii
 import json
-import math
 import pathlib
 import struct
 import urllib.parse
 
 MAGIC, JSON_CHUNK, BIN_CHUNK = b"glTF", 0x4E4F534A, 0x004E4942
 REQUIRED = object()
+MOST_REAL = 1e30
 
 
 class ModelError(Exception):
@@ -84,7 +84,7 @@ def is_whole(value):
 
 
 def is_real(value):
-    return isinstance(value, (int, float)) and not isinstance(value, bool) and math.isfinite(value)
+    return isinstance(value, (int, float)) and not isinstance(value, bool) and -MOST_REAL < value < MOST_REAL
 
 
 def are_wholes(value):

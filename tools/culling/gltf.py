@@ -3,7 +3,7 @@ import dataclasses
 
 from . import transforms
 from .accessors import INDEX_COMPONENTS, read_accessor, read_scalars
-from .document import Document, ModelError
+from .document import MOST_REAL, Document, ModelError
 
 POINTS, TRIANGLES, STRIP, FAN = 0, 4, 5, 6
 JOINT_COMPONENTS = (5121, 5123)
@@ -77,6 +77,8 @@ class Model:
                 raise ModelError(f"{node.label} has two parents, or is below itself.")
             seen.add(number)
             self.places[number] = transforms.product(above, place_of(node))
+            if not all(abs(part) < MOST_REAL for part in self.places[number]):
+                raise ModelError(f"{node.label} is moved or scaled past all bounds.")
             order.append((number, node))
             waiting += [(child, node, self.places[number]) for child in reversed(node.wholes("children"))]
         for number, node in order:
@@ -159,6 +161,7 @@ class Model:
         for weight, target in zip(weights, primitive.entries("targets", "target")):
             if weight and target.has("POSITION"):
                 steps = read_accessor(self.document, target.whole("POSITION"), target, "VEC3")
+                test_counts(target, points, steps)
                 points = [tuple(p + weight * s for p, s in zip(*pair)) for pair in zip(points, steps)]
         return points
 
@@ -187,6 +190,7 @@ class Model:
         skin = document.pick("skins", "skin", node.whole("skin"), node)
         joints = read_accessor(document, attributes.whole("JOINTS_0"), attributes, "VEC4", JOINT_COMPONENTS)
         weights = read_accessor(document, attributes.whole("WEIGHTS_0"), attributes, "VEC4")
+        test_counts(attributes, points, joints, weights)
         maps = self.joint_maps(skin)
         if joints and max(map(max, joints)) >= len(maps):
             raise ModelError(f"{primitive.label} names joint {max(map(max, joints))}, and there are {len(maps)}.")
@@ -267,6 +271,13 @@ def triangles_by(mode, numbers):
         return [(b, c, numbers[0]) for b, c in zip(numbers[1:], numbers[2:])]
     rows = enumerate(zip(numbers, numbers[1:], numbers[2:]))
     return [(a, c, b) if place % 2 else (a, b, c) for place, (a, b, c) in rows]
+
+
+def test_counts(owner, points, *others):
+    """Refuses other numbers of a primitive that aren't as many as its points."""
+    for other in others:
+        if len(other) != len(points):
+            raise ModelError(f"{owner.label} have {len(points)} points, and {len(other)} of something else for them.")
 
 
 def skinned(point, weighted):

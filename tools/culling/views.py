@@ -11,7 +11,7 @@ import math
 
 from . import transforms
 from .document import ModelError
-from .scene import FAR, msoc
+from .scene import msoc
 
 NEAR_UNITS = 1024
 # How many near distances off the middle of a row and its turn weigh the same.
@@ -116,11 +116,7 @@ class Frame:
         """The twelve numbers of a view."""
         eye, = self.vertices([view.eye])
         rays = view.corners(aspect)
-        rows = [self.row(direction, eye, rays) for direction in view.directions(aspect)]
-        numbers = tuple(number for row in rows for number in row)
-        if any(abs(number) > FAR for number in numbers):
-            raise ModelError(f"The view {view.name} is too narrow, or too far from the model, for a scene's numbers.")
-        return numbers
+        return tuple(number for direction in view.directions(aspect) for number in self.row(direction, eye, rays))
 
     def row(self, direction, eye, rays):
         """The four numbers of a row: see the head of this file."""
