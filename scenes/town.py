@@ -21,7 +21,7 @@ MATERIALS = [
     {"name": "glass", "alphaMode": "BLEND"},
     {"name": "leaves", "alphaMode": "MASK", "doubleSided": True},
 ]
-FLOAT, SHORT, TRIANGLES = 5126, 5123, 4
+FLOAT, SHORT, LONG, TRIANGLES = 5126, 5123, 5125, 4
 # The faces of a block by its corners: bit 0, 1 and 2 of a corner's number take the greater x, y and z.
 FACES = ((0, 4, 6, 2), (1, 3, 7, 5), (0, 1, 5, 4), (2, 6, 7, 3), (0, 2, 3, 1), (4, 5, 7, 6))
 
@@ -84,8 +84,9 @@ class Builder:
         kind = {"componentType": FLOAT, "type": "VEC3", "count": len(shape.points)}
         ends = {"min": list(map(min, columns)), "max": list(map(max, columns))}
         points = self.store(packed, **kind, **ends)
-        packed = struct.pack(f"<{len(shape.indices)}H", *shape.indices)
-        indices = self.store(packed, componentType=SHORT, type="SCALAR", count=len(shape.indices))
+        form, component = ("H", SHORT) if len(shape.points) < 65536 else ("I", LONG)
+        packed = struct.pack(f"<{len(shape.indices)}{form}", *shape.indices)
+        indices = self.store(packed, componentType=component, type="SCALAR", count=len(shape.indices))
         return {"attributes": {"POSITION": points}, "indices": indices, "material": material, "mode": TRIANGLES}
 
     def mesh(self, name, *shapes):

@@ -1,0 +1,287 @@
+#!/usr/bin/env python3
+"""How much of what is truly hidden a built maskcull finds, and what that hangs on.
+
+usage: bench/quality.py PROGRAM                      the tables of docs/OCCLUDERS.md, from two models that it makes
+       bench/quality.py PROGRAM --only order,passes  some of them: which, number, order, passes, sides, objects, near,
+                                                     size, when
+       bench/quality.py PROGRAM --scene FILE..       scenes of yours, a row each
+
+An object is truly hidden in a frame where each of its samples lies behind the picture of all that the model draws: one
+depth for each sample, by a z-buffer in plain Python (`tools/culling/depths.py`). "Found" is the share of these that
+the program calls occluded. "Holes" counts what it calls occluded and isn't hidden: none, as long as what hides is a
+part of what is drawn. Pieces are those of a frame on average. Nothing here is a time, so the machine doesn't matter. All tables take some minutes."""
+import argparse
+import dataclasses
+import pathlib
+import re
+import subprocess
+import sys
+import tempfile
+
+TOP = pathlib.Path(__file__).resolve().parent.parent
+sys.path[:0] = [str(TOP / "tools"), str(TOP / "scenes")]
+from culling import transforms  # noqa: E402
+from culling.convert import Asked, convert  # noqa: E402
+from culling.depths import buffer_of  # noqa: E402
+from culling.gltf import Material, Model, Part, Surface  # noqa: E402
+from culling.scene import read_report, read_scene  # noqa: E402
+from culling.truth import hidden_objects  # noqa: E402
+from town import block  # noqa: E402
+
+BUILDING = "walls|roof|ground"
+
+
+@dataclasses.dataclass
+class Outcome:
+    """Sums over the frames of a scene."""
+
+    occluders: int
+    pieces: int
+    in_view: int
+    hidden: int
+    found: int
+    holes: int
+
+    def row(self, name):
+        return [name, f"{self.occluders:,}", f"{self.pieces:,}", f"{percent(self.found, self.hidden)}", str(self.holes)]
+
+
+def percent(part, whole):
+    return f"{100 * part / whole:.1f} %" if whole else "none hidden"
+
+
+def truths(scene):
+    """For each frame, for each object, whether it is truly hidden by what the scene draws."""
+    return [hidden_objects(scene, frame, buffer_of(scene, frame)[0]) for frame in range(len(scene.cameras))]
+
+
+def reports(program, scene):
+    """What a program tells of each frame."""
+    run = subprocess.run([program, "cull"], input=scene.as_bytes(), stdout=subprocess.PIPE, check=True)
+    return read_report(run.stdout.decode(), scene)
+
+
+def outcome(scene, told, truth):
+    """The sums of what was told, against what is so. The objects of both are the same."""
+    pairs = [
+        (verdict, is_hidden)
+        for frame, row in zip(told, truth) for verdict, is_hidden in zip(frame.verdicts, row)
+    ]
+    return Outcome(
+        len(scene.occluders),
+        round(sum(frame.pieces for frame in told) / len(told)),
+        sum(verdict != "outside" for verdict, _ in pairs),
+        sum(is_hidden for _, is_hidden in pairs),
+        sum(is_hidden and verdict == "occluded" for verdict, is_hidden in pairs),
+        sum(not is_hidden and verdict == "occluded" for verdict, is_hidden in pairs),
+    )
+
+
+class Subject:
+    """A model, and what is truly hidden in it where all that is opaque is drawn."""
+
+    def __init__(self, name, path, program):
+        self.name, self.model, self.program = name, Model(path), program
+        # a scene has no room for more triangles; the few that are left out here are left out everywhere
+        self.whole = convert(self.model, Asked()).scene
+        self.truth = truths(self.whole)
+
+    def judged(self, model=None, **asked):
+        """The outcome of a conversion, against what is hidden when all is drawn."""
+        scene = convert(model or self.model, Asked(**asked)).scene
+        return outcome(scene, reports(self.program, scene), self.truth)
+
+    def judged_alone(self, model=None, **asked):
+        """The outcome of a conversion whose views or objects are others, against its own truth."""
+        scene = convert(model or self.model, Asked(**asked)).scene
+        return outcome(scene, reports(self.program, scene), truths(scene))
+
+
+def table(title, head, rows):
+    """A table as docs/OCCLUDERS.md has it."""
+    print(f"\n{title}\n")
+    print("| " + " | ".join(head) + " |")
+    print("|---" * len(head) + "|")
+    for row in rows:
+        print("| " + " | ".join(row) + " |", flush=True)
+
+
+USUAL = ("occluders", "occluder triangles", "pieces a frame", "found", "holes")
+
+
+def with_boxes(model):
+    """The model with a part more for each house: the box around its walls, as something that hides."""
+    boxes = [boxed(part) for part in model.parts if part.name.startswith("walls")]
+    return changed(model, model.parts + boxes)
+
+
+def changed(model, parts):
+    """A model with other parts."""
+    other = object.__new__(Model)
+    other.__dict__.update(model.__dict__, parts=parts)
+    return other
+
+
+def boxed(part):
+    """The box around a part."""
+    shape = block(*transforms.bounds([point for surface in part.surfaces for point in surface.points]))
+    corners = iter(shape.indices)
+    return Part(f"box of {part.name}", "box", [Surface(shape.points, list(zip(corners, corners, corners)), Material())], False)
+
+
+def which(town, hills):
+    """Which triangles hide."""
+    rows = [town.judged().row("all that is opaque")]
+    rows.append(town.judged(occluders=BUILDING).row("walls, roofs and the ground"))
+    rows.append(town.judged(occluders="walls").row("walls alone"))
+    rows.append(town.judged(occluders="roof|ground").row("roofs, floors and the ground alone"))
+    rows.append(town.judged(clear=BUILDING).row("furniture, cars and trunks alone"))
+    table("Which triangles, in the town:", USUAL, rows)
+    # the boxes stand behind the other objects in the scene, so that the truth's objects are the first ones
+    model = with_boxes(town.model)
+    scene = convert(model, Asked(occluders="^box of|roof|ground")).scene
+    told = reports(town.program, scene)
+    for frame in told:
+        del frame.verdicts[len(town.truth[0]) :]
+    row = outcome(scene, told, town.truth).row("a box around each house's walls, roofs, the ground")
+    table("Around the surface in place of inside it, in the town:", USUAL, [rows[1], row])
+
+
+def number(town, hills):
+    """How many, the largest first."""
+    for subject in (town, hills):
+        rows = [subject.judged(keep=keep).row(f"the {keep:,} largest") for keep in (500, 2000, 8000, 20000)]
+        table(f"How many, in the {subject.name}:", USUAL, rows + [subject.judged().row("all")])
+
+
+def order(town, hills):
+    """In which order."""
+    for subject in (town, hills):
+        rows = [subject.judged(order=name).row(f"`--order {name}`") for name in ("file", "near", "area", "cells")]
+        table(f"In which order, in the {subject.name}:", USUAL, rows)
+
+
+def passes(town, hills):
+    """More than once. What fits three times is taken."""
+    for subject, keep in ((town, 20000), (hills, 20000)):
+        for way in ("file", "near"):
+            rows = [subject.judged(passes=count, keep=keep, order=way).row(f"`--passes {count}`") for count in (1, 2, 3)]
+            table(f"The list more than once, the {keep:,} largest by `--order {way}`, in the {subject.name}:", USUAL, rows)
+
+
+def sides(town, hills):
+    """Closed shapes from one side."""
+    rows = [town.judged(occluders=BUILDING, sides=way).row(f"`--sides {way}`") for way in ("material", "both")]
+    table("One side or both, walls, roofs and the ground of the town:", USUAL, rows)
+
+
+def of_house(name):
+    """The house that a piece of furniture stands in, or None."""
+    found = re.fullmatch(r".* in room \d of house (\d+)", name)
+    return found and int(found[1])
+
+
+def grouped(model):
+    """The model's furniture as one part for each house."""
+    houses = {}
+    for part in model.parts:
+        if (house := of_house(part.name)) is not None:
+            houses.setdefault(house, []).extend(part.surfaces)
+    return changed(model, [Part(f"house {house}", "", surfaces, False) for house, surfaces in sorted(houses.items())])
+
+
+def objects(town, hills):
+    """Furniture as boxes, as meshes, and as one box for each house: triangles that hide are the same."""
+    wholes = [part for part in town.model.parts if of_house(part.name) is not None]
+    building = [part for part in town.model.parts if re.search(BUILDING, part.name)]
+    rows = []
+    for name, parts, kind in (("boxes", wholes, "box"), ("meshes", wholes, "mesh"),
+                              ("a box for each house", grouped(town.model).parts, "box")):
+        # walls are objects too here, behind the others; they aren't counted
+        model = changed(town.model, parts + building)
+        scene = convert(model, Asked(occluders=BUILDING, objects=kind)).scene
+        told, truth = reports(town.program, scene), truths(scene)
+        for frame, row in zip(told, truth):
+            del frame.verdicts[len(parts) :], row[len(parts) :]
+        sums = outcome(scene, told, truth)
+        rows.append([name, f"{sums.in_view:,}", f"{sums.hidden:,}", f"{sums.found:,}", percent(sums.found, sums.in_view)])
+    head = ("tested as", "in view, over all frames", "truly hidden", "found", "found, of what is in view")
+    table("The town's furniture as boxes, meshes and groups:", head, rows)
+
+
+def near(town, hills):
+    """The near distance."""
+    rows = []
+    for metres in (0.02, 0.1, 0.3, 1, 3):
+        sums = town.judged_alone(occluders=BUILDING, near=metres)
+        # one step of nearness at 50 metres, in metres
+        step = 50**2 / (65535 * metres)
+        rows.append([f"{metres} m", f"{step:.2f} m", f"{sums.hidden:,}", f"{sums.found:,}", percent(sums.found, sums.in_view)])
+    head = ("near distance", "one step of nearness at 50 m", "truly hidden", "found", "found, of what is in view")
+    table("The near distance, in the town (walls, roofs and the ground):", head, rows)
+
+
+def size(town, hills):
+    """The screen's size."""
+    for subject, asked in ((town, {"occluders": BUILDING}), (hills, {"order": "near"})):
+        truth, rows = None, []
+        for wide, high in ((1280, 720), (640, 360), (320, 180), (160, 88)):
+            scene = convert(subject.model, Asked(size=(wide, high), **asked)).scene
+            truth = truth or truths(scene)
+            sums = outcome(scene, reports(subject.program, scene), truth)
+            rows.append([f"{wide} by {high}", percent(sums.found, sums.hidden), str(sums.holes)])
+        head = ("screen", "found, of what is hidden at 1280 by 720", "called occluded, and not hidden there")
+        table(f"The screen's size, in the {subject.name}:", head, rows)
+
+
+def when(town, hills):
+    """Frame by frame: where there is something to find."""
+    scene = convert(town.model, Asked(occluders=BUILDING)).scene
+    told, rows = reports(town.program, scene), []
+    for name, frames in (("in a street", range(8)), ("across streets", range(8, 11)), ("in a house", range(11, 13)), ("over the roofs", range(13, 16))):
+        sums = outcome(scene, [told[frame] for frame in frames], [town.truth[frame] for frame in frames])
+        rows.append([name, f"{sums.in_view // len(frames):,}", percent(sums.hidden, sums.in_view), percent(sums.found, sums.in_view)])
+    table("Where one stands, in the town:", ("the eye is", "in view, a frame", "truly hidden", "found, of what is in view"), rows)
+
+
+TABLES = {table.__name__: table for table in (which, number, order, passes, sides, objects, near, size, when)}
+
+
+def made(name, room, program):
+    """One of the two models."""
+    path = pathlib.Path(room) / f"{name}.glb"
+    subprocess.run([sys.executable, TOP / "scenes" / f"{name}.py", path], check=True)
+    return Subject(name, path, program)
+
+
+def own_scenes(program, paths):
+    rows = []
+    for path in paths:
+        scene = read_scene(pathlib.Path(path).read_bytes())
+        run = subprocess.run([program, "cull"], input=pathlib.Path(path).read_bytes(), stdout=subprocess.PIPE, check=True)
+        sums = outcome(scene, read_report(run.stdout.decode(), scene), truths(scene))
+        rows.append([*sums.row(path), f"{sums.in_view:,}", f"{sums.hidden:,}"])
+    table("Scenes:", (*USUAL, "in view", "truly hidden"), rows)
+
+
+def main():
+    parser = argparse.ArgumentParser(description=__doc__, formatter_class=argparse.RawDescriptionHelpFormatter)
+    parser.add_argument("program")
+    parser.add_argument("--only", default=",".join(TABLES))
+    parser.add_argument("--scene", nargs="+")
+    words = parser.parse_args()
+    program = str(pathlib.Path(words.program).resolve())
+    if words.scene:
+        own_scenes(program, words.scene)
+        return
+    with tempfile.TemporaryDirectory() as room:
+        subjects = [made(name, room, program) for name in ("town", "hills")]
+        for subject in subjects:
+            sums = outcome(subject.whole, reports(program, subject.whole), subject.truth)
+            print(f"{subject.name}: {len(subject.truth)} frames, {len(subject.whole.objects)} objects, {sums.in_view:,} in view over all frames, {sums.hidden:,} of them truly hidden")
+        for name in words.only.split(","):
+            TABLES[name](*subjects)
+
+
+if __name__ == "__main__":
+    main()
