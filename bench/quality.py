@@ -238,7 +238,7 @@ def when(town, hills):
     """Frame by frame: where there is something to find."""
     scene = convert(town.model, Asked(occluders=BUILDING)).scene
     told, rows = reports(town.program, scene), []
-    for name, frames in (("in a street", range(8)), ("across streets", range(8, 11)), ("in a house", range(11, 13)), ("over the roofs", range(13, 16))):
+    for name, frames in (("in a street", range(7)), ("across streets", range(7, 10)), ("in a house", range(10, 13)), ("over the roofs", range(13, 16))):
         sums = outcome(scene, [told[frame] for frame in frames], [town.truth[frame] for frame in frames])
         rows.append([name, f"{sums.in_view // len(frames):,}", percent(sums.hidden, sums.in_view), percent(sums.found, sums.in_view)])
     table("Where one stands, in the town:", ("the eye is", "in view, a frame", "truly hidden", "found, of what is in view"), rows)

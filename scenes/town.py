@@ -257,11 +257,13 @@ class Town:
     def add_walk(self):
         """Down the first street, into a house, and up for a look over the roofs."""
         street, (wide, deep) = PLOT + STREET / 2, self.size()
-        places = [((4 + 6 * k, 1.7, street + math.sin(k)), (60, 1.2, street)) for k in range(8)]
+        places = [((4 + 6 * k, 1.7, street + math.sin(k)), (60, 1.2, street)) for k in range(7)]
         places += [((48 - 3 * k, 1.7, street + k - 2), (0, 1.5, street - 14 + 6 * k)) for k in range(3)]
+        # the corner of the first house at its street, about which it is turned
         door = self.builder.nodes[self.roots[0]]["translation"]
         places.append(((door[0] - 4.4, 1.7, door[2] - 1), (door[0] - 6, 1.0, door[2] - 9)))
         places.append(((door[0] - 7, 1.6, door[2] - 7), (door[0] - 2, 1.2, door[2] + 4)))
+        places.append(((door[0] - 0.75, 1.6, door[2] - 4.8), (door[0] - 4.5, 1.2, door[2])))
         middle = (wide / 2, 0, deep / 2)
         places += [((-12, 7, -8), middle), ((wide + 10, 16, deep / 2), middle), ((wide / 2, 30, deep + 15), middle)]
         for number, (eye, at) in enumerate(places):

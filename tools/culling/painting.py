@@ -34,13 +34,27 @@ def coloured_png(rows, scene, frame, verdicts):
     grey = shades(rows, scene.top)
     lines = [bytearray(byte for shade in row for byte in (shade, shade, shade)) for row in grey]
     outlines = Outlines(scene, frame)
+    found = [(verdict, outlines.of(thing)) for verdict, thing in zip(verdicts, scene.objects) if verdict in COLOURS]
+    tint_all(lines, [rectangle for verdict, rectangle in found if rectangle and verdict == "occluded"])
     # what is visible is painted over what is occluded
-    for verdict in ("occluded", "visible"):
-        for thing, told in zip(scene.objects, verdicts):
-            rectangle = outlines.of(thing) if told == verdict else None
-            if rectangle:
+    for painted in ("occluded", "visible"):
+        for verdict, rectangle in found:
+            if rectangle and verdict == painted:
                 frame_in(lines, rectangle, bytes(COLOURS[verdict]))
     return png_of(len(rows[0]), [bytes(line) for line in lines], 3)
+
+
+def tint_all(lines, rectangles):
+    """Mixes a third of the occluded colour into the pixels that lie in some of the rectangles."""
+    for y, line in enumerate(lines):
+        inside = bytearray(len(line) // 3)
+        for x0, y0, x1, y1 in rectangles:
+            if y0 <= y < y1:
+                inside[x0:x1] = b"\1" * (x1 - x0)
+        for x, is_inside in enumerate(inside):
+            if is_inside:
+                mixed = zip(line[3 * x : 3 * x + 3], COLOURS["occluded"])
+                line[3 * x : 3 * x + 3] = bytes((2 * grey + part) // 3 for grey, part in mixed)
 
 
 def frame_in(lines, rectangle, colour):
