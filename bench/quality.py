@@ -2,8 +2,8 @@
 """How much of what is truly hidden a built maskcull finds, and what that hangs on.
 
 usage: bench/quality.py PROGRAM                      the tables of docs/OCCLUDERS.md, from two models that it makes
-       bench/quality.py PROGRAM --only order,passes  some of them: which, number, order, passes, sides, objects, near,
-                                                     size, when
+       bench/quality.py PROGRAM --only order,passes  some of them: which, number, order, passes, sides, objects,
+                                                     groups, near, size, when
        bench/quality.py PROGRAM --scene FILE..       scenes of yours, a row each
 
 An object is truly hidden in a frame where each of its samples lies behind the picture of all that the model draws: one
@@ -12,6 +12,7 @@ the program calls occluded. "Holes" counts what it calls occluded and isn't hidd
 part of what is drawn. Pieces are those of a frame on average. Nothing here is a time, so the machine doesn't matter. All tables take some minutes."""
 import argparse
 import dataclasses
+import functools
 import pathlib
 import re
 import subprocess
@@ -85,6 +86,9 @@ class Subject:
         # a scene has no room for more triangles; the few that are left out here are left out everywhere
         self.whole = convert(self.model, Asked()).scene
         self.truth = truths(self.whole)
+        sums = outcome(self.whole, reports(program, self.whole), self.truth)
+        print(f"\n{name}: {len(self.truth)} frames, {len(self.whole.objects)} objects; over all frames {sums.in_view:,} are in"
+              f" view, and {sums.hidden:,} of them truly hidden", flush=True)
 
     def judged(self, model=None, **asked):
         """The outcome of a conversion, against what is hidden when all is drawn."""
@@ -129,49 +133,49 @@ def boxed(part):
     return Part(f"box of {part.name}", "box", [Surface(shape.points, list(zip(corners, corners, corners)), Material())], False)
 
 
-def which(town, hills):
+def which(models):
     """Which triangles hide."""
-    rows = [town.judged().row("all that is opaque")]
-    rows.append(town.judged(occluders=BUILDING).row("walls, roofs and the ground"))
-    rows.append(town.judged(occluders="walls").row("walls alone"))
-    rows.append(town.judged(occluders="roof|ground").row("roofs, floors and the ground alone"))
-    rows.append(town.judged(clear=BUILDING).row("furniture, cars and trunks alone"))
+    rows = [models.town.judged().row("all that is opaque")]
+    rows.append(models.town.judged(occluders=BUILDING).row("walls, roofs and the ground"))
+    rows.append(models.town.judged(occluders="walls").row("walls alone"))
+    rows.append(models.town.judged(occluders="roof|ground").row("roofs, floors and the ground alone"))
+    rows.append(models.town.judged(clear=BUILDING).row("furniture, cars and trunks alone"))
     table("Which triangles, in the town:", USUAL, rows)
     # the boxes stand behind the other objects in the scene, so that the truth's objects are the first ones
-    model = with_boxes(town.model)
+    model = with_boxes(models.town.model)
     scene = convert(model, Asked(occluders="^box of|roof|ground")).scene
-    told = reports(town.program, scene)
+    told = reports(models.town.program, scene)
     for frame in told:
-        del frame.verdicts[len(town.truth[0]) :]
-    row = outcome(scene, told, town.truth).row("a box around each house's walls, roofs, the ground")
+        del frame.verdicts[len(models.town.truth[0]) :]
+    row = outcome(scene, told, models.town.truth).row("a box around each house's walls, roofs, the ground")
     table("Around the surface in place of inside it, in the town:", USUAL, [rows[1], row])
 
 
-def number(town, hills):
+def number(models):
     """How many, the largest first."""
-    for subject in (town, hills):
+    for subject in (models.town, models.hills):
         rows = [subject.judged(keep=keep).row(f"the {keep:,} largest") for keep in (500, 2000, 8000, 20000)]
         table(f"How many, in the {subject.name}:", USUAL, rows + [subject.judged().row("all")])
 
 
-def order(town, hills):
+def order(models):
     """In which order."""
-    for subject in (town, hills):
+    for subject in (models.town, models.hills):
         rows = [subject.judged(order=name).row(f"`--order {name}`") for name in ("file", "near", "area", "cells")]
         table(f"In which order, in the {subject.name}:", USUAL, rows)
 
 
-def passes(town, hills):
-    """More than once. What fits three times is taken."""
-    for subject, keep in ((town, 20000), (hills, 20000)):
-        for way in ("file", "near"):
-            rows = [subject.judged(passes=count, keep=keep, order=way).row(f"`--passes {count}`") for count in (1, 2, 3)]
-            table(f"The list more than once, the {keep:,} largest by `--order {way}`, in the {subject.name}:", USUAL, rows)
+def passes(models):
+    """More than once: lists that fit so often."""
+    coarse = models.coarse
+    for subject, most, asked in ((models.town, 3, {"keep": 20000}), (coarse, 2, {}), (coarse, 2, {"order": "near"})):
+        rows = [subject.judged(passes=count, **asked).row(f"`--passes {count}`") for count in range(1, most + 1)]
+        table(f"The list more than once, by `--order {asked.get('order', 'file')}`, in the {subject.name}:", USUAL, rows)
 
 
-def sides(town, hills):
+def sides(models):
     """Closed shapes from one side."""
-    rows = [town.judged(occluders=BUILDING, sides=way).row(f"`--sides {way}`") for way in ("material", "both")]
+    rows = [models.town.judged(occluders=BUILDING, sides=way).row(f"`--sides {way}`") for way in ("material", "both")]
     table("One side or both, walls, roofs and the ground of the town:", USUAL, rows)
 
 
@@ -187,33 +191,59 @@ def grouped(model):
     for part in model.parts:
         if (house := of_house(part.name)) is not None:
             houses.setdefault(house, []).extend(part.surfaces)
-    return changed(model, [Part(f"house {house}", "", surfaces, False) for house, surfaces in sorted(houses.items())])
+    return [Part(f"house {house}", "", surfaces, False) for house, surfaces in sorted(houses.items())]
 
 
-def objects(town, hills):
-    """Furniture as boxes, as meshes, and as one box for each house: triangles that hide are the same."""
-    wholes = [part for part in town.model.parts if of_house(part.name) is not None]
-    building = [part for part in town.model.parts if re.search(BUILDING, part.name)]
+def tested(subject, parts, kind):
+    """The reports and the truth of some parts alone, as objects of a kind, behind walls, roofs and the ground."""
+    building = [part for part in subject.model.parts if re.search(BUILDING, part.name)]
+    # what hides are objects too here, behind the others; they aren't counted
+    model = changed(subject.model, parts + building)
+    scene = convert(model, Asked(occluders=BUILDING, objects=kind)).scene
+    told, truth = reports(subject.program, scene), truths(scene)
+    for frame, row in zip(told, truth):
+        del frame.verdicts[len(parts) :], row[len(parts) :]
+    return scene, told, truth
+
+
+def objects(models):
+    """Boxes and meshes, over the same triangles that hide."""
+    furniture = [part for part in models.town.model.parts if of_house(part.name) is not None]
+    others = [part for part in models.town.model.parts if of_house(part.name) is None and part.name != "ground"]
     rows = []
-    for name, parts, kind in (("boxes", wholes, "box"), ("meshes", wholes, "mesh"),
-                              ("a box for each house", grouped(town.model).parts, "box")):
-        # walls are objects too here, behind the others; they aren't counted
-        model = changed(town.model, parts + building)
-        scene = convert(model, Asked(occluders=BUILDING, objects=kind)).scene
-        told, truth = reports(town.program, scene), truths(scene)
-        for frame, row in zip(told, truth):
-            del frame.verdicts[len(parts) :], row[len(parts) :]
-        sums = outcome(scene, told, truth)
-        rows.append([name, f"{sums.in_view:,}", f"{sums.hidden:,}", f"{sums.found:,}", percent(sums.found, sums.in_view)])
-    head = ("tested as", "in view, over all frames", "truly hidden", "found", "found, of what is in view")
-    table("The town's furniture as boxes, meshes and groups:", head, rows)
+    for name, parts in (("furniture", furniture), ("walls, panes, roofs, cars and trees", others)):
+        for kind, word in (("box", "boxes"), ("mesh", "meshes")):
+            sums = outcome(*tested(models.town, parts, kind))
+            rows.append([f"{name} as {word}", f"{sums.in_view:,}", f"{sums.hidden:,}", f"{sums.found:,}", percent(sums.found, sums.in_view)])
+    table("Boxes and meshes, in the town:", ("tested", "in view", "truly hidden", "found", "found, of what is in view"), rows)
 
 
-def near(town, hills):
+def groups(models):
+    """The furniture of a house as a group: what its box settles, and how many tests it spares."""
+    furniture = [part for part in models.town.model.parts if of_house(part.name) is not None]
+    houses = [of_house(part.name) for part in furniture]
+    parts = grouped(models.town.model)
+    numbers = {int(part.name.split()[1]): place for place, part in enumerate(parts)}
+    _, one_by_one, _ = tested(models.town, furniture, "box")
+    _, by_house, _ = tested(models.town, parts, "box")
+    found = settled = tests = 0
+    for members, boxes in zip(one_by_one, by_house):
+        tests += len(parts)
+        for house, verdict in zip(houses, members.verdicts):
+            group = boxes.verdicts[numbers[house]]
+            found += verdict == "occluded"
+            settled += verdict == "occluded" and group == "occluded"
+            tests += group == "visible"
+    rows = [["each by itself", f"{len(furniture) * len(one_by_one):,}", f"{found:,}"],
+            ["a box for each house first", f"{tests:,}", f"{found:,}, of them {settled:,} by their house's box"]]
+    table("The furniture of a house as a group, in the town:", ("tested", "tests", "occluded"), rows)
+
+
+def near(models):
     """The near distance."""
     rows = []
     for metres in (0.02, 0.1, 0.3, 1, 3):
-        sums = town.judged_alone(occluders=BUILDING, near=metres)
+        sums = models.town.judged_alone(occluders=BUILDING, near=metres)
         # one step of nearness at 50 metres, in metres
         step = 50**2 / (65535 * metres)
         rows.append([f"{metres} m", f"{step:.2f} m", f"{sums.hidden:,}", f"{sums.found:,}", percent(sums.found, sums.in_view)])
@@ -221,9 +251,9 @@ def near(town, hills):
     table("The near distance, in the town (walls, roofs and the ground):", head, rows)
 
 
-def size(town, hills):
+def size(models):
     """The screen's size."""
-    for subject, asked in ((town, {"occluders": BUILDING}), (hills, {"order": "near"})):
+    for subject, asked in ((models.town, {"occluders": BUILDING}), (models.hills, {"order": "near"})):
         truth, rows = None, []
         for wide, high in ((1280, 720), (640, 360), (320, 180), (160, 88)):
             scene = convert(subject.model, Asked(size=(wide, high), **asked)).scene
@@ -234,24 +264,42 @@ def size(town, hills):
         table(f"The screen's size, in the {subject.name}:", head, rows)
 
 
-def when(town, hills):
+def when(models):
     """Frame by frame: where there is something to find."""
-    scene = convert(town.model, Asked(occluders=BUILDING)).scene
-    told, rows = reports(town.program, scene), []
+    scene = convert(models.town.model, Asked(occluders=BUILDING)).scene
+    told, rows = reports(models.town.program, scene), []
     for name, frames in (("in a street", range(7)), ("across streets", range(7, 10)), ("in a house", range(10, 13)), ("over the roofs", range(13, 16))):
-        sums = outcome(scene, [told[frame] for frame in frames], [town.truth[frame] for frame in frames])
+        sums = outcome(scene, [told[frame] for frame in frames], [models.town.truth[frame] for frame in frames])
         rows.append([name, f"{sums.in_view // len(frames):,}", percent(sums.hidden, sums.in_view), percent(sums.found, sums.in_view)])
     table("Where one stands, in the town:", ("the eye is", "in view, a frame", "truly hidden", "found, of what is in view"), rows)
 
 
-TABLES = {table.__name__: table for table in (which, number, order, passes, sides, objects, near, size, when)}
+TABLES = {table.__name__: table for table in (which, number, order, passes, sides, objects, groups, near, size, when)}
 
 
-def made(name, room, program):
-    """One of the two models."""
-    path = pathlib.Path(room) / f"{name}.glb"
-    subprocess.run([sys.executable, TOP / "scenes" / f"{name}.py", path], check=True)
-    return Subject(name, path, program)
+class Models:
+    """The models, each made when it is first asked for."""
+
+    def __init__(self, room, program):
+        self.room, self.program = pathlib.Path(room), program
+
+    def made(self, name, script, *words):
+        path = self.room / f"{name}.glb"
+        subprocess.run([sys.executable, TOP / "scenes" / script, path, *words], check=True)
+        return Subject(name, path, self.program)
+
+    @functools.cached_property
+    def town(self):
+        return self.made("town", "town.py")
+
+    @functools.cached_property
+    def hills(self):
+        return self.made("hills", "hills.py")
+
+    @functools.cached_property
+    def coarse(self):
+        """Hills whose list fits twice."""
+        return self.made("coarser hills", "hills.py", "--side", "115")
 
 
 def own_scenes(program, paths):
@@ -275,12 +323,9 @@ def main():
         own_scenes(program, words.scene)
         return
     with tempfile.TemporaryDirectory() as room:
-        subjects = [made(name, room, program) for name in ("town", "hills")]
-        for subject in subjects:
-            sums = outcome(subject.whole, reports(program, subject.whole), subject.truth)
-            print(f"{subject.name}: {len(subject.truth)} frames, {len(subject.whole.objects)} objects, {sums.in_view:,} in view over all frames, {sums.hidden:,} of them truly hidden")
+        models = Models(room, program)
         for name in words.only.split(","):
-            TABLES[name](*subjects)
+            TABLES[name](models)
 
 
 if __name__ == "__main__":

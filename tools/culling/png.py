@@ -4,6 +4,8 @@ import zlib
 
 SIGNATURE = b"\x89PNG\r\n\x1a\n"
 COLOUR_TYPES = {1: 0, 3: 2}
+# How far each byte is from 0, on either side.
+SIZES = bytes(min(byte, 256 - byte) for byte in range(256))
 
 
 def chunk(name, body):
@@ -26,5 +28,5 @@ def filtered(row, above, channels):
     before = bytes(channels) + row[:-channels]
     ways = [(kind, bytes((a - b) & 255 for a, b in zip(row, base))) for kind, base in ((2, above), (1, before))]
     ways.append((0, row))
-    kind, body = min(ways, key=lambda way: sum(min(byte, 256 - byte) for byte in way[1]))
+    kind, body = min(ways, key=lambda way: sum(way[1].translate(SIZES)))
     return bytes([kind]) + body
