@@ -9,7 +9,8 @@ usage: bench/quality.py PROGRAM                      the tables of docs/OCCLUDER
 An object is truly hidden in a frame where each of its samples lies behind the picture of all that the model draws: one
 depth for each sample, by a z-buffer in plain Python (`tools/culling/depths.py`). "Found" is the share of these that
 the program calls occluded. "Holes" counts what it calls occluded and isn't hidden: none, as long as what hides is a
-part of what is drawn. Pieces are those of a frame on average. Nothing here is a time, so the machine doesn't matter. All tables take some minutes."""
+part of what is drawn. Pieces are those of a frame on average. Nothing here is a time, so the machine doesn't matter. All
+tables take some minutes."""
 import argparse
 import dataclasses
 import functools
@@ -30,6 +31,8 @@ from culling.truth import hidden_objects  # noqa: E402
 from town import block  # noqa: E402
 
 BUILDING = "walls|roof|ground"
+# The town's frames, by where the eye is.
+WALK = (("in a street", 0, 7), ("across streets", 7, 10), ("in a house", 10, 13), ("over the roofs", 13, 16))
 
 
 @dataclasses.dataclass
@@ -42,6 +45,9 @@ class Outcome:
     hidden: int
     found: int
     holes: int
+
+    def shares(self):
+        return [f"{self.hidden:,}", f"{self.found:,}", percent(self.found, self.in_view)]
 
     def row(self, name):
         return [name, f"{self.occluders:,}", f"{self.pieces:,}", f"{percent(self.found, self.hidden)}", str(self.holes)]
@@ -56,9 +62,9 @@ def truths(scene):
     return [hidden_objects(scene, frame, buffer_of(scene, frame)[0]) for frame in range(len(scene.cameras))]
 
 
-def reports(program, scene):
-    """What a program tells of each frame."""
-    run = subprocess.run([program, "cull"], input=scene.as_bytes(), stdout=subprocess.PIPE, check=True)
+def reports(program, scene, stored=None):
+    """What a program tells of each frame of a scene, whose bytes may be given."""
+    run = subprocess.run([program, "cull"], input=stored or scene.as_bytes(), stdout=subprocess.PIPE, check=True)
     return read_report(run.stdout.decode(), scene)
 
 
@@ -87,8 +93,8 @@ class Subject:
         self.whole = convert(self.model, Asked()).scene
         self.truth = truths(self.whole)
         sums = outcome(self.whole, reports(program, self.whole), self.truth)
-        print(f"\n{name}: {len(self.truth)} frames, {len(self.whole.objects)} objects; over all frames {sums.in_view:,} are in"
-              f" view, and {sums.hidden:,} of them truly hidden", flush=True)
+        sizes = f"{len(self.truth)} frames, {len(self.whole.objects)} objects"
+        print(f"\n{name}: {sizes}; over all frames {sums.in_view:,} are in view, {sums.hidden:,} of them truly hidden")
 
     def judged(self, model=None, **asked):
         """The outcome of a conversion, against what is hidden when all is drawn."""
@@ -130,7 +136,8 @@ def boxed(part):
     """The box around a part."""
     shape = block(*transforms.bounds([point for surface in part.surfaces for point in surface.points]))
     corners = iter(shape.indices)
-    return Part(f"box of {part.name}", "box", [Surface(shape.points, list(zip(corners, corners, corners)), Material())], False)
+    surface = Surface(shape.points, list(zip(corners, corners, corners)), Material())
+    return Part(f"box of {part.name}", "box", [surface], False)
 
 
 def which(models):
@@ -167,10 +174,11 @@ def order(models):
 
 def passes(models):
     """More than once: lists that fit so often."""
-    coarse = models.coarse
-    for subject, most, asked in ((models.town, 3, {"keep": 20000}), (coarse, 2, {}), (coarse, 2, {"order": "near"})):
-        rows = [subject.judged(passes=count, **asked).row(f"`--passes {count}`") for count in range(1, most + 1)]
-        table(f"The list more than once, by `--order {asked.get('order', 'file')}`, in the {subject.name}:", USUAL, rows)
+    for subject, most, kept in ((models.town, 3, {"keep": 20000}), (models.coarse, 2, {})):
+        for way in ("file", "near"):
+            asked = {"order": way, **kept}
+            rows = [subject.judged(passes=count, **asked).row(f"`--passes {count}`") for count in range(1, most + 1)]
+            table(f"The list more than once, by `--order {way}`, in the {subject.name}:", USUAL, rows)
 
 
 def sides(models):
@@ -214,8 +222,9 @@ def objects(models):
     for name, parts in (("furniture", furniture), ("walls, panes, roofs, cars and trees", others)):
         for kind, word in (("box", "boxes"), ("mesh", "meshes")):
             sums = outcome(*tested(models.town, parts, kind))
-            rows.append([f"{name} as {word}", f"{sums.in_view:,}", f"{sums.hidden:,}", f"{sums.found:,}", percent(sums.found, sums.in_view)])
-    table("Boxes and meshes, in the town:", ("tested", "in view", "truly hidden", "found", "found, of what is in view"), rows)
+            rows.append([f"{name} as {word}", f"{sums.in_view:,}", *sums.shares()])
+    head = ("tested", "in view", "truly hidden", "found", "found, of what is in view")
+    table("Boxes and meshes, in the town:", head, rows)
 
 
 def groups(models):
@@ -246,7 +255,7 @@ def near(models):
         sums = models.town.judged_alone(occluders=BUILDING, near=metres)
         # one step of nearness at 50 metres, in metres
         step = 50**2 / (65535 * metres)
-        rows.append([f"{metres} m", f"{step:.2f} m", f"{sums.hidden:,}", f"{sums.found:,}", percent(sums.found, sums.in_view)])
+        rows.append([f"{metres} m", f"{step:.2f} m", *sums.shares()])
     head = ("near distance", "one step of nearness at 50 m", "truly hidden", "found", "found, of what is in view")
     table("The near distance, in the town (walls, roofs and the ground):", head, rows)
 
@@ -268,10 +277,11 @@ def when(models):
     """Frame by frame: where there is something to find."""
     scene = convert(models.town.model, Asked(occluders=BUILDING)).scene
     told, rows = reports(models.town.program, scene), []
-    for name, frames in (("in a street", range(7)), ("across streets", range(7, 10)), ("in a house", range(10, 13)), ("over the roofs", range(13, 16))):
-        sums = outcome(scene, [told[frame] for frame in frames], [models.town.truth[frame] for frame in frames])
-        rows.append([name, f"{sums.in_view // len(frames):,}", percent(sums.hidden, sums.in_view), percent(sums.found, sums.in_view)])
-    table("Where one stands, in the town:", ("the eye is", "in view, a frame", "truly hidden", "found, of what is in view"), rows)
+    for name, first, end in WALK:
+        sums = outcome(scene, told[first:end], models.town.truth[first:end])
+        rows.append([name, f"{sums.in_view:,}", *sums.shares()])
+    head = ("the eye is", "in view", "truly hidden", "found", "found, of what is in view")
+    table("Where one stands, in the town:", head, rows)
 
 
 TABLES = {table.__name__: table for table in (which, number, order, passes, sides, objects, groups, near, size, when)}
@@ -305,9 +315,9 @@ class Models:
 def own_scenes(program, paths):
     rows = []
     for path in paths:
-        scene = read_scene(pathlib.Path(path).read_bytes())
-        run = subprocess.run([program, "cull"], input=pathlib.Path(path).read_bytes(), stdout=subprocess.PIPE, check=True)
-        sums = outcome(scene, read_report(run.stdout.decode(), scene), truths(scene))
+        stored = pathlib.Path(path).read_bytes()
+        scene = read_scene(stored)
+        sums = outcome(scene, reports(program, scene, stored), truths(scene))
         rows.append([*sums.row(path), f"{sums.in_view:,}", f"{sums.hidden:,}"])
     table("Scenes:", (*USUAL, "in view", "truly hidden"), rows)
 

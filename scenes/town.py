@@ -172,16 +172,20 @@ def house_shapes():
 
 def furniture(builder):
     """The meshes that stand in rooms, by name, each with its size."""
+    seat = [((0, 0.45, 0), (0.45, 0.5, 0.45)), ((0, 0.5, 0), (0.45, 1, 0.05)), *legs(0.45, 0.45, 0.45)]
     plans = {
         "table": (1.4, 0.8, [((0, 0.7, 0), (1.4, 0.75, 0.8)), *legs(1.4, 0.8, 0.7)]),
-        "chair": (0.45, 0.45, [((0, 0.45, 0), (0.45, 0.5, 0.45)), ((0, 0.5, 0), (0.45, 1, 0.05)), *legs(0.45, 0.45, 0.45)]),
+        "chair": (0.45, 0.45, seat),
         "bed": (2.0, 1.4, [((0, 0.2, 0), (2, 0.5, 1.4)), ((0, 0.5, 0), (0.1, 1, 1.4))]),
         "cupboard": (1.2, 0.6, [((0, 0, 0), (1.2, 2, 0.6))]),
         "shelf": (0.9, 0.3, [((0, 0.4 * k, 0), (0.9, 0.4 * k + 0.04, 0.3)) for k in range(5)]),
         "lamp": (0.3, 0.3, [((0.12, 0, 0.12), (0.18, 1.4, 0.18)), ((0, 1.4, 0), (0.3, 1.7, 0.3))]),
         "box": (0.5, 0.4, [((0, 0, 0), (0.5, 0.35, 0.4))]),
     }
-    return {name: (builder.mesh(name, (joined(*blocks), OPAQUE)), width, depth) for name, (width, depth, blocks) in plans.items()}
+    made = {}
+    for name, (width, depth, blocks) in plans.items():
+        made[name] = (builder.mesh(name, (joined(*blocks), OPAQUE)), width, depth)
+    return made
 
 
 def tree_mesh(builder):
@@ -202,7 +206,8 @@ class Town:
         self.panes = self.builder.mesh("panes", (panes, GLASS))
         self.slabs = self.builder.mesh("roof and floor", (slabs, OPAQUE))
         self.things, self.tree = furniture(self.builder), tree_mesh(self.builder)
-        self.car = self.builder.mesh("car", (joined(((-2, 0.3, -0.8), (2, 0.9, 0.8)), ((-1, 0.9, -0.7), (1.2, 1.5, 0.7))), OPAQUE))
+        car = joined(((-2, 0.3, -0.8), (2, 0.9, 0.8)), ((-1, 0.9, -0.7), (1.2, 1.5, 0.7)))
+        self.car = self.builder.mesh("car", (car, OPAQUE))
         self.roots, self.columns = [], max(2, math.ceil(math.sqrt(houses / 2)) * 2 // 2)
         self.rows = math.ceil(houses / self.columns)
         for number in range(houses):

@@ -5,7 +5,14 @@ import struct
 from .document import ModelError
 
 # The letter of a component in `struct`, and what a normalized one is divided by.
-COMPONENTS = {5120: ("b", 127), 5121: ("B", 255), 5122: ("h", 32767), 5123: ("H", 65535), 5125: ("I", 0), 5126: ("f", 0)}
+COMPONENTS = {
+    5120: ("b", 127),
+    5121: ("B", 255),
+    5122: ("h", 32767),
+    5123: ("H", 65535),
+    5125: ("I", 0),
+    5126: ("f", 0),
+}
 WIDTHS = {"SCALAR": 1, "VEC2": 2, "VEC3": 3, "VEC4": 4, "MAT4": 16}
 INDEX_COMPONENTS = (5121, 5123, 5125)
 MOST = 1 << 26

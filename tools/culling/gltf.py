@@ -181,7 +181,8 @@ class Model:
         if mode < TRIANGLES:
             return []
         if mode == TRIANGLES and len(numbers) % 3:
-            self.notes.append(f"{primitive.label}: {len(numbers)} indices, of which the last {len(numbers) % 3} are left out")
+            rest = len(numbers) % 3
+            self.notes.append(f"{primitive.label}: {len(numbers)} indices, of which the last {rest} are left out")
         return triangles_by(mode, numbers)
 
     def at_rest(self, node, primitive, points):

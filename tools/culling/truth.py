@@ -24,7 +24,8 @@ class Judge:
         clips = self.scene.clips(self.frame, corners_of(thing))
         if self.is_past_telling(clips):
             return False
-        return self.is_flat_hidden(pixels_around([self.lens.snapped(*clip) for clip in clips]), min(c[2] for c in clips))
+        rectangle = pixels_around([self.lens.snapped(*clip) for clip in clips])
+        return self.is_flat_hidden(rectangle, min(clip[2] for clip in clips))
 
     def is_past_telling(self, clips):
         """Whether a corner is before the near distance or past the guard, so that nothing is told of it."""
