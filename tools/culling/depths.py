@@ -6,6 +6,8 @@ coverage), in whole numbers, and keeps for each sample the greatest depth of the
 The rows of a picture run from the top."""
 import subprocess
 
+from .scene import NARROW_TOP
+
 GUARD = 16384
 DROPS_CLOCKWISE, DROPS_COUNTERCLOCKWISE = 1, 2
 
@@ -165,8 +167,10 @@ def buffer_of(scene, frame):
     return rows, len(pieces)
 
 
-def program_rows(program, stored, frame):
-    """The bounds that a program's command `picture` writes, or None where the program has no such command."""
+def program_rows(program, scene, stored, frame):
+    """The bounds that a program's command `picture` writes, or None where the program has no such command.
+
+    Its numbers reach up to 65535 for a wide scene too."""
     words = [program, "picture", "--frame", str(frame)]
     run = subprocess.run(words, input=stored, stdout=subprocess.PIPE, stderr=subprocess.DEVNULL)
     if run.returncode:
@@ -174,11 +178,12 @@ def program_rows(program, stored, frame):
     kind, width, height, _, *numbers = run.stdout.split()
     if kind != b"P2":
         return None
-    width, numbers = int(width), list(map(int, numbers))
+    width, scale = int(width), (scene.top + 1) // (NARROW_TOP + 1)
+    numbers = [scale * int(number) for number in numbers]
     return [numbers[begin : begin + width] for begin in range(0, width * int(height), width)]
 
 
 def rows_of_frame(scene, stored, frame, program=None):
     """The depths of a frame as rows: those of the program's own picture where there is one, else the z-buffer's."""
-    rows = program_rows(program, stored, frame) if program else None
+    rows = program_rows(program, scene, stored, frame) if program else None
     return rows if rows is not None else buffer_of(scene, frame)[0]

@@ -46,7 +46,9 @@ class Entry:
         return self.member(name, default, is_real, "a number")
 
     def text(self, name, default=REQUIRED):
-        return self.member(name, default, lambda value: isinstance(value, str), "a text")
+        value = self.member(name, default, lambda value: isinstance(value, str), "a text")
+        # JSON may spell halves of characters, which nothing can write again
+        return value.encode("utf-8", "replace").decode("utf-8")
 
     def flag(self, name):
         return self.member(name, False, lambda value: isinstance(value, bool), "true or false")
