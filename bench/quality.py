@@ -9,8 +9,8 @@ usage: bench/quality.py PROGRAM                      the tables of docs/OCCLUDER
 An object is truly hidden in a frame where each of its samples lies behind the picture of all that the model draws: one
 depth for each sample, by a z-buffer in plain Python (`tools/culling/depths.py`). "Found" is the share of these that
 the program calls occluded. "Holes" counts what it calls occluded and isn't hidden: none, as long as what hides is a
-part of what is drawn. Pieces are those of a frame on average. Nothing here is a time, so the machine doesn't matter. All
-tables take some minutes."""
+part of what is drawn. Pieces are those of a frame on average. Nothing here is a time, so the machine doesn't matter.
+All tables take some minutes."""
 import argparse
 import dataclasses
 import functools
@@ -85,26 +85,25 @@ def outcome(scene, told, truth):
 
 
 class Subject:
-    """A model, and what is truly hidden in it where all that is opaque is drawn."""
+    """A model, and what is truly hidden in it."""
 
     def __init__(self, name, path, program):
         self.name, self.model, self.program = name, Model(path), program
-        # a scene has no room for more triangles; the few that are left out here are left out everywhere
-        self.whole = convert(self.model, Asked()).scene
-        self.truth = truths(self.whole)
-        sums = outcome(self.whole, reports(program, self.whole), self.truth)
-        sizes = f"{len(self.truth)} frames, {len(self.whole.objects)} objects"
-        print(f"\n{name}: {sizes}; over all frames {sums.in_view:,} are in view, {sums.hidden:,} of them truly hidden")
+
+    @functools.cached_property
+    def truth(self):
+        """For each frame, for each object, whether it is truly hidden where all that is opaque is drawn."""
+        whole = convert(self.model, Asked()).scene
+        truth = truths(whole)
+        sums = outcome(whole, reports(self.program, whole), truth)
+        print(f"\n{self.name}: {len(truth)} frames, {len(whole.objects)} objects")
+        print(f"over all frames {sums.in_view:,} are in view, {sums.hidden:,} of them truly hidden", flush=True)
+        return truth
 
     def judged(self, model=None, **asked):
         """The outcome of a conversion, against what is hidden when all is drawn."""
         scene = convert(model or self.model, Asked(**asked)).scene
         return outcome(scene, reports(self.program, scene), self.truth)
-
-    def judged_alone(self, model=None, **asked):
-        """The outcome of a conversion whose views or objects are others, against its own truth."""
-        scene = convert(model or self.model, Asked(**asked)).scene
-        return outcome(scene, reports(self.program, scene), truths(scene))
 
 
 def table(title, head, rows):
@@ -251,25 +250,33 @@ def groups(models):
 def near(models):
     """The near distance."""
     rows = []
-    for metres in (0.02, 0.1, 0.3, 1, 3):
-        sums = models.town.judged_alone(occluders=BUILDING, near=metres)
+    for metres in (0.1, 0.3, 1, 3):
+        scene = convert(models.town.model, Asked(occluders=BUILDING, near=metres)).scene
+        told = reports(models.town.program, scene)
         # one step of nearness at 50 metres, in metres
         step = 50**2 / (65535 * metres)
-        rows.append([f"{metres} m", f"{step:.2f} m", *sums.shares()])
-    head = ("near distance", "one step of nearness at 50 m", "truly hidden", "found", "found, of what is in view")
+        rows.append([f"{metres} m", f"{step:.2f} m", f"{called(told):,}"])
+    head = ("near distance", "one step of nearness at 50 m", "called occluded")
     table("The near distance, in the town (walls, roofs and the ground):", head, rows)
 
 
+def called(told):
+    """How many objects are called occluded, over all frames."""
+    return sum(frame.counts()["occluded"] for frame in told)
+
+
 def size(models):
-    """The screen's size."""
+    """The screen's size. The cameras are the same for each."""
     for subject, asked in ((models.town, {"occluders": BUILDING}), (models.hills, {"order": "near"})):
-        truth, rows = None, []
-        for wide, high in ((1280, 720), (640, 360), (320, 180), (160, 88)):
-            scene = convert(subject.model, Asked(size=(wide, high), **asked)).scene
-            truth = truth or truths(scene)
-            sums = outcome(scene, reports(subject.program, scene), truth)
-            rows.append([f"{wide} by {high}", percent(sums.found, sums.hidden), str(sums.holes)])
-        head = ("screen", "found, of what is hidden at 1280 by 720", "called occluded, and not hidden there")
+        first, rows = None, []
+        scene = convert(subject.model, Asked(size=(1280, 720), **asked)).scene
+        for screen in ((1280, 720), (640, 360), (320, 180)):
+            told = reports(subject.program, dataclasses.replace(scene, size=screen))
+            verdicts = [verdict for frame in told for verdict in frame.verdicts]
+            first = first or verdicts
+            both = sum(pair == ("occluded", "occluded") for pair in zip(first, verdicts))
+            rows.append([f"{screen[0]} by {screen[1]}", f"{called(told):,}", f"{both:,}"])
+        head = ("screen", "called occluded", "of these also at 1280 by 720")
         table(f"The screen's size, in the {subject.name}:", head, rows)
 
 
