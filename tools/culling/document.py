@@ -32,11 +32,11 @@ class Entry:
         """A member that some test accepts, or the default where there is none."""
         if name not in self.members:
             if default is REQUIRED:
-                raise ModelError(f"{self.label} has no {name}.")
+                raise ModelError(f"In {self.label} the member {name} is missing.")
             return default
         value = self.members[name]
         if not accepts(value):
-            raise ModelError(f"{self.label} has a {name} that isn't {kind}.")
+            raise ModelError(f"In {self.label} the member {name} isn't {kind}.")
         return value
 
     def whole(self, name, default=REQUIRED):
