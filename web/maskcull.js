@@ -198,10 +198,8 @@ export class Frame {
     testBoxes(bounds, matrix, verdicts) {
         this.#take(matrix);
         const count = countOf('bounds', bounds, [Float32Array], 6);
-        const filled = verdicts ?? new Uint8Array(count);
-        if (countOf('verdicts', filled, [Uint8Array], 1) < count) {
-            throw new MaskcullError('array', `The verdicts of ${count} boxes have no room in ${filled.length} numbers.`);
-        }
+        const filled = verdicts ?? new Uint8Array(count), room = countOf('verdicts', filled, [Uint8Array], 1);
+        if (room < count) throw new MaskcullError('array', `There is room for ${room} verdicts, of ${count} boxes.`);
         for (let k = 0; k < count; k++) filled[k] = this.#boxVerdict(bounds, 6 * k);
         return filled;
     }

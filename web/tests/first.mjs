@@ -6,7 +6,9 @@ import { module } from './module.mjs';
 const WIDTH = 64, HEIGHT = 32, NEAR = 16, TILES = 8, TILE_ROWS = 4, TILE_BYTES = 100;
 const WALL = [-48, 48, 48, 0, 48, 48, 0, -48, 48, -48, -48, 48]; // clockwise from the upper left corner
 const QUAD = [0, 1, 2, 0, 2, 3];
-const WORDS = { 0: 'done', 1: 'bad setup', 2: 'bad tiles', 3: 'bad index', 16: 'visible', 17: 'occluded', 18: 'outside' };
+const WORDS = {
+    0: 'done', 1: 'bad setup', 2: 'bad tiles', 3: 'bad index', 16: 'visible', 17: 'occluded', 18: 'outside',
+};
 
 const { exports } = await WebAssembly.instantiate(module, {});
 const lines = [];
@@ -24,7 +26,7 @@ function placed(numbers) {
 }
 
 const emptyTiles = () => placed(new Int32Array(TILES * TILE_BYTES / 4));
-const bytesOf = (tiles) => new Uint8Array(exports.memory.buffer).slice(Number(tiles), Number(tiles) + TILES * TILE_BYTES);
+const bytesOf = (tiles) => new Uint8Array(exports.memory.buffer, Number(tiles), TILES * TILE_BYTES).slice();
 const areSame = (some, others) => Buffer.compare(some, others) === 0;
 
 const setup = placed([WIDTH, HEIGHT, NEAR, 0]);

@@ -1,6 +1,6 @@
 // The wrapper's rounding beside doubles: what it calls hidden, or outside, isn't seen through the middle of any pixel.
-// Three kinds of random frames: planes just behind a box, edges of which a box just peeps out, and some walls with boxes
-// among them. Wrong margins, edited into the wrapper, have to be found out.
+// Three kinds of random frames: planes just behind a box, edges beside which a box just peeps out, and some walls with
+// boxes among them. Wrong margins, edited into the wrapper, have to be found out.
 import assert from 'node:assert/strict';
 import fs from 'node:fs';
 import * as wrapper from '../maskcull.js';

@@ -1,5 +1,5 @@
-// Random scenes of checks/many-scenes: the verdict of each object in each frame, by the calls in whole numbers, has to be
-// the one in the program's report.
+// Random scenes of checks/many-scenes: the verdict of each object in each frame, by the calls in whole numbers, has to
+// be the one in the program's report.
 import assert from 'node:assert/strict';
 import { spawn } from 'node:child_process';
 import { fileURLToPath } from 'node:url';

@@ -1,5 +1,5 @@
 // What of a scene is hidden: the largest objects in the view are drawn as occluders, and then all objects are tested.
-import { Frame, OCCLUDED, OUTSIDE, VISIBLE } from './maskcull.js';
+import { Frame, OCCLUDED, OUTSIDE, VISIBLE } from '../maskcull.js';
 
 const MOST_TRIANGLES = 8192; // of occluders in a frame
 // An object that is seen smaller than this, as a part of its distance, hides little.
@@ -37,7 +37,7 @@ export class Culling {
         return this.#frame.calls.tiles();
     }
 
-    /** Finds the verdicts of all objects, and tells how long that took in milliseconds, and what was drawn and found. */
+    /** Finds the verdicts of all objects. Tells how long that took, and how much was drawn and found. */
     run(clipFromScene) {
         const start = performance.now(), chosen = this.#occluders(clipFromScene);
         this.#frame.clear();

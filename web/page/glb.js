@@ -1,6 +1,6 @@
-// Reads the triangles of a glb, a glTF 2.0 file in one piece: positions and indices of each mesh where its nodes put it.
-// Colours, pictures, skins and movement are passed over.
-import { KEEPS_BOTH } from './maskcull.js';
+// Reads the triangles of a glb, a glTF 2.0 file in one piece: positions and indices of each mesh, where its nodes put
+// it. Colours, pictures, skins and movement are passed over.
+import { KEEPS_BOTH } from '../maskcull.js';
 
 const MAGIC = 0x46546c67, JSON_CHUNK = 0x4e4f534a, BINARY_CHUNK = 0x004e4942;
 const TRIANGLES = 4;
@@ -18,7 +18,7 @@ function demand(isSo, sentence) {
 /** The description and the bytes that it speaks of. */
 function chunksOf(file) {
     const view = new DataView(file);
-    demand(file.byteLength >= 20 && view.getUint32(0, true) === MAGIC, 'This file isn\'t a glb: it doesn\'t begin as one.');
+    demand(file.byteLength >= 20 && view.getUint32(0, true) === MAGIC, 'This file isn\'t a glb.');
     demand(view.getUint32(4, true) === 2, 'This glb has another version than 2.');
     const chunks = {};
     for (let at = 12; at + 8 <= file.byteLength;) {
@@ -38,7 +38,7 @@ function chunksOf(file) {
 function numbersOf({ description, binary }, number, each, types) {
     const accessor = description.accessors?.[number], type = types[accessor?.componentType];
     const source = description.bufferViews?.[accessor?.bufferView];
-    demand(type && source && !accessor.sparse, 'This glb has positions or indices of a kind that this page can\'t read.');
+    demand(type && source && !accessor.sparse, 'This glb has numbers of a kind that this page can\'t read.');
     const stride = source.byteStride ?? each * type.BYTES_PER_ELEMENT, bytes = each * type.BYTES_PER_ELEMENT;
     const first = (source.byteOffset ?? 0) + (accessor.byteOffset ?? 0);
     demand(first + stride * (accessor.count - 1) + bytes <= binary.byteLength, 'This glb names bytes that it hasn\'t.');
@@ -105,13 +105,11 @@ function addNode(glb, number, above, objects) {
     for (const child of node.children ?? []) addNode(glb, child, matrix, objects);
 }
 
-/** Around the middle of all objects, at a third of the way to their ends. */
-function circlePath(objects, size) {
-    const whole = boundsOf(Float32Array.from(objects.flatMap(({ bounds }) => bounds)));
-    const [x, y, z] = [0, 1, 2].map((axis) => (whole[axis] + whole[axis + 3]) / 2);
+/** Around a place, and a little above it. */
+function circlePath([x, y, z], radius) {
     return Array.from({ length: 24 }, (_, k) => {
         const turn = 2 * Math.PI * k / 24;
-        return [x + 0.35 * size * Math.cos(turn), y + 0.1 * size, z + 0.35 * size * Math.sin(turn)];
+        return [x + radius * Math.cos(turn), y + 0.2 * radius, z + radius * Math.sin(turn)];
     });
 }
 
@@ -124,6 +122,7 @@ export function sceneOf(file, name) {
     const whole = boundsOf(Float32Array.from(objects.flatMap(({ bounds }) => bounds)));
     const size = Math.hypot(...[0, 1, 2].map((axis) => whole[axis + 3] - whole[axis]));
     demand(size > 0 && size < Infinity, 'This glb has no extent.');
-    const path = circlePath(objects, size);
-    return { name, near: size / 1000, far: 4 * size, winding: KEEPS_BOTH, objects, path, speed: size / 30 };
+    const middle = [0, 1, 2].map((axis) => (whole[axis] + whole[axis + 3]) / 2), path = circlePath(middle, 0.6 * size);
+    const ground = { positions: new Float32Array(0), indices: [] }, speed = size / 20;
+    return { name, near: size / 1000, far: 4 * size, winding: KEEPS_BOTH, objects, ground, path, middle, speed };
 }

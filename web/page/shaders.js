@@ -13,7 +13,7 @@ void main() {
     gl_Position = clipFromScene * vec4(position, 1.0);
 }`;
 
-/** Objects in tones of their own, lit from above and lost in the distance. */
+/** Objects in tones of their own, and the ground in another: lit from above and lost in the distance. */
 export const SCENE = `#version 300 es
 precision highp float;
 in vec3 place;
@@ -21,6 +21,7 @@ flat in uint number;
 uniform vec3 eye;
 uniform vec3 sky;
 uniform float far;
+uniform uint count;
 out vec4 colour;
 
 void main() {
@@ -28,6 +29,7 @@ void main() {
     float light = 0.45 + 0.55 * dot(normal * normal, vec3(0.45, 1.0, 0.8));
     uint mixed = (number + 1u) * 2654435761u;
     vec3 tone = mix(vec3(0.80, 0.62, 0.48), vec3(0.62, 0.66, 0.72), float(mixed >> 24) / 255.0);
+    tone = number < count ? tone : vec3(0.55, 0.58, 0.5);
     float haze = 1.0 - exp(-4.0 * distance(place, eye) / far);
     colour = vec4(mix(tone * light, sky, haze), 1.0);
 }`;
@@ -43,7 +45,8 @@ out vec4 colour;
 
 void main() {
     uint verdict = number < count ? texelFetch(verdicts, ivec2(number % 256u, number / 256u), 0).r : 0u;
-    vec3 tone = verdict == 16u ? vec3(0.93, 0.47, 0.13) : verdict == 17u ? vec3(0.16, 0.36, 0.63) : vec3(0.76, 0.76, 0.73);
+    vec3 culled = verdict == 17u ? vec3(0.16, 0.36, 0.63) : vec3(0.76, 0.76, 0.73);
+    vec3 tone = verdict == 16u ? vec3(0.93, 0.47, 0.13) : culled;
     colour = vec4(number < count ? tone : vec3(0.1), 1.0);
 }`;
 

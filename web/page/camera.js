@@ -27,15 +27,17 @@ const mixed = (from, to, share) => from.map((number, k) => number + (to[k] - num
 export class Camera {
     isFlying = true;
     #path;
+    #middle;
     #lengths;
     #speed;
     #lens;
     #gone = 0;
     #pressed = new Set();
 
-    /** For a scene, on a picture that is so many times as wide as high. */
-    constructor({ path, speed, near, far }, aspect) {
+    /** For a scene, on a picture that is so many times as wide as high. The eye looks to its middle, or ahead. */
+    constructor({ path, middle, speed, near, far }, aspect) {
         this.#path = path;
+        this.#middle = middle;
         this.#speed = speed;
         this.#lens = perspective(aspect, near, far);
         const next = (k) => path[(k + 1) % path.length];
@@ -47,10 +49,11 @@ export class Camera {
     fly(seconds) {
         this.#gone = seconds * this.#speed;
         this.place = this.#placeAfter(this.#gone);
-        // What lies ahead tells where to look, so that corners are turned smoothly.
-        const ahead = this.#placeAfter(this.#gone + 1.2 * this.#speed).map((it, k) => it - this.place[k]);
-        this.turn = Math.atan2(-ahead[0], -ahead[2]);
-        this.tilt = Math.atan2(ahead[1], Math.hypot(ahead[0], ahead[2])) / 2;
+        // A second ahead, so that corners are turned smoothly.
+        const looked = this.#middle ?? this.#placeAfter(this.#gone + this.#speed);
+        const [x, y, z] = looked.map((it, k) => it - this.place[k]);
+        this.turn = Math.atan2(-x, -z);
+        this.tilt = Math.atan2(y, Math.hypot(x, z));
     }
 
     press(key) {

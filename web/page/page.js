@@ -2,7 +2,7 @@
 import { Camera } from './camera.js';
 import { Culling } from './culling.js';
 import { sceneOf } from './glb.js';
-import { OCCLUDED, OUTSIDE, VISIBLE, loadModule } from './maskcull.js';
+import { OCCLUDED, OUTSIDE, VISIBLE, loadModule } from '../maskcull.js';
 import { Picture } from './picture.js';
 import { makeTown } from './town.js';
 
@@ -89,9 +89,9 @@ class Show {
         const [visible, occluded, outside] = [VISIBLE, OCCLUDED, OUTSIDE].map((verdict) => written(counts[verdict]));
         part('counts').textContent = `${visible} visible, ${occluded} occluded, ${outside} outside: `
             + `${written(drawn)} drawn`;
-        part('times').textContent = `${occluders} occluders of ${written(triangles)} triangles ${milliseconds.draw.toFixed(1)}`
-            + ` ms, tests ${milliseconds.test.toFixed(1)} ms, calls of WebGL ${submit.toFixed(1)} ms, from frame to frame `
-            + `${passed.toFixed(0)} ms`;
+        const [draw, test, calls] = [milliseconds.draw, milliseconds.test, submit].map((it) => it.toFixed(1));
+        part('times').textContent = `${occluders} occluders of ${written(triangles)} triangles ${draw} ms, `
+            + `tests ${test} ms, calls of WebGL ${calls} ms, from frame to frame ${passed.toFixed(0)} ms`;
     }
 }
 
@@ -100,8 +100,8 @@ function listen(show) {
     addEventListener('keyup', ({ code }) => show.camera.release(code));
     part('fly').addEventListener('change', () => { show.camera.isFlying = isOn('fly'); });
     part('count').addEventListener('click', () => {
-        const { culled, counts } = show.countPixels();
-        part('counted').textContent = `${written(culled)} pixels of ${written(counts[OCCLUDED] + counts[OUTSIDE])} culled objects`;
+        const { culled, counts } = show.countPixels(), objects = counts[OCCLUDED] + counts[OUTSIDE];
+        part('counted').textContent = `${written(culled)} pixels of ${written(objects)} culled objects`;
     });
     addEventListener('dragover', (event) => event.preventDefault());
     addEventListener('drop', (event) => {

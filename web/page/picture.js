@@ -1,5 +1,5 @@
 // Draws a scene by WebGL2: what the eye sees at the left, and from above what is culled at the right.
-import { VISIBLE } from './maskcull.js';
+import { VISIBLE } from '../maskcull.js';
 import { ABOVE, IDS, SCENE, SCREEN, TILES, VERTICES } from './shaders.js';
 
 const SKY = [0.74, 0.82, 0.9, 1], PAPER = [0.93, 0.93, 0.9, 1], NOTHING = [0, 0, 0, 0];
@@ -50,7 +50,8 @@ function textureOf(gl) {
 /** All vertices and triangles of some objects in one piece, and where the triangles of each begin. */
 function joined(objects) {
     const sum = (lengthOf) => objects.reduce((all, it) => all + lengthOf(it), 0);
-    const positions = new Float32Array(sum((it) => it.positions.length)), numbers = new Uint32Array(positions.length / 3);
+    const positions = new Float32Array(sum((it) => it.positions.length));
+    const numbers = new Uint32Array(positions.length / 3);
     const indices = new Uint32Array(sum((it) => it.indices.length)), starts = [0];
     let vertices = 0;
     objects.forEach((object, number) => {
@@ -113,9 +114,10 @@ export class Picture {
         gl.enable(gl.SCISSOR_TEST);
     }
 
-    /** Takes the objects of a scene, in place of those that it has. */
-    take({ objects, far }) {
-        const gl = this.#gl, { positions, numbers, indices, starts } = joined(objects), array = gl.createVertexArray();
+    /** Takes the objects of a scene, in place of those that it has, and what they stand on, which is no object. */
+    take({ objects, ground, far }) {
+        const gl = this.#gl, array = gl.createVertexArray();
+        const { positions, numbers, indices, starts } = joined([...objects, ground]);
         gl.bindVertexArray(array);
         const buffers = [bufferOf(gl, gl.ARRAY_BUFFER, positions)];
         gl.vertexAttribPointer(0, 3, gl.FLOAT, false, 0, 0);
@@ -133,10 +135,13 @@ export class Picture {
 
     /** What the eye sees: objects that are visible by the verdicts, or all without these. Tells how many it draws. */
     drawScene(clipFromScene, eye, verdicts) {
-        const gl = this.#gl, { starts, count, far } = this.#scene, { uniforms } = this.#begin('scene', clipFromScene, SKY);
+        const gl = this.#gl, { starts, count, far } = this.#scene;
+        const { uniforms } = this.#begin('scene', clipFromScene, SKY);
         gl.uniform3f(uniforms.eye, ...eye);
         gl.uniform1f(uniforms.far, far);
         gl.uniform3f(uniforms.sky, ...SKY.slice(0, 3));
+        gl.uniform1ui(uniforms.count, count);
+        gl.drawElements(gl.TRIANGLES, starts[count + 1] - starts[count], gl.UNSIGNED_INT, 4 * starts[count]);
         let drawn = 0;
         for (let k = 0; k < count; k++) {
             if (verdicts !== null && verdicts[k] !== VISIBLE) continue;
@@ -225,7 +230,8 @@ export class Picture {
 
     /** Fills a texture, which has rows of so many whole numbers. */
     #setNumbers(texture, [format, type], numbers, width) {
-        const gl = this.#gl, height = Math.ceil(numbers.length / width), whole = new numbers.constructor(width * height);
+        const gl = this.#gl, height = Math.ceil(numbers.length / width);
+        const whole = new numbers.constructor(width * height);
         whole.set(numbers);
         gl.bindTexture(gl.TEXTURE_2D, texture);
         gl.pixelStorei(gl.UNPACK_ALIGNMENT, 1);
@@ -236,7 +242,8 @@ export class Picture {
     #makeIdentities() {
         const gl = this.#gl, framebuffer = gl.createFramebuffer();
         gl.bindFramebuffer(gl.FRAMEBUFFER, framebuffer);
-        for (const [format, attachment] of [[gl.RGBA8, gl.COLOR_ATTACHMENT0], [gl.DEPTH_COMPONENT24, gl.DEPTH_ATTACHMENT]]) {
+        const parts = [[gl.RGBA8, gl.COLOR_ATTACHMENT0], [gl.DEPTH_COMPONENT24, gl.DEPTH_ATTACHMENT]];
+        for (const [format, attachment] of parts) {
             const buffer = gl.createRenderbuffer();
             gl.bindRenderbuffer(gl.RENDERBUFFER, buffer);
             gl.renderbufferStorage(gl.RENDERBUFFER, format, this.#width, this.#height);

@@ -1,14 +1,17 @@
 // A scene that is made: buildings along streets, the same each time. Lengths are metres, y is upwards from the ground.
-import { DROPS_CLOCKWISE } from './maskcull.js';
+import { DROPS_CLOCKWISE } from '../maskcull.js';
 
 const LOTS = 71; // along each side
 const LOT = 22;
 const LOTS_A_BLOCK = 4;
 const STREET = 14;
+const END = 1500; // of the ground, from the middle
 // Occluders lie so far within what is drawn that no rounding takes them out of it.
 const WITHIN = 0.25;
 // Outside of a box: four sides, the top and the bottom, each counterclockwise as it is seen.
-const FACES = [0, 6, 4, 0, 2, 6, 1, 7, 3, 1, 5, 7, 0, 5, 1, 0, 4, 5, 2, 7, 6, 2, 3, 7, 4, 7, 5, 4, 6, 7, 0, 3, 2, 0, 1, 3];
+const FACES = [
+    0, 6, 4, 0, 2, 6, 1, 7, 3, 1, 5, 7, 0, 5, 1, 0, 4, 5, 2, 7, 6, 2, 3, 7, 4, 7, 5, 4, 6, 7, 0, 3, 2, 0, 1, 3,
+];
 
 /** A source of numbers from 0 to below 1, the same for the same seed. */
 function diceFrom(seed) {
@@ -19,7 +22,7 @@ function diceFrom(seed) {
     };
 }
 
-/** The eight corners between the least x, y and z and the greatest ones: bit 0 of their number is for x, bit 1 for z. */
+/** The eight corners of a box: of their number bit 0 is for x, bit 1 for z and bit 2 for y. */
 function cornersOf([x0, y0, z0, x1, y1, z1]) {
     return [0, 1, 2, 3, 4, 5, 6, 7].flatMap((k) => [k & 1 ? x1 : x0, k & 4 ? y1 : y0, k & 2 ? z1 : z0]);
 }
@@ -61,5 +64,8 @@ export function makeTown() {
             });
         }
     }
-    return { name: 'a town', near: 1, far: 4000, winding: DROPS_CLOCKWISE, objects, path: streetPath(), speed: 25 };
+    const corners = cornersOf([-END, 0, -END, END, 0, END]);
+    const ground = { positions: Float32Array.from(corners), indices: [0, 3, 1, 0, 2, 3] };
+    const path = streetPath();
+    return { name: 'a town', near: 1, far: 4000, winding: DROPS_CLOCKWISE, objects, ground, path, speed: 25 };
 }
