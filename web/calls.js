@@ -119,7 +119,7 @@ const BAD_INDEX = 3;
  * @param {WebAssembly.Memory} memory
  * @param {number} pages
  */
-function growBy(memory, pages) {
+export function growBy(memory, pages) {
     try {
         memory.grow(/** @type {any} */ (BigInt(pages)));
     } catch (error) {

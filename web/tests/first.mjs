@@ -1,6 +1,7 @@
 // examples/c/first.c once more, call by call on the module itself: what it prints has to come out.
 import assert from 'node:assert/strict';
 import fs from 'node:fs';
+import { growBy } from '../calls.js';
 import { module } from './module.mjs';
 
 const WIDTH = 64, HEIGHT = 32, NEAR = 16, TILES = 8, TILE_ROWS = 4, TILE_BYTES = 100;
@@ -12,7 +13,8 @@ const WORDS = {
 
 const { exports } = await WebAssembly.instantiate(module, {});
 const lines = [];
-let end = Number(exports.__heap_base.value);
+let end = Number(exports.__heap_base.value); // of what is in use: up to here it is the module's own
+growBy(exports.memory, 1);
 
 const say = (what, status) => lines.push(`${what}: ${WORDS[status]}`);
 const sayWhether = (what, isSo) => lines.push(`${what}: ${isSo ? 'yes' : 'no'}`);

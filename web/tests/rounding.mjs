@@ -86,7 +86,7 @@ function quadOf(corners) {
     const positions = Float32Array.from(corners.flat());
     const points = [0, 1, 2, 3].map((k) => [...positions.subarray(3 * k, 3 * k + 3)]);
     const [a, b, c, d] = points;
-    return { positions, triangles: [triangleOf(a, b, c), triangleOf(a, c, d)] };
+    return { positions, points, triangles: [triangleOf(a, b, c), triangleOf(a, c, d)] };
 }
 
 const QUAD = Uint16Array.of(0, 1, 2, 0, 2, 3);
@@ -119,20 +119,30 @@ function edgeWall(dice) {
     return quadOf([place(0, -3), place(0, 3), place(-4, 3), place(-4, -3)]);
 }
 
-/** A small box behind a wall, of which the middle of a pixel just beside the wall's edge is in a corner. */
-function boxBeside(dice, screen, { triangles }) {
-    const far = between(dice, 20, 40), pixel = 2 / screen.width * far, high = 2 / screen.height * far;
-    for (let tries = 0; tries < 200; tries++) {
-        const column = wholeBetween(dice, 4, screen.width - 5), row = wholeBetween(dice, 4, screen.height - 5);
-        const ray = rayOf(screen, column, row), isOpen = ([x, y]) =>
-            triangles.every((it) => distanceOfTriangle(it, [ray[0] + x / far, ray[1] + y / far]) === Infinity);
-        const [x, y] = [dice() < 0.5 ? 1 : -1, dice() < 0.5 ? 1 : -1];
-        if (!isOpen([0, 0]) || isOpen([x * 0.07 * pixel, y * 0.07 * high])) continue;
-        const ends = [[ray[0] * far - x * 0.01 * pixel, ray[0] * far + x * 0.8 * pixel],
-            [ray[1] * far - y * 0.01 * high, ray[1] * far + y * 0.8 * high]].map((pair) => pair.sort((a, b) => a - b));
-        return [ends[0][0], ends[1][0], far, ends[0][1], ends[1][1], far + 1];
+/** A pixel through whose middle a ray just misses a wall at its first side, and to which side the wall is. */
+function pixelBeside(dice, screen, { triangles, points }) {
+    const { width, height } = screen, slack = 0.03 + 0.25 * width / 2048; // of a pixel
+    const isOpen = (ray) => triangles.every((it) => distanceOfTriangle(it, ray) === Infinity);
+    for (let tries = 0; tries < 500; tries++) {
+        const share = dice(), [x, y, w] = points[0].map((number, k) => number + share * (points[1][k] - number));
+        const column = Math.floor((1 + x / w) * width / 2), row = Math.floor((1 - y / w) * height / 2);
+        const right = dice() < 0.5 ? 1 : -1, up = dice() < 0.5 ? 1 : -1, ray = rayOf(screen, column, row);
+        const isInside = column > 3 && row > 3 && column < width - 4 && row < height - 4;
+        const inner = [ray[0] + right * slack * 2 / width, ray[1] + up * slack * 2 / height];
+        if (isInside && isOpen(ray) && !isOpen(inner)) return { ray, right, up };
     }
     return null;
+}
+
+/** A small box behind a wall, with the middle of a pixel just beside the wall in a corner of it. */
+function boxBeside(dice, screen, wall) {
+    const far = between(dice, 20, 40), found = pixelBeside(dice, screen, wall);
+    if (found === null) return null;
+    const { ray, right, up } = found, wide = 2 / screen.width * far, high = 2 / screen.height * far;
+    const [x, y] = ray.map((number) => number * far);
+    const across = [x - right * 0.01 * wide, x + right * 0.8 * wide].sort((one, other) => one - other);
+    const upwards = [y - up * 0.01 * high, y + up * 0.8 * high].sort((one, other) => one - other);
+    return [across[0], upwards[0], far, across[1], upwards[1], far + 1];
 }
 
 function someWall(dice) {
@@ -154,8 +164,8 @@ function someBox(dice) {
 // How many frames of each kind, what stands in one, and what is asked there.
 const KINDS = {
     'planes behind a box': [60, levelWall, 1, boxBefore, 60],
-    'edges beside a box': [60, edgeWall, 1, boxBeside, 20],
-    'walls and boxes': [60, someWall, 12, (dice) => someBox(dice), 120],
+    'edges beside a box': [60, edgeWall, 1, boxBeside, 60],
+    'walls and boxes': [60, someWall, 12, (dice) => someBox(dice), 80],
 };
 
 /** Counts boxes that are called hidden or outside, and those of them that are seen. */
@@ -185,9 +195,9 @@ export async function tally({ Frame, OCCLUDED, OUTSIDE }, seed) {
 // A line of the wrapper, and what it gets in place of it.
 const EDITS = [
     ['a rectangle that isn\'t widened', '0.5 + pixels * 0.5 / FINEST + 1 / 16', '0'],
-    ['occluders taken nearer', 'Math.ceil(point.w * this.#factors[k])', 'Math.floor(point.w)'],
-    ['an object taken farther', 'Math.floor(nearest)', 'Math.ceil(nearest) + 1'],
-    ['sides of a narrower view', '(x > right * w ? 1', '(x > 0.98 * w ? 1'],
+    ['occluders rounded towards the eye', 'Math.ceil(point.w * this.#factors[k])', 'Math.floor(point.w)'],
+    ['an object as far as its last corner', 'nearest = Math.min(nearest, w)', 'nearest = w'],
+    ['sides of a narrower view', '(x > right * w ? 1', '(x > 0.9 * w ? 1'],
 ];
 
 /** The wrapper with an edit in it. */
