@@ -16,7 +16,10 @@ export interface Screen {
     width: number;
     /** A multiple of 4, from 4 to 2048. */
     height: number;
-    /** Of a frame a number above 0: the camera's near distance. Of calls a whole number from 1 to 1024. */
+    /**
+     * Of a frame a number above 0: the near distance of the camera, since what that leaves out may hide nothing. Of
+     * calls a whole number from 1 to 1024.
+     */
     near: number;
     /** KEEPS_BOTH where it is left out. */
     winding?: Winding;
@@ -40,7 +43,7 @@ export class Frame {
     /** The exports are those of an instance of the module that nobody else uses. */
     constructor(exports: WebAssembly.Exports, screen: Screen);
 
-    /** The calls beneath, in whole numbers of 1/1024 of the near distance. */
+    /** The calls beneath, in units of 1/1024 of 8/7 of the near distance. */
     readonly calls: Calls;
 
     /** Empties all tiles. */
@@ -52,7 +55,10 @@ export class Frame {
      */
     draw(positions: Float32Array, indices: Indices, matrix: ArrayLike<number>): void;
 
-    /** The verdict of all within a box: the least x, y and z and the greatest ones. */
+    /**
+     * The verdict of all within a box: the least x, y and z and the greatest ones. It is visible too where a corner is
+     * before 8/7 of the near distance and not all of the box is beside the screen or behind the eye.
+     */
     testBox(bounds: ArrayLike<number>, matrix: ArrayLike<number>): Verdict;
 
     /** The verdicts of many boxes, of six numbers each. They fill the array that is given, or a new one. */

@@ -14,8 +14,10 @@
 //
 // A matrix takes (x, y, z, 1) to clip space. It has 16 numbers, column by column, as those of WebGL and of three.js:
 // projection times view times model. The view has to be one in perspective; with another nothing is hidden. What shows
-// only through a slit between two occluders that is narrower than a pixel of the frame may be called hidden, since a
-// pixel is asked at its middle: make the frame as large as the picture, or let occluders lie within what is drawn.
+// only through a slit between two occluders, or between one and the screen's edge, may be called hidden where the slit
+// is narrower than a pixel of the frame, since a pixel is asked at its middle; or than three where occluders are at the
+// near plane and rounding moves their edges. So make the frame as large as the picture, or let occluders lie within what
+// is drawn.
 import { Calls, MaskcullError, OCCLUDED, OUTSIDE, VISIBLE, countOf, demandAmong, start } from './calls.js';
 
 export {
@@ -34,7 +36,11 @@ function demandLength(name, numbers, length) {
     throw new MaskcullError('array', `${name} has ${length} numbers, and this one ${numbers?.length ?? 'none'}.`);
 }
 
-// The greatest near distance there is, so the finest whole numbers: a unit is 1/1024 of the near distance.
+// The module's near plane stands a little beyond the near distance. What is drawn of a triangle is up to 1/15 further
+// from the eye than the triangle, and rounding adds less than 1/16: so no part is drawn of what a renderer, which cuts
+// at the near distance, leaves out.
+const BEYOND_NEAR = 8 / 7;
+// The greatest near distance there is, so the finest whole numbers: a unit is 1/1024 of the module's.
 const FINEST = 1024;
 // Further from 0 than the guard, 16384 times FINEST, and well within 32 bits.
 const MOST = 1e9;
@@ -43,14 +49,14 @@ const PAST_GUARD = 0x7fffffff;
 // As much as a triangle may have to be moved away from the eye. One that is seen more from its edge is dropped.
 const STEEPEST = 1 / 16;
 
-/** @typedef {{ x: number, y: number, w: number }} Point in clip space, in units of 1/FINEST of the near distance */
+/** @typedef {{ x: number, y: number, w: number }} Point in clip space, in units */
 
 /**
  * In pixels: half of one to the sample in its middle; a coordinate of an occluder moves by half a unit and, where the
- * near plane cuts, w by another half, at w = FINEST or more; the module rounds to a sixteenth.
+ * near plane cuts, w by another half, at w = FINEST or more; the module rounds to a sixteenth; and what doubles lose.
  * @param {number} pixels
  */
-const margin = (pixels) => 0.5 + pixels * 0.5 / FINEST + 1 / 16;
+const margin = (pixels) => 0.5 + pixels * 0.5 / FINEST + 1 / 16 + 1 / 1024;
 
 /**
  * @param {ArrayLike<number>} points
@@ -119,7 +125,7 @@ function sidesOf(points, count, right, top) {
  * A screen's tiles, for coordinates in floats: what is drawn and asked goes through a matrix into clip space.
  */
 export class Frame {
-    /** The calls beneath, in whole numbers of 1/1024 of the near distance. */
+    /** The calls beneath, in units of 1/1024 of 8/7 of the near distance. */
     calls;
     #scale;
     // The rows of the matrix at hand for x, y and w; with it the points of a mesh, by how much each is moved, and the
@@ -131,7 +137,7 @@ export class Frame {
 
     /**
      * @param {WebAssembly.Module} module
-     * @param {Screen} screen near: that of the camera; occluders reach to 16384 times as far
+     * @param {Screen} screen near: that of the camera. Occluders reach from 8/7 of it to 16384 times as far.
      */
     static async make(module, screen) {
         return new Frame(await start(module), screen);
@@ -142,7 +148,7 @@ export class Frame {
      * @param {Screen} screen
      */
     constructor(exports, screen) {
-        this.#scale = FINEST / screen.near;
+        this.#scale = FINEST / (BEYOND_NEAR * screen.near);
         if (!(this.#scale > 0 && this.#scale < Infinity)) {
             throw new MaskcullError('near', `A near distance of ${screen.near} can't be: it is a number above 0.`);
         }
@@ -178,7 +184,8 @@ export class Frame {
     }
 
     /**
-     * The verdict of all within a box.
+     * The verdict of all within a box: visible too where a corner is before 8/7 of the near distance and not all of the
+     * box is beside the screen or behind the eye.
      * @param {ArrayLike<number>} bounds the least x, y and z and the greatest ones
      * @param {ArrayLike<number>} matrix from the box to clip space
      * @returns {number}
@@ -271,8 +278,8 @@ export class Frame {
         const side = minus(q, p), other = minus(r, p), normal = cross(side, other);
         // too thin a triangle for its normal to be known
         if (!(size(normal) > 1e-4 * size(side) * size(other))) return false;
-        const level = dot(normal, p);
-        const a = Math.abs(normal.x / level), b = Math.abs(normal.y / level), c = Math.abs(normal.w / level);
+        const level = Math.abs(dot(normal, p));
+        const a = Math.abs(normal.x) / level, b = Math.abs(normal.y) / level, c = Math.abs(normal.w) / level;
         const snapping = (a / this.calls.width + b / this.calls.height) / 8;
         const rounding = 0.5 * (a + b + c + snapping) + 1e-5; // and what doubles lose
         if (!(rounding + snapping * Math.max(0, p.w, q.w, r.w) < STEEPEST)) return false;

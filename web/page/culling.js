@@ -1,7 +1,7 @@
 // What of a scene is hidden: the largest objects in the view are drawn as occluders, and then all objects are tested.
 import { Frame, OCCLUDED, OUTSIDE, VISIBLE } from '../maskcull.js';
 
-const MOST_TRIANGLES = 8192; // of occluders in a frame
+const MOST_TRIANGLES = 2048; // of occluders in a frame
 // An object that is seen smaller than this, as a part of its distance, hides little.
 const LEAST_SIZE = 0.02;
 
@@ -56,13 +56,11 @@ export class Culling {
 
     /** Occluders of the objects that are seen largest, the largest first. */
     #occluders(matrix) {
-        const seen = [];
+        const seen = [], wide = 1 + Math.hypot(matrix[0], matrix[4], matrix[8]);
         this.#balls.forEach(([x, y, z, radius], number) => {
             const w = matrix[3] * x + matrix[7] * y + matrix[11] * z + matrix[15];
             const across = Math.abs(matrix[0] * x + matrix[4] * y + matrix[8] * z + matrix[12]);
-            const size = radius / Math.max(w, radius);
-            // beside the view by more than it can reach, whatever the width of the view
-            const isBeside = w < -radius || across > w + radius * (1 + Math.hypot(matrix[0], matrix[4], matrix[8]));
+            const size = radius / Math.max(w, radius), isBeside = w < -radius || across > w + radius * wide;
             if (size > LEAST_SIZE && !isBeside) seen.push({ size, occluder: this.#objects[number].occluder });
         });
         seen.sort((one, other) => other.size - one.size);

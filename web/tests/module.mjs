@@ -22,7 +22,7 @@ export function checkModule() {
 
 /** The greatest screen, and as many vertices and triangles as a scene of the program may have. */
 export async function checkRoom() {
-    const frame = await Frame.make(module, { width: 2048, height: 2048, near: 1 });
+    const frame = await Frame.make(module, { width: 2048, height: 2048, near: 7 / 8 });
     const positions = new Float32Array(3 * 262144).fill(2), indices = new Uint32Array(3 * 65536);
     positions.set([-4, -4, 2, 4, -4, 2, 4, 4, 2, -4, 4, 2]);
     indices.fill(262143).set([0, 1, 2, 0, 2, 3], indices.length - 6);

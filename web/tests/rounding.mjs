@@ -7,7 +7,8 @@ import * as wrapper from '../maskcull.js';
 import { CLIP_FROM_VIEW, module } from './module.mjs';
 
 const SCREENS = [[64, 32], [320, 180], [2048, 16]];
-const UNIT = 1 / 1024; // of the near distance, which is 1
+const NEAR = 7 / 8; // so that the module's near plane stands at 1
+const UNIT = 1 / 1024;
 // Whoever is seen is nearer by more than doubles lose.
 const NEARER = 1 - 1e-9;
 
@@ -168,12 +169,32 @@ const KINDS = {
     'walls and boxes': [60, someWall, 12, (dice) => someBox(dice), 80],
 };
 
-/** Counts boxes that are called hidden or outside, and those of them that are seen. */
-export async function tally({ Frame, OCCLUDED, OUTSIDE }, seed) {
-    const dice = diceFrom(seed), counts = { asked: 0, occluded: 0, outside: 0, seen: 0 };
+/** A wall along the view and close beside the eye, all of it before the near distance: a renderer leaves it out. */
+function wallBefore(dice) {
+    const side = between(dice, 10, 60) * UNIT, turn = between(dice, 0.9, 1.1), near = NEAR * between(dice, 0.2, 0.6);
+    const far = NEAR * between(dice, 0.97, 0.9999);
+    return quadOf([[side, 1, near], [side * turn, 1, far], [side * turn, -1, far], [side, -1, near]]);
+}
+
+/** How many of so many walls before the near distance leave anything in the tiles. */
+async function countDrawn({ Frame }, dice, walls) {
+    const frame = await Frame.make(module, { width: 2048, height: 16, near: NEAR });
+    let drawn = 0;
+    for (let k = 0; k < walls; k++) {
+        frame.clear();
+        frame.draw(wallBefore(dice).positions, QUAD, CLIP_FROM_VIEW);
+        if (frame.calls.tiles().some((number) => number !== 0)) drawn++;
+    }
+    return drawn;
+}
+
+/** Counts boxes that are called hidden or outside, those of them that are seen, and walls that are drawn unseen. */
+export async function tally(edition, seed) {
+    const { Frame, OCCLUDED, OUTSIDE } = edition, dice = diceFrom(seed);
+    const counts = { asked: 0, occluded: 0, outside: 0, seen: 0, drawn: await countDrawn(edition, dice, 400) };
     for (const [frames, wall, walls, box, boxes] of Object.values(KINDS)) {
         for (let k = 0; k < frames; k++) {
-            const [width, height] = SCREENS[k % SCREENS.length], screen = { width, height, near: 1 };
+            const [width, height] = SCREENS[k % SCREENS.length], screen = { width, height, near: NEAR };
             const frame = await Frame.make(module, screen), drawn = Array.from({ length: walls }, () => wall(dice));
             for (const { positions } of drawn) frame.draw(positions, QUAD, CLIP_FROM_VIEW);
             const triangles = drawn.flatMap((it) => it.triangles);
@@ -194,9 +215,10 @@ export async function tally({ Frame, OCCLUDED, OUTSIDE }, seed) {
 
 // A line of the wrapper, and what it gets in place of it.
 const EDITS = [
-    ['a rectangle that isn\'t widened', '0.5 + pixels * 0.5 / FINEST + 1 / 16', '0'],
+    ['a rectangle that isn\'t widened', '0.5 + pixels * 0.5 / FINEST + 1 / 16 + 1 / 1024', '0'],
     ['occluders rounded towards the eye', 'Math.ceil(point.w * this.#factors[k])', 'Math.floor(point.w)'],
     ['an object as far as its last corner', 'nearest = Math.min(nearest, w)', 'nearest = w'],
+    ['a near plane at the near distance', 'BEYOND_NEAR = 8 / 7', 'BEYOND_NEAR = 1'],
     ['sides of a narrower view', '(x > right * w ? 1', '(x > 0.9 * w ? 1'],
 ];
 
@@ -209,13 +231,14 @@ function edited(old, text) {
 }
 
 export async function checkRounding() {
-    const { asked, occluded, outside, seen } = await tally(wrapper, 1);
+    const { asked, occluded, outside, seen, drawn } = await tally(wrapper, 1);
     assert.equal(seen, 0, `${seen} boxes are seen that are called hidden or outside`);
+    assert.equal(drawn, 0, `${drawn} walls before the near distance are drawn`);
     assert(occluded > 500 && outside > 500, `${occluded} are occluded and ${outside} outside`);
     console.log(`${asked} boxes beside doubles: ${occluded} occluded and ${outside} outside, none of them seen`);
     for (const [what, old, text] of EDITS) {
         const found = await tally(await edited(old, text), 1);
-        assert(found.seen > 0, `${what} isn't found out`);
-        console.log(`found out: ${what}, by ${found.seen} boxes`);
+        assert(found.seen + found.drawn > 0, `${what} isn't found out`);
+        console.log(`found out: ${what}, by ${found.seen} boxes and ${found.drawn} walls`);
     }
 }
