@@ -16,8 +16,8 @@
 // projection times view times model. The view has to be one in perspective; with another nothing is hidden. What shows
 // only through a slit between two occluders, or between one and the screen's edge, may be called hidden where the slit
 // is narrower than a pixel of the frame, since a pixel is asked at its middle; or than three where occluders are at the
-// near plane and rounding moves their edges. So make the frame as large as the picture, or let occluders lie within what
-// is drawn.
+// near plane and rounding moves their edges. So make the frame as large as the picture, or let occluders lie within
+// what is drawn.
 import { Calls, MaskcullError, OCCLUDED, OUTSIDE, VISIBLE, countOf, demandAmong, start } from './calls.js';
 
 export {

@@ -10,6 +10,7 @@ const WORDS = { [VISIBLE]: 'visible', [OCCLUDED]: 'occluded', [OUTSIDE]: 'outsid
 const HEADER_BYTES = 32, OBJECT_BYTES = 25;
 const RECTANGLE = 0, BOX = 1;
 const MOST = 0x7fffffff; // past the guard, as all beyond it
+const WRITERS = 4;
 
 /** The parts of a scene; README.md has the table of offsets. */
 function sceneOf(bytes) {
@@ -75,10 +76,11 @@ async function* partsFrom(stream) {
     assert.equal(bytes.length, 0, 'the last part is cut off');
 }
 
-export async function checkScenes(program, count) {
+/** Compares so many scenes from a seed on, and counts their verdicts. */
+async function compare(program, count, seed, counts) {
     const script = fileURLToPath(new URL('scenes.py', import.meta.url));
-    const writer = spawn('python3', [script, program, String(count)], { stdio: ['ignore', 'pipe', 'inherit'] });
-    const counts = { visible: 0, occluded: 0, outside: 0 };
+    const words = [script, program, String(count), String(seed)];
+    const writer = spawn('python3', words, { stdio: ['ignore', 'pipe', 'inherit'] });
     let scene = null, agreeing = 0;
     for await (const part of partsFrom(writer.stdout)) {
         if (scene === null) {
@@ -86,12 +88,21 @@ export async function checkScenes(program, count) {
             continue;
         }
         const expected = part.toString().split('\n').filter((line) => /^\d+ [a-z]+$/.test(line));
-        assert.deepEqual(await linesOf(scene), expected, `scene ${agreeing}`);
+        assert.deepEqual(await linesOf(scene), expected, `the scene of seed ${seed + agreeing}`);
         for (const line of expected) counts[line.split(' ')[1]]++;
         agreeing++;
         scene = null;
     }
     assert.equal(agreeing, count);
+}
+
+/** Compares so many scenes, which some processes write side by side. */
+export async function checkScenes(program, count) {
+    const counts = { visible: 0, occluded: 0, outside: 0 }, share = Math.ceil(count / WRITERS), writers = [];
+    for (let first = 0; first < count; first += share) {
+        writers.push(compare(program, Math.min(share, count - first), 1 + first, counts));
+    }
+    await Promise.all(writers);
     console.log(`${count} random scenes: each verdict is the program's, `
         + Object.entries(counts).map(([word, number]) => `${number} ${word}`).join(', '));
 }
