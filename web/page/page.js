@@ -7,6 +7,7 @@ import { Picture } from './picture.js';
 import { makeTown } from './town.js';
 
 const WIDTH = 960, HEIGHT = 540;
+const MOST_PASSED = 100; // milliseconds by which the eye moves on at once
 const FRAMES_A_LINE = 15; // between two changes of the numbers
 // How far the edges of the view are drawn from above, in clip space.
 const VIEW_LENGTH = 0.25;
@@ -31,7 +32,7 @@ class Show {
     last = null;
     #module;
     #size;
-    #before = 0;
+    #before = performance.now();
     #frames = 0;
 
     constructor(module, picture, size) {
@@ -61,9 +62,9 @@ class Show {
     }
 
     step(now) {
-        const passed = Math.min(now - this.#before, 100);
+        const passed = now - this.#before;
         this.#before = now;
-        this.camera.pass(passed / 1000);
+        this.camera.pass(Math.min(passed, MOST_PASSED) / 1000);
         part('fly').checked = this.camera.isFlying;
         this.draw();
         if (this.#frames++ % FRAMES_A_LINE === 0) this.#write(passed);
