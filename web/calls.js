@@ -189,6 +189,9 @@ export class Calls {
     #room;
     #setupAndTiles;
     #askedAt;
+    // How many vertices and triangles there is room for.
+    #vertexCount = 0;
+    #triangleCount = 0;
 
     /**
      * @param {WebAssembly.Module} module
@@ -230,11 +233,14 @@ export class Calls {
     }
 
     /**
-     * Room in the module's memory for the vertices and triangles of the next call.
+     * Room in the module's memory for vertices and triangles. It lasts until other room is made, also by a draw or by a
+     * test of a mesh.
      * @param {number} vertexCount
      * @param {number} triangleCount
      */
     room(vertexCount, triangleCount) {
+        this.#vertexCount = vertexCount;
+        this.#triangleCount = triangleCount;
         const triangles = this.#room + VERTEX_BYTES * vertexCount;
         const end = triangles + TRIANGLE_BYTES * triangleCount;
         this.#words.reach(end);
@@ -245,12 +251,14 @@ export class Calls {
     }
 
     /**
-     * Draws the first so many triangles of the room that was made last for so many vertices.
-     * @param {number} vertexCount
+     * Draws the first so many triangles of the room that was made last.
      * @param {number} triangleCount
      */
-    drawRoom(vertexCount, triangleCount) {
-        this.#withRoom(this.#exports.maskcull_draw, vertexCount, triangleCount);
+    drawRoom(triangleCount) {
+        if (!isWhole(triangleCount) || triangleCount < 0 || triangleCount > this.#triangleCount) {
+            throw new MaskcullError('number', `Room is for ${this.#triangleCount} triangles, not ${triangleCount}.`);
+        }
+        this.#withRoom(this.#exports.maskcull_draw, triangleCount);
     }
 
     /**
@@ -259,7 +267,7 @@ export class Calls {
      * @param {Uint32Array} triangles the numbers of three vertices each
      */
     draw(vertices, triangles) {
-        this.#withRoom(this.#exports.maskcull_draw, ...this.#place(vertices, triangles));
+        this.drawRoom(this.#place(vertices, triangles));
     }
 
     /**
@@ -304,7 +312,7 @@ export class Calls {
      * @returns {number}
      */
     testMesh(vertices, triangles) {
-        return this.#withRoom(this.#exports.maskcull_test_mesh, ...this.#place(vertices, triangles));
+        return this.#withRoom(this.#exports.maskcull_test_mesh, this.#place(vertices, triangles));
     }
 
     /**
@@ -324,10 +332,9 @@ export class Calls {
     }
 
     /**
-     * Copies vertices and triangles into the room, and tells how many of each there are.
+     * Copies vertices and triangles into room for them, and tells how many triangles there are.
      * @param {Int32Array} vertices
      * @param {Uint32Array} triangles
-     * @returns {[number, number]}
      */
     #place(vertices, triangles) {
         const vertexCount = countOf('vertices', vertices, [Int32Array], 3);
@@ -335,21 +342,23 @@ export class Calls {
         const room = this.room(vertexCount, triangleCount);
         room.vertices.set(vertices);
         room.triangles.set(triangles);
-        return [vertexCount, triangleCount];
+        return triangleCount;
     }
 
     /**
+     * Makes a call with the vertices in the room, and the first so many triangles.
      * @param {Function} call
-     * @param {number} vertexCount
      * @param {number} triangleCount
      * @returns {number}
      */
-    #withRoom(call, vertexCount, triangleCount) {
-        const triangles = this.#room + VERTEX_BYTES * vertexCount;
-        const status = call(...this.#setupAndTiles, BigInt(this.#room), BigInt(vertexCount), BigInt(triangles),
-            BigInt(triangleCount));
+    #withRoom(call, triangleCount) {
+        const vertexCount = this.#vertexCount, first = this.#room + VERTEX_BYTES * vertexCount;
+        const mesh = [this.#room, vertexCount, first, triangleCount].map(BigInt);
+        const status = call(...this.#setupAndTiles, ...mesh);
         if (status === DONE || status >= VISIBLE) return status;
-        if (status === BAD_INDEX) demandAmong(this.room(vertexCount, triangleCount).triangles, vertexCount);
+        if (status === BAD_INDEX) {
+            demandAmong(this.#words.unsigned.subarray(first / 4, first / 4 + 3 * triangleCount), vertexCount);
+        }
         throw new MaskcullError('module', `This isn't the module of maskcull: a call answers ${status}.`);
     }
 }

@@ -91,11 +91,11 @@ export class Calls {
     /** Draws occluder triangles, after all that were drawn before. A vertex is x, y and w. */
     draw(vertices: Int32Array, triangles: Uint32Array): void;
 
-    /** Room in the module's memory for the vertices and triangles of the next call. */
+    /** Room in the module's memory for vertices and triangles. It lasts until other room is made, also by other calls. */
     room(vertexCount: number, triangleCount: number): { vertices: Int32Array, triangles: Uint32Array };
 
-    /** Draws the first so many triangles of the room that was made last for so many vertices. */
-    drawRoom(vertexCount: number, triangleCount: number): void;
+    /** Draws the first so many triangles of the room that was made last. */
+    drawRoom(triangleCount: number): void;
 
     /** The verdict of the pixels from (x0, y0) to before (x1, y1) at distance w. */
     test(x0: number, y0: number, x1: number, y1: number, w: number): Verdict;

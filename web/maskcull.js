@@ -180,7 +180,7 @@ export class Frame {
             kept += 3;
         }
         for (let k = 0; k < vertexCount; k++) this.#setFarther(vertices, k);
-        this.calls.drawRoom(vertexCount, kept / 3);
+        this.calls.drawRoom(kept / 3);
     }
 
     /**

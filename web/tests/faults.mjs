@@ -93,8 +93,14 @@ const ATTEMPTS = {
         (frame) => frame.calls.draw(new Int32Array(9), Uint32Array.of(0, 1, 3)),
         (frame) => frame.calls.testMesh(new Int32Array(9), Uint32Array.of(0, 1, 3)),
     ],
-    number: [[0.5, 0, 1, 1, 9], [0, NaN, 1, 1, 9], [0, 0, 2 ** 31, 1, 9], [0, 0, 1, 1, 1e10]].map((area) =>
-        (frame) => frame.calls.test(...area)),
+    number: [
+        ...[[0.5, 0, 1, 1, 9], [0, NaN, 1, 1, 9], [0, 0, 2 ** 31, 1, 9], [0, 0, 1, 1, 1e10]].map((area) =>
+            (frame) => frame.calls.test(...area)),
+        ...[3, -1, 0.5, NaN].map((count) => (frame) => {
+            frame.calls.room(9, 2);
+            frame.calls.drawRoom(count);
+        }),
+    ],
 };
 
 export async function checkFaults() {

@@ -46,7 +46,7 @@ async function timesOfCalls(module, vertices) {
     const room = calls.room(3 * TRIANGLES, TRIANGLES);
     room.vertices.set(vertices);
     room.triangles.forEach((_, k) => { room.triangles[k] = k; });
-    const clear = () => calls.clear(), draw = (count) => calls.drawRoom(3 * TRIANGLES, count);
+    const clear = () => calls.clear(), draw = (count) => calls.drawRoom(count);
     const times = {
         '20,000 triangles, ms': least(() => { clear(); draw(TRIANGLES); }),
         '1,000 triangles, ms': least(() => draw(1000), 1, clear),
