@@ -256,7 +256,8 @@ export class Calls {
      */
     drawRoom(triangleCount) {
         if (!isWhole(triangleCount) || triangleCount < 0 || triangleCount > this.#triangleCount) {
-            throw new MaskcullError('number', `Room is for ${this.#triangleCount} triangles, not ${triangleCount}.`);
+            throw new MaskcullError('number', `There is room for ${this.#triangleCount} triangles, and not for `
+                + `${triangleCount}.`);
         }
         this.#withRoom(this.#exports.maskcull_draw, triangleCount);
     }

@@ -91,7 +91,10 @@ export class Calls {
     /** Draws occluder triangles, after all that were drawn before. A vertex is x, y and w. */
     draw(vertices: Int32Array, triangles: Uint32Array): void;
 
-    /** Room in the module's memory for vertices and triangles. It lasts until other room is made, also by other calls. */
+    /**
+     * Room in the module's memory for vertices and triangles. It lasts until other room is made, also by a draw or by a
+     * test of a mesh.
+     */
     room(vertexCount: number, triangleCount: number): { vertices: Int32Array, triangles: Uint32Array };
 
     /** Draws the first so many triangles of the room that was made last. */
