@@ -1,0 +1,20 @@
+// All that checks/web tests, behind web/build. A fault ends it.
+//
+//     node [--experimental-wasm-memory64] web/tests/all.mjs PROGRAM SCENES
+import { checkFaults, checkSafety } from './faults.mjs';
+import { checkFirst } from './first.mjs';
+import { checkModule, checkRoom } from './module.mjs';
+import { checkRounding } from './rounding.mjs';
+import { checkScenes } from './scenes.mjs';
+import { checkStreet } from './street.mjs';
+
+const [program, scenes] = process.argv.slice(2);
+checkModule();
+await checkRoom();
+checkFirst();
+await checkStreet();
+await checkFaults();
+await checkSafety();
+await checkRounding();
+await checkScenes(program, Number(scenes));
+console.log('web: all agrees');

@@ -1,0 +1,122 @@
+// examples/c/first.c once more, call by call on the module itself: what it prints has to come out.
+import assert from 'node:assert/strict';
+import fs from 'node:fs';
+import { growBy } from '../calls.js';
+import { module } from './module.mjs';
+
+const WIDTH = 64, HEIGHT = 32, NEAR = 16, TILES = 8, TILE_ROWS = 4, TILE_BYTES = 100;
+const WALL = [-48, 48, 48, 0, 48, 48, 0, -48, 48, -48, -48, 48]; // clockwise from the upper left corner
+const QUAD = [0, 1, 2, 0, 2, 3];
+const WORDS = {
+    0: 'done', 1: 'bad setup', 2: 'bad tiles', 3: 'bad index', 16: 'visible', 17: 'occluded', 18: 'outside',
+};
+
+const { exports } = await WebAssembly.instantiate(module, {});
+const lines = [];
+let end = Number(exports.__heap_base.value); // of what is in use: up to here it is the module's own
+growBy(exports.memory, 1);
+
+const say = (what, status) => lines.push(`${what}: ${WORDS[status]}`);
+const sayWhether = (what, isSo) => lines.push(`${what}: ${isSo ? 'yes' : 'no'}`);
+
+/** Where some numbers stand in the memory from now on. */
+function placed(numbers) {
+    const address = Math.ceil(end / 4) * 4;
+    end = address + 4 * numbers.length;
+    new Int32Array(exports.memory.buffer).set(numbers, address / 4);
+    return BigInt(address);
+}
+
+const emptyTiles = () => placed(new Int32Array(TILES * TILE_BYTES / 4));
+const bytesOf = (tiles) => new Uint8Array(exports.memory.buffer, Number(tiles), TILES * TILE_BYTES).slice();
+const areSame = (some, others) => Buffer.compare(some, others) === 0;
+
+const setup = placed([WIDTH, HEIGHT, NEAR, 0]);
+const tiles = emptyTiles();
+const wall = placed(WALL), quad = placed(QUAD);
+const count = BigInt(TILES), drawn = [wall, 4n, quad, 2n];
+
+function saySubtile(what, tile) {
+    const held = placed([0, 0, 0]);
+    exports.maskcull_subtile(held, tiles, count, tile, 0);
+    const [reference, working, mask] = new Uint32Array(exports.memory.buffer, Number(held), 3);
+    lines.push(`${what}: ${reference} ${working} ${mask.toString(16).padStart(8, '0')}`);
+}
+
+const testArea = (area, w) => exports.maskcull_test(setup, tiles, count, placed(area), w);
+
+function testAreas() {
+    const over = [4, 4, 28, 28];
+    say('an area behind the wall', testArea(over, 96));
+    say('a little behind it', testArea(over, 49));
+    say('as near as the wall', testArea(over, 48));
+    say('in front of it', testArea(over, 24));
+    say('before the near distance', testArea(over, 15));
+    say('behind, but past the wall\'s end', testArea([28, 4, 36, 12], 96));
+    say('behind, and past the screen\'s corner', testArea([-9, -9, 9, 9], 96));
+    say('beside the screen', testArea([64, 0, 70, 4], 96));
+}
+
+function testBox(nearW, farW) {
+    const unit = Math.trunc(farW / 4), corners = [];
+    for (let k = 0; k < 8; k++) corners.push(k & 1 ? -unit : -2 * unit, k & 2 ? -unit : unit, k & 4 ? nearW : farW);
+    return exports.maskcull_test_box(setup, tiles, count, placed(corners));
+}
+
+function testBoxes() {
+    say('a box behind the wall', testBox(96, 128));
+    say('a box in front of it', testBox(24, 32));
+    say('a box that the near plane cuts', testBox(8, 128));
+    say('a box behind the near plane', testBox(6, 8));
+}
+
+function testQuad(left, right) {
+    const corners = [-left / 2, left / 2, left, -right / 4, right / 2, right, -right / 4, -right / 2, right,
+        -left / 2, -left / 2, left];
+    return exports.maskcull_test_mesh(setup, tiles, count, placed(corners), 4n, quad, 2n);
+}
+
+function testMeshes() {
+    say('a mesh behind the wall', testQuad(96, 96));
+    say('a mesh that runs into it', testQuad(96, 24));
+    say('a mesh behind the near plane', testQuad(8, 8));
+    say('a mesh without a triangle', exports.maskcull_test_mesh(setup, tiles, count, wall, 4n, quad, 0n));
+}
+
+function beRefused() {
+    const before = bytesOf(tiles), odd = placed([60, HEIGHT, NEAR, 0]);
+    say('a width of 60', exports.maskcull_draw(odd, tiles, count, ...drawn));
+    say('a tile too few', exports.maskcull_draw(setup, tiles, count - 1n, ...drawn));
+    say('three vertices of four', exports.maskcull_draw(setup, tiles, count, wall, 3n, quad, 2n));
+    say('a band past the last row', exports.maskcull_draw_band(setup, tiles, count, 1, ...drawn));
+    say('no vertices, and no triangles', exports.maskcull_draw(setup, tiles, count, wall, 0n, quad, 0n));
+    sayWhether('the tiles are as they were', areSame(before, bytesOf(tiles)));
+}
+
+function drawByBands() {
+    const upper = emptyTiles(), lower = upper + BigInt(TILES / 2 * TILE_BYTES), half = count / 2n;
+    say('the upper band', exports.maskcull_draw_band(setup, upper, half, 0, ...drawn));
+    say('the lower band', exports.maskcull_draw_band(setup, lower, half, TILE_ROWS / 2, ...drawn));
+    sayWhether('both make the same tiles', areSame(bytesOf(upper), bytesOf(tiles)));
+}
+
+export function checkFirst() {
+    lines.push(`tiles: ${exports.maskcull_tile_count(WIDTH, HEIGHT)}, of a width of 60: `
+        + `${exports.maskcull_tile_count(60, HEIGHT)}`);
+    say('before the wall is drawn', testArea([0, 0, 8, 4], 96));
+    say('drawn', exports.maskcull_draw(setup, tiles, count, ...drawn));
+    saySubtile('the first subtile', 0n);
+    saySubtile('the first of the right half', 1n);
+    saySubtile('one that isn\'t there', count);
+    testAreas();
+    testBoxes();
+    testMeshes();
+    beRefused();
+    drawByBands();
+    exports.maskcull_clear(tiles, count);
+    sayWhether('a cleared tile is zero bytes', bytesOf(tiles).every((byte) => byte === 0));
+    // The line with null is of inline code in maskcull.h.
+    const expected = fs.readFileSync(new URL('../../examples/c/first.stdout', import.meta.url), 'utf8').trimEnd();
+    assert.deepEqual(lines, expected.split('\n').filter((line) => !line.endsWith(': null')));
+    console.log(`examples/c/first.c: ${lines.length} lines agree`);
+}

@@ -1,0 +1,36 @@
+// The module that web/build made: its size, what it exports and imports, and that the greatest of everything has room.
+import assert from 'node:assert/strict';
+import fs from 'node:fs';
+import { Frame, VISIBLE, loadModule } from '../maskcull.js';
+
+export const CLIP_FROM_VIEW = [1, 0, 0, 0, 0, 1, 0, 0, 0, 0, 0, 1, 0, 0, 0, 0]; // x, y and w of (x, y, z)
+
+export const bytes = fs.readFileSync(new URL('../out/maskcull.wasm', import.meta.url));
+export const module = await loadModule(bytes);
+
+const CALLS = ['maskcull_clear', 'maskcull_draw', 'maskcull_draw_band', 'maskcull_subtile', 'maskcull_test',
+    'maskcull_test_box', 'maskcull_test_mesh', 'maskcull_tile_count'];
+const MOST_BYTES = 200000;
+
+export function checkModule() {
+    const names = WebAssembly.Module.exports(module).map(({ name, kind }) => `${name} (${kind})`).sort();
+    assert.deepEqual(names, ['__heap_base (global)', ...CALLS.map((name) => `${name} (function)`), 'memory (memory)']);
+    assert.deepEqual(WebAssembly.Module.imports(module), []);
+    assert(bytes.length <= MOST_BYTES);
+    console.log(`the module has ${bytes.length} bytes, exports ${names.join(', ')}, and imports nothing`);
+}
+
+/** The greatest screen, and as many vertices and triangles as a scene of the program may have. */
+export async function checkRoom() {
+    const frame = await Frame.make(module, { width: 2048, height: 2048, near: 7 / 8 });
+    const positions = new Float32Array(3 * 262144).fill(2), indices = new Uint32Array(3 * 65536);
+    positions.set([-4, -4, 2, 4, -4, 2, 4, 4, 2, -4, 4, 2]);
+    indices.fill(262143).set([0, 1, 2, 0, 2, 3], indices.length - 6);
+    assert.equal(frame.testBox([-1, -1, 3, 1, 1, 4], CLIP_FROM_VIEW), VISIBLE);
+    frame.draw(positions, indices, CLIP_FROM_VIEW);
+    const middle = frame.calls.tileCount / 2;
+    // at twice the near distance, and from there no farther than rounding takes it
+    const { reference } = frame.calls.subtile(middle, 0);
+    assert(reference <= 65535 / 2 && reference > 65535 / 2 - 64, `reference ${reference}`);
+    console.log('2048 by 2048 pixels, 262,144 vertices and 65,536 triangles have room');
+}
