@@ -35,7 +35,7 @@ loop-intake-preserved c =
     let waits : holds n task = first_waiting queues frame n c.in-Some.intake at.0 at.1 in
     let loan = c.new.result in
     let begins : BeginsWith holds n (Some loan) = record {
-      seat_is = c.new.ensures.seat ∙ c.len-bin.ensures;
+      seat_is = c.new.ensures.seat ∙ c.len-bin.ensures ∙ c.loop-intake.slots.ok.0;
       seal_parts = c.new.ensures.seal;
       at = subst (holds n) (sym c.new.ensures.task) waits;
     } in
