@@ -8,8 +8,8 @@ none : (clips : List ClipVertex) → length clips ≡ 0 → [] ≡ clips
 none [] e = refl
 none (c ∷ cs) e = absurd (omega (arith, e))
 
-pub verdicts_by_workers-requires-clause-clips : goal.verdicts_by_workers-requires-clause-clips
-verdicts_by_workers-requires-clause-clips g c κs within =
+pub invariant_of-asked-clause-are_clips : goal.invariant_of-asked-clause-are_clips
+invariant_of-asked-clause-are_clips g c =
     let s = c.args.scene.now in
     let empty : length c.vertices.result.now ≡ 0 = search rules in
     none (frame_clips s 0) (clip_count s 0 ∙ sym (ap length c.vertices.ensures) ∙ empty)

@@ -4,9 +4,9 @@ use Rattle.cull_base.specs.Screen.{tile_count_of}
 use Rattle.cull_base.specs.Tiles.{PieceList, ArePieces, tile_after}
 use Rattle.cull_report.specs.Scene.{frame_list}
 use Rattle.masked_update.specs.Canvas.{CanvasOf}
-use Rattle.tile_queues.specs.Bins.{AreBinsAt}
-use Rattle.tile_queues.specs.BinViews.{TableOf, holds_in, tile_in_bins}
-use Rattle.tile_queues.specs.Plain.{StandsPlain}
+use Rattle.bin_tiles.specs.Bins.{AreBinsAt}
+use Rattle.bin_tiles.specs.BinViews.{TableOf, holds_in, tile_in_bins}
+use Rattle.bin_tiles.specs.Plain.{StandsPlain}
 use Rattle.maskcull.proofs.Marks.{none_settled, settled_over}
 use Rattle.maskcull.proofs.frame_by_frame.draw_plainly.Goals as goal
 
