@@ -1,4 +1,4 @@
-use Rattle.std.proofs.Common.{◌≡◌, ℕ, ◌<◌, true, List, length, subst, sym, ap, ◌∙◌}
+use Rattle.std.proofs.Common.{◌≡◌, ℕ, ◌<◌, true, false, List, length, replicate, rules, subst, sym, ap, ◌∙◌}
 use Rattle.binning.specs.Cut.{CutOf}
 use Rattle.cull_base.specs.Screen.{tile_count_of}
 use Rattle.cull_base.specs.Tiles.{PieceList, ArePieces, tile_after}
@@ -35,7 +35,9 @@ invariant_of-asked-clause-right g c =
     let v = c.of-view.result in
     let states : (let l = frame_list s c.args.frame in (t : ℕ) → t < tile_count_of l.size → (tile_in_bins v.table.now v.bins.now t).subs ≡ tile_after l.size t l.members) =
     subst (λ (l : PieceList). (t : ℕ) → t < tile_count_of l.size → (tile_in_bins v.table.now v.bins.now t).subs ≡ tile_after l.size t l.members) c.in_ok-list.ensures.list c.of-view.ensures.states in
-    settled_over s c.args.frame (tile_in_bins v.table.now v.bins.now) _ states ?
+    let marks = c.deref-2.result.now in
+    let unset : marks ≡ replicate (length s.objects) false = search rules in
+    settled_over s c.args.frame (tile_in_bins v.table.now v.bins.now) marks states (none_settled s c.args.frame marks unset)
 
 pub verdicts_over-requires-after_bounds : goal.verdicts_over-requires-after_bounds
 unfolding frame_list
