@@ -14,14 +14,17 @@ const FLAGS = ['--headless=new', '--no-sandbox', '--use-angle=swiftshader', '--e
 export const findChromium = () => NAMES.find((name) => spawnSync(name, ['--version']).status === 0);
 
 /** `python3 -m http.server` over a folder: its process, and the address. */
-export async function serve(folder) {
+export function serve(folder) {
     const server = spawn('python3', ['-u', '-m', 'http.server', '0', '--bind', '127.0.0.1', '--directory', folder],
         { stdio: ['ignore', 'pipe', 'ignore'] });
-    for await (const text of server.stdout) {
-        const found = /port (\d+)/.exec(String(text));
-        if (found) return { server, address: `http://127.0.0.1:${found[1]}` };
-    }
-    throw new Error('python3 -m http.server didn\'t start');
+    return new Promise((resolve, reject) => {
+        // Read to its end: a pipe that is closed after the port would end the server.
+        server.stdout.on('data', (text) => {
+            const found = /port (\d+)/.exec(String(text));
+            if (found) resolve({ server, address: `http://127.0.0.1:${found[1]}` });
+        });
+        server.on('exit', () => reject(new Error('python3 -m http.server didn\'t start')));
+    });
 }
 
 export class Chromium {
