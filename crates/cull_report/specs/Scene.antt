@@ -43,14 +43,6 @@ frame_list s frame = record { size = size_of s; members = list_of_clips (frame_c
 abbrev pub frame_pieces : Parts → ℕ → List Piece
 frame_pieces s frame = (frame_list s frame).members
 
--- the eight corners of a box between its least and its greatest
-abbrev pub corners_of : List ℤ → List ℤ → List (List ℤ)
-corners_of low high =
-    let x0 = slice_index_or low 0 (pos 0) in let y0 = slice_index_or low 1 (pos 0) in let z0 = slice_index_or low 2 (pos 0) in
-    let x1 = slice_index_or high 0 (pos 0) in let y1 = slice_index_or high 1 (pos 0) in let z1 = slice_index_or high 2 (pos 0) in
-    (x0 ∷ y0 ∷ z0 ∷ []) ∷ (x1 ∷ y0 ∷ z0 ∷ []) ∷ (x0 ∷ y1 ∷ z0 ∷ []) ∷ (x1 ∷ y1 ∷ z0 ∷ [])
-    ∷ (x0 ∷ y0 ∷ z1 ∷ []) ∷ (x1 ∷ y0 ∷ z1 ∷ []) ∷ (x0 ∷ y1 ∷ z1 ∷ []) ∷ (x1 ∷ y1 ∷ z1 ∷ []) ∷ []
-
 -- the shape of an object in a frame: a rectangle doesn't move with the camera
 unfoldable pub object_shape : Parts → ℕ → Object → Shape
 object_shape s frame (Area rect w) = rectangle_shape GRADE_TOP s.near (size_of s) rect w
