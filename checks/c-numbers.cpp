@@ -17,8 +17,10 @@ constexpr std::uint32_t infinite = 0x7f800000, greatest = 0x7f7fffff, least_norm
 // No number, quiet and signalling, of either sign, and both infinities.
 constexpr std::uint32_t bad[] = {0x7fc00000, 0xffc00000, 0x7f800001, 0xff800001, 0x7fffffff, 0xffffffff,
                                  infinite,   infinite | sign};
-// 20000 and the greatest number, of either sign: past the guard for an occluder at a near distance of 1.
-constexpr std::uint32_t far_off[] = {0x469c4000, 0x469c4000 | sign, greatest, greatest | sign};
+// 15000 and 20000, of either sign: within what occluders reach at a near distance of 1, and past it.
+constexpr std::uint32_t reached[] = {0x466a6000, 0x466a6000 | sign}, past[] = {0x469c4000, 0x469c4000 | sign};
+// The greatest number, of either sign: farther than is known.
+constexpr std::uint32_t far_off[] = {greatest, greatest | sign};
 
 unsigned answers = 0, wrong = 0;
 
@@ -165,7 +167,7 @@ void try_good_corners(const maskcull::frame &frame) {
     }
 }
 
-// One coordinate of one corner of the wall is bad or past the guard: only what hasn't this corner is drawn.
+// One coordinate of one corner of the wall is bad or farther than is known: only what hasn't this corner is drawn.
 void try_bad_occluders() {
     const std::vector<maskcull_triangle> both = {upper, lower};
     const auto none = drawn(wall(), {}), whole = drawn(wall(), both);
@@ -192,6 +194,29 @@ void try_bad_occluders() {
         put(w.corners[2].x, bits);
         expect(are_same(drawn(w, both), half), "a wall that ends at 0, or about there, is drawn otherwise", 1, 0, bits);
     }
+}
+
+// One corner of the wall is past what occluders reach: it is cut there, and hides what it hides with one that is reached.
+void try_far_occluders() {
+    unsigned hidden = 0;
+    for (unsigned k = 0; k < 4; k++) {
+        for (unsigned axis = 0; axis < 3; axis++) {
+            for (unsigned side = 0; side < 2; side++) {
+                wall near_one, far_one;
+                put(near_one.corners[k], axis, reached[side]);
+                put(far_one.corners[k], axis, past[side]);
+                const auto near_frame = drawn(near_one, {upper, lower}), far_frame = drawn(far_one, {upper, lower});
+                for (const int middle_x : {-4 * 64, 0, 4 * 64}) {
+                    const box b = box_between(middle_x, 64, 8 * 64);
+                    const bool is_so = near_frame && far_frame && is_hidden(*near_frame, b);
+                    hidden += is_so ? 1 : 0;
+                    expect(far_frame && is_hidden(*far_frame, b) == is_so, "a wall that is cut hides otherwise", k, axis,
+                           past[side]);
+                }
+            }
+        }
+    }
+    expect(hidden > 20, "a wall that reaches far hides too little");
 }
 
 // A wall before the near distance, by however little, is cut off by a renderer, and drawn here neither.
@@ -256,6 +281,7 @@ int main() {
     try_bad_corners(*frame);
     try_good_corners(*frame);
     try_bad_occluders();
+    try_far_occluders();
     try_near_plane();
     try_units();
     try_reckoned(*frame);

@@ -552,30 +552,38 @@ private:
         made.resize(count);
         reach_lanes reach = {};
         std::size_t k = 0;
+        // then it doesn't matter whether a number below the least normal one is taken for 0
+        const bool is_coarse = 0x1p-126 * reach_of(r, {1, 1, 1}) < 0x1p-30;
         for (; k + lanes <= count; k += lanes, at += lanes * stride) {
-            if (fill_lanes(made, r, at, stride, k, reach)) continue;
+            if (is_coarse && fill_lanes(made, r, at, stride, k, reach)) continue;
             for (std::size_t j = 0; j < lanes; j++) fill_one(made, r, at + j * stride, k + j, reach);
         }
         for (; k < count; k++, at += stride) fill_one(made, r, at, k, reach);
-        const double3 far_off = {greatest_of(reach.x), greatest_of(reach.y), greatest_of(reach.z)};
+        const double3 far_off = {*std::max_element(reach.x, reach.x + lanes),
+                                 *std::max_element(reach.y, reach.y + lanes),
+                                 *std::max_element(reach.z, reach.z + lanes)};
         return count == 0 ? guard : std::max(guard, reach_of(r, far_off));
     }
 
     // The most of each coordinate, by lanes.
     struct reach_lanes {
-        double x[lanes], y[lanes], z[lanes];
+        float x[lanes], y[lanes], z[lanes];
     };
 
     // Some corners at a time; false where one of them has to be looked at by itself.
     static bool fill_lanes(detail::corners &made, const rows &r, const unsigned char *at, std::size_t stride,
                            std::size_t k, reach_lanes &reach) {
-        std::int32_t bits[3][lanes], odd[lanes];
+        std::uint32_t bits[3][lanes];
         for (std::size_t j = 0; j < lanes; j++, at += stride) {
             std::memcpy(&bits[0][j], at, 4);
             std::memcpy(&bits[1][j], at + 4, 4);
             std::memcpy(&bits[2][j], at + 8, 4);
         }
-        for (std::size_t j = 0; j < lanes; j++) odd[j] = is_odd(bits[0][j]) | is_odd(bits[1][j]) | is_odd(bits[2][j]);
+        // the uppermost bit is set where one is infinite or no number
+        std::uint32_t odd = 0;
+        for (std::size_t j = 0; j < lanes; j++) {
+            odd |= upper_bit(bits[0][j]) | upper_bit(bits[1][j]) | upper_bit(bits[2][j]);
+        }
         float p[3][lanes];
         std::memcpy(p, bits, sizeof p);
         double x[lanes], y[lanes], w[lanes], far_off[lanes];
@@ -586,13 +594,11 @@ private:
             w[j] = r.w[0] * px + r.w[1] * py + (r.w[2] * pz + r.w[3]);
             far_off[j] = greater(greater(std::fabs(x[j]), std::fabs(y[j])), std::fabs(w[j]));
         }
-        std::int32_t any = 0;
-        for (std::size_t j = 0; j < lanes; j++) any |= odd[j];
-        if (any != 0 || !(greatest_of(far_off) <= farthest)) return false;
+        if (odd >> 31 != 0 || !(greatest_of(far_off) <= farthest)) return false;
         for (std::size_t j = 0; j < lanes; j++) {
-            reach.x[j] = greater(reach.x[j], std::fabs(static_cast<double>(p[0][j])));
-            reach.y[j] = greater(reach.y[j], std::fabs(static_cast<double>(p[1][j])));
-            reach.z[j] = greater(reach.z[j], std::fabs(static_cast<double>(p[2][j])));
+            reach.x[j] = greater(reach.x[j], std::fabs(p[0][j]));
+            reach.y[j] = greater(reach.y[j], std::fabs(p[1][j]));
+            reach.z[j] = greater(reach.z[j], std::fabs(p[2][j]));
         }
         std::memcpy(made.x.data() + k, x, sizeof x);
         std::memcpy(made.y.data() + k, y, sizeof y);
@@ -613,16 +619,12 @@ private:
         made.x[k] = v.x, made.y[k] = v.y, made.w[k] = v.w;
         made.factor[k] = !is_known ? lost : far_off <= farthest ? 1 : beyond;
         if (!is_known) return;
-        reach.x[0] = std::max(reach.x[0], std::fabs(p.x));
-        reach.y[0] = std::max(reach.y[0], std::fabs(p.y));
-        reach.z[0] = std::max(reach.z[0], std::fabs(p.w));
+        reach.x[0] = std::max(reach.x[0], static_cast<float>(std::fabs(p.x)));
+        reach.y[0] = std::max(reach.y[0], static_cast<float>(std::fabs(p.y)));
+        reach.z[0] = std::max(reach.z[0], static_cast<float>(std::fabs(p.w)));
     }
 
-    // Whether bits are those of no number, of infinity, or of what is below the least normal number and not 0.
-    static std::int32_t is_odd(std::int32_t bits) {
-        const std::int32_t size = bits & 0x7fffffff;
-        return (size > 0x7f7fffff ? 1 : 0) | ((size < 0x00800000 ? 1 : 0) & (size > 0 ? 1 : 0));
-    }
+    static std::uint32_t upper_bit(std::uint32_t bits) { return (bits & 0x7fffffff) + (0x80000000 - infinity); }
 
     template <class Number> static Number greater(Number p, Number q) { return p > q ? p : q; }
 
@@ -697,8 +699,16 @@ private:
         std::size_t k = 0;
         for (; k + lanes <= triangle_count; k += lanes) {
             maskcull_triangle some[lanes];
-            for (std::size_t j = 0; j < lanes; j++) some[j] = triangle(k + j);
-            next = take_lanes(made, some, s, next, from.vertex);
+            std::uint32_t highest = 0;
+            for (std::size_t j = 0; j < lanes; j++) {
+                some[j] = triangle(k + j);
+                highest = greater(highest, greater(some[j].a, greater(some[j].b, some[j].c)));
+            }
+            if (highest < made.corners.factor.size()) {
+                next = take_lanes(made, some, s, next, from.vertex);
+            } else {
+                for (const maskcull_triangle &t : some) next = put_off(made, t, next);
+            }
         }
         for (; k < triangle_count; k++) next = put_off(made, triangle(k), next);
         made.triangles.resize(static_cast<std::size_t>(next - made.triangles.data()));
@@ -719,12 +729,6 @@ private:
     // Some triangles at a time, in floats.
     static maskcull_triangle *take_lanes(occluders &made, const maskcull_triangle (&some)[lanes], const slack<float> &s,
                                          maskcull_triangle *next, std::size_t first) {
-        std::uint32_t highest = 0;
-        for (const maskcull_triangle &t : some) highest = greater(highest, greater(t.a, greater(t.b, t.c)));
-        if (!(highest < made.corners.factor.size())) {
-            for (const maskcull_triangle &t : some) next = put_off(made, t, next);
-            return next;
-        }
         const double *x = made.corners.x.data(), *y = made.corners.y.data(), *w = made.corners.w.data();
         float v[3][lanes], p[3][lanes], q[3][lanes];
         for (std::size_t j = 0; j < lanes; j++) {
