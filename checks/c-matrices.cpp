@@ -1,6 +1,7 @@
 // Holds what maskcull.hpp makes of matrices and meshes against the true triangles, boxes and meshes, for random ones: of
 // occluders that are cut at the guard, or since they are seen too much from their edge, too.
 //
+//     checks/c-matrices     by each compiler, or
 //     c++ -std=gnu++17 -O2 -Iinclude checks/c-matrices.cpp crates/maskcull_c/out/libmaskcull_c.a -o matrices
 //     ./matrices [SCENES] [SEED]
 //
