@@ -1,5 +1,5 @@
 #!/usr/bin/env python3
-"""Draws a tile with its subtiles, their two depths and their coverage masks, for README.md.
+"""Draws a tile with its subtiles, their two depths and their coverage masks, for docs/ALGORITHM.md.
 
 usage: docs/tile.py > docs/tile.svg
 
