@@ -9,7 +9,8 @@ import sys
 
 STYLE = """
   .panel { fill: #ffffff } .none { fill: #e6eaef } .one { fill: #cfdff1 } .two { fill: #f3b36b }
-  .three { fill: #bfe3c0 } .line { stroke: #1b1f24; fill: none } .thin { stroke: #9aa3ad; fill: none } .ink { fill: #1b1f24 }
+  .three { fill: #bfe3c0 } .line { stroke: #1b1f24; fill: none } .thin { stroke: #9aa3ad; fill: none }
+  .ink { fill: #1b1f24 }
   text { font: 13px sans-serif; fill: #1b1f24 } .strong { font-weight: bold } .small { font-size: 11px }
   .code { font-family: monospace }
   @media (prefers-color-scheme: dark) {
