@@ -810,10 +810,11 @@ private:
         return true;
     }
 
-    // A convex part of a triangle. A corner that the triangle had keeps its number, so that neighbours share it.
+    // A convex part of a triangle. A corner that the triangle had keeps its number, so that neighbours share it. Six cuts
+    // leave nine corners; there is room too for what they could leave where rounding made it bent: half as many more each.
     struct polygon {
-        double3 corners[10];
-        std::uint32_t numbers[10];
+        double3 corners[32];
+        std::uint32_t numbers[32];
         int count;
     };
 
