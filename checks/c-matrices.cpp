@@ -1,5 +1,5 @@
-// Holds what maskcull.hpp makes of matrices and meshes against the true triangles, boxes and meshes, for random ones: of
-// occluders that are cut at the guard, or since they are seen too much from their edge, too.
+// Holds what maskcull.hpp makes of matrices and meshes against the true triangles, boxes and meshes, for random ones:
+// of occluders that are cut at the guard, or since they are seen too much from their edge, too.
 //
 //     checks/c-matrices     by each compiler, or
 //     c++ -std=gnu++17 -O2 -Iinclude checks/c-matrices.cpp crates/maskcull_c/out/libmaskcull_c.a -o matrices
@@ -13,9 +13,9 @@
 // - each sample of the screen: what is held there is at most 65535 times 8/7 of the near distance, where the library's
 //   near plane stands, over the distance at which the true plane, or the nearer of two, is seen through the sample;
 // - each box and mesh that is called occluded: each corner of it has a point of the true triangle or parallelogram
-//   strictly in front of it, on the ray from the eye, at the near distance or farther; so all between them has. A corner
-//   beside the screen doesn't count, nor one within two pixels of its edge, where an occluder may end a little beside
-//   the true one;
+//   strictly in front of it, on the ray from the eye, at the near distance or farther; so all between them has. A
+//   corner beside the screen doesn't count, nor one within two pixels of its edge, where an occluder may end a little
+//   beside the true one;
 // - each box and mesh that is called outside: no corner of it is seen in the screen.
 //
 // With -DWRONG=1 occluders are rounded without being moved away from the eye, with -DWRONG=2 boxes and meshes are asked
@@ -234,7 +234,9 @@ verdict asked_without_margin(const scene &s, const maskcull::frame &frame, const
         left = std::min(left, x), right = std::max(right, x), top = std::min(top, y), bottom = std::max(bottom, y);
         nearest = std::min(nearest, w * scale);
     }
-    const auto whole = [](double number) { return static_cast<std::int32_t>(std::floor(std::min(std::max(number, -1e9), 1e9))); };
+    const auto whole = [](double number) {
+        return static_cast<std::int32_t>(std::floor(std::min(std::max(number, -1e9), 1e9)));
+    };
     const maskcull_area area = {whole(left + 0.5), whole(top + 0.5), whole(right + 0.5), whole(bottom + 0.5)};
     const maskcull_setup setup = {static_cast<std::uint32_t>(s.width), static_cast<std::uint32_t>(s.height), 1024, 0};
     const auto answer = maskcull_test(&setup, frame.tiles().data(), frame.tiles().size(), &area, whole(nearest));
@@ -335,7 +337,7 @@ void make_flat_corners(scene &s) {
     const std::int64_t high = of_some_size(12), far = s.near_w * of_some_size(16);
     const bool is_wall = is_one_of(2);
     for (int k = 0; k < 3; k++) {
-        const std::int64_t across = between(-far, far), up = (is_one_of(2) ? high : -high) * 0 - high + below(3);
+        const std::int64_t across = between(-far, far), up = below(3) - high;
         const std::int64_t w = between(-far / 4, far);
         s.vertices.push_back(is_wall ? vertex{up, across, w} : vertex{across, up, w});
     }
@@ -365,7 +367,9 @@ bool make_scene(scene &s) {
 // Rounds without moving away: what the matrix makes of each vertex, to the nearest unit.
 void round_wrongly(const scene &s, maskcull::occluders &made) {
     const double scale = 1024 / (8.0 / 7 * static_cast<double>(s.near_w));
-    const auto whole = [&](std::int64_t number) { return static_cast<std::int32_t>(std::lround(static_cast<double>(number) * scale)); };
+    const auto whole = [&](std::int64_t number) {
+        return static_cast<std::int32_t>(std::lround(static_cast<double>(number) * scale));
+    };
     for (std::size_t k = 0; k < s.vertices.size(); k++) {
         const vertex &v = s.vertices[k];
         if (static_cast<double>(size(v)) * scale < 16e6) made.vertices[k] = {whole(v.x), whole(v.y), whole(v.w)};
