@@ -26,9 +26,6 @@
 // All this holds too in a program that is compiled with -ffast-math, -ffinite-math-only or -Ofast: what is infinite or
 // no number is found by its bits as they lie in memory, and what a compiler may round otherwise is within the slack of
 // each bound. checks/c-library tries it with g++ and clang++. It is meant so for MSVC with /fp:fast, and untried there.
-//
-// A static library doesn't ask which processor it runs on. The one for x86-64-v3 needs
-// __builtin_cpu_supports("avx2"), and the other levels of that name; the plain one runs on every x86-64-v2.
 #ifndef MASKCULL_HPP
 #define MASKCULL_HPP
 
@@ -353,20 +350,20 @@ public:
     /// is before 8/7 of the near distance and not all of the box is beside the screen or behind the eye, and where a
     /// number is none.
     verdict test_aabb(const float world_to_clip[16], const float low[3], const float high[3]) const {
-        rows r;
-        double3 least, most;
-        if (tiles_.empty() || !read(world_to_clip, r) || !load(hidden_from_compiler(low), least)
-            || !load(hidden_from_compiler(high), most)) {
+        matrix_rows r;
+        double3 first, last;
+        if (tiles_.empty() || !read(world_to_clip, r) || !load(hidden_from_compiler(low), first)
+            || !load(hidden_from_compiler(high), last)) {
             return verdict::visible;
         }
-        const double3 far_off = {std::max(std::fabs(least.x), std::fabs(most.x)),
-                                 std::max(std::fabs(least.y), std::fabs(most.y)),
-                                 std::max(std::fabs(least.w), std::fabs(most.w))};
+        const double3 far_off = {std::max(std::fabs(first.x), std::fabs(last.x)),
+                                 std::max(std::fabs(first.y), std::fabs(last.y)),
+                                 std::max(std::fabs(first.w), std::fabs(last.w))};
         if (!(reach_of(r, far_off) < known)) return verdict::visible;
         hull<8> h;
-        set_corners(h.x, r.x, least, most);
-        set_corners(h.y, r.y, least, most);
-        set_corners(h.w, r.w, least, most);
+        set_corners(h.x, r.x, first, last);
+        set_corners(h.y, r.y, first, last);
+        set_corners(h.w, r.w, first, last);
         return verdict_of(h);
     }
 
@@ -374,7 +371,7 @@ public:
     /// slower. Outside without a triangle; visible where a triangle's vertex isn't there, is no number or is before 8/7
     /// of the near distance, unless that triangle is beside the screen or behind the eye. Other vertices don't count.
     verdict test_mesh(const float model_to_clip[16], const mesh_view &mesh) const {
-        rows r;
+        matrix_rows r;
         if (tiles_.empty() || !mesh.is_there() || !read(model_to_clip, r)) return verdict::visible;
         if (mesh.index_count < 3) return verdict::outside;
         const verdict all = mesh.vertex_count <= mesh.index_count ? all_at_once(r, mesh) : verdict::visible;
@@ -417,7 +414,7 @@ private:
     };
 
     // The rows of a matrix for x, y upwards and w, in units.
-    struct rows {
+    struct matrix_rows {
         double x[4], y[4], w[4];
     };
 
@@ -466,7 +463,7 @@ private:
     }
 
     // z isn't among them.
-    bool read(const float *matrix, rows &r) const {
+    bool read(const float *matrix, matrix_rows &r) const {
         const unsigned char *at = hidden_from_compiler(matrix);
         if (at == nullptr) return false;
         const std::size_t row = matrices_ == matrix_layout::rows ? 4 : 1, column = 5 - row;
@@ -481,7 +478,7 @@ private:
         if (odd >> 31 == 0) {
             float kept[12];
             std::memcpy(kept, bits, sizeof kept);
-            for (std::size_t k = 0; k < 12; k++) numbers[k] = kept[k];
+            for (std::size_t k = 0; k < 12; k++) numbers[k] = static_cast<double>(kept[k]);
         } else {
             const unsigned char *first = hidden_from_compiler(bits);
             for (std::size_t k = 0; k < 12; k++) are_numbers &= load(first + 4 * k, numbers[k]);
@@ -505,12 +502,12 @@ private:
         return row[0] * p.x + row[1] * p.y + (row[2] * p.w + row[3]);
     }
 
-    static double3 product(const rows &r, const double3 &p) {
+    static double3 product(const matrix_rows &r, const double3 &p) {
         return {product(r.x, p), product(r.y, p), product(r.w, p)};
     }
 
     // The most that the terms of products come to, for points up to so far from 0.
-    static double reach_of(const rows &r, const double3 &far_off) {
+    static double reach_of(const matrix_rows &r, const double3 &far_off) {
         const auto of = [&](const double (&row)[4]) {
             return std::fabs(row[0]) * far_off.x + std::fabs(row[1]) * far_off.y + std::fabs(row[2]) * far_off.w
                    + std::fabs(row[3]);
@@ -545,7 +542,7 @@ private:
 
     void prepare_behind(const start &from, occluders &made, const clip_point *points, std::size_t point_count,
                         const maskcull_triangle *triangles, std::size_t triangle_count) const {
-        const rows r = {{scale_, 0, 0, 0}, {0, up_scale_, 0, 0}, {0, 0, scale_, 0}};
+        const matrix_rows r = {{scale_, 0, 0, 0}, {0, up_scale_, 0, 0}, {0, 0, scale_, 0}};
         if (points == nullptr) point_count = 0;
         if (triangles == nullptr) triangle_count = 0;
         const knowledge known_to = fill_corners(made.corners, r, points, sizeof(clip_point), point_count);
@@ -553,7 +550,7 @@ private:
     }
 
     void prepare_behind(const start &from, occluders &made, const float *model_to_clip, const mesh_view &mesh) const {
-        rows r;
+        matrix_rows r;
         std::size_t vertex_count = mesh.vertex_count, triangle_count = mesh.index_count / 3;
         if (!mesh.is_there() || !read(model_to_clip, r)) vertex_count = 0, triangle_count = 0;
         const knowledge known_to = fill_corners(made.corners, r, mesh.positions, mesh.stride, vertex_count);
@@ -571,8 +568,8 @@ private:
     };
 
     // The corners of a mesh.
-    static knowledge fill_corners(detail::corners &made, const rows &r, const void *positions, std::size_t stride,
-                               std::size_t count) {
+    static knowledge fill_corners(detail::corners &made, const matrix_rows &r, const void *positions,
+                                  std::size_t stride, std::size_t count) {
         const unsigned char *at = hidden_from_compiler(positions);
         made.resize(count);
         reach_lanes reach = {};
@@ -585,7 +582,8 @@ private:
             for (std::size_t j = 0; j < lanes; j++) is_plain &= fill_one(made, r, at + j * stride, k + j, reach);
         }
         for (; k < count; k++, at += stride) is_plain &= fill_one(made, r, at, k, reach);
-        const double3 far_off = {greatest_of(reach.x), greatest_of(reach.y), greatest_of(reach.z)};
+        const double3 far_off = {static_cast<double>(greatest_of(reach.x)), static_cast<double>(greatest_of(reach.y)),
+                                 static_cast<double>(greatest_of(reach.z))};
         return {count == 0 ? guard : std::max(guard, reach_of(r, far_off)), is_plain};
     }
 
@@ -595,7 +593,7 @@ private:
     };
 
     // Some corners at a time; false where one of them has to be looked at by itself.
-    static bool fill_lanes(detail::corners &made, const rows &r, const unsigned char *at, std::size_t stride,
+    static bool fill_lanes(detail::corners &made, const matrix_rows &r, const unsigned char *at, std::size_t stride,
                            std::size_t k, reach_lanes &reach) {
         std::uint32_t bits[3][lanes];
         for (std::size_t j = 0; j < lanes; j++, at += stride) {
@@ -611,7 +609,8 @@ private:
         std::memcpy(p, bits, sizeof p);
         double x[lanes], y[lanes], w[lanes], far_off[lanes];
         for (std::size_t j = 0; j < lanes; j++) {
-            const double px = p[0][j], py = p[1][j], pz = p[2][j];
+            const auto px = static_cast<double>(p[0][j]), py = static_cast<double>(p[1][j]);
+            const auto pz = static_cast<double>(p[2][j]);
             x[j] = r.x[0] * px + r.x[1] * py + (r.x[2] * pz + r.x[3]);
             y[j] = r.y[0] * px + r.y[1] * py + (r.y[2] * pz + r.y[3]);
             w[j] = r.w[0] * px + r.w[1] * py + (r.w[2] * pz + r.w[3]);
@@ -631,7 +630,7 @@ private:
     }
 
     // One that may be no number, below the least normal one, or far off: whether it can be drawn as it is.
-    static bool fill_one(detail::corners &made, const rows &r, const unsigned char *at, std::size_t k,
+    static bool fill_one(detail::corners &made, const matrix_rows &r, const unsigned char *at, std::size_t k,
                          reach_lanes &reach) {
         double3 p, v = {known, 0, 0};
         const bool is_number = load(at, p);
@@ -839,7 +838,7 @@ private:
     // No triangle has a corner that is beyond or lost: it goes past the guard.
     static maskcull_vertex rounded(const detail::corners &all, std::size_t k) {
         if (!(all.factor[k] < beyond)) return {static_cast<std::int32_t>(most), 0, 0};
-        const double factor = all.factor[k];
+        const auto factor = static_cast<double>(all.factor[k]);
         return {nearest_to(all.x[k] * factor), nearest_to(all.y[k] * factor), nearest_to(all.w[k] * factor)};
     }
 
@@ -854,7 +853,7 @@ private:
         if (!(greatest_of(factor) < beyond)) return false;
         std::int32_t whole[3][lanes];
         for (std::size_t j = 0; j < lanes; j++) {
-            const double by = factor[j];
+            const auto by = static_cast<double>(factor[j]);
             whole[0][j] = nearest_to(x[j] * by), whole[1][j] = nearest_to(y[j] * by);
             whole[2][j] = nearest_to(w[j] * by);
         }
@@ -1029,7 +1028,7 @@ private:
     static double within(double number) { return std::min(std::max(number, -most), most); }
 
     // All vertices as one rectangle: visible where that can't be told.
-    verdict all_at_once(const rows &r, const mesh_view &mesh) const {
+    verdict all_at_once(const matrix_rows &r, const mesh_view &mesh) const {
         const unsigned char *at = hidden_from_compiler(mesh.positions);
         extent e;
         for (std::size_t k = 0; k < mesh.vertex_count; k++, at += mesh.stride) {
@@ -1046,7 +1045,7 @@ private:
     }
 
     template <class Index>
-    verdict one_by_one(const rows &r, const mesh_view &mesh, const index_source<Index> &source) const {
+    verdict one_by_one(const matrix_rows &r, const mesh_view &mesh, const index_source<Index> &source) const {
         const unsigned char *at = hidden_from_compiler(mesh.positions);
         verdict found = verdict::outside;
         for (std::size_t k = 0; k < mesh.index_count / 3; k++) {
