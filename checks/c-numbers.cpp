@@ -381,6 +381,26 @@ void try_bad_meshes(const maskcull::frame &frame) {
     expect(frame.test_mesh(m.numbers, {w.corners, 12, 4, beyond, 2}) == verdict::outside, "a mesh without a triangle");
 }
 
+// Corners that are made of terms farther than is known, which cancel: nothing is drawn of them, nor hidden.
+void try_great_terms(const maskcull::frame &frame) {
+    for (const float great_term : {1e12f, 1e20f, 1e30f, 3e38f}) {
+        plain_matrix m;
+        m.numbers[0] = great_term, m.numbers[4] = -great_term;
+        wall w;
+        for (clip_point &corner : w.corners) corner.y = corner.x;
+        std::vector<clip_point> many;
+        std::vector<std::uint32_t> indices;
+        for (std::uint32_t k = 0; k < 100; k++) {
+            many.insert(many.end(), w.corners, w.corners + 3);
+            indices.insert(indices.end(), {3 * k, 3 * k + 1, 3 * k + 2});
+        }
+        auto other = frame_of();
+        const maskcull::mesh_view mesh(many.data(), sizeof(clip_point), many.size(), indices.data(), indices.size());
+        expect(other && other->draw(m.numbers, mesh) == MASKCULL_DONE && are_same(other, frame_of()), "great terms");
+        expect(frame.test_mesh(m.numbers, mesh) == maskcull::verdict::visible, "a mesh of great terms is hidden");
+    }
+}
+
 // The same in other units, down to where all numbers are below the least normal one.
 void try_mesh_units() {
     const plain_matrix m;
@@ -424,6 +444,7 @@ int main() {
     try_reckoned(*frame);
     try_matrices();
     try_bad_meshes(*frame);
+    try_great_terms(*frame);
     try_mesh_units();
     try_ground();
     std::printf("%u answers, %u of them wrong\n", answers, wrong);

@@ -724,13 +724,15 @@ private:
     template <class Index>
     void round_into(occluders &made, const start &from, const knowledge &known_to, const index_source<Index> &source,
                     std::size_t triangle_count) const {
-        const double slip = 0x1p-48 * known_to.reach;
+        // where terms reach farther all triangles are put off, and then dropped
+        const bool is_within = known_to.reach < known;
+        const double slip = 0x1p-48 * std::min(known_to.reach, known);
         const slack<float> s = slack_of<float>(slip, 0x1p-21f);
         made.triangles.resize(from.triangle + triangle_count);
         made.unclear.clear();
         maskcull_triangle *next = made.triangles.data() + from.triangle;
         std::size_t k = 0;
-        for (; k + lanes <= triangle_count; k += lanes) {
+        for (; is_within && k + lanes <= triangle_count; k += lanes) {
             std::uint32_t some[3 * lanes];
             source.copy(k, some);
             if (are_below(some, made.corners.factor.size())) {
