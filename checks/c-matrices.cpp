@@ -1,5 +1,5 @@
-// Holds what maskcull.hpp makes of matrices and meshes against the true triangles, boxes and meshes, for random ones: of
-// occluders that are cut at the guard, or since they are seen too much from their edge, too.
+// Holds what maskcull.hpp makes of matrices and meshes against the true triangles, boxes and meshes, for random ones:
+// of occluders that are cut at the guard, or since they are seen too much from their edge, too.
 //
 //     checks/c-matrices     by each compiler, or
 //     c++ -std=gnu++17 -O2 -Iinclude checks/c-matrices.cpp crates/maskcull_c/out/libmaskcull_c.a -o matrices
@@ -12,10 +12,12 @@
 //
 // - each sample of the screen: what is held there is at most 65535 times 8/7 of the near distance, where the library's
 //   near plane stands, over the distance at which the true plane, or the nearer of two, is seen through the sample;
+//   and the sample is seen within the true triangle, or one of two, or beside it by no more than the margin that a box
+//   is asked wider by;
 // - each box and mesh that is called occluded: each corner of it has a point of the true triangle or parallelogram
-//   strictly in front of it, on the ray from the eye, at the near distance or farther; so all between them has. A corner
-//   beside the screen doesn't count, nor one within two pixels of its edge, where an occluder may end a little beside
-//   the true one;
+//   strictly in front of it, on the ray from the eye, at the near distance or farther; so all between them has. A
+//   corner beside the screen doesn't count, nor one within two pixels of its edge, where an occluder may end a little
+//   beside the true one;
 // - each box and mesh that is called outside: no corner of it is seen in the screen.
 //
 // With -DWRONG=1 occluders are rounded without being moved away from the eye, with -DWRONG=2 boxes and meshes are asked
@@ -53,7 +55,7 @@ struct scene {
 };
 
 struct counts {
-    unsigned long scenes, triangles, cut, samples, boxes, hidden_boxes, meshes, hidden_meshes, outside, wrong;
+    unsigned long scenes, triangles, cut, samples, boxes, hidden_boxes, meshes, hidden_meshes, outside, beside, wrong;
 };
 
 std::uint64_t state;
@@ -154,6 +156,24 @@ bool is_far_enough(const scene &s, const maskcull_triangle &t, std::int64_t px, 
     return whole != 0 && 7 * nearness * whole * (s.width * s.height) <= 65535 * 8 * s.near_w * sum;
 }
 
+// Whether a pixel's middle sees the triangle, or passes it by at most so many pixels as an edge may move: the ray is a
+// sum of the corners, each some number of times that is above 0, or falls below it by what such a step changes.
+bool is_within(const scene &s, const maskcull_triangle &t, std::int64_t px, std::int64_t py) {
+    const vertex &v0 = s.vertices[t.a], &v1 = s.vertices[t.b], &v2 = s.vertices[t.c];
+    const vertex ray = {(2 * px + 1 - s.width) * s.height, (s.height - 2 * py - 1) * s.width, s.width * s.height};
+    const wide sign = determinant(v0, v1, v2) < 0 ? -1 : 1;
+    const vertex edges[3][2] = {{v0, v1}, {v1, v2}, {v2, v0}};
+    for (const vertex(&e)[2] : edges) {
+        const wide x = static_cast<wide>(e[0].y) * e[1].w - static_cast<wide>(e[0].w) * e[1].y;
+        const wide y = static_cast<wide>(e[0].w) * e[1].x - static_cast<wide>(e[0].x) * e[1].w;
+        // by 65/1024 of a pixel and 1/2048 of the screen: a pixel is 2 height of the ray's x, and 2 width of its y
+        const wide across = s.height * (130 + s.width) * (x < 0 ? -x : x);
+        const wide down = s.width * (130 + s.height) * (y < 0 ? -y : y);
+        if (sign * determinant(ray, e[0], e[1]) * 1024 < -(across + down)) return false;
+    }
+    return true;
+}
+
 void look_at_samples(const scene &s, const maskcull::frame &frame, counts &all) {
     const auto &tiles = frame.tiles();
     const std::int64_t columns = (s.width + 31) / 32;
@@ -166,9 +186,13 @@ void look_at_samples(const scene &s, const maskcull::frame &frame, counts &all) 
             const std::uint32_t nearness = is_masked ? held.working : held.reference;
             if (nearness == 0) continue;
             all.samples++;
-            bool is_right = false;
-            for (const maskcull_triangle &t : s.triangles) is_right |= is_far_enough(s, t, px, py, nearness);
-            all.wrong += is_right ? 0 : 1;
+            bool is_right = false, is_seen_there = false;
+            for (const maskcull_triangle &t : s.triangles) {
+                is_right |= is_far_enough(s, t, px, py, nearness);
+                is_seen_there |= is_within(s, t, px, py);
+            }
+            all.wrong += is_right && is_seen_there ? 0 : 1;
+            all.beside += is_seen_there ? 0 : 1;
         }
     }
 }
@@ -234,7 +258,9 @@ verdict asked_without_margin(const scene &s, const maskcull::frame &frame, const
         left = std::min(left, x), right = std::max(right, x), top = std::min(top, y), bottom = std::max(bottom, y);
         nearest = std::min(nearest, w * scale);
     }
-    const auto whole = [](double number) { return static_cast<std::int32_t>(std::floor(std::min(std::max(number, -1e9), 1e9))); };
+    const auto whole = [](double number) {
+        return static_cast<std::int32_t>(std::floor(std::min(std::max(number, -1e9), 1e9)));
+    };
     const maskcull_area area = {whole(left + 0.5), whole(top + 0.5), whole(right + 0.5), whole(bottom + 0.5)};
     const maskcull_setup setup = {static_cast<std::uint32_t>(s.width), static_cast<std::uint32_t>(s.height), 1024, 0};
     const auto answer = maskcull_test(&setup, frame.tiles().data(), frame.tiles().size(), &area, whole(nearest));
@@ -335,7 +361,7 @@ void make_flat_corners(scene &s) {
     const std::int64_t high = of_some_size(12), far = s.near_w * of_some_size(16);
     const bool is_wall = is_one_of(2);
     for (int k = 0; k < 3; k++) {
-        const std::int64_t across = between(-far, far), up = (is_one_of(2) ? high : -high) * 0 - high + below(3);
+        const std::int64_t across = between(-far, far), up = below(3) - high;
         const std::int64_t w = between(-far / 4, far);
         s.vertices.push_back(is_wall ? vertex{up, across, w} : vertex{across, up, w});
     }
@@ -365,7 +391,9 @@ bool make_scene(scene &s) {
 // Rounds without moving away: what the matrix makes of each vertex, to the nearest unit.
 void round_wrongly(const scene &s, maskcull::occluders &made) {
     const double scale = 1024 / (8.0 / 7 * static_cast<double>(s.near_w));
-    const auto whole = [&](std::int64_t number) { return static_cast<std::int32_t>(std::lround(static_cast<double>(number) * scale)); };
+    const auto whole = [&](std::int64_t number) {
+        return static_cast<std::int32_t>(std::lround(static_cast<double>(number) * scale));
+    };
     for (std::size_t k = 0; k < s.vertices.size(); k++) {
         const vertex &v = s.vertices[k];
         if (static_cast<double>(size(v)) * scale < 16e6) made.vertices[k] = {whole(v.x), whole(v.y), whole(v.w)};
@@ -404,8 +432,9 @@ int main(int count, char **words) {
         if (make_scene(s)) look_at(s, all);
     }
     std::printf("%lu scenes, %lu triangles, %lu scenes with cuts, %lu samples that hold a depth;\n"
-                "%lu of %lu boxes and %lu of %lu meshes are called occluded, %lu outside; %lu wrong\n",
+                "%lu of %lu boxes and %lu of %lu meshes are called occluded, %lu outside;\n"
+                "%lu samples are beside what is drawn there; %lu wrong\n",
                 all.scenes, all.triangles, all.cut, all.samples, all.hidden_boxes, all.boxes, all.hidden_meshes,
-                all.meshes, all.outside, all.wrong);
+                all.meshes, all.outside, all.beside, all.wrong);
     return all.wrong == 0 ? 0 : 1;
 }

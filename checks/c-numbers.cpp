@@ -196,7 +196,8 @@ void try_bad_occluders() {
     }
 }
 
-// One corner of the wall is past what occluders reach: it is cut there, and hides what it hides with one that is reached.
+// One corner of the wall is past what occluders reach: it is cut there, and hides what it hides with one that is
+// reached.
 void try_far_occluders() {
     unsigned hidden = 0;
     for (unsigned k = 0; k < 4; k++) {
@@ -210,8 +211,8 @@ void try_far_occluders() {
                     const box b = box_between(middle_x, 64, 8 * 64);
                     const bool is_so = near_frame && far_frame && is_hidden(*near_frame, b);
                     hidden += is_so ? 1 : 0;
-                    expect(far_frame && is_hidden(*far_frame, b) == is_so, "a wall that is cut hides otherwise", k, axis,
-                           past[side]);
+                    expect(far_frame && is_hidden(*far_frame, b) == is_so, "a wall that is cut hides otherwise", k,
+                           axis, past[side]);
                 }
             }
         }
@@ -337,7 +338,8 @@ void try_matrices() {
             const verdict found = verdict_of(*frame, odd, behind);
             expect(found == (is_read ? verdict::visible : verdict::occluded), "a bad matrix", place, 0, bits);
             wall w(false);
-            expect(frame->test_mesh(odd.numbers, mesh_of(w)) == verdict::visible, "a mesh, a bad matrix", place, 0, bits);
+            const verdict of_mesh = frame->test_mesh(odd.numbers, mesh_of(w));
+            expect(of_mesh == verdict::visible, "a mesh, a bad matrix", place, 0, bits);
         }
     }
 }
@@ -352,7 +354,8 @@ void try_bad_meshes(const maskcull::frame &frame) {
             for (const std::uint32_t bits : bad) {
                 wall w;
                 put(w.corners[k], axis, bits);
-                expect(are_same(drawn_as_mesh(w, m), drawn(w, {upper, lower})), "a bad corner of a mesh", k, axis, bits);
+                const auto left_over = drawn(w, {upper, lower});
+                expect(are_same(drawn_as_mesh(w, m), left_over), "a bad corner of a mesh", k, axis, bits);
                 wall behind;
                 for (clip_point &corner : behind.corners) put(corner.w, 0x41000000), corner.x /= 4, corner.y /= 4;
                 expect(frame.test_mesh(m.numbers, mesh_of(behind)) == verdict::occluded, "a mesh behind the wall");
@@ -361,7 +364,8 @@ void try_bad_meshes(const maskcull::frame &frame) {
                 for (const unsigned end : {0u, 1u}) {
                     float ends[2][3] = {{-1, -1, 8}, {1, 1, 9}};
                     put(ends[end][axis], bits);
-                    expect(frame.test_aabb(m.numbers, ends[0], ends[1]) == verdict::visible, "a bad box", end, axis, bits);
+                    const verdict of_box = frame.test_aabb(m.numbers, ends[0], ends[1]);
+                    expect(of_box == verdict::visible, "a bad box", end, axis, bits);
                 }
             }
         }
@@ -377,6 +381,26 @@ void try_bad_meshes(const maskcull::frame &frame) {
     expect(frame.test_mesh(m.numbers, {w.corners, 12, 4, beyond, 2}) == verdict::outside, "a mesh without a triangle");
 }
 
+// Corners that are made of terms farther than is known, which cancel: nothing is drawn of them, nor hidden.
+void try_great_terms(const maskcull::frame &frame) {
+    for (const float great_term : {1e12f, 1e20f, 1e30f, 3e38f}) {
+        plain_matrix m;
+        m.numbers[0] = great_term, m.numbers[4] = -great_term;
+        wall w;
+        for (clip_point &corner : w.corners) corner.y = corner.x;
+        std::vector<clip_point> many;
+        std::vector<std::uint32_t> indices;
+        for (std::uint32_t k = 0; k < 100; k++) {
+            many.insert(many.end(), w.corners, w.corners + 3);
+            indices.insert(indices.end(), {3 * k, 3 * k + 1, 3 * k + 2});
+        }
+        auto other = frame_of();
+        const maskcull::mesh_view mesh(many.data(), sizeof(clip_point), many.size(), indices.data(), indices.size());
+        expect(other && other->draw(m.numbers, mesh) == MASKCULL_DONE && are_same(other, frame_of()), "great terms");
+        expect(frame.test_mesh(m.numbers, mesh) == maskcull::verdict::visible, "a mesh of great terms is hidden");
+    }
+}
+
 // The same in other units, down to where all numbers are below the least normal one.
 void try_mesh_units() {
     const plain_matrix m;
@@ -387,7 +411,7 @@ void try_mesh_units() {
     }
 }
 
-// A ground 1.7 m below the eye reaches 10 km to all sides, past the guard, which is at 1.5 km for a near distance of
+// A ground 1.7 m below the eye reaches 10 km to all sides, past the guard, which is at 1.6 km for a near distance of
 // 10 cm, and is seen too much from its edge there. A box is under it at a distance of 20 m and one stands on it.
 void try_ground() {
     using maskcull::verdict;
@@ -420,6 +444,7 @@ int main() {
     try_reckoned(*frame);
     try_matrices();
     try_bad_meshes(*frame);
+    try_great_terms(*frame);
     try_mesh_units();
     try_ground();
     std::printf("%u answers, %u of them wrong\n", answers, wrong);

@@ -1,5 +1,5 @@
-// Records a frame with maskcull.hpp as a scene, and prints the verdict that each question was answered with, as lines of
-// a report: checks/c-recorder compares them with what `maskcull cull` tells of the scene.
+// Records a frame with maskcull.hpp as a scene, and prints the verdict that each question was answered with, as lines
+// of a report: checks/c-recorder compares them with what `maskcull cull` tells of the scene.
 //
 //     ./recorder SCENE
 //

@@ -25,6 +25,8 @@
  *     maskcull_close(tiles);
  *
  * Link with libmaskcull_c.a, which `rt lib` makes in crates/maskcull_c: cc game.c libmaskcull_c.a
+ * It runs on each processor of x86-64-v2. One that was made for x86-64-v3 (AVX2) is faster, and doesn't ask which
+ * processor it runs on: a program that carries both asks __builtin_cpu_supports("avx2") with "bmi2" and "fma".
  *
  * Units
  *   - Pixels count from the upper left corner, x to the right and y downwards.

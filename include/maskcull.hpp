@@ -17,7 +17,7 @@
 // it: x / w from -1 to 1 to the right, y / w from -1 to 1 upwards. z in clip space isn't read: reversed z, any range of
 // depth and a far plane at infinity need no care.
 //
-// Occluders reach from 8/7 of a near distance to 15300 near distances, 1.5 km for 10 cm; what of one lies farther is
+// Occluders reach from 8/7 of a near distance to 16384 near distances, 1.6 km for 10 cm; what of one lies farther is
 // cut off, and so is what is seen too much from its edge to say how far it is. What shows only through a slit between
 // two occluders, or between one and the screen's edge, may be called hidden where the slit is narrower than a pixel,
 // since a pixel is asked at its middle; or than three where occluders are at the near plane and rounding moves their
@@ -26,9 +26,6 @@
 // All this holds too in a program that is compiled with -ffast-math, -ffinite-math-only or -Ofast: what is infinite or
 // no number is found by its bits as they lie in memory, and what a compiler may round otherwise is within the slack of
 // each bound. checks/c-library tries it with g++ and clang++. It is meant so for MSVC with /fp:fast, and untried there.
-//
-// A static library doesn't ask which processor it runs on. The one for x86-64-v3 needs
-// __builtin_cpu_supports("avx2"), and the other levels of that name; the plain one runs on every x86-64-v2.
 #ifndef MASKCULL_HPP
 #define MASKCULL_HPP
 
@@ -353,20 +350,20 @@ public:
     /// is before 8/7 of the near distance and not all of the box is beside the screen or behind the eye, and where a
     /// number is none.
     verdict test_aabb(const float world_to_clip[16], const float low[3], const float high[3]) const {
-        rows r;
-        double3 least, most;
-        if (tiles_.empty() || !read(world_to_clip, r) || !load(hidden_from_compiler(low), least)
-            || !load(hidden_from_compiler(high), most)) {
+        matrix_rows r;
+        double3 first, last;
+        if (tiles_.empty() || !read(world_to_clip, r) || !load(hidden_from_compiler(low), first)
+            || !load(hidden_from_compiler(high), last)) {
             return verdict::visible;
         }
-        const double3 far_off = {std::max(std::fabs(least.x), std::fabs(most.x)),
-                                 std::max(std::fabs(least.y), std::fabs(most.y)),
-                                 std::max(std::fabs(least.w), std::fabs(most.w))};
+        const double3 far_off = {std::max(std::fabs(first.x), std::fabs(last.x)),
+                                 std::max(std::fabs(first.y), std::fabs(last.y)),
+                                 std::max(std::fabs(first.w), std::fabs(last.w))};
         if (!(reach_of(r, far_off) < known)) return verdict::visible;
         hull<8> h;
-        set_corners(h.x, r.x, least, most);
-        set_corners(h.y, r.y, least, most);
-        set_corners(h.w, r.w, least, most);
+        set_corners(h.x, r.x, first, last);
+        set_corners(h.y, r.y, first, last);
+        set_corners(h.w, r.w, first, last);
         return verdict_of(h);
     }
 
@@ -374,13 +371,13 @@ public:
     /// slower. Outside without a triangle; visible where a triangle's vertex isn't there, is no number or is before 8/7
     /// of the near distance, unless that triangle is beside the screen or behind the eye. Other vertices don't count.
     verdict test_mesh(const float model_to_clip[16], const mesh_view &mesh) const {
-        rows r;
+        matrix_rows r;
         if (tiles_.empty() || !mesh.is_there() || !read(model_to_clip, r)) return verdict::visible;
-        const auto *indices = static_cast<const unsigned char *>(mesh.indices);
         if (mesh.index_count < 3) return verdict::outside;
         const verdict all = mesh.vertex_count <= mesh.index_count ? all_at_once(r, mesh) : verdict::visible;
         if (all != verdict::visible) return all;
-        return mesh.is_short ? one_by_one<std::uint16_t>(r, mesh, indices) : one_by_one<std::uint32_t>(r, mesh, indices);
+        return mesh.is_short ? one_by_one(r, mesh, index_source<std::uint16_t>{mesh.indices})
+                             : one_by_one(r, mesh, index_source<std::uint32_t>{mesh.indices});
     }
 
 private:
@@ -401,8 +398,9 @@ private:
     static constexpr double known = 0x1p36;
     // In place of a factor: the point has to be cut off, or isn't known. Factors are less than 1.1.
     static constexpr float beyond = 2, lost = 3;
-    // How many points or triangles are taken at a time, so that compilers make loops of vectors.
-    static constexpr std::size_t lanes = 8;
+    // How many points or triangles are taken at a time. So compilers make vectors of the loops, g++ with -O2 too, which
+    // does so only where the number of turns is a constant and nothing in them branches.
+    static constexpr std::size_t lanes = 16;
     // As much as a triangle may have to be moved away from the eye. What is seen more from its edge is cut off.
     static constexpr double steepest = 1.0 / 16;
 
@@ -416,7 +414,7 @@ private:
     };
 
     // The rows of a matrix for x, y upwards and w, in units.
-    struct rows {
+    struct matrix_rows {
         double x[4], y[4], w[4];
     };
 
@@ -465,30 +463,51 @@ private:
     }
 
     // z isn't among them.
-    bool read(const float *matrix, rows &r) const {
+    bool read(const float *matrix, matrix_rows &r) const {
         const unsigned char *at = hidden_from_compiler(matrix);
         if (at == nullptr) return false;
-        const std::size_t row = matrices_ == matrix_layout::rows ? 16 : 4, column = 20 - row;
-        bool is_number = true;
-        for (std::size_t k = 0; k < 4; k++, at += column) {
-            is_number &= load(at, r.x[k]);
-            is_number &= load(at + row, r.y[k]);
-            is_number &= load(at + 3 * row, r.w[k]);
-            r.x[k] *= scale_, r.y[k] *= up_scale_, r.w[k] *= scale_;
+        const std::size_t row = matrices_ == matrix_layout::rows ? 4 : 1, column = 5 - row;
+        std::uint32_t all[16], bits[12], odd = 0;
+        std::memcpy(all, at, sizeof all);
+        for (std::size_t k = 0; k < 4; k++) {
+            bits[k] = all[column * k], bits[4 + k] = all[row + column * k], bits[8 + k] = all[3 * row + column * k];
         }
-        return is_number;
+        for (std::size_t k = 0; k < 12; k++) odd |= upper_bit(bits[k]) | tiny_bit(bits[k]);
+        double numbers[12];
+        bool are_numbers = true;
+        if (odd >> 31 == 0) {
+            float kept[12];
+            std::memcpy(kept, bits, sizeof kept);
+            for (std::size_t k = 0; k < 12; k++) numbers[k] = static_cast<double>(kept[k]);
+        } else {
+            const unsigned char *first = hidden_from_compiler(bits);
+            for (std::size_t k = 0; k < 12; k++) are_numbers &= load(first + 4 * k, numbers[k]);
+        }
+        for (std::size_t k = 0; k < 4; k++) {
+            r.x[k] = numbers[k] * scale_, r.y[k] = numbers[4 + k] * up_scale_, r.w[k] = numbers[8 + k] * scale_;
+        }
+        return are_numbers;
+    }
+
+    // The uppermost bit is set where a float is infinite or no number.
+    static std::uint32_t upper_bit(std::uint32_t bits) { return (bits & 0x7fffffff) + (0x80000000 - infinity); }
+
+    // It is set where one is below the least normal number and not 0.
+    static std::uint32_t tiny_bit(std::uint32_t bits) {
+        const std::uint32_t size = bits & 0x7fffffff;
+        return (size - least_normal) & (0 - size);
     }
 
     static double product(const double (&row)[4], const double3 &p) {
         return row[0] * p.x + row[1] * p.y + (row[2] * p.w + row[3]);
     }
 
-    static double3 product(const rows &r, const double3 &p) {
+    static double3 product(const matrix_rows &r, const double3 &p) {
         return {product(r.x, p), product(r.y, p), product(r.w, p)};
     }
 
     // The most that the terms of products come to, for points up to so far from 0.
-    static double reach_of(const rows &r, const double3 &far_off) {
+    static double reach_of(const matrix_rows &r, const double3 &far_off) {
         const auto of = [&](const double (&row)[4]) {
             return std::fabs(row[0]) * far_off.x + std::fabs(row[1]) * far_off.y + std::fabs(row[2]) * far_off.w
                    + std::fabs(row[3]);
@@ -523,46 +542,49 @@ private:
 
     void prepare_behind(const start &from, occluders &made, const clip_point *points, std::size_t point_count,
                         const maskcull_triangle *triangles, std::size_t triangle_count) const {
-        const rows r = {{scale_, 0, 0, 0}, {0, up_scale_, 0, 0}, {0, 0, scale_, 0}};
+        const matrix_rows r = {{scale_, 0, 0, 0}, {0, up_scale_, 0, 0}, {0, 0, scale_, 0}};
         if (points == nullptr) point_count = 0;
         if (triangles == nullptr) triangle_count = 0;
-        const double reach = fill_corners(made.corners, r, points, sizeof(clip_point), point_count);
-        round_into(made, from, reach, triangle_count, [=](std::size_t k) { return triangles[k]; });
+        const knowledge known_to = fill_corners(made.corners, r, points, sizeof(clip_point), point_count);
+        round_into(made, from, known_to, index_source<std::uint32_t>{triangles}, triangle_count);
     }
 
     void prepare_behind(const start &from, occluders &made, const float *model_to_clip, const mesh_view &mesh) const {
-        rows r;
+        matrix_rows r;
         std::size_t vertex_count = mesh.vertex_count, triangle_count = mesh.index_count / 3;
         if (!mesh.is_there() || !read(model_to_clip, r)) vertex_count = 0, triangle_count = 0;
-        const double reach = fill_corners(made.corners, r, mesh.positions, mesh.stride, vertex_count);
-        const auto *indices = static_cast<const unsigned char *>(mesh.indices);
+        const knowledge known_to = fill_corners(made.corners, r, mesh.positions, mesh.stride, vertex_count);
         if (mesh.is_short) {
-            round_into(made, from, reach, triangle_count,
-                       [=](std::size_t k) { return numbers_at<std::uint16_t>(indices, k); });
+            round_into(made, from, known_to, index_source<std::uint16_t>{mesh.indices}, triangle_count);
         } else {
-            round_into(made, from, reach, triangle_count,
-                       [=](std::size_t k) { return numbers_at<std::uint32_t>(indices, k); });
+            round_into(made, from, known_to, index_source<std::uint32_t>{mesh.indices}, triangle_count);
         }
     }
 
-    // The corners of a mesh, and the most that the terms of their products come to.
-    static double fill_corners(detail::corners &made, const rows &r, const void *positions, std::size_t stride,
-                               std::size_t count) {
+    // The most that the terms of a mesh's products come to, and whether no corner has to be cut off or is lost.
+    struct knowledge {
+        double reach;
+        bool is_plain;
+    };
+
+    // The corners of a mesh.
+    static knowledge fill_corners(detail::corners &made, const matrix_rows &r, const void *positions,
+                                  std::size_t stride, std::size_t count) {
         const unsigned char *at = hidden_from_compiler(positions);
         made.resize(count);
         reach_lanes reach = {};
         std::size_t k = 0;
+        bool is_plain = true;
         // then it doesn't matter whether a number below the least normal one is taken for 0
         const bool is_coarse = 0x1p-126 * reach_of(r, {1, 1, 1}) < 0x1p-30;
         for (; k + lanes <= count; k += lanes, at += lanes * stride) {
             if (is_coarse && fill_lanes(made, r, at, stride, k, reach)) continue;
-            for (std::size_t j = 0; j < lanes; j++) fill_one(made, r, at + j * stride, k + j, reach);
+            for (std::size_t j = 0; j < lanes; j++) is_plain &= fill_one(made, r, at + j * stride, k + j, reach);
         }
-        for (; k < count; k++, at += stride) fill_one(made, r, at, k, reach);
-        const double3 far_off = {*std::max_element(reach.x, reach.x + lanes),
-                                 *std::max_element(reach.y, reach.y + lanes),
-                                 *std::max_element(reach.z, reach.z + lanes)};
-        return count == 0 ? guard : std::max(guard, reach_of(r, far_off));
+        for (; k < count; k++, at += stride) is_plain &= fill_one(made, r, at, k, reach);
+        const double3 far_off = {static_cast<double>(greatest_of(reach.x)), static_cast<double>(greatest_of(reach.y)),
+                                 static_cast<double>(greatest_of(reach.z))};
+        return {count == 0 ? guard : std::max(guard, reach_of(r, far_off)), is_plain};
     }
 
     // The most of each coordinate, by lanes.
@@ -571,7 +593,7 @@ private:
     };
 
     // Some corners at a time; false where one of them has to be looked at by itself.
-    static bool fill_lanes(detail::corners &made, const rows &r, const unsigned char *at, std::size_t stride,
+    static bool fill_lanes(detail::corners &made, const matrix_rows &r, const unsigned char *at, std::size_t stride,
                            std::size_t k, reach_lanes &reach) {
         std::uint32_t bits[3][lanes];
         for (std::size_t j = 0; j < lanes; j++, at += stride) {
@@ -579,7 +601,6 @@ private:
             std::memcpy(&bits[1][j], at + 4, 4);
             std::memcpy(&bits[2][j], at + 8, 4);
         }
-        // the uppermost bit is set where one is infinite or no number
         std::uint32_t odd = 0;
         for (std::size_t j = 0; j < lanes; j++) {
             odd |= upper_bit(bits[0][j]) | upper_bit(bits[1][j]) | upper_bit(bits[2][j]);
@@ -588,7 +609,8 @@ private:
         std::memcpy(p, bits, sizeof p);
         double x[lanes], y[lanes], w[lanes], far_off[lanes];
         for (std::size_t j = 0; j < lanes; j++) {
-            const double px = p[0][j], py = p[1][j], pz = p[2][j];
+            const auto px = static_cast<double>(p[0][j]), py = static_cast<double>(p[1][j]);
+            const auto pz = static_cast<double>(p[2][j]);
             x[j] = r.x[0] * px + r.x[1] * py + (r.x[2] * pz + r.x[3]);
             y[j] = r.y[0] * px + r.y[1] * py + (r.y[2] * pz + r.y[3]);
             w[j] = r.w[0] * px + r.w[1] * py + (r.w[2] * pz + r.w[3]);
@@ -607,8 +629,8 @@ private:
         return true;
     }
 
-    // One that may be no number, below the least normal one, or far off.
-    static void fill_one(detail::corners &made, const rows &r, const unsigned char *at, std::size_t k,
+    // One that may be no number, below the least normal one, or far off: whether it can be drawn as it is.
+    static bool fill_one(detail::corners &made, const matrix_rows &r, const unsigned char *at, std::size_t k,
                          reach_lanes &reach) {
         double3 p, v = {known, 0, 0};
         const bool is_number = load(at, p);
@@ -618,21 +640,31 @@ private:
         if (!is_known) v = {known, 0, 0};
         made.x[k] = v.x, made.y[k] = v.y, made.w[k] = v.w;
         made.factor[k] = !is_known ? lost : far_off <= farthest ? 1 : beyond;
-        if (!is_known) return;
+        if (!is_known) return false;
         reach.x[0] = std::max(reach.x[0], static_cast<float>(std::fabs(p.x)));
         reach.y[0] = std::max(reach.y[0], static_cast<float>(std::fabs(p.y)));
         reach.z[0] = std::max(reach.z[0], static_cast<float>(std::fabs(p.w)));
+        return far_off <= farthest;
     }
-
-    static std::uint32_t upper_bit(std::uint32_t bits) { return (bits & 0x7fffffff) + (0x80000000 - infinity); }
 
     template <class Number> static Number greater(Number p, Number q) { return p > q ? p : q; }
 
-    template <class Index> static maskcull_triangle numbers_at(const unsigned char *indices, std::size_t k) {
-        Index numbers[3];
-        std::memcpy(numbers, indices + k * sizeof numbers, sizeof numbers);
-        return {numbers[0], numbers[1], numbers[2]};
-    }
+    // The numbers of three corners for each triangle, where they lie.
+    template <class Index> struct index_source {
+        const void *first;
+
+        template <std::size_t Count> void copy(std::size_t k, std::uint32_t (&numbers)[Count]) const {
+            Index kept[Count];
+            std::memcpy(kept, static_cast<const unsigned char *>(first) + 3 * sizeof(Index) * k, sizeof kept);
+            for (std::size_t j = 0; j < Count; j++) numbers[j] = kept[j];
+        }
+
+        maskcull_triangle one(std::size_t k) const {
+            std::uint32_t numbers[3];
+            copy(k, numbers);
+            return {numbers[0], numbers[1], numbers[2]};
+        }
+    };
 
     // In units: a triangle's plane is a x + b y + c w = 1. Rounding moves a vertex by up to half a unit along each
     // axis, which lowers the left side by `rounding` at most, and snapping by a sixteenth of a pixel at most, which
@@ -675,7 +707,8 @@ private:
         const Number length1 = sum(p), length2 = sum(q), away = sum(v);
         const Number off = s.slip * (length1 + length2 + s.slip) + s.loss * (length1 * length2);
         const Number a = std::fabs(x) + off, b = std::fabs(y) + off, c = std::fabs(w) + off, slope = a + b + c;
-        const Number level = std::fabs(x * v[0] + y * v[1] + w * v[2]) - ((off + s.loss * slope) * away + s.slip * slope);
+        const Number unsure = (off + s.loss * slope) * away + s.slip * slope;
+        const Number level = std::fabs(x * v[0] + y * v[1] + w * v[2]) - unsure;
         const Number part = 1 / level;
         const Number snapping = (a * s.across + b * s.down) * part;
         // and what numbers lose behind here
@@ -688,32 +721,40 @@ private:
 
     // Rounds the corners that were filled in, and takes the triangles that can be drawn. Corners are known to a part of
     // how far products, and cuts between two corners, reach.
-    template <class TriangleAt>
-    void round_into(occluders &made, const start &from, double reach, std::size_t triangle_count,
-                    const TriangleAt &triangle) const {
-        const double slip = 0x1p-48 * reach;
+    template <class Index>
+    void round_into(occluders &made, const start &from, const knowledge &known_to, const index_source<Index> &source,
+                    std::size_t triangle_count) const {
+        // where terms reach farther all triangles are put off, and then dropped
+        const bool is_within = known_to.reach < known;
+        const double slip = 0x1p-48 * std::min(known_to.reach, known);
         const slack<float> s = slack_of<float>(slip, 0x1p-21f);
         made.triangles.resize(from.triangle + triangle_count);
         made.unclear.clear();
         maskcull_triangle *next = made.triangles.data() + from.triangle;
         std::size_t k = 0;
-        for (; k + lanes <= triangle_count; k += lanes) {
-            maskcull_triangle some[lanes];
-            std::uint32_t highest = 0;
-            for (std::size_t j = 0; j < lanes; j++) {
-                some[j] = triangle(k + j);
-                highest = greater(highest, greater(some[j].a, greater(some[j].b, some[j].c)));
-            }
-            if (highest < made.corners.factor.size()) {
-                next = take_lanes(made, some, s, next, from.vertex);
+        for (; is_within && k + lanes <= triangle_count; k += lanes) {
+            std::uint32_t some[3 * lanes];
+            source.copy(k, some);
+            if (are_below(some, made.corners.factor.size())) {
+                next = take_lanes(made, some, s, next, from.vertex, known_to.is_plain);
             } else {
-                for (const maskcull_triangle &t : some) next = put_off(made, t, next);
+                for (std::size_t j = 0; j < lanes; j++) next = put_off(made, source.one(k + j), next);
             }
         }
-        for (; k < triangle_count; k++) next = put_off(made, triangle(k), next);
+        for (; k < triangle_count; k++) next = put_off(made, source.one(k), next);
         made.triangles.resize(static_cast<std::size_t>(next - made.triangles.data()));
-        for (const maskcull_triangle &t : made.unclear) take_one(made, t, reach, slip, from.vertex);
+        for (const maskcull_triangle &t : made.unclear) take_one(made, t, known_to.reach, slip, from.vertex);
         add_vertices(made.corners, made.vertices, from.vertex);
+    }
+
+    // Whether numbers are below a count, which is at most 2^31: else the uppermost bit of one, or of how far it is
+    // below the last, is set.
+    static bool are_below(const std::uint32_t (&numbers)[3 * lanes], std::size_t count) {
+        if (count == 0 || count > 0x80000000) return false;
+        const auto last = static_cast<std::uint32_t>(count - 1);
+        std::uint32_t odd = 0;
+        for (std::size_t j = 0; j < 3 * lanes; j++) odd |= numbers[j] | (last - numbers[j]);
+        return odd >> 31 == 0;
     }
 
     // A triangle that is to be looked at in doubles, unless it names a corner that isn't there.
@@ -727,17 +768,17 @@ private:
     }
 
     // Some triangles at a time, in floats.
-    static maskcull_triangle *take_lanes(occluders &made, const maskcull_triangle (&some)[lanes], const slack<float> &s,
-                                         maskcull_triangle *next, std::size_t first) {
+    static maskcull_triangle *take_lanes(occluders &made, const std::uint32_t (&some)[3 * lanes], const slack<float> &s,
+                                         maskcull_triangle *next, std::size_t first, bool is_plain) {
         const double *x = made.corners.x.data(), *y = made.corners.y.data(), *w = made.corners.w.data();
         float v[3][lanes], p[3][lanes], q[3][lanes];
         for (std::size_t j = 0; j < lanes; j++) {
-            const maskcull_triangle &t = some[j];
-            const double x0 = x[t.a], y0 = y[t.a], w0 = w[t.a];
+            const std::size_t a = some[3 * j], b = some[3 * j + 1], c = some[3 * j + 2];
+            const double x0 = x[a], y0 = y[a], w0 = w[a];
             v[0][j] = static_cast<float>(x0), v[1][j] = static_cast<float>(y0), v[2][j] = static_cast<float>(w0);
-            p[0][j] = static_cast<float>(x[t.b] - x0), q[0][j] = static_cast<float>(x[t.c] - x0);
-            p[1][j] = static_cast<float>(y[t.b] - y0), q[1][j] = static_cast<float>(y[t.c] - y0);
-            p[2][j] = static_cast<float>(w[t.b] - w0), q[2][j] = static_cast<float>(w[t.c] - w0);
+            p[0][j] = static_cast<float>(x[b] - x0), q[0][j] = static_cast<float>(x[c] - x0);
+            p[1][j] = static_cast<float>(y[b] - y0), q[1][j] = static_cast<float>(y[c] - y0);
+            p[2][j] = static_cast<float>(w[b] - w0), q[2][j] = static_cast<float>(w[c] - w0);
         }
         float level[lanes], burden[lanes], factors[3][lanes];
         for (std::size_t j = 0; j < lanes; j++) {
@@ -749,11 +790,25 @@ private:
             factors[0][j] = it.factor(first_w), factors[1][j] = it.factor(second_w), factors[2][j] = it.factor(third_w);
         }
         float *factor = made.corners.factor.data();
+        std::int32_t unclear[lanes], any = is_plain ? 0 : 1;
         for (std::size_t j = 0; j < lanes; j++) {
-            const maskcull_triangle &t = some[j];
+            unclear[j] = (level[j] > 0 ? 0 : 1) | (burden[j] < static_cast<float>(steepest) ? 0 : 1);
+        }
+        for (std::size_t j = 0; j < lanes; j++) any |= unclear[j];
+        if (any == 0) {
+            for (std::size_t j = 0; j < lanes; j++) {
+                float &a = factor[some[3 * j]], &b = factor[some[3 * j + 1]], &c = factor[some[3 * j + 2]];
+                a = greater(a, factors[0][j]), b = greater(b, factors[1][j]), c = greater(c, factors[2][j]);
+            }
+            std::uint32_t numbers[3 * lanes];
+            for (std::size_t j = 0; j < 3 * lanes; j++) numbers[j] = some[j] + static_cast<std::uint32_t>(first);
+            std::memcpy(next, numbers, sizeof numbers);
+            return next + lanes;
+        }
+        for (std::size_t j = 0; j < lanes; j++) {
+            const maskcull_triangle t = {some[3 * j], some[3 * j + 1], some[3 * j + 2]};
             float &a = factor[t.a], &b = factor[t.b], &c = factor[t.c];
-            const bool is_clear = (level[j] > 0) & (burden[j] < static_cast<float>(steepest));
-            if (is_clear && greater(a, greater(b, c)) < beyond) {
+            if (unclear[j] == 0 && greater(a, greater(b, c)) < beyond) {
                 a = greater(a, factors[0][j]), b = greater(b, factors[1][j]), c = greater(c, factors[2][j]);
                 *next++ = number_from(t, first);
             } else {
@@ -785,7 +840,7 @@ private:
     // No triangle has a corner that is beyond or lost: it goes past the guard.
     static maskcull_vertex rounded(const detail::corners &all, std::size_t k) {
         if (!(all.factor[k] < beyond)) return {static_cast<std::int32_t>(most), 0, 0};
-        const double factor = all.factor[k];
+        const auto factor = static_cast<double>(all.factor[k]);
         return {nearest_to(all.x[k] * factor), nearest_to(all.y[k] * factor), nearest_to(all.w[k] * factor)};
     }
 
@@ -797,12 +852,10 @@ private:
         std::memcpy(x, all.x.data() + k, sizeof x);
         std::memcpy(y, all.y.data() + k, sizeof y);
         std::memcpy(w, all.w.data() + k, sizeof w);
-        float greatest[lanes / 2];
-        for (std::size_t j = 0; j < lanes / 2; j++) greatest[j] = greater(factor[j], factor[j + lanes / 2]);
-        if (!(greater(greater(greatest[0], greatest[1]), greater(greatest[2], greatest[3])) < beyond)) return false;
+        if (!(greatest_of(factor) < beyond)) return false;
         std::int32_t whole[3][lanes];
         for (std::size_t j = 0; j < lanes; j++) {
-            const double by = factor[j];
+            const auto by = static_cast<double>(factor[j]);
             whole[0][j] = nearest_to(x[j] * by), whole[1][j] = nearest_to(y[j] * by);
             whole[2][j] = nearest_to(w[j] * by);
         }
@@ -810,10 +863,12 @@ private:
         return true;
     }
 
-    // A convex part of a triangle. A corner that the triangle had keeps its number, so that neighbours share it.
+    // A convex part of a triangle. A corner that the triangle had keeps its number, so that neighbours share it. Six
+    // cuts leave nine corners; there is room too for what they could leave where rounding made it bent: half as many
+    // more each.
     struct polygon {
-        double3 corners[10];
-        std::uint32_t numbers[10];
+        double3 corners[32];
+        std::uint32_t numbers[32];
         int count;
     };
 
@@ -843,9 +898,9 @@ private:
         p.numbers[p.count++] = number;
     }
 
-    // A triangle in doubles. One that reaches farther than can be drawn is cut, and so is one that is seen too much from
-    // its edge: that is so the less the nearer it is, so that a part of it can be drawn. What is left over lies within
-    // the triangle.
+    // A triangle in doubles. One that reaches farther than can be drawn is cut, and so is one that is seen too much
+    // from its edge: that is so the less the nearer it is, so that a part of it can be drawn. What is left over lies
+    // within the triangle.
     void take_one(occluders &made, const maskcull_triangle &t, double reach, double slip, std::size_t first) const {
         const std::uint32_t numbers[3] = {t.a, t.b, t.c};
         const detail::corners &all = made.corners;
@@ -900,24 +955,32 @@ private:
 
     // The eight sums for one row of a matrix.
     static void set_corners(double (&sums)[8], const double (&row)[4], const double3 &low, const double3 &high) {
-        const double across[2] = {row[0] * low.x, row[0] * high.x}, up[2] = {row[1] * low.y, row[1] * high.y};
-        const double along[2] = {row[2] * low.w + row[3], row[2] * high.w + row[3]};
-        for (int k = 0; k < 8; k++) sums[k] = across[k & 1] + up[k >> 1 & 1] + along[k >> 2];
+        const double left = row[0] * low.x, right = row[0] * high.x, under = row[1] * low.y, over = row[1] * high.y;
+        const double before = row[2] * low.w + row[3], behind = row[2] * high.w + row[3];
+        const double four[4] = {left + under, right + under, left + over, right + over};
+        for (int k = 0; k < 4; k++) sums[k] = four[k] + before;
+        for (int k = 0; k < 4; k++) sums[4 + k] = four[k] + behind;
     }
 
-    static double least_of(const double (&n)[3]) { return std::min(n[0], std::min(n[1], n[2])); }
-    static double greatest_of(const double (&n)[3]) { return std::max(n[0], std::max(n[1], n[2])); }
-
-    static double least_of(const double (&n)[8]) {
-        double half[4];
-        for (int k = 0; k < 4; k++) half[k] = std::min(n[k], n[k + 4]);
-        return std::min(std::min(half[0], half[2]), std::min(half[1], half[3]));
+    // The least and the greatest of some numbers, by halves: so compilers make vectors of it.
+    template <std::size_t N> static double least_of(const double (&n)[N]) {
+        if constexpr (N == 1) {
+            return n[0];
+        } else {
+            double half[N - N / 2];
+            for (std::size_t k = 0; k < N - N / 2; k++) half[k] = n[k] < n[k + N / 2] ? n[k] : n[k + N / 2];
+            return least_of(half);
+        }
     }
 
-    static double greatest_of(const double (&n)[8]) {
-        double half[4];
-        for (int k = 0; k < 4; k++) half[k] = std::max(n[k], n[k + 4]);
-        return std::max(std::max(half[0], half[2]), std::max(half[1], half[3]));
+    template <class Number, std::size_t N> static Number greatest_of(const Number (&n)[N]) {
+        if constexpr (N == 1) {
+            return n[0];
+        } else {
+            Number half[N - N / 2];
+            for (std::size_t k = 0; k < N - N / 2; k++) half[k] = greater(n[k], n[k + N / 2]);
+            return greatest_of(half);
+        }
     }
 
     template <std::size_t N> verdict verdict_of(hull<N> &h) const {
@@ -937,13 +1000,14 @@ private:
     template <std::size_t N> bool is_outside(const hull<N> &h) const {
         const double right = 1 + 2 * margin(setup_.width) / setup_.width;
         const double top = 1 + 2 * margin(setup_.height) / setup_.height;
-        unsigned sides = 31;
+        double past_right[N], past_left[N], past_top[N], past_bottom[N];
         for (std::size_t k = 0; k < N; k++) {
             const double across = right * h.w[k], up = top * h.w[k];
-            sides &= (h.x[k] > across ? 1u : 0u) | (-h.x[k] > across ? 2u : 0u) | (h.y[k] > up ? 4u : 0u)
-                     | (-h.y[k] > up ? 8u : 0u) | (h.w[k] < -1 ? 16u : 0u);
+            past_right[k] = h.x[k] - across, past_left[k] = -h.x[k] - across;
+            past_top[k] = h.y[k] - up, past_bottom[k] = -h.y[k] - up;
         }
-        return sides != 0;
+        return least_of(past_right) > 0 || least_of(past_left) > 0 || least_of(past_top) > 0
+               || least_of(past_bottom) > 0 || greatest_of(h.w) < -1;
     }
 
     // Outwards to whole pixels, past all that the edge of an occluder may have moved; the distance down, so that the
@@ -966,7 +1030,7 @@ private:
     static double within(double number) { return std::min(std::max(number, -most), most); }
 
     // All vertices as one rectangle: visible where that can't be told.
-    verdict all_at_once(const rows &r, const mesh_view &mesh) const {
+    verdict all_at_once(const matrix_rows &r, const mesh_view &mesh) const {
         const unsigned char *at = hidden_from_compiler(mesh.positions);
         extent e;
         for (std::size_t k = 0; k < mesh.vertex_count; k++, at += mesh.stride) {
@@ -983,12 +1047,12 @@ private:
     }
 
     template <class Index>
-    verdict one_by_one(const rows &r, const mesh_view &mesh, const unsigned char *indices) const {
+    verdict one_by_one(const matrix_rows &r, const mesh_view &mesh, const index_source<Index> &source) const {
         const unsigned char *at = hidden_from_compiler(mesh.positions);
         verdict found = verdict::outside;
         for (std::size_t k = 0; k < mesh.index_count / 3; k++) {
-            const maskcull_triangle t = numbers_at<Index>(indices, k);
-            const std::uint32_t numbers[3] = {t.a, t.b, t.c};
+            std::uint32_t numbers[3];
+            source.copy(k, numbers);
             hull<3> h;
             for (int corner = 0; corner < 3; corner++) {
                 double3 p;
