@@ -6,26 +6,26 @@ ghost use Rattle.cull_base.specs.Tiles.{with_members};
 ghost use Rattle.near_clip.specs.NearPart.{corner};
 ghost use Rattle.snap_setup.specs.Pieces.{list_of_clips, clip_at, HasClips};
 
+use crate::occluders::Occluders;
 use crate::triangle::{Corners, push_pieces};
 use cull_base::{ClipVertex, FrameList, Memory, Size, Tri, Winding};
 use std::alloc::Global;
 
-/// The occluder pieces of the triangles, one triangle after another, behind those that a list has. Conditions: `near`
-/// is 1 to 1024, each index is below the number of clips, and the list has room for two pieces a triangle.
-pub(crate) fn push_all(
-    clips: &[ClipVertex],
-    tris: &[Tri],
-    near: u16,
-    size: Size,
-    winding: Winding,
-    list: &mut FrameList,
-)
-    requires near_least { 1 ≤ near }
-    requires near_most { near ≤ 1024 }
-    requires indices { All (HasClips (length clips.now)) tris.now }
+/// The occluder pieces of some of a frame's triangles, one triangle after another, behind those that a list has.
+/// Conditions: each index is below the number of clips, and the list has room for two pieces a triangle.
+pub(crate) fn push_all(occluders: &Occluders, tris: &[Tri], list: &mut FrameList)
+    requires indices { All (HasClips (length occluders.now.clips.now)) tris.now }
     requires room { length list.old.list.members + 2 * length tris.now ≤ list.old.room }
-    ensures { list.new ≡ with_members list.old (list_of_clips clips.now tris.now GRADE_TOP near size winding) }
+    ensures { let o = occluders.now in list.new
+        ≡ with_members list.old (list_of_clips o.clips.now tris.now GRADE_TOP o.near o.size o.winding) }
 {
+    let Occluders {
+        clips,
+        near,
+        size,
+        winding,
+        ..
+    } = *occluders;
     for tri in tris {
         push_pieces(&corner_references(clips, tri), near, size, winding, list);
     }
@@ -48,8 +48,24 @@ pub fn frame_list(
     ensures members { IfOk result (λ f. f.list.members ≡ list_of_clips clips.now tris.now GRADE_TOP near size winding) }
     ensures size { IfOk result (λ f. f.list.size ≡ size) }
 {
-    let mut list = FrameList::with_room(alloc, size, 2 * tris.len() as u32)?;
-    push_all(clips, tris, near, size, winding, &mut list);
+    let occluders = Occluders {
+        clips,
+        tris,
+        near,
+        size,
+        winding,
+    };
+    list_in_turn(alloc, &occluders)
+}
+
+/// As `frame_list`.
+pub(crate) fn list_in_turn(alloc: Global, occluders: &Occluders) -> Result<FrameList, Memory>
+    ensures members { let o = occluders.now in IfOk result (λ f. f.list.members
+        ≡ list_of_clips o.clips.now o.tris.now GRADE_TOP o.near o.size o.winding) }
+    ensures size { IfOk result (λ f. f.list.size ≡ occluders.now.size) }
+{
+    let mut list = FrameList::with_room(alloc, occluders.size, 2 * occluders.tris.len() as u32)?;
+    push_all(occluders, occluders.tris, &mut list);
     Ok(list)
 }
 

@@ -4,6 +4,7 @@
 
 mod boxes;
 mod frame;
+mod occluders;
 mod pieces;
 mod runs;
 mod snapping;
@@ -11,6 +12,7 @@ mod triangle;
 
 pub use boxes::{near_box, rect_between};
 pub use frame::{corners, frame_list};
+pub use occluders::Occluders;
 pub use pieces::Pieces;
 pub use runs::frame_list_by_workers;
 pub use snapping::{Place, Snapped, place_of, snap};

@@ -7,14 +7,15 @@ use Rattle.snap_setup.proofs.FrameLists.{list_none, list_more, list_most, by_cor
 use Rattle.snap_setup.proofs.frame.push_all.Goals as goal
 
 pub loop-tri-init : goal.loop-tri-init
-loop-tri-init c = with_none c.args.list.now _ (list_none c.args.clips.now GRADE_TOP c.args.near c.args.size c.args.winding)
+loop-tri-init c = let o = c.args.occluders.now in with_none c.args.list.now _ (list_none o.clips.now GRADE_TOP o.near o.size o.winding)
 
 pub push_pieces-requires-clause-room : goal.push_pieces-requires-clause-room
 push_pieces-requires-clause-room c =
+    let o = c.args.occluders.now in
     let tris = c.args.tris.now in
     let i = c.loop-tri.tri-index in
-    let pieces = list_of_clips c.args.clips.now (take i tris) GRADE_TOP c.args.near c.args.size c.args.winding in
-    let most = list_most c.args.clips.now (take i tris) GRADE_TOP c.args.near c.args.size c.args.winding in
+    let pieces = list_of_clips o.clips.now (take i tris) GRADE_TOP o.near o.size o.winding in
+    let most = list_most o.clips.now (take i tris) GRADE_TOP o.near o.size o.winding in
     let old = ap (λ (f : FrameListOf). length f.list.members) c.loop-tri.invariant in
     let room = ap (λ (f : FrameListOf). f.room) c.loop-tri.invariant in
     let taken = length-take-le i tris (omega (arith, c.loop-tri-test.true)) in
@@ -22,12 +23,13 @@ push_pieces-requires-clause-room c =
 
 pub loop-tri-preserved : goal.loop-tri-preserved
 loop-tri-preserved c =
+    let o = c.args.occluders.now in
     let tris = c.args.tris.now in
     let i = c.loop-tri.tri-index in
     let d : Tri = record { 0 = [] } in
     let r = c.corner_references.result in
     let e = c.corner_references.ensures in
-    let pieces = list_of_clips c.args.clips.now (take i tris) GRADE_TOP c.args.near c.args.size c.args.winding in
-    let ps = by_corners c.args.clips.now r.v0.now r.v1.now r.v2.now GRADE_TOP c.args.near c.args.size c.args.winding (get_or tris i d) e.first e.second e.third in
+    let pieces = list_of_clips o.clips.now (take i tris) GRADE_TOP o.near o.size o.winding in
+    let ps = by_corners o.clips.now r.v0.now r.v1.now r.v2.now GRADE_TOP o.near o.size o.winding (get_or tris i d) e.first e.second e.third in
     with_more c.args.list.now c.loop-tri.list _ pieces _ _ c.loop-tri.invariant c.push_pieces.ensures.value
-    (list_more c.args.clips.now tris GRADE_TOP c.args.near c.args.size c.args.winding i d pieces _ c.loop-tri-test.true refl ps)
+    (list_more o.clips.now tris GRADE_TOP o.near o.size o.winding i d pieces _ c.loop-tri-test.true refl ps)

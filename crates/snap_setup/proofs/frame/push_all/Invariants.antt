@@ -5,4 +5,4 @@ use Rattle.snap_setup.specs.Pieces.{list_of_clips}
 use Rattle.snap_setup.proofs.frame.push_all.Given as goal
 
 abbrev pub invariant-loop-tri : goal.invariant-loop-tri
-invariant-loop-tri l = l.list ≡ with_members l.initial.list (list_of_clips l.clips (take l.tri-index l.tris) GRADE_TOP l.near l.size l.winding)
+invariant-loop-tri l = l.list ≡ with_members l.initial.list (list_of_clips l.fn.occluders.clips.now (take l.tri-index l.tris) GRADE_TOP l.fn.occluders.near l.fn.occluders.size l.fn.occluders.winding)
