@@ -5,15 +5,16 @@ ghost use Rattle.cull_base.specs.declared.nearness.TheConstants.{GRADE_TOP};
 ghost use Rattle.cull_base.specs.Tiles.{with_members};
 ghost use Rattle.near_clip.specs.NearPart.{corner};
 ghost use Rattle.snap_setup.specs.Pieces.{list_of_clips, clip_at, HasClips};
+ghost use Rattle.snap_setup.specs.Vertices.{screen_vertices, vertex_at, AreShared};
 
 use crate::occluders::Occluders;
-use crate::triangle::{Corners, push_pieces};
+use crate::triangle::{Corners, ScreenCorners, push_pieces, push_shared};
+use crate::vertices::{ScreenVertex, shared_vertices};
 use cull_base::{ClipVertex, FrameList, Memory, Size, Tri, Winding};
 use std::alloc::Global;
 
-/// The occluder pieces of some of a frame's triangles, one triangle after another, behind those that a list has.
-/// Conditions: each index is below the number of clips, and the list has room for two pieces a triangle.
-pub(crate) fn push_all(occluders: &Occluders, tris: &[Tri], list: &mut FrameList)
+// As `push_all`, each corner snapped by itself.
+fn push_by_corners(occluders: &Occluders, tris: &[Tri], list: &mut FrameList)
     requires indices { All (HasClips (length occluders.now.clips.now)) tris.now }
     requires room { length list.old.list.members + 2 * length tris.now ≤ list.old.room }
     ensures { let o = occluders.now in list.new
@@ -28,6 +29,61 @@ pub(crate) fn push_all(occluders: &Occluders, tris: &[Tri], list: &mut FrameList
     } = *occluders;
     for tri in tris {
         push_pieces(&corner_references(clips, tri), near, size, winding, list);
+    }
+}
+
+// As `push_all`, by all vertices on the screen.
+fn push_by_vertices(
+    occluders: &Occluders,
+    vertices: &[ScreenVertex],
+    tris: &[Tri],
+    list: &mut FrameList,
+)
+    requires vertices { let o = occluders.now in vertices.now ≡ screen_vertices o.clips.now o.near o.size }
+    requires indices { All (HasClips (length occluders.now.clips.now)) tris.now }
+    requires room { length list.old.list.members + 2 * length tris.now ≤ list.old.room }
+    ensures { let o = occluders.now in list.new
+        ≡ with_members list.old (list_of_clips o.clips.now tris.now GRADE_TOP o.near o.size o.winding) }
+{
+    let Occluders {
+        clips,
+        near,
+        size,
+        winding,
+        ..
+    } = *occluders;
+    for tri in tris {
+        let corners = vertex_references(vertices, tri);
+        push_shared(
+            &corner_references(clips, tri),
+            &corners,
+            near,
+            size,
+            winding,
+            list,
+        );
+    }
+}
+
+/// The occluder pieces of some of a frame's triangles, one triangle after another, behind those that a list has.
+/// Conditions: the vertices are all of the frame's or none, each index is below the number of clips, and the list has
+/// room for two pieces a triangle.
+pub(crate) fn push_all(
+    occluders: &Occluders,
+    vertices: &[ScreenVertex],
+    tris: &[Tri],
+    list: &mut FrameList,
+)
+    requires vertices { AreShared occluders.now vertices.now }
+    requires indices { All (HasClips (length occluders.now.clips.now)) tris.now }
+    requires room { length list.old.list.members + 2 * length tris.now ≤ list.old.room }
+    ensures { let o = occluders.now in list.new
+        ≡ with_members list.old (list_of_clips o.clips.now tris.now GRADE_TOP o.near o.size o.winding) }
+{
+    if vertices.is_empty() {
+        push_by_corners(occluders, tris, list);
+    } else {
+        push_by_vertices(occluders, vertices, tris, list);
     }
 }
 
@@ -65,7 +121,8 @@ pub(crate) fn list_in_turn(alloc: Global, occluders: &Occluders) -> Result<Frame
     ensures size { IfOk result (λ f. f.list.size ≡ occluders.now.size) }
 {
     let mut list = FrameList::with_room(alloc, occluders.size, 2 * occluders.tris.len() as u32)?;
-    push_all(occluders, occluders.tris, &mut list);
+    let vertices = shared_vertices(alloc, occluders)?;
+    push_all(occluders, vertices.as_slice(), occluders.tris, &mut list);
     Ok(list)
 }
 
@@ -82,6 +139,23 @@ fn corner_references<'a>(clips: &'a [ClipVertex], tri: &Tri) -> Corners<'a>
         v0: &clips[a as usize],
         v1: &clips[b as usize],
         v2: &clips[c as usize],
+    }
+}
+
+// Where the vertices of a triangle stand among those on the screen.
+#[inline(always)]
+fn vertex_references<'a>(vertices: &'a [ScreenVertex], tri: &Tri) -> ScreenCorners<'a>
+    requires { HasClips (length vertices.now) tri.now }
+    ensures first { result.v0.now ≡ vertex_at vertices.now tri.now 0 }
+    ensures second { result.v1.now ≡ vertex_at vertices.now tri.now 1 }
+    ensures third { result.v2.now ≡ vertex_at vertices.now tri.now 2 }
+    ensures three { length tri.now.0 ≡ 3 }
+{
+    let [a, b, c] = tri.0;
+    ScreenCorners {
+        v0: &vertices[a as usize],
+        v1: &vertices[b as usize],
+        v2: &vertices[c as usize],
     }
 }
 

@@ -9,6 +9,7 @@ mod pieces;
 mod runs;
 mod snapping;
 mod triangle;
+mod vertices;
 
 pub use boxes::{near_box, rect_between};
 pub use frame::{corners, frame_list};

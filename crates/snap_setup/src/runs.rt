@@ -7,9 +7,11 @@ ghost use Rattle.cull_base.specs.Tiles.{with_members};
 ghost use Rattle.cull_base.specs.declared.nearness.TheConstants.{GRADE_TOP};
 ghost use Rattle.snap_setup.specs.Pieces.{list_of_clips, HasClips};
 ghost use Rattle.snap_setup.specs.Runs.{members_of, run_of, run_pieces, AreFilled, AreMade, IsFirstFor, IsRoom};
+ghost use Rattle.snap_setup.specs.Vertices.{AreShared};
 
 use crate::frame::{list_in_turn, push_all};
 use crate::occluders::Occluders;
+use crate::vertices::{ScreenVertex, shared_vertices_by_workers};
 use cull_base::{FrameList, Memory, Size, Tri};
 use side_by_side::for_each_share;
 use std::alloc::Global;
@@ -56,7 +58,14 @@ fn run(tris: &[Tri], share: usize, k: usize) -> &[Tri]
 
 // As `push_all`. Meanwhile the list stands apart from those of other threads: side by side these are on one cache line,
 // which each piece would take from the others.
-fn push_all_apart(alloc: Global, occluders: &Occluders, tris: &[Tri], list: &mut FrameList)
+fn push_all_apart(
+    alloc: Global,
+    occluders: &Occluders,
+    vertices: &[ScreenVertex],
+    tris: &[Tri],
+    list: &mut FrameList,
+)
+    requires vertices { AreShared occluders.now vertices.now }
     requires indices { All (HasClips (length occluders.now.clips.now)) tris.now }
     requires room { length list.old.list.members + 2 * length tris.now ≤ list.old.room }
     ensures { let o = occluders.now in list.new
@@ -65,10 +74,10 @@ fn push_all_apart(alloc: Global, occluders: &Occluders, tris: &[Tri], list: &mut
     match FrameList::with_room(alloc, occluders.size, 0) {
         Ok(empty) => {
             let mut apart = mem::replace(list, empty);
-            push_all(occluders, tris, &mut apart);
+            push_all(occluders, vertices, tris, &mut apart);
             *list = apart;
         }
-        Err(_) => push_all(occluders, tris, list),
+        Err(_) => push_all(occluders, vertices, tris, list),
     }
 }
 
@@ -78,8 +87,10 @@ fn fill<R: Threads + Sync>(
     alloc: Global,
     rooms: &mut [FrameList],
     occluders: &Occluders,
+    vertices: &[ScreenVertex],
     share: usize,
 )
+    requires vertices { AreShared occluders.now vertices.now }
     requires share { share ≤ 65536 }
     requires runs { 0 < length rooms.old }
     requires few { length rooms.old ≤ 65536 }
@@ -93,11 +104,20 @@ fn fill<R: Threads + Sync>(
         rooms,
         threads,
         &|k: usize, room: &mut FrameList|
+            requires vertices { AreShared occluders.now vertices.now }
             requires share { share ≤ 65536 }
             requires run { k ≤ 65536 }
             requires empty { IsRoom occluders.now.size (2 * share) room.old }
             ensures { room.new ≡ with_members room.old (run_pieces occluders.entry.now share k) }
-        { push_all_apart(alloc, occluders, run(occluders.tris, share, k), room) },
+        {
+            push_all_apart(
+                alloc,
+                occluders,
+                vertices,
+                run(occluders.tris, share, k),
+                room,
+            )
+        },
     );
 }
 
@@ -106,9 +126,11 @@ fn make_runs<R: Threads + Sync>(
     rt: &R,
     alloc: Global,
     occluders: &Occluders,
+    vertices: &[ScreenVertex],
     share: usize,
     runs: usize,
 ) -> Result<Vec<FrameList>, Memory>
+    requires vertices { AreShared occluders.now vertices.now }
     requires share { share ≤ length occluders.now.tris.now }
     requires runs { 0 < runs }
     requires few { runs ≤ 65536 }
@@ -117,7 +139,7 @@ fn make_runs<R: Threads + Sync>(
     ensures runs { IfOk result (λ v. length v.items ≡ runs) }
 {
     let mut rooms = rooms_for(alloc, occluders.size, occluders.tris.len(), share, runs)?;
-    fill(rt, alloc, rooms.as_mut_slice(), occluders, share);
+    fill(rt, alloc, rooms.as_mut_slice(), occluders, vertices, share);
     Ok(rooms)
 }
 
@@ -148,7 +170,8 @@ pub fn frame_list_by_workers<R: Threads + Sync>(
         return list_in_turn(alloc, occluders);
     }
     let share = occluders.tris.len().div_ceil(runs);
-    let mut rooms = make_runs(rt, alloc, occluders, share, runs)?;
+    let vertices = shared_vertices_by_workers(rt, alloc, occluders, workers)?;
+    let mut rooms = make_runs(rt, alloc, occluders, vertices.as_slice(), share, runs)?;
     let mut list = rooms.remove(0);
     join_all(&mut list, rooms.as_slice());
     Ok(list)

@@ -4,7 +4,7 @@ use Rattle.cull_base.specs.declared.scene_types.Tri.{Tri}
 use Rattle.cull_base.specs.declared.nearness.TheConstants.{GRADE_TOP}
 use Rattle.snap_setup.specs.Pieces.{list_of_clips}
 use Rattle.snap_setup.proofs.FrameLists.{list_none, list_more, list_most, by_corners, with_none, with_more}
-use Rattle.snap_setup.proofs.frame.push_all.Goals as goal
+use Rattle.snap_setup.proofs.frame.push_by_corners.Goals as goal
 
 pub loop-tri-init : goal.loop-tri-init
 loop-tri-init c = let o = c.args.occluders.now in with_none c.args.list.now _ (list_none o.clips.now GRADE_TOP o.near o.size o.winding)
