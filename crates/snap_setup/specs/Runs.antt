@@ -1,13 +1,12 @@
 -- The triangles of a frame in runs, whose pieces are made side by side.
 use Rattle.std.specs.Prelude.{ℕ, ◌≡◌, ◌*◌, ◌<◌, ◌≤◌, List, [], length, take, drop, slice_index_or}
 use Rattle.cull_base.specs.declared.scene_types.Tri.{Tri}
-use Rattle.cull_base.specs.declared.nearness.TheConstants.{GRADE_TOP}
 use Rattle.std.specs.List.{flat_map}
 use Rattle.cull_base.specs.Piece.{Piece}
 use Rattle.cull_base.specs.Screen.{Dimensions}
 use Rattle.cull_base.specs.Tiles.{FrameListOf, with_members}
 use Rattle.snap_setup.specs.declared.occluders.Occluders.{Occluders}
-use Rattle.snap_setup.specs.Pieces.{list_of_clips}
+use Rattle.snap_setup.specs.Occluders.{list_of_some}
 
 -- run k of runs of so many triangles each, but for the last
 abbrev pub run_of : List Tri → ℕ → ℕ → List Tri
@@ -25,7 +24,7 @@ members_of rooms = flat_map (λ (f : FrameListOf). f.list.members) rooms
 
 -- the pieces of run k of a frame's triangles
 abbrev pub run_pieces : Occluders → ℕ → ℕ → List Piece
-run_pieces o share k = list_of_clips o.clips.now (run_of o.tris.now share k) GRADE_TOP o.near o.size o.winding
+run_pieces o share k = list_of_some o (run_of o.tris.now share k)
 
 -- each room got the pieces of its run
 abbrev pub AreFilled : Occluders → ℕ → List FrameListOf → List FrameListOf → Type 0

@@ -4,6 +4,7 @@ ghost use Rattle.std.specs.List.{All};
 ghost use Rattle.cull_base.specs.declared.nearness.TheConstants.{GRADE_TOP};
 ghost use Rattle.cull_base.specs.Tiles.{with_members};
 ghost use Rattle.near_clip.specs.NearPart.{corner};
+ghost use Rattle.snap_setup.specs.Occluders.{list_of_some};
 ghost use Rattle.snap_setup.specs.Pieces.{list_of_clips, clip_at, HasClips};
 ghost use Rattle.snap_setup.specs.Vertices.{screen_vertices, vertex_at, AreShared};
 
@@ -17,8 +18,7 @@ use std::alloc::Global;
 fn push_by_corners(occluders: &Occluders, tris: &[Tri], list: &mut FrameList)
     requires indices { All (HasClips (length occluders.now.clips.now)) tris.now }
     requires room { length list.old.list.members + 2 * length tris.now ≤ list.old.room }
-    ensures { let o = occluders.now in list.new
-        ≡ with_members list.old (list_of_clips o.clips.now tris.now GRADE_TOP o.near o.size o.winding) }
+    ensures { list.new ≡ with_members list.old (list_of_some occluders.now tris.now) }
 {
     let Occluders {
         clips,
@@ -42,8 +42,7 @@ fn push_by_vertices(
     requires vertices { let o = occluders.now in vertices.now ≡ screen_vertices o.clips.now o.near o.size }
     requires indices { All (HasClips (length occluders.now.clips.now)) tris.now }
     requires room { length list.old.list.members + 2 * length tris.now ≤ list.old.room }
-    ensures { let o = occluders.now in list.new
-        ≡ with_members list.old (list_of_clips o.clips.now tris.now GRADE_TOP o.near o.size o.winding) }
+    ensures { list.new ≡ with_members list.old (list_of_some occluders.now tris.now) }
 {
     let Occluders {
         clips,
@@ -77,8 +76,7 @@ pub(crate) fn push_all(
     requires vertices { AreShared occluders.now vertices.now }
     requires indices { All (HasClips (length occluders.now.clips.now)) tris.now }
     requires room { length list.old.list.members + 2 * length tris.now ≤ list.old.room }
-    ensures { let o = occluders.now in list.new
-        ≡ with_members list.old (list_of_clips o.clips.now tris.now GRADE_TOP o.near o.size o.winding) }
+    ensures { list.new ≡ with_members list.old (list_of_some occluders.now tris.now) }
 {
     if vertices.is_empty() {
         push_by_corners(occluders, tris, list);
@@ -116,8 +114,7 @@ pub fn frame_list(
 
 /// As `frame_list`.
 pub(crate) fn list_in_turn(alloc: Global, occluders: &Occluders) -> Result<FrameList, Memory>
-    ensures members { let o = occluders.now in IfOk result (λ f. f.list.members
-        ≡ list_of_clips o.clips.now o.tris.now GRADE_TOP o.near o.size o.winding) }
+    ensures members { IfOk result (λ f. f.list.members ≡ list_of_some occluders.now occluders.now.tris.now) }
     ensures size { IfOk result (λ f. f.list.size ≡ occluders.now.size) }
 {
     let mut list = FrameList::with_room(alloc, occluders.size, 2 * occluders.tris.len() as u32)?;

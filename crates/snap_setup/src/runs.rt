@@ -5,6 +5,7 @@ ghost use Rattle.std.specs.List.{All};
 ghost use Rattle.cull_base.specs.Screen.{Dimensions};
 ghost use Rattle.cull_base.specs.Tiles.{with_members};
 ghost use Rattle.cull_base.specs.declared.nearness.TheConstants.{GRADE_TOP};
+ghost use Rattle.snap_setup.specs.Occluders.{list_of_some};
 ghost use Rattle.snap_setup.specs.Pieces.{list_of_clips, HasClips};
 ghost use Rattle.snap_setup.specs.Runs.{members_of, run_of, run_pieces, AreFilled, AreMade, IsFirstFor, IsRoom};
 ghost use Rattle.snap_setup.specs.Vertices.{AreShared};
@@ -68,8 +69,7 @@ fn push_all_apart(
     requires vertices { AreShared occluders.now vertices.now }
     requires indices { All (HasClips (length occluders.now.clips.now)) tris.now }
     requires room { length list.old.list.members + 2 * length tris.now ≤ list.old.room }
-    ensures { let o = occluders.now in list.new
-        ≡ with_members list.old (list_of_clips o.clips.now tris.now GRADE_TOP o.near o.size o.winding) }
+    ensures { list.new ≡ with_members list.old (list_of_some occluders.now tris.now) }
 {
     match FrameList::with_room(alloc, occluders.size, 0) {
         Ok(empty) => {

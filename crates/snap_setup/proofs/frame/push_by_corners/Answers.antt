@@ -1,9 +1,6 @@
-use Rattle.std.proofs.Common.{[], take, get_or, length, ap, arith, refl, length-append, length-take-le}
-use Rattle.cull_base.specs.Tiles.{FrameListOf}
-use Rattle.cull_base.specs.declared.scene_types.Tri.{Tri}
+use Rattle.std.proofs.Common.{[]}
 use Rattle.cull_base.specs.declared.nearness.TheConstants.{GRADE_TOP}
-use Rattle.snap_setup.specs.Pieces.{list_of_clips}
-use Rattle.snap_setup.proofs.FrameLists.{list_none, list_more, list_most, by_corners, with_none, with_more}
+use Rattle.snap_setup.proofs.FrameLists.{list_none, with_none, room_for_two, one_more}
 use Rattle.snap_setup.proofs.frame.push_by_corners.Goals as goal
 
 pub loop-tri-init : goal.loop-tri-init
@@ -11,25 +8,10 @@ loop-tri-init c = let o = c.args.occluders.now in with_none c.args.list.now _ (l
 
 pub push_pieces-requires-clause-room : goal.push_pieces-requires-clause-room
 push_pieces-requires-clause-room c =
-    let o = c.args.occluders.now in
-    let tris = c.args.tris.now in
-    let i = c.loop-tri.tri-index in
-    let pieces = list_of_clips o.clips.now (take i tris) GRADE_TOP o.near o.size o.winding in
-    let most = list_most o.clips.now (take i tris) GRADE_TOP o.near o.size o.winding in
-    let old = ap (λ (f : FrameListOf). length f.list.members) c.loop-tri.invariant in
-    let room = ap (λ (f : FrameListOf). f.room) c.loop-tri.invariant in
-    let taken = length-take-le i tris (omega (arith, c.loop-tri-test.true)) in
-    omega (arith, most, old, room, taken, c.loop-tri-test.true, c.requires.room, length-append c.args.list.now.list.members pieces)
+    room_for_two c.args.occluders.now c.args.tris.now c.loop-tri.tri-index c.args.list.now c.loop-tri.list c.loop-tri-test.true c.loop-tri.invariant c.requires.room
 
 pub loop-tri-preserved : goal.loop-tri-preserved
 loop-tri-preserved c =
-    let o = c.args.occluders.now in
-    let tris = c.args.tris.now in
-    let i = c.loop-tri.tri-index in
-    let d : Tri = record { 0 = [] } in
-    let r = c.corner_references.result in
     let e = c.corner_references.ensures in
-    let pieces = list_of_clips o.clips.now (take i tris) GRADE_TOP o.near o.size o.winding in
-    let ps = by_corners o.clips.now r.v0.now r.v1.now r.v2.now GRADE_TOP o.near o.size o.winding (get_or tris i d) e.first e.second e.third in
-    with_more c.args.list.now c.loop-tri.list _ pieces _ _ c.loop-tri.invariant c.push_pieces.ensures.value
-    (list_more o.clips.now tris GRADE_TOP o.near o.size o.winding i d pieces _ c.loop-tri-test.true refl ps)
+    one_more c.args.occluders.now c.args.tris.now c.loop-tri.tri-index (record { 0 = [] }) c.args.list.now c.loop-tri.list _ c.corner_references.result c.loop-tri-test.true c.loop-tri.invariant
+    e.first e.second e.third c.push_pieces.ensures.value
