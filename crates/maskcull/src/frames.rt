@@ -12,7 +12,7 @@ use cull_base::{ClipVertex, FrameList, Memory, Sink, SinkError};
 use cull_report::{Asked, FrameVerdicts, verdicts_by_workers};
 use masked_update::TileView;
 use scene_reader::Scene;
-use snap_setup::frame_list_by_workers;
+use snap_setup::{Occluders, frame_list_by_workers};
 use std::alloc::Global;
 use std::sync::Wait;
 use std::thread::Threads;
@@ -85,16 +85,14 @@ pub fn pieces_of<R: Threads + Sync>(
     ensures list { IfOk result (λ f. f.list ≡ frame_list scene.now _frame) }
     ensures scene { IsScene scene.now }
 {
-    frame_list_by_workers(
-        rt,
-        alloc,
+    let occluders = Occluders {
         clips,
-        scene.occluders(),
-        scene.near(),
-        scene.size(),
-        scene.winding(),
-        workers,
-    )
+        tris: scene.occluders(),
+        near: scene.near(),
+        size: scene.size(),
+        winding: scene.winding(),
+    };
+    frame_list_by_workers(rt, alloc, &occluders, workers)
 }
 
 /// Writes a frame's lines. Failed and Memory are the sink's.
