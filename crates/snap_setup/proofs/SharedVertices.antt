@@ -1,5 +1,5 @@
 -- What the vertices of a triangle on the screen say of its pieces.
-use Rattle.std.proofs.Common.{◌≡◌, ◌≤◌, ℕ, pos, ◌<◌, List, [], Bool, true, false, cond, not, ◌&&◌, ◌||◌, ◌⊎◌, inl, inr, Option, length, option_to_list, refl, sym, ap, ◌∙◌, arith}
+use Rattle.std.proofs.Common.{◌≡◌, ◌≤◌, ℕ, pos, ◌<◌, List, [], Bool, true, false, cond, not, ◌&&◌, ◌||◌, Option, length, option_to_list, refl, sym, ap, ◌∙◌, arith}
 use Rattle.std.specs.Prelude.{slice_index}
 use Rattle.std.proofs.lemmas.Bool.{and_parts, or_parts}
 use Rattle.std.proofs.lemmas.List.{get_or-map}
@@ -21,7 +21,7 @@ use Rattle.snap_setup.specs.declared.vertices.ScreenVertex.{ScreenVertex}
 use Rattle.snap_setup.specs.Corners.{pieces_of_corners}
 use Rattle.snap_setup.specs.Pieces.{clip_at, HasClips, triangle, piece_if, is_any_past_guard, is_all_in_front}
 use Rattle.snap_setup.specs.Snapping.{snapped, IsSnapped}
-use Rattle.snap_setup.specs.Vertices.{nowhere, screen_vertex, screen_vertices, vertex_at, is_placed, are_all_placed, is_any_placed, is_any_past, AreCornersOf, AreShared}
+use Rattle.snap_setup.specs.Vertices.{nowhere, screen_vertex, screen_vertices, vertex_at, is_placed, are_all_placed, is_any_placed, is_any_past, AreCornersOf}
 use Rattle.snap_setup.proofs.KeptPieces.{held, part_none, part_whole, whole_in_reach}
 use Rattle.snap_setup.proofs.ValidPieces.{snapped_is}
 
@@ -138,12 +138,3 @@ corners_of o t vertices r c all three has e0 e1 e2 f0 f1 f2 =
   where
     one : (k : ℕ) → k < length t.0 → (s : ScreenVertex) (v : ClipVertex) → v ≡ clip_at o.clips.now t k → s ≡ vertex_at vertices t k → s ≡ screen_vertex v o.near o.size
     one k lt s v e f = f ∙ ap (λ (vs : List ScreenVertex). vertex_at vs t k) all ∙ looked_up o t k (has k 0 lt) ∙ ap (λ (u : ClipVertex). screen_vertex u o.near o.size) (sym e)
-
--- what was made of all or none of a frame's clip vertices
-pub shared_from : (o : Occluders) (clips : List ClipVertex) (vertices : List ScreenVertex) → (clips ≡ []) ⊎ (clips ≡ o.clips.now) → vertices ≡ screen_vertices clips o.near o.size → AreShared o vertices
-shared_from o clips vertices (inl none) is = inl (is ∙ ap (λ (vs : List ClipVertex). screen_vertices vs o.near o.size) none)
-shared_from o clips vertices (inr all) is = inr (is ∙ ap (λ (vs : List ClipVertex). screen_vertices vs o.near o.size) all)
-
-pub all_shared : (o : Occluders) (vertices : List ScreenVertex) → AreShared o vertices → 0 < length vertices → vertices ≡ screen_vertices o.clips.now o.near o.size
-all_shared o vertices (inl none) some = absurd (omega (arith, some, ap length none))
-all_shared o vertices (inr all) some = all

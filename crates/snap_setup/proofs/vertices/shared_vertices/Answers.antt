@@ -1,10 +1,9 @@
-use Rattle.std.proofs.Common.{◌≡◌, ◌+◌, ◌<◌, ◌++◌, ◌∷◌, [], ℕ, List, pos, take, map, length, get_or, arith, sym, ap, ◌∙◌}
-use Rattle.std.proofs.lemmas.List.{take_more, take_all, map_push}
+use Rattle.std.proofs.Common.{◌≡◌, ◌+◌, ◌<◌, ◌++◌, ◌∷◌, [], ℕ, List, pos, take, length, get_or, arith, sym, ap, ◌∙◌}
+use Rattle.std.proofs.lemmas.List.{take_more, map_push}
 use Rattle.cull_base.specs.declared.clip.ClipVertex.{ClipVertex}
 use Rattle.cull_base.specs.Screen.{Dimensions}
 use Rattle.snap_setup.specs.declared.vertices.ScreenVertex.{ScreenVertex}
 use Rattle.snap_setup.specs.Vertices.{screen_vertex, screen_vertices}
-use Rattle.snap_setup.proofs.SharedVertices.{shared_from}
 use Rattle.snap_setup.proofs.vertices.shared_vertices.Goals as goal
 
 pushed : (clips : List ClipVertex) (near : ℕ) (size : Dimensions) (i : ℕ) (items more : List ScreenVertex) (s : ScreenVertex) (d : ClipVertex) → items ≡ screen_vertices (take i clips) near size → i < length clips
