@@ -7,9 +7,24 @@
 #include "maskcull.hpp"
 
 #include <cstdio>
+#include <cstdlib>
 #include <cstring>
+#include <new>
 
 using maskcull::clip_point;
+
+// How often memory was asked for.
+static unsigned long memory_asked = 0;
+
+void *operator new(std::size_t size) {
+    memory_asked++;
+    void *place = std::malloc(size == 0 ? 1 : size);
+    if (place == nullptr) std::abort();
+    return place;
+}
+
+void operator delete(void *place) noexcept { std::free(place); }
+void operator delete(void *place, std::size_t) noexcept { std::free(place); }
 
 namespace {
 
@@ -429,6 +444,37 @@ void try_ground() {
     }
 }
 
+// Meshes that are prepared one behind another are drawn as each by itself; and what is prepared, drawn and asked again,
+// with a wall that is cut among it, asks for no memory.
+void try_room() {
+    const plain_matrix m;
+    const std::uint32_t first[] = {0, 1, 2}, second[] = {0, 2, 3};
+    wall w(false), far_one(false);
+    put(far_one.corners[3], 1, past[1]);
+    const maskcull::mesh_view meshes[] = {{w.corners, sizeof(clip_point), 4, first, 3},
+                                          {far_one.corners, sizeof(clip_point), 4, second, 3}};
+    auto by_one = frame_of(), one_by_one = frame_of();
+    if (!by_one || !one_by_one) return;
+    maskcull::occluders made;
+    unsigned long before = 0;
+    const float low[3] = {-5, -1, 8}, high[3] = {-3, 1, 9};
+    for (int round = 0; round < 3; round++) {
+        if (round == 1) before = memory_asked;
+        by_one->clear(), one_by_one->clear();
+        by_one->prepare_into(made, m.numbers, meshes[0]);
+        by_one->prepare_more_into(made, m.numbers, meshes[1]);
+        expect(by_one->draw(made) == MASKCULL_DONE, "two meshes aren't drawn");
+        for (const maskcull::mesh_view &mesh : meshes) {
+            expect(one_by_one->draw(m.numbers, mesh) == MASKCULL_DONE, "a mesh isn't drawn");
+        }
+        expect(by_one->test_aabb(m.numbers, low, high) == maskcull::verdict::occluded, "a box behind two meshes");
+        expect(by_one->test_mesh(m.numbers, meshes[0]) == maskcull::verdict::visible, "a mesh that is drawn itself");
+    }
+    expect(memory_asked == before && before != 0, "memory is asked for in a frame like the last one");
+    expect(made.vertices.size() > 8, "nothing is cut");
+    expect(are_same(by_one, one_by_one) && !are_same(by_one, frame_of()), "two meshes are drawn otherwise at once");
+}
+
 } // namespace
 
 int main() {
@@ -447,6 +493,7 @@ int main() {
     try_great_terms(*frame);
     try_mesh_units();
     try_ground();
+    try_room();
     std::printf("%u answers, %u of them wrong\n", answers, wrong);
     return wrong == 0 ? 0 : 1;
 }

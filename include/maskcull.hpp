@@ -352,10 +352,7 @@ public:
     verdict test_aabb(const float world_to_clip[16], const float low[3], const float high[3]) const {
         matrix_rows r;
         double3 first, last;
-        if (tiles_.empty() || !read(world_to_clip, r) || !load(hidden_from_compiler(low), first)
-            || !load(hidden_from_compiler(high), last)) {
-            return verdict::visible;
-        }
+        if (tiles_.empty() || !read(world_to_clip, r) || !load_both(low, high, first, last)) return verdict::visible;
         const double3 far_off = {std::max(std::fabs(first.x), std::fabs(last.x)),
                                  std::max(std::fabs(first.y), std::fabs(last.y)),
                                  std::max(std::fabs(first.w), std::fabs(last.w))};
@@ -460,6 +457,25 @@ private:
     static bool load(const unsigned char *at, double3 &v) {
         const bool is_first = load(at, v.x), is_second = load(at + 4, v.y), is_third = load(at + 8, v.w);
         return is_first & is_second & is_third;
+    }
+
+    // Two points at a time.
+    static bool load_both(const float *low, const float *high, double3 &first, double3 &last) {
+        std::uint32_t bits[8] = {}, odd = 0;
+        std::memcpy(bits, hidden_from_compiler(low), 12);
+        std::memcpy(bits + 4, hidden_from_compiler(high), 12);
+        for (std::size_t k = 0; k < 8; k++) odd |= upper_bit(bits[k]) | tiny_bit(bits[k]);
+        if (odd >> 31 != 0) {
+            const unsigned char *at = hidden_from_compiler(bits);
+            const bool is_first = load(at, first), is_last = load(at + 16, last);
+            return is_first & is_last;
+        }
+        float kept[8];
+        double numbers[8];
+        std::memcpy(kept, bits, sizeof kept);
+        for (std::size_t k = 0; k < 8; k++) numbers[k] = static_cast<double>(kept[k]);
+        first = {numbers[0], numbers[1], numbers[2]}, last = {numbers[4], numbers[5], numbers[6]};
+        return true;
     }
 
     // z isn't among them.
