@@ -204,8 +204,8 @@ fn a_picture_has_the_bound_at_each_pixel(rt: HostRuntime) -> Result<(), Fail> {
         (3, 32767),
         (31, 32767),
         (224, 0),
-        (254, 0),
-        (255, 32767),
+        (253, 0),
+        (254, 32767),
     ] {
         assert_eq!(rt; out[place], shade, "element {place}");
     }
