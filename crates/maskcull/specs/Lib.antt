@@ -2,6 +2,7 @@ pub mod App
 pub mod Words
 pub mod Summary
 pub mod Frames
+pub mod Windows
 pub mod LiveFrames
 pub mod Notes
 pub mod Outcome

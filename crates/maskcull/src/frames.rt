@@ -9,7 +9,7 @@ ghost use Rattle.maskcull.specs.Frames.{lines_by};
 use crate::summary::write_summary;
 use camera_path::{Camera, clip_into};
 use cull_base::{ClipVertex, FrameList, Memory, Sink, SinkError};
-use cull_report::{Asked, FrameVerdicts, verdicts_by_workers};
+use cull_report::{Asked, FrameVerdicts, verdicts_by_workers, verdicts_with_lines};
 use masked_update::TileView;
 use scene_reader::Scene;
 use snap_setup::{Occluders, frame_list_by_workers};
@@ -24,6 +24,15 @@ pub enum FrameLines {
     Report,
     /// The summary's line: how many objects have each verdict.
     Summary,
+}
+
+/// Who asks a frame's objects.
+#[derive(Clone, Copy)]
+pub enum Asking {
+    /// So many workers. Where they start threads these make the lines too, else a line is made when it is written.
+    Workers(u32),
+    /// The caller's thread, which makes the lines too: in the pieces in which they are written by so many workers.
+    Caller(u32),
 }
 
 /// What a frame's lines tell.
@@ -70,6 +79,34 @@ pub fn verdicts_over<R: Threads + Wait + Sync, V: TileView + Sync>(
     ensures { IfOk result (λ v. v ≡ frame_verdicts asked.now.scene.now asked.now.frame) }
 {
     verdicts_by_workers(rt, alloc, asked, workers)
+}
+
+/// The same by the caller's thread alone, with the lines, in the pieces in which so many workers would make them.
+pub fn lines_over<V: TileView>(
+    alloc: Global,
+    asked: &Asked<V>,
+    workers: u32,
+) -> Result<FrameVerdicts, Memory>
+    requires { TookFrame asked.now.scene.now asked.now.frame (V.tile_of asked.now.view.now) }
+    ensures { IfOk result (λ v. v ≡ frame_verdicts asked.now.scene.now asked.now.frame) }
+{
+    verdicts_with_lines(alloc, asked, workers)
+}
+
+/// The same by who is to ask the objects.
+pub fn verdicts_by<R: Threads + Wait + Sync, V: TileView + Sync>(
+    rt: &R,
+    alloc: Global,
+    asked: &Asked<V>,
+    asking: Asking,
+) -> Result<FrameVerdicts, Memory>
+    requires { TookFrame asked.now.scene.now asked.now.frame (V.tile_of asked.now.view.now) }
+    ensures { IfOk result (λ v. v ≡ frame_verdicts asked.now.scene.now asked.now.frame) }
+{
+    match asking {
+        Asking::Workers(workers) => verdicts_over(rt, alloc, asked, workers),
+        Asking::Caller(workers) => lines_over(alloc, asked, workers),
+    }
 }
 
 /// The pieces of a frame, in submission order. Its clauses alone ask for the frame's number.

@@ -4,6 +4,7 @@
 mod adapters;
 mod cull;
 mod demo;
+mod drawing;
 mod failure;
 mod frame_by_frame;
 mod frames;
@@ -14,6 +15,7 @@ mod request;
 mod run;
 mod settings;
 mod summary;
+mod window;
 mod words;
 
 use adapters::{Input, Output};

@@ -15,3 +15,4 @@ mod meeting_run;
 mod objects;
 mod scenes;
 mod waiting;
+mod windows;
