@@ -6,14 +6,14 @@ ghost use Rattle.cull_report.specs.Scene.{size_of, frame_clips, frame_pieces, fr
 ghost use Rattle.bin_tiles.specs.BinViews.{table_of};
 ghost use Rattle.maskcull.specs.Culling.{Reports, AllArePieces};
 ghost use Rattle.maskcull.specs.Frames.{lines_of, frames_lines};
-ghost use Rattle.maskcull.specs.Words.{AreInRange};
+ghost use Rattle.command_words.specs.Words.{AreInRange};
 
 use crate::failure::Failure;
 use crate::frames::{
     Frame, FrameLines, clip_frame, pieces_of, unset_marks, verdicts_over, write_lines,
 };
 use crate::live_frame::{Looks, draw_live};
-use crate::settings::Settings;
+use command_words::Settings;
 use binning::batch_size;
 use cull_base::{ClipVertex, Memory, Sink};
 use cull_report::Asked;
