@@ -5,7 +5,6 @@ pub mod UseWalk
 pub mod UseDefaults
 pub mod PlainWords
 pub mod TakenWords
-pub mod DefaultTexts
 pub mod Builders
 pub mod OptionNumbers
 pub mod AskedWords

@@ -1,5 +1,5 @@
--- Whatever words the program takes, each option's number is in its range, and the flag is true or false.
-use Rattle.std.proofs.Common.{◌≡◌, ◌∙◌, ◌≤◌, ◌==◌, ◌&&◌, ◌||◌, ◌⊎◌, ℕ, Bool, true, false, cond, pos, zero, suc, refl, sym, ap, subst, inl, inr, arith, List, [], ◌∷◌, ◌++◌, length, codes, is_some, option_map, Option, Some, None, true≢false}
+-- Whatever words the program takes, each option has its value.
+use Rattle.std.proofs.Common.{◌≡◌, ◌∙◌, ◌≤◌, ◌==◌, ◌&&◌, ◌||◌, ◌⊎◌, ℕ, Bool, true, false, cond, pos, zero, suc, refl, sym, ap, subst, inl, inr, arith, List, [], ◌∷◌, ◌++◌, length, codes, is_some, option_map, map, Option, Some, None, true≢false}
 use Rattle.std.specs.Fmt.{decimal}
 use Rattle.std.specs.List.{AllByRecursion, find, fold}
 use Rattle.std.specs.Option.{option_map_or}
@@ -8,29 +8,30 @@ use Rattle.std.specs.Str.{bytes_eq, chars}
 use Rattle.std.proofs.lemmas.Bool.{ne_eqb}
 use Rattle.std.proofs.lemmas.Slice.Eq.{bytes_eq-Decides}
 use Rattle.clap.specs.Lexer.{long_of, short_of}
-use Rattle.clap.specs.Simple.{Shape, argument_words, built_leaf, entered, help_shape, inherited, rows_at, subcommand_of, with_leaf_noted}
+use Rattle.clap.specs.Simple.{Shape, label_of, argument_words, built_leaf, entered, help_shape, inherited, rows_at, subcommand_of, with_leaf_noted}
 use Rattle.clap.specs.Walk.{Held, Outcome, Row, Rule, Step, Text, Waiting, Walk, answers_to, after_flag, after_step, arg_by_id, arg_by_index, arg_by_long, arg_by_short, at_row, attached_value, bundle, bundle_met, bundle_step, done, finished, flag_met, has_row, idle, long_met, long_or_other, more_values, next, nothing_held, option, option_met, option_word, plain, plain_word, positional, reacted, refused, row_text, rows_after, settled, settled_rows, short_met, short_or_plain, subcommand, subcommand_met, subcommand_or_other, takes_values, to_positional, trailing, used, used_by_id, value, waits, walk, walk_from, walked, walked_from, with_default, word_met}
 use Rattle.clap.specs.Faults.{bundle_fault, bundle_step_fault, check_fault, defaults_fault, entered_fault, fault_of, flag_word_fault, flags_fault, level_fault, long_fault, option_fault, other_fault, react_fault, repeat_fault, set_fault, settle_fault, short_fault, step_fault, turn_fault, use_fault, values_fault, walk_fault, word_fault}
 use Rattle.clap.specs.Kinds.{Kinds, or_else, range_kinds}
 use Rattle.clap.specs.ValueTests.{accepts}
 use Rattle.clap.specs.declared.builder.value_parser.Reading.TheVariants.{WithoutMinus}
 use Rattle.clap.specs.declared.builder.value_parser.ValueParser.TheVariants.{Signed}
-use Rattle.clap.specs.declared.parser.matches.ValueSource.TheVariants.{CommandLine}
+use Rattle.clap.specs.declared.parser.matches.ValueSource.TheVariants.{CommandLine, DefaultValue}
 use Rattle.clap.specs.declared.error.kind.ErrorKind.{ErrorKind}
 use Rattle.clap.specs.declared.error.kind.ErrorKind.TheVariants.{ArgumentConflict, DisplayHelp, TooManyValues, ValueValidation}
-use Rattle.command_words.specs.App.{Numbered, early, cull_options, live_options, demo_options, the_app}
-use Rattle.command_words.specs.Words.{HasFlag, HasNumber, IsEntered, IsGiven}
-use Rattle.command_words.proofs.DecimalWords.{number_accepted}
-use Rattle.command_words.proofs.UseDefaults.{default_row, flag_default_row, flag_last, found_last}
-use Rattle.command_words.proofs.PlainWords.{cull_fine, live_fine, demo_fine, fault_behind, names, program_built, start, top}
+use Rattle.command_words.specs.App.{the_app}
+use Rattle.command_words.specs.Table.{ACommand, AnOption, Taken, commands}
+use Rattle.command_words.specs.Words.{HasValue, HasValueBy, HaveValues, IsEntered, IsNumbered}
+use Rattle.command_words.specs.declared.table.Takes.TheVariants.{Number, Nothing}
+use Rattle.command_words.proofs.UseDefaults.{default_row, found_last}
+use Rattle.command_words.proofs.PlainWords.{commands_fine, fault_behind, leaf_of, names, program_built, start, top}
 use Rattle.clap.specs.Lexer.{without_minus}
 use Rattle.clap.specs.Values.{IsSignedIn, read_as}
 use Rattle.clap.proofs.ValueTestLemmas.{accepts-Accepts}
-use Rattle.command_words.proofs.OptionRules.{IsOf, differs_back, ready, ready_early, ready_help, rules_for, same_option}
-use Rattle.command_words.proofs.UseRows.{append_nil, at_row-missing, flag_row, flag_used_new}
-use Rattle.command_words.proofs.UseWalk.{AreFine, beside, leaf}
+use Rattle.command_words.proofs.OptionRules.{IsOf, ready, ready_by, ready_help, rules_for, same_option, same_text}
+use Rattle.command_words.proofs.UseRows.{flag_new, number_new, row_by}
+use Rattle.command_words.proofs.UseWalk.{AreFine, HasDefault, leaf}
 
-each_of : (P : Numbered → Type 0) (options : List Numbered) → ((o : Numbered) → IsOf o options → P o) → AllByRecursion P options
+each_of : (P : AnOption → Type 0) (options : List AnOption) → ((o : AnOption) → IsOf o options → P o) → AllByRecursion P options
 each_of P [] each = tt
 each_of P (x ∷ rest) each = (each x (inl refl), each_of P rest (λ o of. each o (inr of)))
 
@@ -38,24 +39,73 @@ none_first : (a b : Kinds) → or_else a b ≡ [] → (a ≡ []) × (b ≡ [])
 none_first [] b e = (refl, e)
 none_first (k ∷ ks) b e = cc
 
-module _ (name : Text) (options : List Numbered) (fine : AreFine options) where
+not_repeated : (b : Bool) (k : ErrorKind) → cond (b && true) (k ∷ []) [] ≡ [] → b ≡ false
+not_repeated true k e = cc
+not_repeated false k e = refl
+
+accepted : (b : Bool) (k : ErrorKind) → or_else (cond b [] (k ∷ [])) [] ≡ [] → b ≡ true
+accepted true k e = refl
+accepted false k e = cc
+
+two_values : (n : ℕ) → 2 ≤ n → range_kinds 1 1 n ≡ [] → ⊥
+two_values n many e =
+    let some : (n == 0) ≡ false = ne_eqb n 0 (omega arith) in
+    let more : (1 == n) ≡ false = ne_eqb 1 n (omega arith) in
+    let bad = rw (some, more) at e in
+    cc
+
+some_values : (n : ℕ) → 1 ≤ n → range_kinds 0 0 n ≡ [] → ⊥
+some_values n many e =
+    let more : (0 == n) ≡ false = ne_eqb 0 n (omega arith) in
+    let bad = rw more at e in
+    cc
+
+-- one value, which an option with numbers of this range takes
+pub record IsNumberOf (least most : ℕ) (r : Row) : Type 0 where
+  pub text : Text
+  pub values : r.values ≡ text ∷ []
+  pub reading : r.reading ≡ WithoutMinus
+  pub taken : accepts false (Signed (pos least) (pos most)) text ≡ true
+
+-- a value that the option takes; or that a flag is given
+abbrev IsValueBy : Taken → Row → Type 0
+IsValueBy (Number least most default) r = IsNumberOf least most r
+IsValueBy Nothing r = row_text r ≡ Some (codes "true")
+
+-- the one use of an option, that fails nowhere, adds its row at the end
+abbrev AddsValue : Text → Taken → List Text → List Row → Type 0
+AddsValue name takes values rows = (r : Row) × (used (ready_by name takes) values rows ≡ rows ++ r ∷ []) × (r.id ≡ name) × IsValueBy takes r
+
+adds_value : (name : Text) (takes : Taken) (values : List Text) (rows : List Row) → use_fault false (ready_by name takes) values rows ≡ [] → AddsValue name takes values rows
+adds_value name (Number least most default) [] rows e = cc
+adds_value name (Number least most default) (v ∷ w ∷ more) rows e =
+    absurd (two_values (length (v ∷ w ∷ more)) (omega arith) (none_first (range_kinds 1 1 (length (v ∷ w ∷ more))) (set_fault false (ready_by name (Number least most default)) (v ∷ w ∷ more) rows) e).0)
+adds_value name (Number least most default) (v ∷ []) rows e =
+    let parts = none_first (repeat_fault false name rows) (values_fault (ready_by name (Number least most default)) (v ∷ [])) e in
+    let none : has_row name rows ≡ false = not_repeated (has_row name rows) ArgumentConflict parts.0 in
+    let ok : accepts false (Signed (pos least) (pos most)) v ≡ true = accepted (accepts false (Signed (pos least) (pos most)) v) ValueValidation parts.1 in
+    (row_by name (Number least most default) v CommandLine, number_new name least most default v rows none, refl, record { text = v; values = refl; reading = refl; taken = ok })
+adds_value name Nothing (v ∷ more) rows e = absurd (some_values (length (v ∷ more)) (omega arith) (none_first (range_kinds 0 0 (length (v ∷ more))) (set_fault false (ready_by name Nothing) (v ∷ more) rows) e).0)
+adds_value name Nothing [] rows e =
+    let parts = none_first (repeat_fault false name rows) (values_fault (ready_by name Nothing) (codes "true" ∷ [])) e in
+    let none : has_row name rows ≡ false = not_repeated (has_row name rows) ArgumentConflict parts.0 in
+    (row_by name Nothing (codes "true") CommandLine, flag_new name rows none, refl, refl)
+
+help_fails : (values : List Text) (rows : List Row) → use_fault false ready_help values rows ≡ [] → ⊥
+help_fails values rows e =
+    let parts = none_first (range_kinds 0 0 (length values)) (DisplayHelp ∷ []) e in
+    cc
+
+module _ (name : Text) (options : List AnOption) (fine : AreFine options) where
   abbrev s : Shape
   s = leaf name options
 
   abbrev c : List Rule
   c = rules_for options
 
-  -- one value, which the option takes
-  pub record IsValueOf (o : Numbered) (r : Row) : Type 0 where
-    pub text : Text
-    pub values : r.values ≡ text ∷ []
-    pub reading : r.reading ≡ WithoutMinus
-    pub taken : accepts false (Signed (pos o.least) (pos o.most)) text ≡ true
-
-  -- the row is of an option and has one value that it takes, or is of the flag and says true, or is of neither
-  pub record IsGood (r : Row) : Type 0 where
-    pub of_option : (o : Numbered) → IsOf o options → bytes_eq r.id o.name ≡ true → IsValueOf o r
-    pub of_flag : bytes_eq r.id early ≡ true → row_text r ≡ Some (codes "true")
+  -- the row of an option has a value that it takes
+  abbrev IsGood : Row → Type 0
+  IsGood r = (o : AnOption) → IsOf o options → bytes_eq r.id o.name ≡ true → IsValueBy o.takes r
 
   abbrev AreGood : List Row → Type 0
   AreGood = AllByRecursion IsGood
@@ -67,89 +117,30 @@ module _ (name : Text) (options : List Numbered) (fine : AreFine options) where
   -- ---- one use
 
   abbrev IsOurs : Rule → Type 0
-  IsOurs a = ((o : Numbered) × IsOf o options × (a ≡ ready o)) ⊎ (a ≡ ready_early) ⊎ (a ≡ ready_help)
+  IsOurs a = ((o : AnOption) × IsOf o options × (a ≡ ready o)) ⊎ (a ≡ ready_help)
 
-  not_repeated : (b : Bool) (k : ErrorKind) → cond (b && true) (k ∷ []) [] ≡ [] → b ≡ false
-  not_repeated true k e = cc
-  not_repeated false k e = refl
-
-  accepted : (b : Bool) (k : ErrorKind) → or_else (cond b [] (k ∷ [])) [] ≡ [] → b ≡ true
-  accepted true k e = refl
-  accepted false k e = cc
-
-  new_row : Numbered → Text → Row
-  new_row o v = record { id = o.name; values = v ∷ []; count = None; source = Some CommandLine; reading = WithoutMinus }
-
-  new_good : (o : Numbered) (v : Text) → IsOf o options → accepts false (Signed (pos o.least) (pos o.most)) v ≡ true → IsGood (new_row o v)
-  unfolding new_row
-  new_good o v of ok = record {
-    of_option = λ other is_one same.
-        let one : o ≡ other = same_option options o other fine.apart of is_one ((bytes_eq-Decides o.name other.name).0 same) in
-        subst (λ (z : Numbered). IsValueOf z (new_row o v)) one (record { text = v; values = refl; reading = refl; taken = ok });
-    of_flag = λ same. absurd (true≢false (sym same ∙ beside name options fine o of));
-  }
-
-  used_once : (o : Numbered) (v : Text) (rows : List Row) → has_row o.name rows ≡ false → used (ready o) (v ∷ []) rows ≡ rows ++ new_row o v ∷ []
-  unfolding new_row
-  used_once o v rows none =
-      let gone : at_row o.name (λ _. []) [] rows ≡ rows = at_row-missing o.name (λ _. []) [] rows none ∙ append_nil rows in
-      ap (λ rs. at_row o.name (more_values CommandLine (v ∷ [])) (new_row o v ∷ []) rs) gone ∙ at_row-missing o.name (more_values CommandLine (v ∷ [])) (new_row o v ∷ []) rows none
-
-  two_values : (n : ℕ) → 2 ≤ n → range_kinds 1 1 n ≡ [] → ⊥
-  two_values n many e =
-      let some : (n == 0) ≡ false = ne_eqb n 0 (omega arith) in
-      let more : (1 == n) ≡ false = ne_eqb 1 n (omega arith) in
-      let bad = rw (some, more) at e in
-      cc
-
-  option_good : (o : Numbered) (values : List Text) (rows : List Row) → IsOf o options → use_fault false (ready o) values rows ≡ [] → AreGood rows → AreGood (used (ready o) values rows)
-  option_good o [] rows of e good = cc
-  option_good o (v ∷ w ∷ more) rows of e good = absurd (two_values (length (v ∷ w ∷ more)) (omega arith) (none_first (range_kinds 1 1 (length (v ∷ w ∷ more))) (set_fault false (ready o) (v ∷ w ∷ more) rows) e).0)
-  option_good o (v ∷ []) rows of e good =
-      let parts = none_first (repeat_fault false o.name rows) (values_fault (ready o) (v ∷ [])) e in
-      let none : has_row o.name rows ≡ false = not_repeated (has_row o.name rows) ArgumentConflict parts.0 in
-      let ok : accepts false (Signed (pos o.least) (pos o.most)) v ≡ true = accepted (accepts false (Signed (pos o.least) (pos o.most)) v) ValueValidation parts.1 in
-      subst AreGood (sym (used_once o v rows none)) (good_more rows (new_row o v) good (new_good o v of ok))
-
-  flag_is_good : IsGood flag_row
-  flag_is_good = record { of_option = λ o of same. absurd (true≢false (sym same ∙ differs_back o.name early (beside name options fine o of))); of_flag = λ same. refl }
-
-  some_values : (n : ℕ) → 1 ≤ n → range_kinds 0 0 n ≡ [] → ⊥
-  some_values n many e =
-      let more : (0 == n) ≡ false = ne_eqb 0 n (omega arith) in
-      let bad = rw more at e in
-      cc
-
-  flag_good : (values : List Text) (rows : List Row) → use_fault false ready_early values rows ≡ [] → AreGood rows → AreGood (used ready_early values rows)
-  flag_good (v ∷ more) rows e good = absurd (some_values (length (v ∷ more)) (omega arith) (none_first (range_kinds 0 0 (length (v ∷ more))) (set_fault false ready_early (v ∷ more) rows) e).0)
-  flag_good [] rows e good =
-      let parts = none_first (repeat_fault false early rows) (values_fault ready_early (codes "true" ∷ [])) e in
-      let none : has_row early rows ≡ false = not_repeated (has_row early rows) ArgumentConflict parts.0 in
-      subst AreGood (sym (flag_used_new rows none)) (good_more rows flag_row good flag_is_good)
-
-  help_fails : (values : List Text) (rows : List Row) → use_fault false ready_help values rows ≡ [] → ⊥
-  help_fails values rows e =
-      let parts = none_first (range_kinds 0 0 (length values)) (DisplayHelp ∷ []) e in
-      cc
+  option_good : (o : AnOption) (values : List Text) (rows : List Row) → IsOf o options → use_fault false (ready o) values rows ≡ [] → AreGood rows → AreGood (used (ready o) values rows)
+  option_good o values rows of e good =
+      let adds = adds_value o.name o.takes values rows e in
+      subst AreGood (sym adds.1) (good_more rows adds.0 good
+      (λ other is_one same.
+      let one : o ≡ other = same_option options o other fine.apart of is_one (sym adds.2 ∙ (bytes_eq-Decides adds.0.id other.name).0 same) in
+      subst (λ (z : AnOption). IsValueBy z.takes adds.0) one adds.3))
 
   used_good : (a : Rule) (values : List Text) (rows : List Row) → IsOurs a → use_fault false a values rows ≡ [] → AreGood rows → AreGood (used a values rows)
   used_good a values rows ours e good = elim ours [
     | inl found ↦
         subst (λ (z : Rule). AreGood (used z values rows)) (sym found.2) (option_good found.0 values rows found.1 (ap (λ (z : Rule). use_fault false z values rows) (sym found.2) ∙ e) good)
-    | inr others ↦ elim others [
-      | inl flag ↦ subst (λ (z : Rule). AreGood (used z values rows)) (sym flag) (flag_good values rows (ap (λ (z : Rule). use_fault false z values rows) (sym flag) ∙ e) good)
-      | inr help ↦ absurd (help_fails values rows (ap (λ (z : Rule). use_fault false z values rows) (sym help) ∙ e))
-    ]
+    | inr help ↦ absurd (help_fails values rows (ap (λ (z : Rule). use_fault false z values rows) (sym help) ∙ e))
   ]
 
   -- what a search among the rules finds is one of them
-  ours : (p : Rule → Bool) (some : List Numbered) → ((o : Numbered) → IsOf o some → IsOf o options) → IfSome (find p (rules_for some)) IsOurs
-  ours p [] within = go (p ready_early) (p ready_help)
+  ours : (p : Rule → Bool) (some : List AnOption) → ((o : AnOption) → IsOf o some → IsOf o options) → IfSome (find p (rules_for some)) IsOurs
+  ours p [] within = go (p ready_help)
     where
-      go : (a b : Bool) → IfSome (cond a (Some ready_early) (cond b (Some ready_help) None)) IsOurs
-      go true b = inr (inl refl)
-      go false true = inr (inr refl)
-      go false false = tt
+      go : (b : Bool) → IfSome (cond b (Some ready_help) None) IsOurs
+      go true = inr refl
+      go false = tt
   ours p (x ∷ rest) within = go (p (ready x)) (ours p rest (λ o of. within o (inr of)))
     where
       go : (b : Bool) → IfSome (find p (rules_for rest)) IsOurs → IfSome (cond b (Some (ready x)) (find p (rules_for rest))) IsOurs
@@ -261,7 +252,7 @@ module _ (name : Text) (options : List Numbered) (fine : AreFine options) where
       go false e = other_good w word h e good
 
   -- no option has a position
-  no_place : (some : List Numbered) (i : ℕ) → arg_by_index (rules_for some) i ≡ None
+  no_place : (some : List AnOption) (i : ℕ) → arg_by_index (rules_for some) i ≡ None
   no_place [] i = refl
   no_place (x ∷ rest) i = no_place rest i
 
@@ -304,46 +295,42 @@ module _ (name : Text) (options : List Numbered) (fine : AreFine options) where
       go true is e rec = (r, refl, is, good.0)
       go false is e rec = rec e
 
-  value_read : (o : Numbered) (r : Row) → IsValueOf o r → (text : Text) × (row_text r ≡ Some (without_minus text)) × IsSignedIn (pos o.least) (pos o.most) text
-  value_read o r is = (
-    is.text,
-    ap (λ vs. option_map (read_as r.reading) (slice_get vs 0)) is.values ∙ ap (λ how. Some (read_as how is.text)) is.reading,
-    accepts-Accepts false (Signed (pos o.least) (pos o.most)) is.text is.taken,
-  )
+  -- the last row of an option gives it a value
+  abbrev IsRow : List Row → Text → Option Row → Type 0
+  IsRow rows name r = find (λ x. bytes_eq x.id name) rows ≡ r
 
-  default_good : (o : Numbered) → IsOf o options → IsValueOf o (default_row o)
-  default_good o of =
-      let is = fine.each o of in
-      record { text = decimal o.default; values = refl; reading = refl; taken = number_accepted o.least o.most o.default is.small is.default_above is.default_below }
+  of_number : (rows : List Row) (name : Text) (least most : ℕ) (r : Row) → IsRow rows name (Some r) → IsNumberOf least most r → IsNumbered rows name least most
+  of_number rows name least most r is one = record {
+    text = one.text;
+    is = ap (option_and_then row_text) is ∙ ap (λ vs. option_map (read_as r.reading) (slice_get vs 0)) one.values ∙ ap (λ how. Some (read_as how one.text)) one.reading;
+    within = accepts-Accepts false (Signed (pos least) (pos most)) one.text one.taken;
+  }
 
-  has_number : (o : Numbered) (rows : List Row) → IsOf o options → AreGood rows → HasNumber (fold with_default rows c) o
-  has_number o rows of good = go (has_row o.name rows) refl
+  of_row : (rows : List Row) (name : Text) (takes : Taken) (r : Row) → IsRow rows name (Some r) → IsValueBy takes r → HasValueBy takes name rows
+  of_row rows name (Number least most (Some text)) r is one = of_number rows name least most r is one
+  of_row rows name (Number least most None) r is one = inl (of_number rows name least most r is one)
+  of_row rows name Nothing r is one = inl (ap (option_and_then row_text) is ∙ one)
+
+  of_default : (rows : List Row) (name : Text) (takes : Taken) → HasDefault takes → IsRow rows name (default_row name takes) → HasValueBy takes name rows
+  of_default rows name (Number least most (Some text)) has is =
+      of_number rows name least most (row_by name (Number least most (Some text)) text DefaultValue) is (record { text = text; values = refl; reading = refl; taken = has.0 })
+  of_default rows name (Number least most None) has is = inr (ap (option_and_then row_text) is)
+  of_default rows name Nothing has is = inr (ap (option_and_then row_text) is)
+
+  has_value : (o : AnOption) (rows : List Row) → IsOf o options → AreGood rows → HasValue (fold with_default rows c) o
+  has_value o rows of good = go (has_row o.name rows) refl
     where
-      last : find (λ x. bytes_eq x.id o.name) (fold with_default rows c) ≡ cond (has_row o.name rows) (find (λ x. bytes_eq x.id o.name) rows) (Some (default_row o))
+      last : find (λ x. bytes_eq x.id o.name) (fold with_default rows c) ≡ cond (has_row o.name rows) (find (λ x. bytes_eq x.id o.name) rows) (default_row o.name o.takes)
       last = found_last options o rows fine.apart of
 
-      of_row : (r : Row) → find (λ x. bytes_eq x.id o.name) (fold with_default rows c) ≡ Some r → IsValueOf o r → HasNumber (fold with_default rows c) o
-      of_row r is one =
-          let read = value_read o r one in
-          record { text = read.0; is = ap (option_and_then row_text) is ∙ read.1; within = read.2 }
+      by : (b : Bool) → has_row o.name rows ≡ b → find (λ x. bytes_eq x.id o.name) (fold with_default rows c) ≡ cond b (find (λ x. bytes_eq x.id o.name) rows) (default_row o.name o.takes)
+      by b e = last ∙ ap (λ b. cond b (find (λ x. bytes_eq x.id o.name) rows) (default_row o.name o.takes)) e
 
-      go : (b : Bool) → has_row o.name rows ≡ b → HasNumber (fold with_default rows c) o
+      go : (b : Bool) → has_row o.name rows ≡ b → HasValue (fold with_default rows c) o
       go true e =
           let found = found_good o.name rows good e in
-          of_row found.0 (last ∙ ap (λ b. cond b (find (λ x. bytes_eq x.id o.name) rows) (Some (default_row o))) e ∙ found.1) (found.3.of_option o of found.2)
-      go false e = of_row (default_row o) (last ∙ ap (λ b. cond b (find (λ x. bytes_eq x.id o.name) rows) (Some (default_row o))) e) (default_good o of)
-
-  has_flag : (rows : List Row) → AreGood rows → HasFlag (fold with_default rows c)
-  has_flag rows good = go (has_row early rows) refl
-    where
-      last : find (λ x. bytes_eq x.id early) (fold with_default rows c) ≡ cond (has_row early rows) (find (λ x. bytes_eq x.id early) rows) (Some flag_default_row)
-      last = flag_last options rows (beside name options fine)
-
-      go : (b : Bool) → has_row early rows ≡ b → HasFlag (fold with_default rows c)
-      go true e =
-          let found = found_good early rows good e in
-          inl (ap (option_and_then row_text) (last ∙ ap (λ b. cond b (find (λ x. bytes_eq x.id early) rows) (Some flag_default_row)) e ∙ found.1) ∙ found.3.of_flag found.2)
-      go false e = inr (ap (option_and_then row_text) (last ∙ ap (λ b. cond b (find (λ x. bytes_eq x.id early) rows) (Some flag_default_row)) e))
+          of_row (fold with_default rows c) o.name o.takes found.0 (by true e ∙ found.1) (found.3 o of found.2)
+      go false e = of_default (fold with_default rows c) o.name o.takes (fine.each o of).default (by false e)
 
   level_good : (words : List Text) → level_fault s [] nothing_held words false [] ≡ [] → AreGood (settled c (walk c [] nothing_held words).held).rows
   level_good words e =
@@ -352,43 +339,58 @@ module _ (name : Text) (options : List Numbered) (fine : AreFine options) where
       let second = none_first (settle_fault c false end) (or_else (defaults_fault (settled c end).rows c) (check_fault s (finished c end) false)) first.1 in
       settled_good end second.0 (words_good words (walk_from nothing_held) first.0 tt)
 
-  -- words that the command takes give each option its number, and tell whether the flag is given
-  pub level_given : (words : List Text) → level_fault s [] nothing_held words false [] ≡ [] → IsGiven options (rows_after c [] words)
+  -- words that the command takes give each option its value
+  pub level_given : (words : List Text) → level_fault s [] nothing_held words false [] ≡ [] → HaveValues options (rows_after c [] words)
   level_given words e =
       let end : Held = (walk c [] nothing_held words).held in
       let good = level_good words e in
-      record { numbers = each_of _ options (λ o of. has_number o (settled c end).rows of good); flag = has_flag (settled c end).rows good }
+      each_of _ options (λ o of. has_value o (settled c end).rows of good)
 
 -- ---- the program
 
 abbrev help_leaf : Shape
 help_leaf = built_leaf (inherited (with_leaf_noted the_app.top) help_shape)
 
--- the command that a word names, by whether it is the name of the first, the second, the third or of help
-abbrev named : Bool → Bool → Bool → Bool → Option Shape
-named a b c d =
-    cond a (Some (leaf (codes "cull") cull_options)) (cond b (Some (leaf (codes "live") live_options))
-    (cond c (Some (leaf (codes "demo") demo_options)) (cond d (Some help_leaf) None)))
+-- the commands once they are built, and help behind them
+abbrev shapes : List ACommand → List Shape
+shapes rows = map leaf_of rows ++ help_leaf ∷ []
 
--- the words that a program takes enter a command whose options have their numbers
-pub entered_numbers : (words : List Text) → fault_of the_app words ≡ [] → IfSome (subcommand_of the_app words) (λ p. IsEntered p.0 p.1)
-entered_numbers words e =
+-- the command that answers to a word
+abbrev answering : Text → List ACommand → Option Shape
+answering word rows = find (λ s. answers_to word (label_of s)) (shapes rows)
+
+-- the name that is entered answers to the word, and the row of that name has its values
+abbrev EntersRow : Text → List ACommand → Text × List Row → Type 0
+EntersRow word rows p = (bytes_eq p.0 word ≡ true) × IfSome (find (λ row. bytes_eq row.name word) rows) (λ row. HaveValues row.options p.1)
+
+enters_row : (word : Text) (words : List Text) (rows : List ACommand) → AllByRecursion (λ row. AreFine row.options) rows
+    → option_map_or (λ t. level_fault t [] nothing_held words false []) (answering word rows) [] ≡ [] → IfSome (option_map (λ t. rows_at t words) (answering word rows)) (EntersRow word rows)
+enters_row word words [] fine e = go (bytes_eq help_leaf.name word) refl
+  where
+    go : (b : Bool) → bytes_eq help_leaf.name word ≡ b → IfSome (option_map (λ t. rows_at t words) (cond (b || false) (Some help_leaf) None)) (EntersRow word [])
+    go true is = (is, tt)
+    go false is = tt
+enters_row word words (x ∷ rest) fine e = go (bytes_eq x.name word) refl e (λ later. enters_row word words rest fine.1 later)
+  where
+    go : (b : Bool) → bytes_eq x.name word ≡ b → option_map_or (λ t. level_fault t [] nothing_held words false []) (cond (b || false) (Some (leaf_of x)) (answering word rest)) [] ≡ []
+        → (option_map_or (λ t. level_fault t [] nothing_held words false []) (answering word rest) [] ≡ [] → IfSome (option_map (λ t. rows_at t words) (answering word rest)) (EntersRow word rest))
+        → IfSome (option_map (λ t. rows_at t words) (cond (b || false) (Some (leaf_of x)) (answering word rest)))
+        (λ p. (bytes_eq p.0 word ≡ true) × IfSome (cond b (Some x) (find (λ row. bytes_eq row.name word) rest)) (λ row. HaveValues row.options p.1))
+    go true is e rec = (is, level_given x.name x.options fine.0 words e)
+    go false is e rec = rec e
+
+is_entered : (word : Text) (found : Option (Text × List Row)) → IfSome found (EntersRow word commands) → IfSome found (λ p. IsEntered p.0 p.1)
+is_entered word None enters = tt
+is_entered word (Some p) enters = subst (λ w. IfSome (find (λ row. bytes_eq row.name w) commands) (λ row. HaveValues row.options p.1)) (sym ((bytes_eq-Decides p.0 word).0 enters.0)) enters.1
+
+-- the words that a program takes enter a command whose options have their values
+pub entered_values : (words : List Text) → fault_of the_app words ≡ [] → IfSome (subcommand_of the_app words) (λ p. IsEntered p.0 p.1)
+entered_values words e =
     let arguments : List Text = argument_words program_built words in
     let end : Walk = walk top.rules names nothing_held arguments in
     let later = none_first (walk_fault top names start arguments) (or_else (entered_fault program_built end.stopped) (fault_behind end)) e in
     go end.stopped (none_first (entered_fault program_built end.stopped) (fault_behind end) later.1).0
   where
-    other : {A : Type 0} → false ≡ true → A
-    other same = absurd (true≢false (sym same))
-
-    one : (words : List Text) (a b c d : Bool) → option_map_or (λ t. level_fault t [] nothing_held words false []) (named a b c d) [] ≡ []
-        → IfSome (option_map (λ t. rows_at t words) (named a b c d)) (λ q. IsEntered q.0 q.1)
-    one words true b c d e = record { cull = λ _. level_given (codes "cull") cull_options cull_fine words e; live = other; demo = other }
-    one words false true c d e = record { cull = other; live = λ _. level_given (codes "live") live_options live_fine words e; demo = other }
-    one words false false true d e = record { cull = other; live = other; demo = λ _. level_given (codes "demo") demo_options demo_fine words e }
-    one words false false false true e = record { cull = other; live = other; demo = other }
-    one words false false false false e = tt
-
     go : (stop : Option (Text × List Text)) → entered_fault program_built stop ≡ [] → IfSome (entered program_built stop) (λ p. IsEntered p.0 p.1)
     go None e = tt
-    go (Some p) e = one p.1 (answers_to p.0 (codes "cull", [])) (answers_to p.0 (codes "live", [])) (answers_to p.0 (codes "demo", [])) (answers_to p.0 (codes "help", [])) e
+    go (Some p) e = is_entered p.0 (option_map (λ t. rows_at t p.1) (answering p.0 commands)) (enters_row p.0 p.1 commands commands_fine e)

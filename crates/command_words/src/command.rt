@@ -5,7 +5,9 @@ use crate::settings::Settings;
 #[derive(Clone, Copy)]
 pub enum Command {
     /// A scene from the input; its report is written.
-    Cull { settings: Settings },
+    Cull {
+        settings: Settings,
+    },
     /// The same, with so many rounds of looks at the first objects, of so many, while each frame is drawn; what they show
     /// is noted. 1 to 8 each.
     Live {

@@ -1,8 +1,10 @@
-//! The program's command line: what its words ask for, and its help.
+//! The program's command line: the table of commands, and what words ask for by it.
 #![tactic(auto)]
 
 mod command;
+mod program;
 mod settings;
+mod table;
 mod words;
 
 pub use command::Command;

@@ -15,9 +15,11 @@ fn words(alloc: Global, given: &[&str]) -> Result<Vec<String>, Fail> {
 // What some words ask for.
 fn command_for(rt: &impl Abort, alloc: Global, given: &[&str]) -> Result<Command, Fail> {
     let words = words(alloc, given)?;
-    Ok(command_of(alloc, &words)
-        .ok()
-        .expect(rt, "words are refused"))
+    Ok(
+        command_of(alloc, &words)
+            .ok()
+            .expect(rt, "words are refused"),
+    )
 }
 
 // The settings of a command, its name, and the two numbers of its own.
@@ -149,6 +151,9 @@ fn ranges_and_defaults_stand_on_the_help_page(rt: HostRuntime) -> Result<(), Fai
     ] {
         assert!(rt; page.contains(wanted), "no {wanted}");
     }
-    assert_eq!(rt; said(&rt, alloc, &["maskcull", "--version"])?, format!(in alloc; "maskcull {VERSION}\n")?);
+    assert_eq!(rt;
+        said(&rt, alloc, &["maskcull", "--version"])?,
+        format!(in alloc; "maskcull {VERSION}\n")?
+    );
     Ok(())
 }

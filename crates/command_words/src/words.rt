@@ -1,18 +1,21 @@
-//! The command words, read by `clap`: what they ask for, or why they were refused.
-ghost use Rattle.std.specs.Prelude.{◌≡◌, ℕ, ◌⊎◌, IfOk, IfErr, IfSome, None, Some, [], map, string_bytes, false};
+//! The command words, read by `clap`: what they ask for by the table, or why they were refused.
+ghost use Rattle.std.specs.Prelude.{◌≡◌, ℕ, ◌⊎◌, IfOk, IfErr, IfSome, None, Some, [], is_some, map, string_bytes, false, option_map, unwrap_or};
 ghost use Rattle.clap.specs.Walk.{is_empty};
-ghost use Rattle.clap.specs.Words.{fault_of, found_of, kind_of, rows_of, subcommand_of, subcommand_rows_of};
-ghost use Rattle.command_words.specs.App.{sharing_options, the_app};
-ghost use Rattle.command_words.specs.Words.{AreInRange, ArePlain, AreWords, HasNumbers, IsEntered, IsNumbered, IsWithinLimits, HasFlag, command_in, command_of, is_early_in, number_in, number_named, settings_by};
-
-mod program;
+ghost use Rattle.clap.specs.Words.{fault_of, found_of, kind_of, one_of, rows_of, subcommand_of, subcommand_rows_of};
+ghost use Rattle.command_words.specs.App.{the_app};
+ghost use Rattle.command_words.specs.Table.{row_among, row_by, row_of, sharing};
+ghost use Rattle.command_words.specs.Words.{AreInRange, ArePlain, AreWords, HaveValues, IsEntered, IsFlag, IsNumbered, IsWithinLimits, asked_by, asked_in, command_of, flag_said, number_said, settings_by, value_in};
 
 use crate::command::Command;
+use crate::program::program;
 use crate::settings::Settings;
+use crate::table::{
+    ACommand, AnOption, BATCH, BINS_X, BINS_Y, COMMANDS, CommandKind, EARLY, ROUNDS, SEED,
+    TRIANGLES, WATCH, WORKERS,
+};
 use binning::Cut;
 use clap::error::ErrorKind;
 use clap::{ArgMatches, Error};
-use program::program;
 use std::alloc::Global;
 
 /// Why nothing is asked for.
@@ -45,61 +48,92 @@ fn refused_with(alloc: Global, error: &Error) -> Refusal
     }
 }
 
+// The number of an option, if it has one.
+fn number_of(matches: &ArgMatches<'_>, option: &AnOption) -> Option<u32>
+    requires { IsNumbered (rows_of (found_of matches.now)) option.now.name.now 0 4294967295
+        ⊎ (one_of option.now.name.now (rows_of (found_of matches.now)) ≡ None) }
+    ensures { result ≡ number_said (one_of option.now.name.now (rows_of (found_of matches.now))) }
+{
+    matches.get_one::<u32>(option.name)
+}
+
 // The number of an option that has one.
-fn number(matches: &ArgMatches<'_>, name: &str) -> u32
-    requires { IsNumbered (rows_of (found_of matches.now)) name.now 0 4294967295 }
-    ensures { result ≡ number_named (rows_of (found_of matches.now)) name.now }
+fn number(matches: &ArgMatches<'_>, option: &AnOption) -> u32
+    requires { IsNumbered (rows_of (found_of matches.now)) option.now.name.now 0 4294967295 }
+    ensures { result
+        ≡ unwrap_or (number_said (one_of option.now.name.now (rows_of (found_of matches.now)))) 0 }
 {
-    matches.get_one::<u32>(name).unwrap()
+    number_of(matches, option).unwrap()
 }
 
-// Whether the flag is given.
-fn is_early(matches: &ArgMatches<'_>) -> bool
-    requires { HasFlag (rows_of (found_of matches.now)) }
-    ensures { result ≡ is_early_in (rows_of (found_of matches.now)) }
+// Whether a flag is given.
+fn is_given(matches: &ArgMatches<'_>, option: &AnOption) -> bool
+    requires { IsFlag option.now.name.now (rows_of (found_of matches.now)) }
+    ensures { result ≡ is_some (flag_said (one_of option.now.name.now (rows_of (found_of matches.now)))) }
 {
-    matches.get_flag("early")
+    matches.get_flag(option.name)
 }
 
-// The settings, where each of their options has a number in its range.
+// The settings, where each of their options has its value.
 fn settings_of(matches: &ArgMatches<'_>) -> Settings
-    requires numbers { HasNumbers sharing_options (rows_of (found_of matches.now)) }
-    requires flag { HasFlag (rows_of (found_of matches.now)) }
-    ensures value { result ≡ settings_by (number_in (rows_of (found_of matches.now)))
-        (is_early_in (rows_of (found_of matches.now))) }
+    requires { HaveValues sharing (rows_of (found_of matches.now)) }
+    ensures value { result ≡ settings_by (value_in (rows_of (found_of matches.now))) }
     ensures range { AreInRange result }
 {
-    let columns = number(matches, "bins-x") as u8;
-    let rows = number(matches, "bins-y") as u8;
+    let columns = number(matches, &BINS_X) as u8;
+    let rows = number(matches, &BINS_Y) as u8;
     Settings {
-        workers: number(matches, "workers"),
+        workers: number(matches, &WORKERS),
         cut: Cut::new(columns, rows).unwrap(),
-        batch: number(matches, "batch"),
-        early: is_early(matches),
+        batch: number(matches, &BATCH),
+        early: is_given(matches, &EARLY),
     }
 }
 
-// What a command asks for, by its name; none where no command has it.
-fn command_by(name: &str, matches: &ArgMatches<'_>) -> Option<Command>
+// What a command asks for, where each of its options has its value.
+fn asked_by(kind: CommandKind, matches: &ArgMatches<'_>) -> Command
+    requires { HaveValues (row_by kind).options (rows_of (found_of matches.now)) }
+    ensures value { result ≡ asked_by kind (value_in (rows_of (found_of matches.now))) }
+    ensures limits { IsWithinLimits result }
+{
+    match kind {
+        CommandKind::Cull => Command::Cull {
+            settings: settings_of(matches),
+        },
+        CommandKind::Live => Command::Live {
+            settings: settings_of(matches),
+            rounds: number(matches, &ROUNDS),
+            watch: number(matches, &WATCH),
+        },
+        CommandKind::Demo => Command::Demo {
+            settings: settings_of(matches),
+            seed: number(matches, &SEED),
+            triangles: number(matches, &TRIANGLES),
+        },
+    }
+}
+
+// Which command of these rows has this name.
+fn kind_named(rows: &[ACommand], name: &str) -> Option<CommandKind>
+    ensures { result ≡ option_map (λ row. row.kind) (row_among (map row_of rows.now) name.now) }
+{
+    for row in rows {
+        if row.name == name {
+            return Some(row.kind);
+        }
+    }
+    None
+}
+
+// What the command of this name asks for; none where no command has the name.
+fn asked_in(name: &str, matches: &ArgMatches<'_>) -> Option<Command>
     requires { IsEntered name.now (rows_of (found_of matches.now)) }
-    ensures value { result ≡ command_in name.now (rows_of (found_of matches.now)) }
+    ensures value { result ≡ asked_in name.now (rows_of (found_of matches.now)) }
     ensures limits { IfSome result IsWithinLimits }
 {
-    match name {
-        "cull" => Some(Command::Cull {
-            settings: settings_of(matches),
-        }),
-        "live" => Some(Command::Live {
-            settings: settings_of(matches),
-            rounds: number(matches, "rounds"),
-            watch: number(matches, "watch"),
-        }),
-        "demo" => Some(Command::Demo {
-            settings: settings_of(matches),
-            seed: number(matches, "seed"),
-            triangles: number(matches, "triangles"),
-        }),
-        _ => None,
+    match kind_named(COMMANDS, name) {
+        Some(kind) => Some(asked_by(kind, matches)),
+        None => None,
     }
 }
 
@@ -116,7 +150,7 @@ pub fn command_of(alloc: Global, words: &[String]) -> Result<Command, Refusal>
         Err(error) => return Err(refused_with(alloc, &error)),
     };
     match matches.subcommand() {
-        Some((name, matches)) => command_by(name, matches).ok_or(Refusal::Words(None)),
+        Some((name, matches)) => asked_in(name, matches).ok_or(Refusal::Words(None)),
         None => Err(Refusal::Words(None)),
     }
 }

@@ -13,8 +13,8 @@ use crate::frames::{
     Frame, FrameLines, clip_frame, pieces_of, unset_marks, verdicts_over, write_lines,
 };
 use crate::live_frame::{Looks, draw_live};
-use command_words::Settings;
 use binning::batch_size;
+use command_words::Settings;
 use cull_base::{ClipVertex, Memory, Sink};
 use cull_report::Asked;
 use scene_reader::Scene;

@@ -17,8 +17,8 @@ use crate::frames::{
     Frame, FrameLines, clip_frame, pieces_of, unset_marks, verdicts_over, write_lines,
 };
 use crate::live_caller::{LiveCaller, Watched};
-use command_words::Settings;
 use binning::batch_size;
+use command_words::Settings;
 use cull_base::{ClipVertex, FrameList, Memory, Sink, SinkError, TileSpan};
 use cull_report::{Asked, LiveLine, object_area, write_live};
 use masked_update::{PlainView, TileState};

@@ -9,8 +9,8 @@ returns-in-Err-clause-none c words = ⊎_elim (λ memory. absurd (c.refused_with
 pub returns-in-Err-clause-plain : goal.returns-in-Err-clause-plain
 returns-in-Err-clause-plain c r plain = plain_asked _ r plain
 
-pub command_by-requires : goal.command_by-requires
-command_by-requires c =
+pub asked_in-requires : goal.asked_in-requires
+asked_in-requires c =
     is_entered (map string_bytes c.args.words.now) c.in-Some.name.now (rows_of (found_of c.in-Some.matches.now)) c.in-Ok.ensures.fault
     (sym c.in-Ok.ensures.matches ∙ command_entered c.in-Ok.matches _ _ c.in-Some.ensures.name c.in-Some.ensures.rows)
 
@@ -18,13 +18,13 @@ pub returns-in-Some-clause-some : goal.returns-in-Some-clause-some
 returns-in-Some-clause-some c =
     let is = asked (map string_bytes c.args.words.now) _ c.in-Ok.ensures.fault
     (sym c.in-Ok.ensures.matches ∙ command_entered c.in-Ok.matches _ _ c.in-Some.ensures.name c.in-Some.ensures.rows) in
-    answers_some _ _ c.ok_or.result (is ∙ sym c.command_by.ensures.value) c.ok_or.ensures.value
+    answers_some _ _ c.ok_or.result (is ∙ sym c.asked_in.ensures.value) c.ok_or.ensures.value
 
 pub returns-in-Some-clause-none : goal.returns-in-Some-clause-none
 returns-in-Some-clause-none c =
     let is = asked (map string_bytes c.args.words.now) _ c.in-Ok.ensures.fault
     (sym c.in-Ok.ensures.matches ∙ command_entered c.in-Ok.matches _ _ c.in-Some.ensures.name c.in-Some.ensures.rows) in
-    answers_none _ _ c.ok_or.result (is ∙ sym c.command_by.ensures.value) c.ok_or.ensures.value
+    answers_none _ _ c.ok_or.result (is ∙ sym c.asked_in.ensures.value) c.ok_or.ensures.value
 
 pub returns-in-Some-clause-plain : goal.returns-in-Some-clause-plain
 returns-in-Some-clause-plain c r plain = plain_asked _ r plain

@@ -1,14 +1,14 @@
-use Rattle.std.specs.Str.Parse.{ExplainsUnsignedError, HasUnsignedDigitsIfOk, ParsesUnsigned}
-use Rattle.clap.specs.Words.{found_of}
-use Rattle.command_words.proofs.OptionNumbers.{number_given, number_read}
+use Rattle.std.proofs.Common.{inl, sym, ap, ◌∙◌}
+use Rattle.std.specs.Option.{unwrap_or}
+use Rattle.clap.specs.Words.{found_of, rows_of}
+use Rattle.command_words.proofs.OptionNumbers.{number_some}
 use Rattle.command_words.proofs.words.number.Goals as goal
 
+pub number_of-requires : goal.number_of-requires
+number_of-requires c = inl c.requires
+
 pub unwrap-requires : goal.unwrap-requires
-unwrap-requires c =
-    number_given (λ bs r. ParsesUnsigned 32 10 bs r × ExplainsUnsignedError 10 bs r × HasUnsignedDigitsIfOk bs r) (λ u x gives. gives.0) (found_of c.args.matches.now) c.args.name.now
-    c.get_one.result c.get_one.ensures.value c.requires
+unwrap-requires c = number_some (rows_of (found_of c.args.matches.now)) c.args.option.now.name.now 0 4294967295 c.number_of.result c.number_of.ensures c.requires
 
 pub returns : goal.returns
-returns c =
-    number_read (λ bs r. ParsesUnsigned 32 10 bs r × ExplainsUnsignedError 10 bs r × HasUnsignedDigitsIfOk bs r) (λ u x gives. gives.0) (found_of c.args.matches.now) c.args.name.now
-    c.get_one.result c.get_one.ensures.value c.requires c.unwrap.result c.unwrap.ensures
+returns c = sym (ap (λ o. unwrap_or o 0) c.unwrap.ensures) ∙ ap (λ o. unwrap_or o 0) c.number_of.ensures
