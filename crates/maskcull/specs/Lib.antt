@@ -1,5 +1,3 @@
-pub mod App
-pub mod Words
 pub mod Summary
 pub mod Frames
 pub mod Windows

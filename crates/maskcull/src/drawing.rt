@@ -3,11 +3,11 @@ ghost use Rattle.std.specs.Prelude.{◌≡◌, ◌<◌, length, IfOk, OnOk};
 ghost use Rattle.cull_base.specs.Tiles.{ArePieces};
 ghost use Rattle.cull_report.specs.Scene.{size_of, frame_clips, frame_pieces, frame_verdicts};
 ghost use Rattle.bin_tiles.specs.BinViews.{table_of};
-ghost use Rattle.maskcull.specs.Words.{AreInRange};
+ghost use Rattle.command_words.specs.Words.{AreInRange};
 
 use crate::frames::{Asking, Frame, pieces_of, unset_marks, verdicts_by};
-use crate::settings::Settings;
 use binning::batch_size;
+use command_words::Settings;
 use cull_base::{ClipVertex, Memory};
 use cull_report::Asked;
 use scene_reader::Scene;

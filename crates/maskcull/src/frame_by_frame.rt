@@ -5,14 +5,14 @@ ghost use Rattle.scene_reader.specs.Layout.{IsScene};
 ghost use Rattle.cull_report.specs.Scene.{frame_clips, frame_pieces, frame_verdicts};
 ghost use Rattle.maskcull.specs.Culling.{Reports, AllArePieces};
 ghost use Rattle.maskcull.specs.Frames.{AreValidFrom, lines_of, lines_from, frames_lines};
-ghost use Rattle.maskcull.specs.Words.{AreInRange};
+ghost use Rattle.command_words.specs.Words.{AreInRange};
 
 use crate::drawing::{Drawing, draw_plainly};
 use crate::failure::Failure;
 use crate::frames::{Asking, Frame, FrameLines, clip_frame, write_lines};
 use crate::live_frame::{Looks, draw_live};
-use crate::settings::Settings;
 use crate::window::{report_windows, window_count};
+use command_words::Settings;
 use cull_base::{ClipVertex, Memory, Sink};
 use scene_reader::Scene;
 use std::alloc::Global;

@@ -1,5 +1,4 @@
 mod busy_run;
-mod command_words;
 mod counting_run;
 mod demo;
 mod drawing;
@@ -16,3 +15,4 @@ mod objects;
 mod scenes;
 mod waiting;
 mod windows;
+mod words;

@@ -4,15 +4,15 @@ ghost use Rattle.cull_base.specs.Tiles.{ArePieces};
 ghost use Rattle.cull_report.specs.Scene.{frame_clips, frame_pieces};
 ghost use Rattle.maskcull.specs.Culling.{Reports};
 ghost use Rattle.maskcull.specs.Frames.{AreValidFrom, lines_from, lines_of};
-ghost use Rattle.maskcull.specs.Words.{AreInRange};
+ghost use Rattle.command_words.specs.Words.{AreInRange};
 ghost use Rattle.maskcull.specs.Windows.{AreMadeFrom, HavePlaces, IsDrawn, IsMade, HasPlaces};
 
 use crate::drawing::{Drawing, draw_plainly};
 use crate::failure::Failure;
 use crate::frames::{Asking, Frame, FrameLines, write_lines};
-use crate::settings::Settings;
 use binning::Cut;
 use camera_path::Camera;
+use command_words::Settings;
 use cull_base::{ClipVertex, Memory, Sink};
 use scene_reader::Scene;
 use side_by_side::for_each_share;
