@@ -17,14 +17,13 @@ use Rattle.command_words.specs.Table.{ACommand, AnOption, batch, bins_x, bins_y,
 use Rattle.command_words.specs.Words.{ArePlain, AreWords, HaveValues, IsEntered, asked_by, asked_in, command_of, number_of, settings_by, stated, value_in}
 use Rattle.command_words.specs.declared.command.Command.{Command}
 use Rattle.command_words.specs.declared.command.Command.TheVariants.{Cull, Live, Demo}
-use Rattle.command_words.specs.declared.settings.Settings.{Settings}
 use Rattle.command_words.specs.declared.table.CommandKind.{CommandKind}
 use Rattle.command_words.specs.declared.table.CommandKind.TheVariants as kinds
 use Rattle.command_words.specs.declared.table.CommandRow.{CommandRow}
 use Rattle.command_words.specs.declared.table.OptionRow.{OptionRow}
 use Rattle.command_words.specs.declared.words.Refusal.{Refusal}
 use Rattle.command_words.specs.declared.words.Refusal.TheVariants as refusals
-use Rattle.command_words.proofs.OptionRules.{IsOf, same_text}
+use Rattle.command_words.proofs.OptionRules.{IsOf}
 use Rattle.command_words.proofs.PlainWords.{taken}
 use Rattle.command_words.proofs.TakenWords.{entered_values}
 

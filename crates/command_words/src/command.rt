@@ -8,8 +8,8 @@ pub enum Command {
     Cull {
         settings: Settings,
     },
-    /// The same, with so many rounds of looks at the first objects, of so many, while each frame is drawn; what they show
-    /// is noted. 1 to 8 each.
+    /// The same, with so many rounds of looks at the first objects, of so many, while each frame is drawn; what they
+    /// show is noted. 1 to 8 each.
     Live {
         settings: Settings,
         rounds: u32,

@@ -5,8 +5,8 @@
 /// in specs/.
 #[derive(Clone, Copy)]
 pub enum Takes<T> {
-    /// A number from `least` to `most`, and the text of the one that stands where the option isn't given; without such a
-    /// default the option has no value then.
+    /// A number from `least` to `most`, and the text of the one that stands where the option isn't given; without such
+    /// a default the option has no value then.
     Number {
         least: u32,
         most: u32,
@@ -48,7 +48,7 @@ pub type AnOption = OptionRow<&'static str>;
 /// A command of the table.
 pub type ACommand = CommandRow<&'static str, &'static [AnOption]>;
 
-// An option with a number, whose help tells the range. The default is written as decimal text is: without leading zeros.
+// An option with a number, whose help tells the range. The default is decimal text without leading zeros.
 macro_rules! number {
     ($name:literal, $least:literal to $most:literal, $default:literal, $help:literal) => {
         OptionRow {

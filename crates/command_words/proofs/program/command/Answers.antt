@@ -1,6 +1,3 @@
-use Rattle.std.proofs.Common.{◌≡◌, ◌∙◌, ap, true}
-use Rattle.clap.specs.Words.{app_of, new_app}
-use Rattle.clap.specs.Simple.{app_of_fields}
 use Rattle.command_words.proofs.Builders.{all_options, arg_local, option_added}
 use Rattle.command_words.proofs.program.command.Goals as goal
 

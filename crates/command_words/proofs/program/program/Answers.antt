@@ -1,6 +1,3 @@
-use Rattle.std.proofs.Common.{◌≡◌, ◌∙◌, true, ap, codes}
-use Rattle.clap.specs.Words.{app_of, new_app}
-use Rattle.clap.specs.Simple.{app_of_fields, on_top}
 use Rattle.command_words.proofs.Builders.{all_commands, command_added}
 use Rattle.command_words.proofs.program.program.Goals as goal
 
