@@ -1,4 +1,4 @@
-use Rattle.std.proofs.Common.{◌∷◌, [], List, get_or, arith, sym, subst, ap}
+use Rattle.std.proofs.Common.{◌∷◌, [], List, length, get_or, arith, sym, subst, ap}
 use Rattle.std.proofs.lemmas.List.{length-append}
 use Rattle.tile_cells.proofs.Lists.{pushed_at}
 use Rattle.cull_report.specs.Runs.{IsMadeRun}
