@@ -3,7 +3,7 @@ ghost use Rattle.std.specs.Prelude.{◌≡◌, ◌≢◌, ◌+◌, ◌≤◌, le
 ghost use Rattle.std.specs.List.{All};
 ghost use Rattle.cull_base.specs.declared.nearness.TheConstants.{GRADE_TOP};
 ghost use Rattle.snap_setup.specs.Pieces.{list_of_clips};
-ghost use Rattle.maskcull_c.specs.Given.{IsAmong, IsSetup, clip_of, pieces_drawn, size_of, tri_of};
+ghost use Rattle.maskcull_c.specs.Given.{IsAmong, IsSetup, clip_of, pieces_drawn, tri_of};
 ghost use Rattle.maskcull_c.specs.Pieces.{AreListed, HasRoom};
 ghost use Rattle.maskcull_c.specs.declared.status.TheConstants.{DONE, BAD_SETUP, BAD_INDEX, BAD_ROOM};
 
