@@ -1,5 +1,5 @@
 -- The report of a scene: that of one thread that merges all drawn triangles in submission order, frame by frame.
-use Rattle.std.specs.Prelude.{ℕ, ℤ, pos, ◌≡◌, List, [], ◌∷◌, ◌++◌, ◌<◌, Bool, true, false, ◌&&◌, nat_lt, length, map, take, drop, slice_index_or}
+use Rattle.std.specs.Prelude.{ℕ, ℤ, ◌≡◌, List, [], ◌++◌, ◌<◌, Bool, true, false, ◌&&◌, nat_lt, length, map, take, drop, slice_index_or}
 use Rattle.std.specs.List.{flat_map, range_with_len}
 use Rattle.cull_base.specs.declared.clip.ClipVertex.{ClipVertex}
 use Rattle.cull_base.specs.declared.nearness.TheConstants.{GRADE_TOP}
@@ -17,7 +17,7 @@ use Rattle.cull_base.specs.Fold.{after}
 use Rattle.cull_base.specs.Shape.{Shape, has_sample, near_at, area_of, verdict_of}
 use Rattle.cull_base.specs.Tiles.{PieceList}
 use Rattle.scene_reader.specs.Layout.{Parts}
-use Rattle.camera_path.specs.Clip.{clip_of}
+use Rattle.camera_path.specs.Clip.{clip_of, corners_of}
 use Rattle.snap_setup.specs.Pieces.{list_of_clips}
 use Rattle.masked_update.specs.TileOf.{TileOf}
 use Rattle.masked_update.specs.Views.{state_in}
