@@ -1,5 +1,5 @@
 #!/usr/bin/env python3
-"""Draws what bench/frames.py measured: milliseconds a frame against triangles, a line for each number of workers.
+"""Draws what bench/frames.py measured: milliseconds a frame against triangles, a line for each number of threads.
 
 usage: bench/frames.py PROGRAM --triangles 1000,5000,10000,20000,40000,65536 | bench/plots.py --machine TEXT > OUT.svg
 
@@ -93,7 +93,7 @@ def plot(rows, machine):
         corners = " ".join(f"{x:.1f},{y:.1f}" for x, y in places)
         yield f'<polyline points="{corners}" fill="none" stroke="{colour}" stroke-width="2"/>'
         yield from (f'<circle cx="{x:.1f}" cy="{y:.1f}" r="3" fill="{colour}"/>' for x, y in places)
-        words = f"{workers} worker" + ("s" if workers > 1 else "")
+        words = f"{workers} thread" + ("s" if workers > 1 else "")
         yield text(places[-1][0] + 10, ends[workers] + 4, words, "start", colour)
     yield text(LEFT, HEIGHT - 10, machine, "start", "#777")
     yield "</svg>"
