@@ -1,10 +1,12 @@
 #!/usr/bin/env python3
-"""Draws the figures of docs/ALGORITHM.md: bins and workers over time, a cell's words, a command's bytes.
+"""Draws the figures of docs/ALGORITHM.md: a command's bytes, spans of columns, a cell's words, bins and workers over
+time, frames side by side.
 
-usage: docs/figures.py turns|cell|bytes > docs/NAME.svg
+usage: docs/figures.py bytes|spans|cell|turns|windows > docs/NAME.svg
 
-The turns are reckoned by the rule that docs/ALGORITHM.md tells, for the pieces and the times below; the words of the
-cell are packed as docs/DEFINITIONS.md tells it."""
+The turns are computed by the rule that docs/ALGORITHM.md tells, for the pieces and the times below, and so are the
+spans and the frames; the words of the cell are packed as docs/DEFINITIONS.md tells it."""
+import math
 import sys
 
 STYLE = """
@@ -190,7 +192,7 @@ def bytes_figure():
     yield 880, 400, "What becomes of a command's bytes"
     yield text(24, 30, "maskcull cull < town.msoc > town.report", "strong code")
     for x, width, name, told, shade in ((24, 160, "command line", "cull and its options", "none"),
-                                        (250, 160, "Request", "a command, its settings", "one")):
+                                        (250, 160, "Command", "with what its options say", "one")):
         yield from box(x, 48, width, name, told, shade)
     yield from arrow(184, 71, 250, 71)
     for x, width, name, told, shade in ((24, 160, "standard input", "bytes", "none"),
@@ -200,7 +202,7 @@ def bytes_figure():
     yield text(217, 133, "read", "small", "middle")
     yield from arrow(330, 94, 330, 118)
     yield rect(24, 192, 832, 116, "line", ' rx="8" stroke-dasharray="6 4"')
-    yield text(126, 210, "for each frame, one after another", "small")
+    yield text(126, 210, "for each frame", "small")
     steps = (("clip vertices", "x, y, w by a camera"), ("pieces", "triangles on the screen"),
              ("tiles", "two depths and a mask"), ("verdicts", "one an object"), ("lines", "text of the report"))
     for number, (name, told) in enumerate(steps):
@@ -211,12 +213,13 @@ def bytes_figure():
     yield from arrow(330, 164, 330, 178)
     yield line(330, 178, 110, 178)
     yield from arrow(110, 178, 110, 224)
-    yield text(110 + 82, 296, "each step is shared by threads; the next begins when it is done", "small")
+    yield text(36, 296, "Threads take whole frames while there are enough of them. Else they share each step, and the"
+               " next begins when it is done.", "small")
     yield from box(692, 334, 148, "standard output", "town.report", "three")
     yield from arrow(766, 270, 766, 334)
-    yield text(756, 324, "a piece of lines at a time", "small", "end")
+    yield text(756, 324, "some lines at a time", "small", "end")
     yield from box(520, 48, 200, "standard error", "a line that says why", "two")
-    yield from box(748, 48, 108, "status", "0 to 7", "two")
+    yield from box(748, 48, 108, "status", "2 to 7; 0 is done", "two")
     yield from arrow(720, 71, 748, 71)
     for y, told in ((71, "usage refused"), (141, "scene refused, read fault")):
         if y == 71:
@@ -231,7 +234,116 @@ def bytes_figure():
     yield text(670, 170, "report fault, out of memory", "small")
 
 
-FIGURES = {"turns": turns_figure, "cell": cell_figure, "bytes": bytes_figure}
+# Frames side by side.
+
+# What the frames of a path cost, and what a worker's start and the lines of a frame cost.
+FRAMES, WORKERS, WINDOW_START, WRITE = (46, 60, 52, 58, 74, 50, 66, 55, 48, 64), 4, 5, 6
+
+
+def windows():
+    """The bars: a worker, a frame, when it began and ended; the lines of a frame as of no worker."""
+    now = 0
+    for first in range(0, len(FRAMES) - len(FRAMES) % WORKERS, WORKERS):
+        ends = []
+        for worker in range(WORKERS):
+            begin = now + WINDOW_START * (worker + 1)
+            ends.append(begin + FRAMES[first + worker])
+            yield worker, first + worker, begin, ends[-1]
+        now = max(ends)
+        for frame in range(first, first + WORKERS):
+            yield None, frame, now, now + WRITE
+            now += WRITE
+    for frame in range(len(FRAMES) - len(FRAMES) % WORKERS, len(FRAMES)):
+        share = FRAMES[frame] / WORKERS + WINDOW_START
+        for worker in range(WORKERS):
+            yield worker, frame, now + WINDOW_START * (worker + 1), now + WINDOW_START * (worker + 1) + share
+        now += WINDOW_START * WORKERS + share
+        yield None, frame, now, now + WRITE
+        now += WRITE
+
+
+def windows_figure():
+    left, top, height = 92, 58, 36
+    bars = list(windows())
+    scale = 760 / max(bar[3] for bar in bars)
+    yield 880, 354, "Frames side by side, over time"
+    yield text(24, 30, f"A path of {len(FRAMES)} frames by {WORKERS} workers: two windows of {WORKERS} frames, and what"
+               " is left is shared.", "strong")
+    rows = [*range(WORKERS), None]
+    for place, worker in enumerate(rows):
+        y = top + place * (height + 8)
+        yield text(left - 12, y + 22, "report" if worker is None else f"worker {worker}", anchor="end")
+        yield rect(left, y, 760, height, "none")
+    for worker, frame, begin, end in bars:
+        y, shade = top + rows.index(worker) * (height + 8), "three" if worker is None else ("one", "two")[frame % 2]
+        yield rect(left + begin * scale, y, (end - begin) * scale, height, shade)
+        yield rect(left + begin * scale, y, (end - begin) * scale, height, "line")
+        yield text(left + (begin + end) / 2 * scale, y + 22, str(frame), "small", "middle")
+    y = top + 5 * (height + 8) + 14
+    yield from arrow(left, y, left + 760, y, "thin")
+    yield text(left + 760, y + 18, "time", "small", "end")
+    yield rect(left, y + 28, 16, 16, "one")
+    yield rect(left + 18, y + 28, 16, 16, "two")
+    yield text(left + 42, y + 41, "a frame with its number, or a share of it")
+    yield rect(left + 340, y + 28, 16, 16, "three")
+    yield text(left + 364, y + 41, "its lines are written, in the order of frames")
+
+
+# Spans of columns.
+
+# A piece on a row of three tiles: points in sixteenths of a pixel, clockwise.
+CORNERS, SPAN_COLUMNS, SPAN_ROWS, PIXEL = ((100, -60), (1240, 50), (420, 190)), 96, 8, 8
+
+
+def columns_inside(row):
+    """The first column of a row of samples inside the piece, and the one behind the last."""
+    y, first, end = 16 * row + 8, 0, SPAN_COLUMNS
+    for (ax, ay), (bx, by) in zip(CORNERS, CORNERS[1:] + CORNERS[:1]):
+        # where the edge crosses the row, in columns of samples
+        crossing = (ax + (bx - ax) * (y - ay) / (by - ay) - 8) / 16
+        if by < ay:
+            first = max(first, math.ceil(crossing))
+        else:
+            end = min(end, math.ceil(crossing))
+    return first, max(first, end)
+
+
+def spans_figure():
+    left, top, height = 56, 66, 18
+    spans = [columns_inside(row) for row in range(SPAN_ROWS)]
+    yield 880, 300, "The spans of columns that a piece has in a row of tiles"
+    yield text(24, 30, "A row of three tiles: on each of its eight rows of samples the piece has one span of columns.",
+               "strong")
+    for row, (first, end) in enumerate(spans):
+        y = top + row * height
+        yield text(left - 8, y + 13, str(row), "small", "end")
+        yield rect(left, y, SPAN_COLUMNS * PIXEL, height - 1, "none")
+        yield rect(left + first * PIXEL, y, (end - first) * PIXEL, height - 1, "two")
+        yield text(left + SPAN_COLUMNS * PIXEL + 8, y + 13, f"{first} to {end}", "small")
+    bottom = top + SPAN_ROWS * height
+    for column in range(0, SPAN_COLUMNS + 1, 8):
+        more = ' stroke-width="2"' if column % 32 == 0 else ' stroke-dasharray="2 3"'
+        yield line(left + column * PIXEL, top, left + column * PIXEL, bottom, "line", more)
+    for y in (top, top + 4 * height, bottom):
+        yield line(left, y, left + SPAN_COLUMNS * PIXEL, y)
+    for tile in range(3):
+        yield text(left + (32 * tile + 16) * PIXEL, top - 8, f"tile {tile}", "small", "middle")
+    clip = [(left + x / 16 * PIXEL, top + y / 16 * height) for x, y in CORNERS]
+    yield f'<clipPath id="row">{rect(left, top, SPAN_COLUMNS * PIXEL, bottom - top, "none")}</clipPath>'
+    points = " ".join(f"{x:g},{y:g}" for x, y in clip)
+    yield f'<polygon class="line" points="{points}" stroke-width="2" clip-path="url(#row)"/>'
+    y, least, greatest = bottom + 22, min(first for first, _ in spans), max(end for _, end in spans)
+    middle = left + (least + greatest) / 2 * PIXEL
+    yield from arrow(middle, y, left + least * PIXEL, y, "thin")
+    yield from arrow(middle, y, left + greatest * PIXEL, y, "thin")
+    yield text(middle, y + 18, f"from the least first column, {least}, to the greatest end, {greatest}: only tiles"
+               " between these may have samples", "small", "middle")
+    yield text(left, y + 46, "A subtile's mask has a byte for each of its four rows: the bits from the row's first"
+               " column on, without those from its end on.", "small")
+
+
+FIGURES = {"bytes": bytes_figure, "spans": spans_figure, "cell": cell_figure, "turns": turns_figure,
+           "windows": windows_figure}
 
 
 def main():
