@@ -1,6 +1,6 @@
 // The calls of include/maskcull.h in a browser, in whole numbers. They run in a WebAssembly module that is proved as
-// they are. No proof covers this file, which is the module's host: it keeps the tiles, and what is handed over, in the
-// module's memory, and says in a sentence what is wrong.
+// they are. No proof covers this file, which is the module's host: it keeps the tiles, and what is passed, in the
+// module's memory, and throws errors that say in a sentence what is wrong.
 
 /** Verdicts: not hidden, or it can't be told; hidden; not on the screen. */
 export const VISIBLE = 16;
@@ -48,8 +48,8 @@ async function bytesAt(place) {
 }
 
 /**
- * Compiles the module, from its place or its bytes. Once is enough for any number of frames.
- * @param {string | URL | BufferSource} [source] out/maskcull.wasm beside this file where it is left out
+ * Compiles the module, from its address or its bytes. Once is enough for any number of frames.
+ * @param {string | URL | BufferSource} [source] out/maskcull.wasm beside this file if it is left out
  * @returns {Promise<WebAssembly.Module>}
  */
 export async function loadModule(source = new URL('out/maskcull.wasm', import.meta.url)) {
@@ -128,7 +128,7 @@ export function growBy(memory, pages) {
     }
 }
 
-/** The module's memory as numbers of 32 bits, and larger where more is asked for. */
+/** The module's memory as numbers of 32 bits. It grows when more is needed. */
 class Words {
     /** @param {WebAssembly.Memory} memory */
     constructor(memory) {
@@ -208,7 +208,7 @@ export class Calls {
     constructor(exports, screen) {
         demandSetup(exports, screen);
         const { width, height, near, winding = KEEPS_BOTH } = screen;
-        // The module's own data end at __heap_base. Behind them lie the setup, what is asked, a subtile that is
+        // The module's own data end at __heap_base. After them lie the setup, what is tested, a subtile that is
         // answered, the tiles, and room for the vertices and triangles of a call.
         const setup = Math.ceil(Number(exports.__heap_base.value) / 16) * 16;
         this.width = width;
@@ -233,8 +233,8 @@ export class Calls {
     }
 
     /**
-     * Room in the module's memory for vertices and triangles. It lasts until other room is made, also by a draw or by a
-     * test of a mesh.
+     * Room in the module's memory for vertices and triangles. It is valid until room is made again, also by a draw or
+     * by a test of a mesh.
      * @param {number} vertexCount
      * @param {number} triangleCount
      */
@@ -251,7 +251,7 @@ export class Calls {
     }
 
     /**
-     * Draws the first so many triangles of the room that was made last.
+     * Draws the first triangleCount triangles of the room that was made last.
      * @param {number} triangleCount
      */
     drawRoom(triangleCount) {

@@ -17,11 +17,11 @@ export interface Screen {
     /** A multiple of 4, from 4 to 2048. */
     height: number;
     /**
-     * Of a frame a number above 0: the near distance of the camera, since what that leaves out may hide nothing. Of
-     * calls a whole number from 1 to 1024.
+     * For a Frame a number above 0: the near distance of the camera, since what the camera leaves out must not hide
+     * anything. For Calls a whole number from 1 to 1024.
      */
     near: number;
-    /** KEEPS_BOTH where it is left out. */
+    /** KEEPS_BOTH if it is left out. */
     winding?: Winding;
 }
 
@@ -34,7 +34,7 @@ export class MaskcullError extends Error {
     kind: 'engine' | 'module' | 'memory' | 'screen' | 'near' | 'winding' | 'array' | 'index' | 'number';
 }
 
-/** Compiles the module: out/maskcull.wasm beside maskcull.js where no place and no bytes are given. */
+/** Compiles the module: out/maskcull.wasm beside maskcull.js if neither an address nor bytes are given. */
 export function loadModule(source?: string | URL | BufferSource): Promise<WebAssembly.Module>;
 
 /** A screen's tiles, for coordinates in floats. Matrices have 16 numbers, column by column, and lead to clip space. */
@@ -50,18 +50,18 @@ export class Frame {
     clear(): void;
 
     /**
-     * Draws occluder triangles, after all that were drawn before. Left out are those with a point that is no number or
-     * further than 16384 near distances, and those that are seen too much from their edge to say how far they are.
+     * Draws occluder triangles, after all that were drawn before. Those with a point that is no number or further than
+     * 16384 near distances are left out, and those that are seen too nearly edge-on to say how far they are.
      */
     draw(positions: Float32Array, indices: Indices, matrix: ArrayLike<number>): void;
 
     /**
-     * The verdict of all within a box: the least x, y and z and the greatest ones. It is visible too where a corner is
-     * before 8/7 of the near distance and not all of the box is beside the screen or behind the eye.
+     * The verdict of all within a box: the least x, y and z and the greatest ones. It is visible too if a corner is
+     * nearer than 8/7 of the near distance and not all of the box is beside the screen or behind the eye.
      */
     testBox(bounds: ArrayLike<number>, matrix: ArrayLike<number>): Verdict;
 
-    /** The verdicts of many boxes, of six numbers each. They fill the array that is given, or a new one. */
+    /** The verdicts of many boxes, of six numbers each, in the array that is given, or in a new one. */
     testBoxes(bounds: Float32Array, matrix: ArrayLike<number>, verdicts?: Uint8Array): Uint8Array;
 
     /** The verdict of a mesh. Each triangle is tested as the rectangle around it: sharper than a box, and slower. */
@@ -92,12 +92,12 @@ export class Calls {
     draw(vertices: Int32Array, triangles: Uint32Array): void;
 
     /**
-     * Room in the module's memory for vertices and triangles. It lasts until other room is made, also by a draw or by a
-     * test of a mesh.
+     * Room in the module's memory for vertices and triangles. It is valid until room is made again, also by a draw or
+     * by a test of a mesh.
      */
     room(vertexCount: number, triangleCount: number): { vertices: Int32Array, triangles: Uint32Array };
 
-    /** Draws the first so many triangles of the room that was made last. */
+    /** Draws the first triangleCount triangles of the room that was made last. */
     drawRoom(triangleCount: number): void;
 
     /** The verdict of the pixels from (x0, y0) to before (x1, y1) at distance w. */

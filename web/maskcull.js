@@ -1,4 +1,5 @@
-// maskcull in the browser: tells, before a picture is drawn, what is hidden in it. No build step, no other library.
+// maskcull in the browser: finds, before a frame is rendered, which objects are hidden behind others. No build step, no
+// other library.
 //
 //     import { Frame, VISIBLE, loadModule } from './maskcull.js';
 //
@@ -7,17 +8,17 @@
 //     frame.draw(wall.positions, wall.indices, clipFromWorld);
 //     if (frame.testBox(house.bounds, clipFromWorld) === VISIBLE) drawTheHouse();
 //
-// This layer takes floats, for calls in whole numbers (calls.js), which run in a proved module. No proof covers it. It
-// rounds so that an occluder never stands nearer and an object never farther than it is, and asks for an object as a
-// little wider than it is. What is no number, or too far, isn't drawn as an occluder; an object with such a point is
-// visible.
+// This layer takes floats and makes calls in whole numbers (calls.js), which run in a proved module. No proof covers
+// this layer. It rounds so that an occluder is never nearer and an object never farther than it is, and tests an object
+// as a little wider than it is. An occluder with a point that is no number, or too far, isn't drawn; an object with one
+// is visible.
 //
-// A matrix takes (x, y, z, 1) to clip space. It has 16 numbers, column by column, as those of WebGL and of three.js:
-// projection times view times model. The view has to be one in perspective; with another nothing is hidden. What shows
-// only through a slit between two occluders, or between one and the screen's edge, may be called hidden where the slit
-// is narrower than a pixel of the frame, since a pixel is asked at its middle; or than three where occluders are at the
-// near plane and rounding moves their edges. So make the frame as large as the picture, or let occluders lie within
-// what is drawn.
+// A matrix takes (x, y, z, 1) to clip space. It has 16 numbers, column by column, as in WebGL and in three.js:
+// projection times view times model. The projection has to be a perspective; with any other nothing is hidden. What
+// shows only through a slit between two occluders, or between one and the screen's edge, may be called hidden if the
+// slit is narrower than a pixel of the frame, since a pixel is tested at its centre; or narrower than three pixels if
+// the occluders are at the near plane and rounding moves their edges. So make the frame as large as the picture, or let
+// occluders lie within what is drawn.
 import { Calls, MaskcullError, OCCLUDED, OUTSIDE, VISIBLE, countOf, demandAmong, start } from './calls.js';
 
 export {
@@ -122,14 +123,14 @@ function sidesOf(points, count, right, top) {
 }
 
 /**
- * A screen's tiles, for coordinates in floats: what is drawn and asked goes through a matrix into clip space.
+ * A screen's tiles, for coordinates in floats: a matrix takes what is drawn and tested to clip space.
  */
 export class Frame {
     /** The calls beneath, in units of 1/1024 of 8/7 of the near distance. */
     calls;
     #scale;
-    // The rows of the matrix at hand for x, y and w; with it the points of a mesh, by how much each is moved, and the
-    // points that are asked about.
+    // The rows of the matrix in use for x, y and w; the points of a mesh by this matrix, by how much each is moved, and
+    // the points that are tested.
     #rows = new Float64Array(12);
     #points = new Float64Array(0);
     #factors = new Float64Array(0);
@@ -161,8 +162,8 @@ export class Frame {
     }
 
     /**
-     * Draws occluder triangles, after all that were drawn before. Left out are those with a point that is no number or
-     * further than 16384 near distances, and those that are seen too much from their edge to say how far they are.
+     * Draws occluder triangles, after all that were drawn before. Those with a point that is no number or further than
+     * 16384 near distances are left out, and those that are seen too nearly edge-on to say how far they are.
      * @param {Float32Array} positions x, y and z of each vertex
      * @param {Uint16Array | Uint32Array} indices the numbers of three vertices for each triangle
      * @param {ArrayLike<number>} matrix from positions to clip space
@@ -184,8 +185,8 @@ export class Frame {
     }
 
     /**
-     * The verdict of all within a box: visible too where a corner is before 8/7 of the near distance and not all of the
-     * box is beside the screen or behind the eye.
+     * The verdict of all within a box. It is visible too if a corner is nearer than 8/7 of the near distance and not
+     * all of the box is beside the screen or behind the eye.
      * @param {ArrayLike<number>} bounds the least x, y and z and the greatest ones
      * @param {ArrayLike<number>} matrix from the box to clip space
      * @returns {number}
@@ -200,7 +201,7 @@ export class Frame {
      * The verdicts of many boxes.
      * @param {Float32Array} bounds of each the least x, y and z and the greatest ones
      * @param {ArrayLike<number>} matrix from the boxes to clip space
-     * @param {Uint8Array} [verdicts] is filled, where it is given
+     * @param {Uint8Array} [verdicts] is filled, if it is given
      */
     testBoxes(bounds, matrix, verdicts) {
         this.#take(matrix);

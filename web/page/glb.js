@@ -30,7 +30,7 @@ function chunksOf(file) {
     demand(chunks[JSON_CHUNK], 'This glb has no description.');
     const description = JSON.parse(new TextDecoder().decode(chunks[JSON_CHUNK]));
     const wanted = description.extensionsRequired ?? [];
-    demand(wanted.length === 0, `This glb asks for ${wanted.join(' and ')}, which this page can't read.`);
+    demand(wanted.length === 0, `This glb requires ${wanted.join(' and ')}, which this page can't read.`);
     return { description, binary: chunks[BINARY_CHUNK] ?? new ArrayBuffer(0) };
 }
 
@@ -41,7 +41,7 @@ function numbersOf({ description, binary }, number, each, types) {
     demand(type && source && !accessor.sparse, 'This glb has numbers of a kind that this page can\'t read.');
     const stride = source.byteStride ?? each * type.BYTES_PER_ELEMENT, bytes = each * type.BYTES_PER_ELEMENT;
     const first = (source.byteOffset ?? 0) + (accessor.byteOffset ?? 0);
-    demand(first + stride * (accessor.count - 1) + bytes <= binary.byteLength, 'This glb names bytes that it hasn\'t.');
+    demand(first + stride * (accessor.count - 1) + bytes <= binary.byteLength, 'This glb lacks bytes that it names.');
     const numbers = new type(each * accessor.count);
     for (let k = 0; k < accessor.count; k++) {
         numbers.set(new type(binary.slice(first + stride * k, first + stride * k + bytes)), each * k);

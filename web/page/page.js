@@ -116,7 +116,7 @@ function calm() {
     part('fault').hidden = true;
 }
 
-/** The size of the screen: the page's own, or what its address asks for, as ?width=640&height=360. */
+/** The size of the screen: the page's own, or what its address says, as ?width=640&height=360. */
 function askedSize() {
     const asked = new URLSearchParams(location.search);
     return { width: Number(asked.get('width') ?? WIDTH), height: Number(asked.get('height') ?? HEIGHT) };
