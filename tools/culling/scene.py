@@ -72,7 +72,7 @@ def read_scene(stored):
     tables, offset = [], 36 if version == 2 else 32
     needed = offset + sum(count * struct.calcsize(form) for form, count in zip(forms, counts))
     if needed != len(stored):
-        raise SceneError(f"The scene's header asks for {needed} bytes, and the file has {len(stored)}.")
+        raise SceneError(f"The scene's header requires {needed} bytes, and the file has {len(stored)}.")
     for form, count in zip(forms, counts):
         end = offset + count * struct.calcsize(form)
         tables.append(list(struct.iter_unpack(form, stored[offset:end])))
