@@ -5,11 +5,11 @@ usage: bench/frames.py PROGRAM [--triangles 1000,20000,65536] [--rectangles 500]
                        [--workers 1,2,4] [--bins 4] [--batch 64] [--path 64]
 
 Each scene has random triangles between near and far, as a camera that looks down the z axis sees them, and random
-rectangles as objects. A frame's time is the least of some runs of the program, less that of a run without triangles
-and with one rectangle, so that starting up falls out; reading the scene and writing the report are part of it. The
-screen is cut into so many columns and rows of bins where there is more than one worker, which then share the frame.
-With --path the same picture is drawn so many times, by cameras in a row, and workers take frames side by side; the
-time of a fourth of them is taken off, so that reading falls out too.
+rectangles as objects. A frame's time is the shortest of --rounds runs of the program, less that of a run without
+triangles and with one rectangle, so that start-up isn't counted; reading the scene and writing the report are. With
+more than one worker the screen is cut into --bins columns and rows of bins, and the workers share the frame. With
+--path the same picture is drawn that many times, by cameras in a row, and workers take frames side by side; the time
+of a fourth of them is subtracted, so that reading isn't counted either.
 Measure on a quiet machine."""
 import argparse
 import struct

@@ -3,8 +3,8 @@
 
 usage: bench/frames.py PROGRAM --triangles 1000,5000,10000,20000,40000,65536 | bench/plots.py --machine TEXT > OUT.svg
 
-It reads the lines of bench/frames.py from standard input and writes an SVG. The text, which stands below the plot, is
-to say on which machine they were measured."""
+It reads the lines of bench/frames.py from standard input and writes an SVG. The text stands below the plot, and says
+on which machine they were measured."""
 import argparse
 import html
 import math

@@ -1,16 +1,16 @@
 #!/usr/bin/env python3
-"""How much of what is truly hidden a built maskcull finds, and what that hangs on.
+"""How much of what is truly hidden a built maskcull finds, and what that depends on.
 
 usage: bench/quality.py PROGRAM                      the tables of docs/OCCLUDERS.md, from two models that it makes
        bench/quality.py PROGRAM --only order,passes  some of them: which, number, order, passes, sides, objects,
                                                      groups, near, size, when
        bench/quality.py PROGRAM --scene FILE..       scenes of yours, a row each
 
-An object is truly hidden in a frame where each of its samples lies behind the picture of all that the model draws: one
-depth for each sample, by a z-buffer in plain Python (`tools/culling/depths.py`). "Found" is the share of these that
-the program calls occluded. "Holes" counts what it calls occluded and isn't hidden: none, as long as what hides is a
-part of what is drawn. Pieces are those of a frame on average. Nothing here is a time, so the machine doesn't matter.
-All tables take some minutes."""
+An object is truly hidden in a frame if each of its samples lies behind all that the model draws, by a z-buffer in plain
+Python (`tools/culling/depths.py`) with one depth for each sample. "Found" is the share of these that the program calls
+occluded. "Holes" counts what it calls occluded and isn't hidden: none, as long as the occluders are part of what is
+drawn. Pieces are the average of a frame. Nothing here is a time, so the machine doesn't matter. All tables take some
+minutes."""
 import argparse
 import dataclasses
 import functools
