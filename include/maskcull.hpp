@@ -193,11 +193,14 @@ private:
         return std::max({v.x, v.y, v.w}) <= guard && std::min({v.x, v.y, v.w}) >= -guard;
     }
 
-    void add(const occluders &drawn) {
+    void add(const occluders &drawn) { add(drawn, 0, drawn.triangles.size()); }
+
+    void add(const occluders &drawn, std::size_t first, std::size_t count) {
         std::lock_guard<std::mutex> lock(busy_);
         const std::uint32_t none = 0xffffffff;
         std::vector<std::uint32_t> places(drawn.vertices.size(), none);
-        for (const maskcull_triangle &t : drawn.triangles) {
+        for (std::size_t j = first; j < first + count; j++) {
+            const maskcull_triangle &t = drawn.triangles[j];
             const std::uint32_t numbers[3] = {t.a, t.b, t.c};
             bool is_drawn = true;
             for (const std::uint32_t k : numbers) is_drawn = is_drawn && is_within(drawn.vertices[k]);
@@ -318,17 +321,40 @@ public:
         return draw(room_);
     }
 
-    /// Draws prepared occluders onto some rows of tiles. Threads may do so at the same time, each onto rows of its own;
-    /// each sets all occluders up. So that they share that too, see maskcull_set_up and examples/c/threads.cpp.
+    /// Draws prepared occluders onto some rows of tiles. Threads may do so at the same time, each onto rows of its own.
+    /// Each of them sets all triangles up; with many triangles it is set_up and draw_pieces that share this too.
     std::uint32_t draw_band(std::uint32_t first_row, std::uint32_t rows, const occluders &drawn) {
-        const std::size_t columns = (setup_.width + 31) / 32;
-        if (tiles_.empty() || first_row > row_count() || rows > row_count() - first_row) return MASKCULL_BAD_TILES;
+        if (!has_rows(first_row, rows)) return MASKCULL_BAD_TILES;
         const std::uint32_t status = maskcull_checked_draw_band(
-            &setup_, tiles_.data() + columns * first_row, columns * rows, first_row, drawn.vertices.data(),
+            &setup_, tiles_.data() + columns() * first_row, columns() * rows, first_row, drawn.vertices.data(),
             drawn.vertices.size(), drawn.triangles.data(), drawn.triangles.size());
         // all bands draw the same: it is recorded once
         if (recorder_ != nullptr && status == MASKCULL_DONE && first_row == 0 && rows > 0) recorder_->add(drawn);
         return status;
+    }
+
+    /// Sets some triangles of prepared occluders up, `count` of them from number `first` on, as maskcull_set_up does:
+    /// MASKCULL_DONE, MASKCULL_BAD_ROOM without room for two pieces a triangle, or MASKCULL_BAD_INDEX. Threads may do
+    /// so at the same time, each into room of its own. A recorder takes triangles in the order in which they are set
+    /// up.
+    std::uint32_t set_up(const occluders &drawn, std::size_t first, std::size_t count, maskcull_piece *pieces,
+                         std::size_t room, std::size_t &piece_count) const {
+        if (first > drawn.triangles.size() || count > drawn.triangles.size() - first) return MASKCULL_BAD_INDEX;
+        const std::uint32_t status = maskcull_checked_set_up(
+            &setup_, drawn.vertices.data(), drawn.vertices.size(), drawn.triangles.data() + first, count, pieces, room,
+            &piece_count);
+        if (recorder_ != nullptr && status == MASKCULL_DONE) recorder_->add(drawn, first, count);
+        return status;
+    }
+
+    /// Draws pieces onto some rows of tiles: MASKCULL_DONE, or MASKCULL_BAD_TILES where there are no such rows. Threads
+    /// may do so at the same time, each onto rows of its own. Precondition: the pieces were set up by a frame of this
+    /// size and near distance.
+    std::uint32_t draw_pieces(std::uint32_t first_row, std::uint32_t rows, const maskcull_piece *pieces,
+                              std::size_t piece_count) {
+        if (!has_rows(first_row, rows)) return MASKCULL_BAD_TILES;
+        return maskcull_checked_draw_pieces(&setup_, tiles_.data() + columns() * first_row, columns() * rows, first_row,
+                                            pieces, piece_count);
     }
 
     /// Whether all within some points is hidden, as within the eight corners of a box. False also where it isn't on the
@@ -408,6 +434,12 @@ private:
     frame(const maskcull_setup &setup, double scale, const options &chosen, std::size_t count)
         : setup_(setup), scale_(scale), up_scale_(chosen.y_is_down ? -scale : scale), matrices_(chosen.matrices),
           tiles_(count) {}
+
+    std::size_t columns() const { return (setup_.width + 31) / 32; }
+
+    bool has_rows(std::uint32_t first_row, std::uint32_t rows) const {
+        return !tiles_.empty() && first_row <= row_count() && rows <= row_count() - first_row;
+    }
 
     struct double3 {
         double x, y, w;
