@@ -3,9 +3,9 @@
 //
 //     ./recorder SCENE
 //
-// Drawn are a ground that reaches past the guard, walls across it and some small triangles, each as a mesh through a
-// matrix, and some of them by bands; asked are boxes and meshes before the walls, behind them, beside the screen and
-// around the eye.
+// Drawn are a ground that reaches past the guard and walls across it, each as a mesh through a matrix, some of them by
+// bands and some from pieces; tested are boxes and meshes before the walls, behind them, beside the screen and around
+// the eye.
 #include "maskcull.hpp"
 
 #include <cstdio>
@@ -31,22 +31,36 @@ struct wall {
     maskcull::mesh_view mesh() const { return {corners, sizeof corners[0], 4, quad, 6}; }
 };
 
+// In two slices, each onto all rows.
+bool draw_pieces(maskcull::frame &frame, const maskcull::occluders &drawn) {
+    const std::size_t all = drawn.triangles.size(), slices[2][2] = {{0, all / 2}, {all / 2, all - all / 2}};
+    std::vector<maskcull_piece> pieces(2 * all);
+    for (const auto &[first, triangles] : slices) {
+        std::size_t count;
+        if (frame.set_up(drawn, first, triangles, pieces.data(), pieces.size(), count) != MASKCULL_DONE
+            || frame.draw_pieces(0, frame.row_count(), pieces.data(), count) != MASKCULL_DONE) {
+            return false;
+        }
+    }
+    return true;
+}
+
 bool draw_all(maskcull::frame &frame) {
     const float ground[4][3] = {{-1e4f, -2, -1e4f}, {1e4f, -2, -1e4f}, {1e4f, -2, 1e4f}, {-1e4f, -2, 1e4f}};
     bool is_drawn = frame.draw(to_clip, {ground, sizeof ground[0], 4, quad, 6}) == MASKCULL_DONE;
-    maskcull::occluders many;
-    for (int k = 0; k < 40; k++) {
+    maskcull::occluders many, others;
+    for (int k = 0; k < 60; k++) {
         const float z = between(3, 60), x = between(-z, z);
         const wall one(x - between(1, 6), x + between(1, 6), -2, between(-1, 4), z);
-        if (k % 2 == 0) {
+        if (k % 3 == 0) {
             is_drawn = is_drawn && frame.draw(to_clip, one.mesh()) == MASKCULL_DONE;
         } else {
-            frame.prepare_more_into(many, to_clip, one.mesh());
+            frame.prepare_more_into(k % 3 == 1 ? many : others, to_clip, one.mesh());
         }
     }
     const std::uint32_t half = frame.row_count() / 2;
     return is_drawn && frame.draw_band(0, half, many) == MASKCULL_DONE
-           && frame.draw_band(half, frame.row_count() - half, many) == MASKCULL_DONE;
+           && frame.draw_band(half, frame.row_count() - half, many) == MASKCULL_DONE && draw_pieces(frame, others);
 }
 
 unsigned ask_all(const maskcull::frame &frame) {

@@ -8,9 +8,9 @@
  * screen, a drawn triangle strictly nearer. A pixel has one sample, in its middle. "Visible" is no promise: it is also
  * said where it can't be told.
  *
- * The tiles lie in your memory. No call allocates, keeps a pointer, starts a thread, takes a lock, or writes anything
- * but the tiles or the room that is handed to it, and none prints or exits. All is reckoned in whole numbers, so each
- * machine gives the same answers.
+ * The tiles lie in your memory. A call writes the tiles or the room that is passed to it, and nothing else: none
+ * allocates, keeps a pointer, starts a thread, takes a lock, prints or exits. All arithmetic is in whole numbers, so
+ * each machine gives the same answers.
  *
  *     #include "maskcull.h"
  *
@@ -26,8 +26,10 @@
  *     maskcull_close(tiles);
  *
  * Link with libmaskcull_c.a, which `rt lib` makes in crates/maskcull_c: cc game.c libmaskcull_c.a
- * It runs on each processor of x86-64-v2. One that was made for x86-64-v3 (AVX2) is faster, and doesn't ask which
- * processor it runs on: a program that carries both asks __builtin_cpu_supports("avx2") with "bmi2" and "fma".
+ * It runs on each processor of x86-64-v2 (SSE4.2, POPCNT). `rt lib --cpu x86-64-v3` makes one that is faster and needs
+ * AVX2; both have the same calls and give the same answers. A library doesn't check its processor, so ask before the
+ * first call: __builtin_cpu_supports("x86-64-v3") in GCC from 12 on, or "avx2", "bmi2" and "fma" one by one. A program
+ * that is to use either has each in a shared library of its own, and loads the one that its processor supports.
  *
  * Units
  *   - Pixels count from the upper left corner, x to the right and y downwards.
@@ -37,19 +39,19 @@
  *   - Nearness is 65535 near / w: rounded down for what is drawn and up for what is tested. Two distances with one
  *     nearness are equally near, and what is equally near isn't hidden.
  *
- * What you promise, and no call can look at
- *   Safety
- *   1. No pointer is null, also where the count beside it is 0, and each is aligned as its type asks, to 4 bytes. It
- *      stands for as many elements as its count says. (The maskcull_checked_ forms below answer for null.)
+ * Preconditions, which no call can check
+ *   For safety
+ *   1. No pointer is null, also where the count beside it is 0, and each is aligned for its type. It points to
+ *      as many elements as its count says. (The maskcull_checked_ forms below allow null.)
  *   2. Each tile is all zero bytes, which is an empty tile, or was last written by these calls, or is a copy of such a
  *      tile. So tiles come from maskcull_open, calloc, std::vector<maskcull_tile>(count), or by memcpy from tiles, and
  *      never from malloc alone. Each piece that is drawn was last written by maskcull_set_up, or is a copy of such a
- *      piece: zero bytes are none. Room that a call only writes to may hold anything, and may come from malloc.
- *   3. What a call writes, tiles, pieces, a count or a picture, overlaps nothing else that is handed to it.
+ *      piece; zero bytes aren't a piece. Room that a call only writes to may hold anything, and may come from malloc.
+ *   3. What a call writes, tiles, pieces, a count or a picture, overlaps nothing else that is passed to it.
  *   4. While a call runs no other thread writes what it reads, or touches what it writes. Tests may run side by side,
  *      and so may maskcull_draw_band and maskcull_draw_pieces on tiles that don't overlap, and maskcull_set_up into
  *      room that doesn't.
- *   Meaning
+ *   For right answers
  *   5. From one clearing to the next all calls on some tiles have the same width, height and near distance, and so have
  *      the calls that set up the pieces which are drawn. The winding may change from call to call.
  *   6. Tiles are copied all together, those of a whole screen, each to the place that it had, and the copy is used with
@@ -71,15 +73,15 @@
 extern "C" {
 #endif
 
-/* What calls answer. With 1 to 5 a call did nothing, and all memory is as it was. */
+/* What calls return. With 1 to 5 a call did nothing, and all memory is as it was. */
 enum maskcull_status {
     MASKCULL_DONE = 0,      /* all was drawn */
-    MASKCULL_BAD_SETUP = 1, /* the size, the near distance or the winding is none */
-    MASKCULL_BAD_TILES = 2, /* these aren't as many tiles as the screen has, or as a band can have */
+    MASKCULL_BAD_SETUP = 1, /* the size, the near distance or the winding isn't one that is allowed */
+    MASKCULL_BAD_TILES = 2, /* there are not as many tiles as the screen has, or as whole rows of it have */
     MASKCULL_BAD_INDEX = 3, /* a triangle names a vertex that isn't there */
-    MASKCULL_NULL = 4,      /* a pointer is null: only the maskcull_checked_ forms answer this */
+    MASKCULL_NULL = 4,      /* a pointer is null: only the maskcull_checked_ forms return this */
     MASKCULL_BAD_ROOM = 5,  /* there is too little room for what is to be written */
-    MASKCULL_VISIBLE = 16,  /* not hidden, or it can't be told */
+    MASKCULL_VISIBLE = 16,  /* not hidden, or not known to be */
     MASKCULL_OCCLUDED = 17, /* hidden at each of its samples in the screen, and it has one there */
     MASKCULL_OUTSIDE = 18   /* without a pixel in the screen, or a box or mesh behind the near plane */
 };
@@ -91,7 +93,7 @@ enum maskcull_winding {
     MASKCULL_DROPS_COUNTERCLOCKWISE = 2
 };
 
-/* The screen and how triangles are taken. A call with other numbers than these answers MASKCULL_BAD_SETUP. */
+/* The screen and how triangles are taken. With other numbers than these a call returns MASKCULL_BAD_SETUP. */
 typedef struct maskcull_setup {
     uint32_t width;   /* in pixels: a multiple of 8, from 8 to 2048 */
     uint32_t height;  /* in pixels: a multiple of 4, from 4 to 2048 */
@@ -153,10 +155,10 @@ typedef struct maskcull_subtile_state {
 } maskcull_subtile_state;
 
 /* Tiles are numbered row by row from the upper left. A row has (width + 31) / 32 tiles, and there are (height + 7) / 8
- * rows. The answer is 0 where there is no such screen. */
+ * rows. 0 where a setup with this size would be refused. */
 uint32_t maskcull_tile_count(uint32_t width, uint32_t height);
 
-/* Empties tiles, as many as are given: all of a screen, or some of them. The others stay as they were. */
+/* Empties the tiles that are passed: all of a screen, or some of them. The others stay as they were. */
 void maskcull_clear(maskcull_tile *tiles, size_t tile_count);
 
 /* Draws occluder triangles onto all tiles of the screen, after all that was drawn before: any number of calls, in any
@@ -187,7 +189,7 @@ uint32_t maskcull_set_up(const maskcull_setup *setup, const maskcull_vertex *ver
 
 /* Draws pieces that were set up, as maskcull_draw_band draws triangles: onto some whole rows of the screen's tiles, of
  * which `tiles` points to the first, in row first_row. The setup is that of the whole screen, with which the pieces
- * were set up; its winding isn't asked here. Threads that draw the same pieces in the same order, each onto rows of its
+ * were set up; its winding isn't read here. Threads that draw the same pieces in the same order, each onto rows of its
  * own, leave the tiles that one thread leaves.
  * BAD_SETUP, BAD_TILES (not whole rows, or past the last one). */
 uint32_t maskcull_draw_pieces(const maskcull_setup *setup, maskcull_tile *tiles, size_t tile_count, uint32_t first_row,
@@ -206,9 +208,9 @@ uint32_t maskcull_test(const maskcull_setup *setup, const maskcull_tile *tiles, 
 uint32_t maskcull_test_box(const maskcull_setup *setup, const maskcull_tile *tiles, size_t tile_count,
                            const maskcull_box *corners);
 
-/* Tests a mesh triangle by triangle, each from both sides: sharper than a box, and slower. OUTSIDE without a triangle,
- * or where all vertices are behind the near plane or no triangle comes near the screen; VISIBLE where a vertex is past
- * the guard. Vertices that no triangle names don't count.
+/* Tests a mesh triangle by triangle, each from both sides: more exact than a box, and slower. OUTSIDE without a
+ * triangle, or where all vertices are behind the near plane or no triangle comes near the screen; VISIBLE where a
+ * vertex is past the guard. Vertices that no triangle names don't count.
  * BAD_SETUP, BAD_TILES, BAD_INDEX. */
 uint32_t maskcull_test_mesh(const maskcull_setup *setup, const maskcull_tile *tiles, size_t tile_count,
                             const maskcull_vertex *vertices, size_t vertex_count,
@@ -240,7 +242,7 @@ static_assert(sizeof(maskcull_subtile_state) == 12 && offsetof(maskcull_subtile_
 
 /* From here on: help in C, around the calls. It is compiled into your program, and no proof covers it. */
 
-/* Empty tiles for a screen, and how many. NULL and 0 where there is no such screen or no memory. */
+/* Empty tiles for a screen, and how many. NULL and 0 where the size isn't allowed, or out of memory. */
 static inline maskcull_tile *maskcull_open(uint32_t width, uint32_t height, size_t *tile_count)
 {
     size_t count = maskcull_tile_count(width, height);
@@ -256,14 +258,14 @@ static inline void maskcull_close(maskcull_tile *tiles)
     free(tiles);
 }
 
-/* Whether a pointer can stand for so many elements. */
+/* Whether a pointer can be one to so many elements. */
 static inline int maskcull_is_there(const void *elements, size_t count)
 {
     return elements != NULL || count == 0;
 }
 
-/* The calls once more, for pointers that may be null: MASKCULL_NULL, and nothing is done, where one is null that has to
- * stand for something. With a count of 0 a null pointer is taken as no elements. */
+/* The same calls, for pointers that may be null. They do nothing and return MASKCULL_NULL where one is null that has to
+ * point to something; beside a count of 0 a null pointer is taken as no elements. */
 static inline uint32_t maskcull_checked_clear(maskcull_tile *tiles, size_t tile_count)
 {
     if (!maskcull_is_there(tiles, tile_count)) {

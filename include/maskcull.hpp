@@ -1,10 +1,10 @@
 // SPDX-License-Identifier: MIT OR Apache-2.0
 //
-// maskcull for C++17 programs that reckon in floats: a matrix and a mesh, or clip coordinates, go in as they are.
+// maskcull for C++17 programs that compute in floats: a matrix and a mesh, or clip coordinates, are passed as they are.
 //
-// The library takes whole numbers. What is rounded here is rounded so that an occluder never stands nearer and an
-// object never farther than it is, and an object is asked for as a little wider than it is: rounding never hides it.
-// No proof covers this file; maskcull.h says what its calls promise.
+// The library takes whole numbers. This file rounds to them so that an occluder is never nearer and an object never
+// farther than it is, and it tests an object as a little wider than it is: rounding never hides one. No proof covers
+// this file; maskcull.h says what its calls promise.
 //
 //     std::optional<maskcull::frame> frame = maskcull::frame::make(1280, 720, 0.1f);  // near distance 0.1
 //     const maskcull::mesh_view wall(vertices, sizeof vertices[0], vertex_count, indices, index_count);
@@ -20,12 +20,12 @@
 // Occluders reach from 8/7 of a near distance to 16384 near distances, 1.6 km for 10 cm; what of one lies farther is
 // cut off, and so is what is seen too much from its edge to say how far it is. What shows only through a slit between
 // two occluders, or between one and the screen's edge, may be called hidden where the slit is narrower than a pixel,
-// since a pixel is asked at its middle; or than three where occluders are at the near plane and rounding moves their
+// since a pixel is tested at its middle; or than three where occluders are at the near plane and rounding moves their
 // edges.
 //
 // All this holds too in a program that is compiled with -ffast-math, -ffinite-math-only or -Ofast: what is infinite or
 // no number is found by its bits as they lie in memory, and what a compiler may round otherwise is within the slack of
-// each bound. checks/c-library tries it with g++ and clang++. It is meant so for MSVC with /fp:fast, and untried there.
+// each bound. checks/c-library tests it with g++ and clang++. It is meant to hold for MSVC with /fp:fast, untested.
 #ifndef MASKCULL_HPP
 #define MASKCULL_HPP
 
@@ -45,13 +45,13 @@
 
 namespace maskcull {
 
-/// A point of clip space as a vertex shader hands it on, without z.
+/// A point of clip space as a vertex shader returns it, without z.
 struct clip_point {
     float x, y, w;
 };
 
-/// What is told of an object. Visible is also what can't be told; outside has nothing on the screen: it lies beside it,
-/// or behind the eye.
+/// What a test says of an object. Visible: not hidden, or not known to be. Outside: nothing of it is on the screen,
+/// since it lies beside it or behind the eye.
 enum class verdict { visible, occluded, outside };
 
 /// How the 16 numbers of a matrix lie in memory, for matrices that stand to the left of a column vector: column by
@@ -60,8 +60,8 @@ enum class verdict { visible, occluded, outside };
 enum class matrix_layout { columns, rows };
 
 struct options {
-    maskcull_winding winding = MASKCULL_KEEPS_BOTH;         // as occluders run on the screen
-    matrix_layout matrices = matrix_layout::columns;        // of every matrix that is handed over
+    maskcull_winding winding = MASKCULL_KEEPS_BOTH;         // of occluders, as they run on the screen
+    matrix_layout matrices = matrix_layout::columns;        // of every matrix that is passed
     bool y_is_down = false;                                 // y / w is 1 at the lower edge, as in Vulkan
 };
 
@@ -72,7 +72,7 @@ struct mesh_view {
     std::size_t stride;
     std::size_t vertex_count;
     const void *indices;
-    std::size_t index_count; // a number beyond the last three counts for nothing
+    std::size_t index_count; // one or two behind the last whole triangle are ignored
     bool is_short;           // indices of 2 bytes, else of 4
 
     mesh_view(const void *first_position, std::size_t bytes, std::size_t vertices, const std::uint16_t *numbers,
@@ -115,20 +115,21 @@ struct occluders {
     std::vector<maskcull_triangle> unclear = {};
 };
 
-/// What a frame drew and asked from one clearing to the next, in the whole numbers that the library was handed, as a
-/// scene that `maskcull cull` reads: so that a hole in a picture, or a slow frame, can be sent to others. Object k of
-/// the scene is the k-th question, a rectangle at a distance; `answers` has what was answered. A box is one question, a
-/// mesh several; what is told without the library, as of a box behind the eye, is none.
+/// What a frame drew and tested from one clearing to the next, in the whole numbers that were passed to the library, as
+/// a scene that `maskcull cull` reads: so that a hole in a picture, or a slow frame, can be sent to others. Object k of
+/// the scene is the k-th call of the library that tested something, a rectangle at a distance; `answers` has what each
+/// returned. A box takes one call, a mesh several; what is known without a call, as of a box behind the eye, isn't
+/// recorded.
 ///
-/// The program draws all before it asks, so the scene tells the same where nothing was drawn after a question. What is
-/// asked farther than the guard is written as at the guard, so it may be visible there.
+/// The program draws all before it tests, so its verdicts are these answers where nothing was drawn after a test. What
+/// was tested farther than the guard is written as at the guard, so it may be visible there.
 class recorder {
 public:
-    /// What was answered to each question, MASKCULL_VISIBLE, MASKCULL_OCCLUDED or MASKCULL_OUTSIDE.
+    /// What each test returned: MASKCULL_VISIBLE, MASKCULL_OCCLUDED or MASKCULL_OUTSIDE.
     const std::vector<std::uint32_t> &answers() const { return answers_; }
 
     /// The bytes of the scene; none where nothing was recorded, or more than a scene can have: 262,144 vertices, 65,536
-    /// triangles and as many questions.
+    /// triangles and as many tests.
     std::vector<unsigned char> scene() const {
         std::lock_guard<std::mutex> lock(busy_);
         if (setup_.width == 0 || vertices_.size() > 262144 || triangles_.size() > 65536 || areas_.size() > 65536) {
@@ -192,11 +193,14 @@ private:
         return std::max({v.x, v.y, v.w}) <= guard && std::min({v.x, v.y, v.w}) >= -guard;
     }
 
-    void add(const occluders &drawn) {
+    void add(const occluders &drawn) { add(drawn, 0, drawn.triangles.size()); }
+
+    void add(const occluders &drawn, std::size_t first, std::size_t count) {
         std::lock_guard<std::mutex> lock(busy_);
         const std::uint32_t none = 0xffffffff;
         std::vector<std::uint32_t> places(drawn.vertices.size(), none);
-        for (const maskcull_triangle &t : drawn.triangles) {
+        for (std::size_t j = first; j < first + count; j++) {
+            const maskcull_triangle &t = drawn.triangles[j];
             const std::uint32_t numbers[3] = {t.a, t.b, t.c};
             bool is_drawn = true;
             for (const std::uint32_t k : numbers) is_drawn = is_drawn && is_within(drawn.vertices[k]);
@@ -227,12 +231,13 @@ private:
     std::vector<std::uint32_t> answers_;
 };
 
-/// A screen's tiles, its size and its near distance. It can be moved and not copied; a frame that was moved away draws
-/// nothing and hides nothing. While one thread draws or clears, no other uses the frame but for bands of other rows;
-/// any number may prepare and test.
+/// A screen's tiles, its size and its near distance. It can be moved and not copied; a frame that was moved from draws
+/// nothing and hides nothing. Precondition: while one thread draws or clears, no other uses the frame but for bands of
+/// other rows. Any number of threads may prepare and test at the same time.
 class frame {
 public:
-    /// Nothing where there is no such screen (see maskcull_setup), or the near distance isn't a finite number above 0.
+    /// An empty frame; nothing where the size isn't allowed (see maskcull_setup), or the near distance isn't a finite
+    /// number above 0.
     static std::optional<frame> make(std::uint32_t width, std::uint32_t height, const float &near_distance,
                                      maskcull_winding winding = MASKCULL_KEEPS_BOTH) {
         options chosen;
@@ -259,18 +264,18 @@ public:
         if (recorder_ != nullptr) recorder_->begin(setup_);
     }
 
-    /// From the next clearing on all that is drawn and asked is recorded too; nullptr ends it. The recorder has to be
-    /// there as long as the frame writes to it.
+    /// From the next clearing on all that is drawn and tested is recorded too; nullptr ends it. Precondition: the
+    /// recorder lives as long as the frame writes to it.
     void record_to(recorder *where) { recorder_ = where; }
 
-    /// To be read by maskcull_subtile. What maskcull.h says of copies holds of these tiles too.
+    /// For maskcull_subtile and maskcull_nearness. What maskcull.h says of copies holds of these tiles too.
     const std::vector<maskcull_tile> &tiles() const { return tiles_; }
 
     std::uint32_t row_count() const { return (setup_.height + 7) / 8; }
 
-    /// Rounds occluders. A triangle with a point that is no number, or farther than some 70 million near distances, is
-    /// dropped; of one that reaches farther than occluders can, or is seen too much from its edge to say how far it is,
-    /// that part is cut off. One that names a point that isn't there stays: then nothing is drawn.
+    /// Rounds occluders. A triangle with a point that is infinite, NaN or farther than some 70 million near distances
+    /// is dropped; of one that reaches farther than occluders can, or is seen too much from its edge to say how far it
+    /// is, that part is cut off. One that names a point that isn't there stays: then nothing is drawn.
     occluders prepare(const clip_point *points, std::size_t point_count, const maskcull_triangle *triangles,
                       std::size_t triangle_count) const {
         occluders made;
@@ -278,8 +283,8 @@ public:
         return made;
     }
 
-    /// The same in place of what the occluders were. Their memory is used again, so a frame like the last one takes no
-    /// more.
+    /// The same in place of what the occluders were. Their memory is used again, so a frame like the last one allocates
+    /// nothing.
     void prepare_into(occluders &made, const clip_point *points, std::size_t point_count,
                       const maskcull_triangle *triangles, std::size_t triangle_count) const {
         prepare_behind({0, 0}, made, points, point_count, triangles, triangle_count);
@@ -308,8 +313,8 @@ public:
         return status;
     }
 
-    /// Draws a mesh: MASKCULL_DONE, MASKCULL_NULL, or MASKCULL_BAD_INDEX where it names a vertex that isn't there. With
-    /// a matrix that has no number somewhere nothing is drawn. Memory for it is kept in the frame.
+    /// Draws a mesh: MASKCULL_DONE, MASKCULL_NULL, or MASKCULL_BAD_INDEX where it names a vertex that isn't there.
+    /// Where an element of the matrix is infinite or NaN nothing is drawn. Memory for it is kept in the frame.
     std::uint32_t draw(const float model_to_clip[16], const mesh_view &mesh) {
         if (model_to_clip == nullptr || !mesh.is_there()) return MASKCULL_NULL;
         prepare_into(room_, model_to_clip, mesh);
@@ -317,20 +322,44 @@ public:
     }
 
     /// Draws prepared occluders onto some rows of tiles. Threads may do so at the same time, each onto rows of its own.
+    /// Each of them sets all triangles up; with many triangles it is set_up and draw_pieces that share this too.
     std::uint32_t draw_band(std::uint32_t first_row, std::uint32_t rows, const occluders &drawn) {
-        const std::size_t columns = (setup_.width + 31) / 32;
-        if (tiles_.empty() || first_row > row_count() || rows > row_count() - first_row) return MASKCULL_BAD_TILES;
+        if (!has_rows(first_row, rows)) return MASKCULL_BAD_TILES;
         const std::uint32_t status = maskcull_checked_draw_band(
-            &setup_, tiles_.data() + columns * first_row, columns * rows, first_row, drawn.vertices.data(),
+            &setup_, tiles_.data() + columns() * first_row, columns() * rows, first_row, drawn.vertices.data(),
             drawn.vertices.size(), drawn.triangles.data(), drawn.triangles.size());
         // all bands draw the same: it is recorded once
         if (recorder_ != nullptr && status == MASKCULL_DONE && first_row == 0 && rows > 0) recorder_->add(drawn);
         return status;
     }
 
+    /// Sets some triangles of prepared occluders up, `count` of them from number `first` on, as maskcull_set_up does:
+    /// MASKCULL_DONE, MASKCULL_BAD_ROOM without room for two pieces a triangle, or MASKCULL_BAD_INDEX. Threads may do
+    /// so at the same time, each into room of its own. A recorder takes triangles in the order in which they are set
+    /// up.
+    std::uint32_t set_up(const occluders &drawn, std::size_t first, std::size_t count, maskcull_piece *pieces,
+                         std::size_t room, std::size_t &piece_count) const {
+        if (first > drawn.triangles.size() || count > drawn.triangles.size() - first) return MASKCULL_BAD_INDEX;
+        const std::uint32_t status = maskcull_checked_set_up(
+            &setup_, drawn.vertices.data(), drawn.vertices.size(), drawn.triangles.data() + first, count, pieces, room,
+            &piece_count);
+        if (recorder_ != nullptr && status == MASKCULL_DONE) recorder_->add(drawn, first, count);
+        return status;
+    }
+
+    /// Draws pieces onto some rows of tiles: MASKCULL_DONE, or MASKCULL_BAD_TILES where there are no such rows. Threads
+    /// may do so at the same time, each onto rows of its own. Precondition: the pieces were set up by a frame of this
+    /// size and near distance.
+    std::uint32_t draw_pieces(std::uint32_t first_row, std::uint32_t rows, const maskcull_piece *pieces,
+                              std::size_t piece_count) {
+        if (!has_rows(first_row, rows)) return MASKCULL_BAD_TILES;
+        return maskcull_checked_draw_pieces(&setup_, tiles_.data() + columns() * first_row, columns() * rows, first_row,
+                                            pieces, piece_count);
+    }
+
     /// Whether all within some points is hidden, as within the eight corners of a box. False also where it isn't on the
-    /// screen, and where a point is no number, infinite or before 8/7 of the near distance. It may be further than
-    /// occluders can be.
+    /// screen, and where a point is infinite, NaN or before 8/7 of the near distance. It may be farther than occluders
+    /// can be.
     bool is_hidden(const clip_point *points, std::size_t count) const {
         if (tiles_.empty() || count == 0) return false;
         const unsigned char *at = hidden_from_compiler(points);
@@ -346,9 +375,9 @@ public:
         return verdict_of(e) == verdict::occluded;
     }
 
-    /// The verdict of all within a box between two corners, `low` and `high` on each axis. Visible too where a corner
-    /// is before 8/7 of the near distance and not all of the box is beside the screen or behind the eye, and where a
-    /// number is none.
+    /// The verdict of a box that reaches from `low` to `high` on each axis. Visible too where a number is infinite or
+    /// NaN, and where a corner is before 8/7 of the near distance, unless all of the box is beside the screen or behind
+    /// the eye.
     verdict test_aabb(const float world_to_clip[16], const float low[3], const float high[3]) const {
         matrix_rows r;
         double3 first, last;
@@ -364,9 +393,10 @@ public:
         return verdict_of(h);
     }
 
-    /// The verdict of a mesh, each triangle of which is tested as the rectangle around it: sharper than a box, and
-    /// slower. Outside without a triangle; visible where a triangle's vertex isn't there, is no number or is before 8/7
-    /// of the near distance, unless that triangle is beside the screen or behind the eye. Other vertices don't count.
+    /// The verdict of a mesh, each triangle of which is tested as the rectangle around it: more exact than a box, and
+    /// slower. Outside without a triangle; visible where a triangle's vertex isn't there, is infinite, NaN or before
+    /// 8/7 of the near distance, unless that triangle is beside the screen or behind the eye. Other vertices don't
+    /// count.
     verdict test_mesh(const float model_to_clip[16], const mesh_view &mesh) const {
         matrix_rows r;
         if (tiles_.empty() || !mesh.is_there() || !read(model_to_clip, r)) return verdict::visible;
@@ -405,6 +435,12 @@ private:
         : setup_(setup), scale_(scale), up_scale_(chosen.y_is_down ? -scale : scale), matrices_(chosen.matrices),
           tiles_(count) {}
 
+    std::size_t columns() const { return (setup_.width + 31) / 32; }
+
+    bool has_rows(std::uint32_t first_row, std::uint32_t rows) const {
+        return !tiles_.empty() && first_row <= row_count() && rows <= row_count() - first_row;
+    }
+
     struct double3 {
         double x, y, w;
         double3 operator-(const double3 &o) const { return {x - o.x, y - o.y, w - o.w}; }
@@ -415,7 +451,7 @@ private:
         double x[4], y[4], w[4];
     };
 
-    // Points, of which all that is between them is asked.
+    // Points, of which all that is between them is tested.
     template <std::size_t N> struct hull {
         double x[N], y[N], w[N];
     };
@@ -427,14 +463,14 @@ private:
 
     static_assert(sizeof(float) == 4 && std::numeric_limits<float>::digits == 24
                       && std::numeric_limits<float>::max_exponent == 128,
-                  "maskcull.hpp tells by the bits of a float whether it is a number: hand over IEEE 754's floats");
+                  "maskcull.hpp tells by the bits of a float whether it is a number: it needs floats of IEEE 754");
 
     // Bits without the sign: of the least normal number, and of infinity, above which are those of no number.
     static constexpr std::uint32_t least_normal = 0x00800000, infinity = 0x7f800000;
 
     // The same place, of which a compiler doesn't know that it is the same. Under -ffinite-math-only it takes it that a
-    // float which is handed over by value, or which it has seen reckoned, is neither infinite nor no number, and leaves
-    // out what asks for it, even of its bits. What is read from here lies in memory for all it knows.
+    // float which is passed by value, or which it has seen computed, is neither infinite nor NaN, and leaves out what
+    // tests for it, even by its bits. What is read from here lies in memory for all it knows.
     static const unsigned char *hidden_from_compiler(const void *place) {
         const void *volatile kept = place;
         return static_cast<const unsigned char *>(kept);

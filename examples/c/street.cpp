@@ -3,8 +3,8 @@
 //     c++ -std=c++17 -Iinclude examples/c/street.cpp crates/maskcull_c/out/libmaskcull_c.a -pthread -o street
 //     ./street
 //
-// Each frame is drawn twice, by four threads onto a quarter of the rows of tiles each, and by one thread: the tiles
-// have to be the same byte for byte.
+// Each frame is drawn three times: by one thread, by four threads onto a quarter of the rows of tiles each, and from
+// pieces that four threads set up and then draw onto these rows. The tiles have to be the same byte for byte.
 //
 // Lengths are metres; x is counted from the camera's lane to the right, y from the eye upwards, z along the street. The
 // camera looks along z, so w is z less the camera's place. The view is 90 degrees wide and the screen twice as wide as
@@ -108,17 +108,42 @@ maskcull::occluders walls_seen(const maskcull::frame &frame, const street &s, fl
     return frame.prepare(points.data(), points.size(), s.triangles.data(), s.triangles.size());
 }
 
-// The rows are shared out: each thread has those from its share of the way down to the next one's.
-bool draw_by_threads(maskcull::frame &frame, const maskcull::occluders &walls) {
+// Shares some things out: each thread has those from its share of the way to the next one's. Whether all is done.
+template <class Work> bool share(std::uint32_t things, const Work &work) {
     std::uint32_t answers[thread_count];
     std::vector<std::thread> threads;
     for (std::uint32_t k = 0; k < thread_count; k++) {
-        const std::uint32_t first = frame.row_count() * k / thread_count;
-        const std::uint32_t end = frame.row_count() * (k + 1) / thread_count;
-        threads.emplace_back([&, k, first, end] { answers[k] = frame.draw_band(first, end - first, walls); });
+        const std::uint32_t first = things * k / thread_count, end = things * (k + 1) / thread_count;
+        threads.emplace_back([&answers, &work, k, first, end] { answers[k] = work(k, first, end - first); });
     }
     for (std::thread &thread : threads) thread.join();
     return std::count(answers, answers + thread_count, std::uint32_t{MASKCULL_DONE}) == thread_count;
+}
+
+bool draw_by_threads(maskcull::frame &frame, const maskcull::occluders &walls) {
+    return share(frame.row_count(), [&](std::uint32_t, std::uint32_t first_row, std::uint32_t rows) {
+        return frame.draw_band(first_row, rows, walls);
+    });
+}
+
+bool draw_by_pieces(maskcull::frame &frame, const maskcull::occluders &walls) {
+    std::vector<maskcull_piece> pieces[thread_count];
+    const auto count = static_cast<std::uint32_t>(walls.triangles.size());
+    const auto set_up = [&](std::uint32_t k, std::uint32_t first, std::uint32_t triangles) {
+        std::size_t made = 0;
+        pieces[k].resize(2 * triangles);
+        const auto status = frame.set_up(walls, first, triangles, pieces[k].data(), pieces[k].size(), made);
+        pieces[k].resize(made);
+        return status;
+    };
+    const auto draw = [&](std::uint32_t, std::uint32_t first_row, std::uint32_t rows) {
+        std::uint32_t status = MASKCULL_DONE;
+        for (const auto &slice : pieces) {
+            if (status == MASKCULL_DONE) status = frame.draw_pieces(first_row, rows, slice.data(), slice.size());
+        }
+        return status;
+    };
+    return share(count, set_up) && share(frame.row_count(), draw);
 }
 
 bool are_same(const maskcull::frame &one, const maskcull::frame &other) {
@@ -132,18 +157,21 @@ bool are_same(const maskcull::frame &one, const maskcull::frame &other) {
 int main() {
     const street s = make_street();
     auto by_four = maskcull::frame::make(1280, 640, 0.1f), by_one = maskcull::frame::make(1280, 640, 0.1f);
-    if (!by_four || !by_one) return 1;
+    auto by_pieces = maskcull::frame::make(1280, 640, 0.1f);
+    if (!by_four || !by_one || !by_pieces) return 1;
     for (const float camera : {0.0f, 10.0f, 18.0f, 22.0f, 30.0f, 38.0f}) {
         const maskcull::occluders walls = walls_seen(*by_four, s, camera);
-        by_four->clear();
-        by_one->clear();
-        if (!draw_by_threads(*by_four, walls) || by_one->draw(walls) != MASKCULL_DONE) return 1;
+        for (maskcull::frame *frame : {&*by_four, &*by_one, &*by_pieces}) frame->clear();
+        if (by_one->draw(walls) != MASKCULL_DONE || !draw_by_threads(*by_four, walls)
+            || !draw_by_pieces(*by_pieces, walls)) {
+            return 1;
+        }
         const auto hidden = std::count_if(s.crates.begin(), s.crates.end(), [&](const block &crate) {
             return is_crate_hidden(*by_four, crate, camera);
         });
         std::printf("at %d: %d of %d crates are hidden; tiles of four threads and of one: %s\n",
                     static_cast<int>(camera), static_cast<int>(hidden), static_cast<int>(s.crates.size()),
-                    are_same(*by_four, *by_one) ? "the same" : "not the same");
+                    are_same(*by_four, *by_one) && are_same(*by_pieces, *by_one) ? "the same" : "not the same");
     }
     return 0;
 }

@@ -1,15 +1,17 @@
-// A frame drawn by a pool of threads that is kept from frame to frame: bands of rows of tiles, several for each thread,
-// dealt in turn to whoever is free.
+// A frame drawn by a pool of threads that is kept from frame to frame. First they set the triangles up, slice by slice,
+// and then they draw the pieces of all slices onto bands of rows of tiles; slices and bands are dealt in turn to
+// whoever is free.
 //
 //     c++ -std=c++17 -O2 -Iinclude examples/c/threads.cpp crates/maskcull_c/out/libmaskcull_c.a -pthread -o threads
-//     ./threads [THREADS]    with a number of threads: how long it takes
+//     ./threads [THREADS]    with a number of threads: how long a frame takes by one thread, and by so many
 //
-// The triangles are those of examples/c/measure.c and of `demo`'s first frame: random ones between near and far. Rows
-// and not columns are shared out, since the tiles of a row lie one after another in memory, and no two calls that write
-// may be handed tiles of one another. A band of a few rows in the middle of the screen may be as much work as the rest
-// of it, so there are more bands than threads.
+// The triangles are those of examples/c/measure.c and of `demo`'s first frame: random ones between near and far. A band
+// in the middle of the screen is more work than one at its edge, so there are several bands for each thread. Bands are
+// rows and not columns, since the tiles of a row lie one after another in memory, and no two calls that write may be
+// passed the same tiles.
 #include "maskcull.h"
 
+#include <algorithm>
 #include <atomic>
 #include <chrono>
 #include <condition_variable>
@@ -22,43 +24,43 @@
 
 namespace {
 
-// Threads that are kept. `run` has a job done for each number below a count, by them and by the caller.
+// Threads that are kept. `run` calls some work with each number below a count, on these threads and the caller's.
 class pool {
 public:
+    using job = std::function<void(unsigned)>;
+
     explicit pool(unsigned helpers) {
         for (unsigned k = 0; k < helpers; k++) threads_.emplace_back([this] { help(); });
     }
 
     ~pool() {
-        {
-            std::lock_guard<std::mutex> lock(mutex_);
-            is_over_ = true;
-        }
-        begun_.notify_all();
+        begin(nullptr, 0);
         for (std::thread &thread : threads_) thread.join();
     }
 
-    void run(unsigned count, const std::function<void(unsigned)> &job) {
-        std::unique_lock<std::mutex> lock(mutex_);
-        job_ = &job, count_ = count, next_ = 0, working_ = threads_.size(), round_++;
-        begun_.notify_all();
-        lock.unlock();
+    void run(unsigned count, const job &work) {
+        begin(&work, count);
         take_turns();
-        lock.lock();
+        std::unique_lock<std::mutex> lock(mutex_);
         ended_.wait(lock, [this] { return working_ == 0; });
     }
 
 private:
+    void begin(const job *work, unsigned count) {
+        std::lock_guard<std::mutex> lock(mutex_);
+        work_ = work, count_ = count, next_ = 0, working_ = threads_.size(), round_++;
+        begun_.notify_all();
+    }
+
     void take_turns() {
-        for (unsigned k = next_++; k < count_; k = next_++) (*job_)(k);
+        for (unsigned k = next_++; k < count_; k = next_++) (*work_)(k);
     }
 
     void help() {
         std::unique_lock<std::mutex> lock(mutex_);
-        for (unsigned long seen = 0;;) {
-            begun_.wait(lock, [&] { return is_over_ || round_ != seen; });
-            if (is_over_) return;
-            seen = round_;
+        for (unsigned long seen = 0;; seen++) {
+            begun_.wait(lock, [&] { return round_ != seen; });
+            if (work_ == nullptr) return;
             lock.unlock();
             take_turns();
             lock.lock();
@@ -69,17 +71,18 @@ private:
     std::mutex mutex_;
     std::condition_variable begun_, ended_;
     std::vector<std::thread> threads_;
-    const std::function<void(unsigned)> *job_ = nullptr;
-    unsigned count_ = 0;
+    const job *work_ = nullptr; // none when all is over
     std::atomic<unsigned> next_{0};
+    unsigned count_ = 0;
     std::size_t working_ = 0;
     unsigned long round_ = 0;
-    bool is_over_ = false;
 };
 
-constexpr std::uint32_t triangle_count = 20000, rows_in_band = 4;
 constexpr maskcull_setup setup = {1280, 720, 16, MASKCULL_KEEPS_BOTH};
 constexpr std::uint32_t columns = (setup.width + 31) / 32, rows = (setup.height + 7) / 8;
+constexpr unsigned triangle_count = 20000, slice_triangles = 1000, band_rows = 6;
+constexpr unsigned slices = (triangle_count + slice_triangles - 1) / slice_triangles;
+constexpr unsigned bands = (rows + band_rows - 1) / band_rows;
 
 std::uint64_t state = 1;
 
@@ -88,10 +91,13 @@ std::int32_t below(std::int32_t end) {
     return static_cast<std::int32_t>((state >> 33) % static_cast<std::uint64_t>(end));
 }
 
+// What is drawn, and memory that is kept from frame to frame. Each slice's pieces lie at the head of its room.
 struct frame {
     std::vector<maskcull_vertex> vertices;
     std::vector<maskcull_triangle> triangles;
-    std::vector<maskcull_tile> tiles{maskcull_tile_count(setup.width, setup.height)};
+    std::vector<maskcull_piece> pieces = std::vector<maskcull_piece>(2 * triangle_count);
+    std::size_t piece_counts[slices] = {};
+    std::vector<maskcull_tile> tiles = std::vector<maskcull_tile>(maskcull_tile_count(setup.width, setup.height));
 };
 
 void make_triangles(frame &f) {
@@ -107,32 +113,51 @@ void make_triangles(frame &f) {
     }
 }
 
-// Empties a band and draws all triangles onto it.
-bool draw_band(frame &f, std::uint32_t first_row, std::uint32_t end_row) {
+bool draw_by_one(frame &f) {
+    maskcull_clear(f.tiles.data(), f.tiles.size());
+    return maskcull_draw(&setup, f.tiles.data(), f.tiles.size(), f.vertices.data(), f.vertices.size(),
+                         f.triangles.data(), f.triangles.size()) == MASKCULL_DONE;
+}
+
+bool set_up_slice(frame &f, unsigned slice) {
+    const unsigned first = slice * slice_triangles, count = std::min(slice_triangles, triangle_count - first);
+    return maskcull_set_up(&setup, f.vertices.data(), f.vertices.size(), f.triangles.data() + first, count,
+                           f.pieces.data() + 2 * first, 2 * count, &f.piece_counts[slice]) == MASKCULL_DONE;
+}
+
+// Empties a band, and draws all slices onto it, in order.
+bool draw_band(frame &f, unsigned band) {
+    const std::uint32_t first_row = band * band_rows, row_count = std::min(band_rows, rows - first_row);
     maskcull_tile *tiles = f.tiles.data() + columns * first_row;
-    const std::size_t count = columns * (end_row - first_row);
+    const std::size_t count = columns * row_count;
     maskcull_clear(tiles, count);
-    return maskcull_draw_band(&setup, tiles, count, first_row, f.vertices.data(), f.vertices.size(), f.triangles.data(),
-                              f.triangles.size()) == MASKCULL_DONE;
+    bool is_drawn = true;
+    for (unsigned k = 0; k < slices; k++) {
+        const maskcull_piece *pieces = f.pieces.data() + 2 * slice_triangles * k;
+        is_drawn &= maskcull_draw_pieces(&setup, tiles, count, first_row, pieces, f.piece_counts[k]) == MASKCULL_DONE;
+    }
+    return is_drawn;
 }
 
-bool draw_by_pool(frame &f, pool &threads, unsigned band_rows) {
-    std::atomic<unsigned> done{0};
-    const unsigned bands = (rows + band_rows - 1) / band_rows;
-    threads.run(bands, [&](unsigned k) {
-        const std::uint32_t first = k * band_rows, end = first + band_rows < rows ? first + band_rows : rows;
-        if (draw_band(f, first, end)) done++;
+bool draw_by_pool(frame &f, pool &threads) {
+    std::atomic<bool> is_drawn{true};
+    threads.run(slices, [&](unsigned k) {
+        if (!set_up_slice(f, k)) is_drawn = false;
     });
-    return done == bands;
+    threads.run(bands, [&](unsigned k) {
+        if (!draw_band(f, k)) is_drawn = false;
+    });
+    return is_drawn;
 }
 
-double milliseconds(const std::function<void()> &work) {
+// The least of some rounds.
+template <class Work> double milliseconds(const Work &work) {
     double least = 1e300;
-    for (int round = 0; round < 20; round++) {
+    for (int round = 0; round < 40; round++) {
         const auto begin = std::chrono::steady_clock::now();
         work();
         const std::chrono::duration<double, std::milli> taken = std::chrono::steady_clock::now() - begin;
-        least = taken.count() < least ? taken.count() : least;
+        least = std::min(least, taken.count());
     }
     return least;
 }
@@ -140,23 +165,21 @@ double milliseconds(const std::function<void()> &work) {
 } // namespace
 
 int main(int count, char **words) {
-    const unsigned thread_count = count > 1 ? static_cast<unsigned>(std::atoi(words[1])) : 4;
+    const int thread_count = count > 1 ? std::atoi(words[1]) : 4;
     if (thread_count < 1 || thread_count > 64) return 2;
     frame by_one, by_pool;
     make_triangles(by_one);
     by_pool.vertices = by_one.vertices, by_pool.triangles = by_one.triangles;
-    pool threads(thread_count - 1);
-    bool is_drawn = draw_band(by_one, 0, rows);
-    for (int k = 0; k < 3; k++) is_drawn = draw_by_pool(by_pool, threads, rows_in_band) && is_drawn;
+    pool threads(static_cast<unsigned>(thread_count - 1));
+    bool is_drawn = draw_by_one(by_one);
+    for (int k = 0; k < 3; k++) is_drawn = draw_by_pool(by_pool, threads) && is_drawn;
     const std::size_t bytes = by_one.tiles.size() * sizeof(maskcull_tile);
     const bool are_same = is_drawn && std::memcmp(by_one.tiles.data(), by_pool.tiles.data(), bytes) == 0;
     std::printf("tiles of the pool and of one thread: %s\n", are_same ? "the same" : "not the same");
     if (count > 1) {
-        std::printf("one thread     %7.3f ms\n", milliseconds([&] { draw_band(by_one, 0, rows); }));
-        for (const unsigned band_rows : {4u, 8u, 12u, (rows + thread_count - 1) / thread_count}) {
-            std::printf("%2u threads     %7.3f ms, by bands of %u rows\n", thread_count,
-                        milliseconds([&] { draw_by_pool(by_pool, threads, band_rows); }), band_rows);
-        }
+        const double one = milliseconds([&] { draw_by_one(by_one); });
+        const double all = milliseconds([&] { draw_by_pool(by_pool, threads); });
+        std::printf("1 thread %.3f ms, %d threads %.3f ms: %.2f of it\n", one, thread_count, all, all / one);
     }
     return are_same ? 0 : 1;
 }
