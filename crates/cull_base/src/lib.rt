@@ -5,6 +5,7 @@
 pub mod arithmetic;
 mod clip;
 mod divisor;
+pub mod eights;
 mod extent;
 mod frame_list;
 mod memory;

@@ -3,6 +3,7 @@ ghost use Rattle.std.specs.Prelude.{◌≡◌, ◌≤◌, ◌&&◌};
 ghost use Rattle.cull_base.specs.Screen.{IsSize};
 
 use crate::arithmetic::pixel_of;
+use crate::place::Tile;
 use crate::rect::Rect;
 use crate::size;
 use crate::size::Size;
@@ -74,6 +75,18 @@ impl TileSpan {
             first_row,
             end_row: self.end_row.clamp(first_row, other.end_row),
         }
+    }
+
+    /// Whether the tile at a place stands in the span.
+    pub fn has(&self, place: Tile) -> bool
+        ensures { result ≡ has_tile self.now place }
+    {
+        let column = u32::from(place.column);
+        let row = u32::from(place.row);
+        self.first_row <= row
+            && row < self.end_row
+            && self.first_column <= column
+            && column < self.end_column
     }
 
     /// How many tiles stand side by side.
