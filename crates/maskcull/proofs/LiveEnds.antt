@@ -37,7 +37,7 @@ nothing_appended says = by says.holding
     by None = refl
     by (Some h) = ap Some (sym (append-nil h))
 
--- a whole text is a front of a longer one
+-- a whole text is a beginning of a longer one
 pub whole_is_front : (s0 s1 : SinkSays) (a b : List ℕ) → Appends s0 s1 a → AppendsPrefix s0 s1 (a ++ b)
 whole_is_front s0 s1 a b h = (length a, omega (arith, length-append a b), rw (take-append-le (length a) a b (omega arith), take-length a) h)
 
@@ -45,11 +45,11 @@ whole_is_front s0 s1 a b h = (length a, omega (arith, length-append a b), rw (ta
 pub all_is_front : (s0 s1 : SinkSays) (a : List ℕ) → Appends s0 s1 a → AppendsPrefix s0 s1 a
 all_is_front s0 s1 a h = (length a, omega arith, rw (take-length a) h)
 
--- a front is one of a longer text
+-- a beginning is one of a longer text
 pub front_of_more : (s0 s1 : SinkSays) (a b : List ℕ) → AppendsPrefix s0 s1 a → AppendsPrefix s0 s1 (a ++ b)
 front_of_more s0 s1 a b (n, le, h) = (n, omega (arith, length-append a b), rw (take-append-le n a b le) h)
 
--- a front after a whole text
+-- a beginning after a whole text
 pub front_then : (s0 s1 s2 : SinkSays) (a b : List ℕ) → Appends s0 s1 a → AppendsPrefix s1 s2 b → AppendsPrefix s0 s2 (a ++ b)
 front_then s0 s1 s2 a b h (n, le, f) = (length a + n, omega (arith, length-append a b), rw (take-append-add a b n) (appends_then s0 s1 s2 a (take n b) h f))
 
@@ -167,7 +167,7 @@ live_next s rounds watch counts k r0 r r' n0 n n' so frame =
       },
     )
 
--- the lines of the frames before one and a front of its own are a front of the live text
+-- the lines of the frames before one and a beginning of its own are a beginning of the live text
 lines_are_front : (s : Parts) (rounds watch : ℕ) (counts : Counts) (k m : ℕ) → k < length s.cameras → m ≤ length (frame_live s rounds watch (counts k) k)
     → (n : ℕ) × (n ≤ length (live_text s rounds watch counts))
     × (take n (live_text s rounds watch counts) ≡ frames_live s rounds watch counts k ++ take m (frame_live s rounds watch (counts k) k))
@@ -293,7 +293,7 @@ live_whole s rounds watch counts k r0 r n0 n so is hidden = record {
   stay = so.stay;
 }
 
--- only a front of the header was written, or no more than the header
+-- only a beginning of the header was written, or no more than the header
 pub header_ends : (s : Parts) (rounds watch : ℕ) (f : Failure) (r0 r n : SinkSays) → IsScene s → AppendsPrefix r0 r (scene_header s) → (f ≡ NotesFault → ⊥) → IsLiveFailure f r0 r n n → r0.faults ≤ r.faults
     → ReportsLive s rounds watch r0 r n n (Err f)
 header_ends s rounds watch f r0 r n scene h other cause stays = record {

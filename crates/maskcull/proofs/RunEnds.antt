@@ -92,7 +92,7 @@ front_noted s rounds watch f r0 r1 n0 n1 n2 gains stay noted = record {
   hidden = gains.hidden;
 }
 
--- nothing but a note that memory was wanted
+-- nothing but a note that memory ran out
 pub none_noted : (s : Parts) (rounds watch : ℕ) (r n0 n2 : SinkSays) → IsScene s → IsNoted n0 n2 (status_text statuses.Memory) → GainsLiveFront s rounds watch r r n0 n2 statuses.Memory
 none_noted s rounds watch r n0 n2 scene noted =
     front_noted s rounds watch Memory r r n0 n0 n2 (nothing_gained s rounds watch Memory r n0 scene) (record { faults = omega arith; refusals = omega arith }) noted
@@ -123,29 +123,29 @@ each_only source s P only p = by source.left only
     by None only = tt
     by (Some bytes) only = λ t is. subst P (sym (only t is.scene is.spelled)) p
 
-pub live_gained : (source : SourceSays) (s : Parts) (rounds watch : ℕ) (r0 r1 n0 n1 : SinkSays) (r : Result (Unit {0}) Failure) → IsOnlyScene source s → ReportsLive s rounds watch r0 r1 n0 n1 r
+pub live_gained : {s : Parts} {rounds watch : ℕ} {r0 r1 n0 n1 : SinkSays} (source : SourceSays) (r : Result (Unit {0}) Failure) → IsOnlyScene source s → ReportsLive s rounds watch r0 r1 n0 n1 r
     → OnOk r (EachScene source (λ t. GainsLive t rounds watch n0 n1))
-live_gained source s rounds watch r0 r1 n0 n1 (Ok x) only rep = each_only source s (λ t. GainsLive t rounds watch n0 n1) only rep.ok.1
-live_gained source s rounds watch r0 r1 n0 n1 (Err f) only rep = tt
+live_gained {s = s} {rounds = rounds} {watch = watch} {n0 = n0} {n1 = n1} source (Ok x) only rep = each_only source s (λ t. GainsLive t rounds watch n0 n1) only rep.ok.1
+live_gained source (Err f) only rep = tt
 
-pub live_rising : (source : SourceSays) (s : Parts) (rounds watch : ℕ) (r0 r1 n0 n1 : SinkSays) (r : Result (Unit {0}) Failure) → IsOnlyScene source s → ReportsLive s rounds watch r0 r1 n0 n1 r
+pub live_rising : {s : Parts} {rounds watch : ℕ} {r0 r1 n0 n1 : SinkSays} (source : SourceSays) (r : Result (Unit {0}) Failure) → IsOnlyScene source s → ReportsLive s rounds watch r0 r1 n0 n1 r
     → IfErr r (λ f. (f ≡ NotesFault → ⊥) → EachScene source (λ t. GainsRising t rounds watch f r0 r1 n0 n1))
-live_rising source s rounds watch r0 r1 n0 n1 (Ok x) only rep = tt
-live_rising source s rounds watch r0 r1 n0 n1 (Err f) only rep = λ other. each_only source s (λ t. GainsRising t rounds watch f r0 r1 n0 n1) only (rep.front other)
+live_rising source (Ok x) only rep = tt
+live_rising {s = s} {rounds = rounds} {watch = watch} {r0 = r0} {r1 = r1} {n0 = n0} {n1 = n1} source (Err f) only rep = λ other. each_only source s (λ t. GainsRising t rounds watch f r0 r1 n0 n1) only (rep.front other)
 
-pub live_stops : (source : SourceSays) (s : Parts) (rounds watch : ℕ) (r0 r1 n0 n1 : SinkSays) (r : Result (Unit {0}) Failure) → IsOnlyScene source s → ReportsLive s rounds watch r0 r1 n0 n1 r
+pub live_stops : {s : Parts} {rounds watch : ℕ} {r0 r1 n0 n1 : SinkSays} (source : SourceSays) (r : Result (Unit {0}) Failure) → IsOnlyScene source s → ReportsLive s rounds watch r0 r1 n0 n1 r
     → IsErrOf r NotesFault → EachScene source (λ t. StopsAtNotes t rounds watch r0 r1 n0 n1)
-live_stops source s rounds watch r0 r1 n0 n1 r only rep is = each_only source s (λ t. StopsAtNotes t rounds watch r0 r1 n0 n1) only (rep.stops is)
+live_stops {s = s} {rounds = rounds} {watch = watch} {r0 = r0} {r1 = r1} {n0 = n0} {n1 = n1} source r only rep is = each_only source s (λ t. StopsAtNotes t rounds watch r0 r1 n0 n1) only (rep.stops is)
 
-pub live_prefix : (source : SourceSays) (s : Parts) (rounds watch : ℕ) (r0 r1 n0 n1 : SinkSays) (r : Result (Unit {0}) Failure) → IsOnlyScene source s → ReportsLive s rounds watch r0 r1 n0 n1 r
+pub live_prefix : {s : Parts} {rounds watch : ℕ} {r0 r1 n0 n1 : SinkSays} (source : SourceSays) (r : Result (Unit {0}) Failure) → IsOnlyScene source s → ReportsLive s rounds watch r0 r1 n0 n1 r
     → OnErr r (GainsFront source r0 r1)
-live_prefix source s rounds watch r0 r1 n0 n1 (Ok x) only rep = tt
-live_prefix source s rounds watch r0 r1 n0 n1 (Err f) only rep = each_only source s (λ t. AppendsPrefix r0 r1 (report_text t)) only rep.err
+live_prefix source (Ok x) only rep = tt
+live_prefix {s = s} {r0 = r0} {r1 = r1} source (Err f) only rep = each_only source s (λ t. AppendsPrefix r0 r1 (report_text t)) only rep.err
 
-pub live_drawn : (source : SourceSays) (s : Parts) (rounds watch : ℕ) (r0 r1 n0 n1 : SinkSays) (r : Result (Unit {0}) Failure) → ReportsLive s rounds watch r0 r1 n0 n1 r
+pub live_drawn : {s : Parts} {rounds watch : ℕ} {r0 r1 n0 n1 : SinkSays} (source : SourceSays) (r : Result (Unit {0}) Failure) → ReportsLive s rounds watch r0 r1 n0 n1 r
     → EachScene source (λ _. OnErr r (IsErrOf r NotesFault ⊎ EndsAs r ReportFault))
-live_drawn source s rounds watch r0 r1 n0 n1 (Ok x) rep = each_of source (λ _. Unit {0}) (λ t. tt)
-live_drawn source s rounds watch r0 r1 n0 n1 (Err f) rep = each_of source (λ _. IsErrOf (Err f) NotesFault ⊎ EndsAs (Err f) ReportFault) (λ t. elim rep.cause [
+live_drawn source (Ok x) rep = each_of source (λ _. Unit {0}) (λ t. tt)
+live_drawn source (Err f) rep = each_of source (λ _. IsErrOf (Err f) NotesFault ⊎ EndsAs (Err f) ReportFault) (λ t. elim rep.cause [
   | inl m ↦ inr (inr (inr (ap Err m)))
   | inr rest ↦ elim rest [ inl w ↦ inr (inl (ap Err w.0)) | inr n ↦ inl (ap Err n.0) ]
 ])

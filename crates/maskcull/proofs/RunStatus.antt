@@ -69,7 +69,7 @@ pub refusal_not_done : (r : Refusal) → refusal_status r ≡ statuses.Done → 
 refusal_not_done refusals.Memory is = absurd cc
 refusal_not_done (refusals.Words text) is = absurd cc
 
--- words aren't refused where part of a report may stand: memory was wanted
+-- words aren't refused where part of a report may stand: memory ran out
 pub refusal_written : (r : Refusal) → MayHaveWritten (refusal_status r) → refusal_status r ≡ statuses.Memory
 refusal_written refusals.Memory may = refl
 refusal_written (refusals.Words text) may = elim may [ inl a ↦ absurd cc | inr b ↦ absurd cc ]
@@ -139,7 +139,7 @@ run_stops c source r0 r1 n0 n1 n2 noted h =
     (λ s. stops_then s rounds watch r0 r1 n0 n1 n2 (nothing_more n1 n2 noted)) each)
     h
 
--- a front of the lines was noted, and the note behind it
+-- a beginning of the lines was noted, and the note behind it
 pub run_front : (c : Command) (source : SourceSays) (r0 r1 n0 n1 n2 : SinkSays) (f : Failure) → MayHaveWritten (status_of f) → IsNoted n1 n2 (note_text f) → CountsStay n0 n1
     → ((f ≡ NotesFault → ⊥) → IfLive c (λ rounds watch. EachScene source (λ s. GainsRising s rounds watch f r0 r1 n0 n1)))
     → IfLive c (λ rounds watch. EachScene source (λ s. GainsLiveFront s rounds watch r0 r1 n0 n2 (status_of f)))
@@ -151,7 +151,7 @@ run_front c source r0 r1 n0 n1 n2 f may noted stay h =
     (λ s gains. front_noted s rounds watch f r0 r1 n0 n1 n2 gains stay noted') each)
     (h (written_is_no_note f may))
 
--- nothing but a note that memory was wanted
+-- nothing but a note that memory ran out
 pub note_alone : (words : List Text) (source : SourceSays) (r n0 n2 : SinkSays) → IsNoted n0 n2 (status_text statuses.Memory)
     → IfAsked words (λ c. IfLive c (λ rounds watch. EachScene source (λ s. GainsLiveFront s rounds watch r r n0 n2 statuses.Memory)))
 note_alone words source r n0 n2 noted =

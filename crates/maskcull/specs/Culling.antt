@@ -34,19 +34,19 @@ abbrev pub IfScene : Failure → (SceneError → Type 0) → Type 0
 IfScene (Scene e) P = P e
 IfScene _ P = Unit {0}
 
--- the failure, or one that may come in its place: the source failed, or memory was wanted
+-- the failure, or one that may come in its place: the source failed, or memory ran out
 abbrev pub EndsAs : {X : Type 0} → Result X Failure → Failure → Type 0
 EndsAs r f = (r ≡ Err f) ⊎ (r ≡ Err ReadFault) ⊎ (r ≡ Err Memory)
 
--- the status, or one that may come in its place: the source failed, or memory was wanted
+-- the status, or one that may come in its place: the source failed, or memory ran out
 abbrev pub StatusIs : Status → Status → Type 0
 StatusIs status wanted = (status ≡ wanted) ⊎ (status ≡ statuses.ReadFault) ⊎ (status ≡ statuses.Memory)
 
--- memory was wanted, or the report's count of faults rose
+-- memory ran out, or the report's count of faults rose
 abbrev pub IsReportFailure : Failure → SinkSays → SinkSays → Type 0
 IsReportFailure f before after = (f ≡ Memory) ⊎ ((f ≡ ReportFault) × Rose before.faults after.faults)
 
--- The text was appended, or after a failure a front of it; memory was wanted, or the count of faults rose.
+-- The text was appended, or after a failure a beginning of it; memory ran out, or the count of faults rose.
 pub record Reports (before after : SinkSays) (result : Result (Unit {0}) Failure) (text : List ℕ) : Type 0 where
   pub ok : OnOk result (Appends before after text)
   pub err : OnErr result (AppendsPrefix before after text)
@@ -102,7 +102,7 @@ EachScene source P = IfBytes source (λ bytes. (s : Parts) → IsSceneOf bytes s
 abbrev pub EachFault : SourceSays → (SceneError → Type 0) → Type 0
 EachFault source P = IfBytes source (λ bytes. (e : SceneError) → first_fault bytes ≡ Some e → P e)
 
--- the report gained a front of the text of the scene that the bytes are the layout of
+-- the report gained a beginning of the text of the scene that the bytes are the layout of
 abbrev pub GainsFront : SourceSays → SinkSays → SinkSays → Type 0
 GainsFront source before after = EachScene source (λ s. AppendsPrefix before after (report_text s))
 
@@ -154,7 +154,7 @@ IsDone (Live settings rounds watch) before after report_before report_after = Is
 IsDone (Demo settings seed m) before after report_before report_after =
     Appends report_before report_after (summary_text seed m) × HidesTruly (demo_of seed m)
 
--- the report gained a front of what the command writes
+-- the report gained a beginning of what the command writes
 abbrev pub GainsFrontOf : Command → SourceSays → SinkSays → SinkSays → Type 0
 GainsFrontOf (Cull settings) source before after = GainsFront source before after
 GainsFrontOf (Live settings rounds watch) source before after = GainsFront source before after

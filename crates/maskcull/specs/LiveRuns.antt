@@ -15,8 +15,8 @@ pub record GainsLive (s : Parts) (rounds watch : ℕ) (before after : SinkSays) 
   pub gained : Appends before after (live_text s rounds watch counts)
   pub hidden : HidesLive s rounds watch counts
 
--- A text has the live lines of frames that were joined, and no other: all lines of the frames before one, and of its own a front. The report gained the
--- frames before it, and of that one at least a front, which is the whole where any of its lines is in the text.
+-- A text has the live lines of frames that were joined, and no other: all lines of the frames before one, and of its own a beginning. The report gained the
+-- frames before it, and of that one at least a beginning, which is the whole where any of its lines is in the text.
 pub record AreJoined (s : Parts) (rounds watch : ℕ) (counts : Counts) (report_before report_after : SinkSays) (text : List ℕ) : Type 0 where
   pub frame : ℕ
   pub is_frame : frame < length s.cameras
@@ -27,7 +27,7 @@ pub record AreJoined (s : Parts) (rounds watch : ℕ) (counts : Counts) (report_
   pub joined : 0 < size → Appends report_before report_after (scene_header s ++ frames_text s (frame + 1))
   pub spelled : text ≡ frames_live s rounds watch counts frame ++ take size (frame_live s rounds watch (counts frame) frame)
 
--- They gained a front of such a text, and behind it the status's note, or a front of the note where one of the sink's counts rose. The front has lines of
+-- They gained a beginning of such a text, and behind it the status's note, or the beginning of the note where one of the sink's counts rose. That beginning has lines of
 -- frames that were joined, and no other; after a report that couldn't be written none of the frame under way. What a line calls occluded is hidden by the
 -- members that it states.
 pub record GainsLiveFront (s : Parts) (rounds watch : ℕ) (report_before report_after before after : SinkSays) (status : Status) : Type 0 where
@@ -41,7 +41,7 @@ pub record GainsLiveFront (s : Parts) (rounds watch : ℕ) (report_before report
   pub hidden : HidesLive s rounds watch counts
 
 -- The lines of a frame couldn't be noted. The report gained its header and the frames up to this one, and the notes the lines of the frames before
--- it, and a front of its own lines that isn't the whole. What a line calls occluded is hidden by the members that it states.
+-- it, and a beginning of its own lines that isn't the whole. What a line calls occluded is hidden by the members that it states.
 pub record StopsAtNotes (s : Parts) (rounds watch : ℕ) (report_before report_after before after : SinkSays) : Type 0 where
   pub counts : Counts
   pub rising : IsRising s rounds watch counts

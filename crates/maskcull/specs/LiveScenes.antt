@@ -8,7 +8,7 @@ use Rattle.maskcull.specs.LiveRuns.{AreJoined, GainsLive, StopsAtNotes}
 use Rattle.maskcull.specs.declared.failure.Failure.{Failure}
 use Rattle.maskcull.specs.declared.failure.Failure.TheVariants.{ReportFault, NotesFault, Memory}
 
--- memory was wanted, or the count of faults of the sink that couldn't be written rose
+-- memory ran out, or the count of faults of the sink that couldn't be written rose
 abbrev pub IsLiveFailure : Failure → SinkSays → SinkSays → SinkSays → SinkSays → Type 0
 IsLiveFailure f report_before report_after before after =
     (f ≡ Memory) ⊎ ((f ≡ ReportFault) × Rose report_before.faults report_after.faults) ⊎ ((f ≡ NotesFault) × Rose before.faults after.faults)
@@ -18,7 +18,7 @@ pub record CountsStay (before after : SinkSays) : Type 0 where
   pub faults : before.faults ≤ after.faults
   pub refusals : before.refusals ≤ after.refusals
 
--- lines were noted, or after a failure a front of them that isn't the whole
+-- lines were noted, or after a failure a beginning of them that isn't the whole
 pub record NotesLines (before after : SinkSays) (result : Result (Unit {0}) Failure) (text : List ℕ) : Type 0 where
   pub ok : OnOk result (Appends before after text)
   pub err : OnErr result (AppendsProperPrefix before after text)
@@ -32,7 +32,7 @@ pub record HasLive (s : Parts) (rounds watch frame : ℕ) (report_before report_
   pub rising : IsRisingIn s rounds watch frame counts
   pub noted_is : noted (frame_live s rounds watch counts frame)
 
--- a front of a frame's lines is on the report, and nothing on the notes
+-- a beginning of a frame's lines is on the report, and nothing on the notes
 pub record IsUnnoted (s : Parts) (frame : ℕ) (f : Failure) (report_before report_after before after : SinkSays) : Type 0 where
   pub reported : AppendsPrefix report_before report_after (frame_report s frame)
   pub noted : Appends before after []
@@ -47,7 +47,7 @@ pub record ReportsFrame (s : Parts) (rounds watch frame : ℕ) (report_before re
   pub report_stays : report_before.faults ≤ report_after.faults
   pub stay : CountsStay before after
 
--- The notes gained a front of a live text of counts that rise: lines of frames that were joined, and no other. After a report that couldn't be written there
+-- The notes gained a beginning of a live text of counts that rise: lines of frames that were joined, and no other. After a report that couldn't be written there
 -- is none of the frame under way. What a line calls occluded is hidden by the members that it states.
 pub record GainsRising (s : Parts) (rounds watch : ℕ) (f : Failure) (report_before report_after before after : SinkSays) : Type 0 where
   pub counts : Counts
@@ -59,7 +59,7 @@ pub record GainsRising (s : Parts) (rounds watch : ℕ) (f : Failure) (report_be
   pub gained : Appends before after (take size (live_text s rounds watch counts))
   pub hidden : HidesLive s rounds watch counts
 
--- A scene's report was written and its live text noted; or after a failure a front of each.
+-- A scene's report was written and its live text noted; or after a failure a beginning of each.
 pub record ReportsLive (s : Parts) (rounds watch : ℕ) (report_before report_after before after : SinkSays) (result : Result (Unit {0}) Failure) : Type 0 where
   pub ok : OnOk result (Appends report_before report_after (report_text s) × GainsLive s rounds watch before after)
   pub err : OnErr result (AppendsPrefix report_before report_after (report_text s))

@@ -54,13 +54,13 @@ status_text statuses.ReportFault = note_text ReportFault
 status_text statuses.NotesFault = note_text NotesFault
 status_text statuses.Memory = note_text Memory
 
--- the text was appended and more behind it, or a front of it where one of the sink's counts rose
+-- the text was appended and more behind it, or a beginning of it where one of the sink's counts rose
 abbrev pub IsNotedFirst : SinkSays → SinkSays → List ℕ → Type 0
 IsNotedFirst before after text =
     ((more : List ℕ) × Appends before after (text ++ more))
     ⊎ (AppendsPrefix before after text × (Rose before.faults after.faults ⊎ Rose before.refusals after.refusals))
 
--- the front was appended and the text behind it, or a front of the text where one of the sink's counts rose
+-- the first text was appended and the other behind it, or a beginning of the text where one of the sink's counts rose
 abbrev pub IsNotedBehind : SinkSays → SinkSays → List ℕ → List ℕ → Type 0
 IsNotedBehind before after front text =
     Appends before after (front ++ text)

@@ -33,7 +33,7 @@ impl<R: Read> Source for Input<R> {
     }
 }
 
-// Writes and flushes a front of a piece, and says how much of it; None where that failed or nothing was taken of a
+// Writes and flushes the beginning of a piece, and says how much of it; None where that failed or nothing was taken of a
 // piece that isn't empty.
 fn write_flushed<W: Write>(writer: &mut W, piece: &[u8]) -> Option<usize>
     ensures within { IfSome result (λ n. n ≤ length piece.now) }

@@ -5,7 +5,8 @@ ghost use Rattle.scene_reader.specs.Fault.{IsRefusal};
 ghost use Rattle.cull_report.specs.Hiding.{HidesTruly};
 ghost use Rattle.cull_report.specs.Scene.{report_text};
 ghost use Rattle.command_words.specs.Words.{AreInRange};
-ghost use Rattle.maskcull.specs.Culling.{IfScene, EndsAs, IsCulled, HasFault, EachFault, EachScene, GainsFront, WithoutScene, Reports, IsReportFailure, IsBeforeReport};
+ghost use Rattle.maskcull.specs.Culling.{IfScene, EndsAs, IsCulled, HasFault, EachFault, EachScene, GainsFront};
+ghost use Rattle.maskcull.specs.Culling.{WithoutScene, Reports, IsReportFailure, IsBeforeReport};
 
 use crate::failure::Failure;
 use crate::frame_by_frame::report_frames;

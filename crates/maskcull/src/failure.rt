@@ -11,7 +11,7 @@ use scene_reader::SceneError;
 pub enum Status {
     /// The whole input was read and the whole report written.
     Done,
-    /// The words aren't a command.
+    /// The command line is no command.
     Usage,
     /// The input isn't a scene.
     Scene,
@@ -21,7 +21,7 @@ pub enum Status {
     ReportFault,
     /// The lines of `live` couldn't be noted.
     NotesFault,
-    /// Memory was wanted.
+    /// Out of memory.
     Memory,
 }
 
@@ -143,73 +143,72 @@ impl Failure {
     }
 }
 
+ghost use Rattle.std.specs.Fmt.{decimal};
+ghost use Rattle.cull_report.specs.Lines.{line};
 ghost use Rattle.maskcull.specs.Notes.{refusal_text};
+
+// What the line of a refused scene begins with: the refusal's number.
+fn refusal(number: u64) -> Line
+    ensures value { result ≡ codes "scene" ++ 32 ∷ (codes "refused" ++ 32 ∷ decimal number) }
+    ensures room { length result ≤ 34 }
+{
+    let mut line = Line::begin(b"scene");
+    line.word(b"refused");
+    line.number(number);
+    line
+}
+
+// The line of a refusal that its number tells alone.
+fn refused(number: u64) -> Line
+    ensures { result ≡ line (codes "scene" ∷ codes "refused" ∷ decimal number ∷ []) }
+{
+    let mut line = refusal(number);
+    line.end();
+    line
+}
+
+// The line of a refusal that a number besides tells.
+fn refused_at(number: u64, at: u64) -> Line
+    ensures { result ≡ line (codes "scene" ∷ codes "refused" ∷ decimal number ∷ decimal at ∷ []) }
+{
+    let mut line = refusal(number);
+    line.number(at);
+    line.end();
+    line
+}
+
+// The line of a refusal that two numbers besides tell.
+fn refused_by(number: u64, first: u64, second: u64) -> Line
+    ensures { result ≡ line (codes "scene" ∷ codes "refused" ∷ decimal number ∷ decimal first ∷ decimal second ∷ []) }
+{
+    let mut line = refusal(number);
+    line.number(first);
+    line.number(second);
+    line.end();
+    line
+}
 
 #[tactic(auto, unfolding(crate::specs::Notes::refusal_text))]
 fn refusal_line(error: &SceneError) -> Line
     ensures { result ≡ refusal_text error.now }
 {
-    let mut line = Line::begin(b"scene");
-    line.word(b"refused");
     match *error {
-        SceneError::Truncated { need, have } => {
-            line.number(1);
-            line.number(u64::from(need));
-            line.number(u64::from(have));
-        }
-        SceneError::BadMagic => line.number(2),
-        SceneError::BadVersion(version) => {
-            line.number(3);
-            line.number(u64::from(version));
-        }
-        SceneError::BadSize(width, height) => {
-            line.number(4);
-            line.number(u64::from(width));
-            line.number(u64::from(height));
-        }
-        SceneError::BadNear(near) => {
-            line.number(5);
-            line.number(u64::from(near));
-        }
-        SceneError::BadWinding(winding) => {
-            line.number(6);
-            line.number(u64::from(winding));
-        }
-        SceneError::BadReserved(reserved) => {
-            line.number(7);
-            line.number(u64::from(reserved));
-        }
-        SceneError::BadCount { field, value } => {
-            line.number(8);
-            line.number(u64::from(field));
-            line.number(u64::from(value));
-        }
-        SceneError::Trailing => line.number(9),
-        SceneError::BadVertex(i) => {
-            line.number(10);
-            line.number(u64::from(i));
-        }
-        SceneError::BadIndex { table, i } => {
-            line.number(11);
-            line.number(u64::from(table));
-            line.number(u64::from(i));
-        }
-        SceneError::BadKind(i) => {
-            line.number(12);
-            line.number(u64::from(i));
-        }
-        SceneError::BadObject(i) => {
-            line.number(13);
-            line.number(u64::from(i));
-        }
-        SceneError::BadCamera(i) => {
-            line.number(14);
-            line.number(u64::from(i));
-        }
-        SceneError::Read | SceneError::Memory => {}
+        SceneError::Truncated { need, have } => refused_by(1, u64::from(need), u64::from(have)),
+        SceneError::BadMagic => refused(2),
+        SceneError::BadVersion(version) => refused_at(3, u64::from(version)),
+        SceneError::BadSize(width, height) => refused_by(4, u64::from(width), u64::from(height)),
+        SceneError::BadNear(near) => refused_at(5, u64::from(near)),
+        SceneError::BadWinding(winding) => refused_at(6, u64::from(winding)),
+        SceneError::BadReserved(reserved) => refused_at(7, u64::from(reserved)),
+        SceneError::BadCount { field, value } => refused_by(8, u64::from(field), u64::from(value)),
+        SceneError::Trailing => refused(9),
+        SceneError::BadVertex(i) => refused_at(10, u64::from(i)),
+        SceneError::BadIndex { table, i } => refused_by(11, u64::from(table), u64::from(i)),
+        SceneError::BadKind(i) => refused_at(12, u64::from(i)),
+        SceneError::BadObject(i) => refused_at(13, u64::from(i)),
+        SceneError::BadCamera(i) => refused_at(14, u64::from(i)),
+        SceneError::Read | SceneError::Memory => line_of(b"scene refused"),
     }
-    line.end();
-    line
 }
 
 ghost use Rattle.command_words.specs.Words.{AreWords};
@@ -217,7 +216,7 @@ ghost use Rattle.cull_base.specs.Stream.{IsNoted};
 ghost use Rattle.maskcull.specs.Notes.{IsNotedFirst, status_text, usage_text};
 ghost use Rattle.maskcull.specs.Outcome.{refusal_status};
 
-/// Notes that the words are refused and why, as far as the sink takes it, and tells the status.
+/// Notes that the command line is refused and why, as far as the sink takes it, and tells the status.
 pub fn end_refused<E: Sink>(refusal: &Refusal, notes: &mut E) -> Status
     ensures value { result ≡ refusal_status refusal.now }
     ensures noted_words { AreWords refusal.now
@@ -235,7 +234,7 @@ pub fn end_refused<E: Sink>(refusal: &Refusal, notes: &mut E) -> Status
     }
 }
 
-// Notes that the words are refused, and then what there is to say of it.
+// Notes that the command line is refused, and then what there is to say of it.
 fn note_usage<E: Sink>(notes: &mut E, text: &Option<String>) -> Result<(), SinkError>
     ensures { IsNotedFirst (E.says notes.old) (E.says notes.new) usage_text }
 {

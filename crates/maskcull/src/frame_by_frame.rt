@@ -10,7 +10,7 @@ ghost use Rattle.command_words.specs.Words.{AreInRange};
 use crate::drawing::{Drawing, draw_plainly};
 use crate::failure::Failure;
 use crate::frames::{Asking, Frame, FrameLines, clip_frame, write_lines};
-use crate::live_frame::{Looks, draw_live};
+use crate::live_frame::{LiveDrawing, Looks, draw_live};
 use crate::window::{report_windows, window_count};
 use command_words::Settings;
 use cull_base::{ClipVertex, Memory, Sink};
@@ -22,11 +22,6 @@ use tile_queues::{BinTable, Gate};
 
 /// In bytes, above half of what a frame takes at any time.
 const LARGE: usize = 0x100_0000;
-
-const NO_LOOKS: Looks = Looks {
-    rounds: 0,
-    watch: 0,
-};
 
 // Draws a frame and tests the objects, by workers as the settings ask. Where they ask for it, objects are settled while
 // the frame is drawn.
@@ -41,11 +36,21 @@ fn draw<R: Threads + Wait + Sync, G: Gate>(
     ensures verdicts { IfOk result (λ f. f.verdicts ≡ frame_verdicts drawing.now.scene.now frame) }
     ensures valid { OnOk result (ArePieces (frame_pieces drawing.now.scene.now frame)) }
 {
-    let (settings, scene) = (drawing.settings, drawing.scene);
+    let settings = drawing.settings;
     if settings.early {
-        let (rt, alloc, gate) = (drawing.rt, drawing.alloc, drawing.gate);
-        let seen = draw_live(rt, alloc, settings, NO_LOOKS, scene, frame, clips, gate)?;
-        return Ok(seen.frame);
+        let looks = Looks {
+            settings,
+            rounds: 0,
+            watch: 0,
+        };
+        let live = LiveDrawing {
+            rt: drawing.rt,
+            alloc: drawing.alloc,
+            looks: &looks,
+            scene: drawing.scene,
+            gate: drawing.gate,
+        };
+        return Ok(draw_live(&live, frame, clips)?.frame);
     }
     draw_plainly(drawing, Asking::Workers(settings.workers), frame, clips)
 }

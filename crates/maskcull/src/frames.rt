@@ -26,12 +26,12 @@ pub enum FrameLines {
     Summary,
 }
 
-/// Who asks a frame's objects.
+/// Who tests a frame's objects.
 #[derive(Clone, Copy)]
 pub enum Asking {
     /// So many workers. Where they start threads these make the lines too, else a line is made when it is written.
     Workers(u32),
-    /// The caller's thread, which makes the lines too: in the pieces in which they are written by so many workers.
+    /// The caller's thread alone, which makes the lines too: in the pieces in which they are written by so many workers.
     Caller(u32),
 }
 
@@ -68,32 +68,7 @@ pub fn clip_frame<R: Threads + Wait + Sync>(
     clip_into(rt, &camera, scene.vertices(), clips);
 }
 
-/// The verdicts of a frame's objects over tiles that have taken the whole frame, by so many workers.
-pub fn verdicts_over<R: Threads + Wait + Sync, V: TileView + Sync>(
-    rt: &R,
-    alloc: Global,
-    asked: &Asked<V>,
-    workers: u32,
-) -> Result<FrameVerdicts, Memory>
-    requires { TookFrame asked.now.scene.now asked.now.frame (V.tile_of asked.now.view.now) }
-    ensures { IfOk result (λ v. v ≡ frame_verdicts asked.now.scene.now asked.now.frame) }
-{
-    verdicts_by_workers(rt, alloc, asked, workers)
-}
-
-/// The same by the caller's thread alone, with the lines, in the pieces in which so many workers would make them.
-pub fn lines_over<V: TileView>(
-    alloc: Global,
-    asked: &Asked<V>,
-    workers: u32,
-) -> Result<FrameVerdicts, Memory>
-    requires { TookFrame asked.now.scene.now asked.now.frame (V.tile_of asked.now.view.now) }
-    ensures { IfOk result (λ v. v ≡ frame_verdicts asked.now.scene.now asked.now.frame) }
-{
-    verdicts_with_lines(alloc, asked, workers)
-}
-
-/// The same by who is to ask the objects.
+/// The verdicts of a frame's objects over tiles that have taken the whole frame.
 pub fn verdicts_by<R: Threads + Wait + Sync, V: TileView + Sync>(
     rt: &R,
     alloc: Global,
@@ -104,8 +79,8 @@ pub fn verdicts_by<R: Threads + Wait + Sync, V: TileView + Sync>(
     ensures { IfOk result (λ v. v ≡ frame_verdicts asked.now.scene.now asked.now.frame) }
 {
     match asking {
-        Asking::Workers(workers) => verdicts_over(rt, alloc, asked, workers),
-        Asking::Caller(workers) => lines_over(alloc, asked, workers),
+        Asking::Workers(workers) => verdicts_by_workers(rt, alloc, asked, workers),
+        Asking::Caller(workers) => verdicts_with_lines(alloc, asked, workers),
     }
 }
 

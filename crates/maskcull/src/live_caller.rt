@@ -23,6 +23,13 @@ pub struct Watched<'a> {
     pub objects: u32,
 }
 
+// The numbers of a look: of its round, and of the object that it is at.
+#[derive(Clone, Copy)]
+struct Numbers {
+    round: u32,
+    object: u32,
+}
+
 // Looks at an object and fills its line: its verdict over the tiles of its area as they stand now. Conditions: the line
 // has room for those tiles, and the reader is of the frame's list.
 fn look<R: Wait>(
@@ -30,23 +37,24 @@ fn look<R: Wait>(
     cells: &TileCells,
     reader: &mut TileReader,
     watched: &Watched,
-    round: u32,
-    object: u32,
+    numbers: Numbers,
     snapshot: &mut Snapshot,
     line: &mut LiveLine,
 )
     requires watched { IsWatching watched.now.scene.now watched.now.frame watched.now.objects watched.now.clips.now }
-    requires object { object < watched.now.objects }
+    requires object { numbers.object < watched.now.objects }
     requires reader { IsReading cells.now (frame_list watched.now.scene.now watched.now.frame) reader.old }
     requires size { snapshot.old.size ≡ size_of watched.now.scene.now }
-    requires room { RoomFor watched.now.scene.now watched.now.frame object line.old.room }
-    ensures told { Tells watched.now.scene.now watched.now.frame round object (λ t. slice_index reader.new.seen t) line.new }
+    requires room { RoomFor watched.now.scene.now watched.now.frame numbers.object line.old.room }
+    ensures told { Tells watched.now.scene.now watched.now.frame numbers.round numbers.object
+        (λ t. slice_index reader.new.seen t) line.new }
     ensures rises { (t : ℕ) → t < tile_count_of (size_of watched.now.scene.now)
         → slice_index reader.old.seen t ≤ slice_index reader.new.seen t }
     ensures reader { IsReading cells.now (frame_list watched.now.scene.now watched.now.frame) reader.new }
     ensures size { snapshot.new.size ≡ size_of watched.now.scene.now }
     ensures room { line.new.room ≡ line.old.room }
 {
+    let Numbers { round, object } = numbers;
     let area = object_area(watched.scene, watched.frame, watched.clips, object);
     reader.snapshot(rt, cells, area, snapshot);
     let verdict = object_verdict(
@@ -160,8 +168,7 @@ impl<'a, G: Gate> Caller for LiveCaller<'a, G> {
                 cells,
                 reader,
                 &self.watched,
-                round,
-                object,
+                Numbers { round, object },
                 &mut self.snapshot,
                 &mut self.lines[place],
             );

@@ -14,7 +14,7 @@ ghost use Rattle.command_words.specs.Words.{AreInRange};
 
 use crate::failure::Failure;
 use crate::frames::{
-    Frame, FrameLines, clip_frame, pieces_of, unset_marks, verdicts_over, write_lines,
+    Asking, Frame, FrameLines, clip_frame, pieces_of, unset_marks, verdicts_by, write_lines,
 };
 use crate::live_caller::{LiveCaller, Watched};
 use binning::batch_size;
@@ -29,11 +29,26 @@ use std::thread::Threads;
 use tile_cells::{Snapshot, TileCells};
 use tile_queues::{Caller, Gate, draw_frame};
 
-/// How many looks each frame gets, and at what: so many rounds, each of the first objects, of so many. At most 8 each.
-#[derive(Clone, Copy)]
-pub struct Looks {
+/// How frames are drawn, and how many looks each gets: so many rounds, each at the first objects, of so many. Conditions:
+/// the settings are in range, and there are at most 8 rounds and 8 objects.
+#[derive(Drop)]
+pub struct Looks<'a> {
+    pub settings: &'a Settings,
     pub rounds: u32,
     pub watch: u32,
+    ghost in_range: { AreInRange settings.now },
+    ghost few_rounds: { rounds ≤ 8 },
+    ghost few_objects: { watch ≤ 8 },
+}
+
+/// What all frames of a scene share while they are drawn and looked at.
+#[derive(Drop)]
+pub struct LiveDrawing<'a, R, G> {
+    pub rt: &'a R,
+    pub alloc: Global,
+    pub looks: &'a Looks<'a>,
+    pub scene: &'a Scene,
+    pub gate: &'a G,
 }
 
 /// What was drawn and seen of a frame.
@@ -73,14 +88,10 @@ fn make_lines(alloc: Global, watched: &Watched, rounds: u32) -> Result<Vec<LiveL
 
 // Draws a list through cells of its own, while the caller reads them.
 fn draw_in_cells<R: Threads + Wait + Sync, G: Gate, C: Caller>(
-    rt: &R,
-    alloc: Global,
-    settings: &Settings,
+    drawing: &LiveDrawing<R, G>,
     list: &FrameList,
-    gate: &G,
     caller: &mut C,
 ) -> Result<Vec<TileState>, Memory>
-    requires settings { AreInRange settings.now }
     requires ready { C.ready caller.old list.now.list }
     ensures tiles { IfOk result (λ v. length v.items ≡ tile_count_of list.now.list.size) }
     ensures drawn { IfOk result (λ v. HaveStates list.now.list v.items) }
@@ -90,6 +101,7 @@ fn draw_in_cells<R: Threads + Wait + Sync, G: Gate, C: Caller>(
 {
     // accessors tell what is held of a size and of a list
     let (_width, _len) = (list.size().width(), list.len());
+    let (rt, alloc, settings) = (drawing.rt, drawing.alloc, drawing.looks.settings);
     let batch = batch_size(list.len(), settings.batch);
     let (cells, writers, mut readers) = TileCells::make(rt, alloc, list, 1)?;
     let writers = draw_frame(
@@ -102,34 +114,30 @@ fn draw_in_cells<R: Threads + Wait + Sync, G: Gate, C: Caller>(
         &settings.cut,
         settings.workers,
         batch,
-        gate,
+        drawing.gate,
         caller,
     )?;
     Ok(cells.close(rt, writers, readers))
 }
 
 // A caller with a line for each look, and a mark for each object, of which none is set.
-fn make_caller<'a, G: Gate>(
-    alloc: Global,
-    scene: &'a Scene,
+fn make_caller<'a, R, G: Gate>(
+    drawing: &LiveDrawing<'a, R, G>,
     frame: u32,
     clips: &'a [ClipVertex],
-    looks: Looks,
-    early: bool,
-    gate: &'a G,
 ) -> Result<LiveCaller<'a, G>, Memory>
-    requires frame { frame < length scene.now.cameras }
-    requires clips { clips.now ≡ frame_clips scene.now frame }
-    requires rounds { looks.rounds ≤ 8 }
-    requires watch { looks.watch ≤ 8 }
+    requires frame { frame < length drawing.now.scene.now.cameras }
+    requires clips { clips.now ≡ frame_clips drawing.now.scene.now frame }
     ensures ready { IfOk result (λ c. IsReady c.watched.scene.now c.watched.frame c.watched.objects c.watched.clips.now
-        c.snapshot.size c.lines.items c.settled.items (frame_list scene.now frame)) }
-    ensures scene { IfOk result (λ c. c.watched.scene.now ≡ scene.now) }
+        c.snapshot.size c.lines.items c.settled.items (frame_list drawing.now.scene.now frame)) }
+    ensures scene { IfOk result (λ c. c.watched.scene.now ≡ drawing.now.scene.now) }
     ensures frame { IfOk result (λ c. c.watched.frame ≡ frame) }
-    ensures objects { IfOk result (λ c. c.watched.objects ≡ watched scene.now looks.watch) }
-    ensures lines { IfOk result (λ c. length c.lines.items ≡ looks.rounds * watched scene.now looks.watch) }
-    ensures marks { IfOk result (λ c. length c.settled.items ≡ length scene.now.objects) }
+    ensures objects { IfOk result (λ c. c.watched.objects ≡ watched drawing.now.scene.now drawing.now.looks.now.watch) }
+    ensures lines { IfOk result (λ c. length c.lines.items
+        ≡ drawing.now.looks.now.rounds * watched drawing.now.scene.now drawing.now.looks.now.watch) }
+    ensures marks { IfOk result (λ c. length c.settled.items ≡ length drawing.now.scene.now.objects) }
 {
+    let (alloc, scene, looks) = (drawing.alloc, drawing.scene, drawing.looks);
     // an accessor tells what is held of a scene
     let _near = scene.near();
     let watched = Watched {
@@ -143,10 +151,10 @@ fn make_caller<'a, G: Gate>(
     let settled = unset_marks(alloc, scene.objects().len())?;
     Ok(LiveCaller {
         watched,
-        gate,
+        gate: drawing.gate,
         snapshot,
         lines,
-        early,
+        early: looks.settings.early,
         settled,
     })
 }
@@ -154,30 +162,23 @@ fn make_caller<'a, G: Gate>(
 /// Draws a frame, looks at its first objects meanwhile, and tests all of them at its end. Where the settings ask for it
 /// those that were settled meanwhile aren't tested. Conditions: there is such a frame, and the clip vertices are its own.
 pub fn draw_live<R: Threads + Wait + Sync, G: Gate>(
-    rt: &R,
-    alloc: Global,
-    settings: &Settings,
-    looks: Looks,
-    scene: &Scene,
+    drawing: &LiveDrawing<R, G>,
     frame: u32,
     clips: &[ClipVertex],
-    gate: &G,
 ) -> Result<Seen, Memory>
-    requires settings { AreInRange settings.now }
-    requires rounds { looks.rounds ≤ 8 }
-    requires watch { looks.watch ≤ 8 }
-    requires frame { frame < length scene.now.cameras }
-    requires clips { clips.now ≡ frame_clips scene.now frame }
-    ensures pieces { IfOk result (λ f. f.frame.pieces ≡ length (frame_pieces scene.now frame)) }
-    ensures verdicts { IfOk result (λ f. f.frame.verdicts ≡ frame_verdicts scene.now frame) }
-    ensures valid { OnOk result (ArePieces (frame_pieces scene.now frame)) }
-    ensures live { IfOk result (λ f. AreLive scene.now looks.rounds looks.watch frame f.lines.items) }
+    requires frame { frame < length drawing.now.scene.now.cameras }
+    requires clips { clips.now ≡ frame_clips drawing.now.scene.now frame }
+    ensures pieces { IfOk result (λ f. f.frame.pieces ≡ length (frame_pieces drawing.now.scene.now frame)) }
+    ensures verdicts { IfOk result (λ f. f.frame.verdicts ≡ frame_verdicts drawing.now.scene.now frame) }
+    ensures valid { OnOk result (ArePieces (frame_pieces drawing.now.scene.now frame)) }
+    ensures live { IfOk result (λ f. AreLive drawing.now.scene.now
+        drawing.now.looks.now.rounds drawing.now.looks.now.watch frame f.lines.items) }
 {
-    let workers = settings.workers;
+    let (rt, alloc, scene) = (drawing.rt, drawing.alloc, drawing.scene);
+    let workers = drawing.looks.settings.workers;
     let list = pieces_of(rt, alloc, scene, frame, clips, workers)?;
-    let early = settings.early;
-    let mut caller = make_caller(alloc, scene, frame, clips, looks, early, gate)?;
-    let states = draw_in_cells(rt, alloc, settings, &list, gate, &mut caller)?;
+    let mut caller = make_caller(drawing, frame, clips)?;
+    let states = draw_in_cells(drawing, &list, &mut caller)?;
     let view = PlainView::new(&states);
     let asked = Asked {
         scene,
@@ -186,7 +187,7 @@ pub fn draw_live<R: Threads + Wait + Sync, G: Gate>(
         view: &view,
         settled: &caller.settled,
     };
-    let verdicts = verdicts_over(rt, alloc, &asked, workers)?;
+    let verdicts = verdicts_by(rt, alloc, &asked, Asking::Workers(workers))?;
     let frame = Frame {
         pieces: list.len(),
         verdicts,
@@ -221,29 +222,22 @@ fn note_lines<E: Sink>(notes: &mut E, lines: &[LiveLine]) -> Result<(), Failure>
 /// Draws a frame and looks at its first objects meanwhile; then writes its lines and notes what was seen. Conditions:
 /// there is such a frame, and a place for each vertex.
 pub fn live_frame<R: Threads + Wait + Sync, W: Sink, E: Sink, G: Gate>(
-    rt: &R,
-    alloc: Global,
-    settings: &Settings,
-    looks: Looks,
-    scene: &Scene,
+    drawing: &LiveDrawing<R, G>,
     frame: u32,
     clips: &mut [ClipVertex],
     report: &mut W,
     notes: &mut E,
-    gate: &G,
 ) -> Result<(), Failure>
-    requires settings { AreInRange settings.now }
-    requires rounds { looks.rounds ≤ 8 }
-    requires watch { looks.watch ≤ 8 }
-    requires frame { frame < length scene.now.cameras }
-    requires places { length clips.old ≡ length scene.now.vertices }
-    ensures reported { ReportsFrame scene.now looks.rounds looks.watch frame
+    requires frame { frame < length drawing.now.scene.now.cameras }
+    requires places { length clips.old ≡ length drawing.now.scene.now.vertices }
+    ensures reported { ReportsFrame drawing.now.scene.now
+        drawing.now.looks.now.rounds drawing.now.looks.now.watch frame
         (W.says report.old) (W.says report.new) (E.says notes.old) (E.says notes.new) result }
-    ensures valid { OnOk result (ArePieces (frame_pieces scene.now frame)) }
+    ensures valid { OnOk result (ArePieces (frame_pieces drawing.now.scene.now frame)) }
     ensures places { length clips.new ≡ length clips.old }
 {
-    clip_frame(rt, scene, frame, clips);
-    let seen = draw_live(rt, alloc, settings, looks, scene, frame, clips, gate)?;
+    clip_frame(drawing.rt, drawing.scene, frame, clips);
+    let seen = draw_live(drawing, frame, clips)?;
     write_lines(report, FrameLines::Report, frame, &seen.frame)?;
     note_lines(notes, &seen.lines)
 }

@@ -26,7 +26,7 @@ use std::io::{BufReader, ErrorKind, Stdin};
 use std::process::ExitCode;
 use tile_queues::OpenGate;
 
-// The words that the program was started with; none where one isn't UTF-8, which is no command.
+// The command line's words; none where one isn't UTF-8, which is no command.
 fn words_of(rt: &HostRuntime, alloc: Global) -> Result<Vec<String>, Memory> {
     let mut words = Vec::new(alloc);
     match env::args(rt) {
@@ -44,7 +44,7 @@ fn words_of(rt: &HostRuntime, alloc: Global) -> Result<Vec<String>, Memory> {
     }
 }
 
-// The words and standard input.
+// The command line's words and standard input.
 fn open(rt: &HostRuntime, alloc: Global) -> Result<(Vec<String>, Input<BufReader<Stdin>>), Memory> {
     let words = words_of(rt, alloc)?;
     let reader = BufReader::new(alloc, rt.stdin()).map_err(|_| Memory)?;

@@ -1,8 +1,10 @@
-//! The top call: from command words and the bytes of a scene to the report.
+//! The top call: from a command line's words and the bytes of a scene to the report.
 ghost use Rattle.std.specs.Prelude.{◌≡◌, ℕ, ◌⊎◌, None, Some, map, string_bytes, IfErr, OnOk, OnErr, IsErrOf};
 ghost use Rattle.scene_reader.specs.Fault.{IsRefusal};
 ghost use Rattle.cull_base.specs.Stream.{Rose, IsNoted};
-ghost use Rattle.maskcull.specs.Culling.{IfScene, EndsAs, HasFault, IsOfInput, IsBeforeReport, Asks, IfAsked, IfLive, IsLive, ReadsScene, IsDemo, IsDone, WithoutFault, NotesFault, EachFault, EachScene, GainsFrontOf, WithoutScene, StatusIs, MayHaveWritten};
+ghost use Rattle.maskcull.specs.Culling.{IfScene, EndsAs, HasFault, IsOfInput, IsBeforeReport, Asks, IfAsked, IfLive};
+ghost use Rattle.maskcull.specs.Culling.{IsLive, ReadsScene, IsDemo, IsDone, WithoutFault, NotesFault, EachFault};
+ghost use Rattle.maskcull.specs.Culling.{EachScene, GainsFrontOf, WithoutScene, StatusIs, MayHaveWritten};
 ghost use Rattle.maskcull.specs.LiveRuns.{GainsLive, GainsLiveFront, StopsAtNotes};
 ghost use Rattle.maskcull.specs.LiveScenes.{CountsStay, GainsRising};
 ghost use Rattle.maskcull.specs.Notes.{IsNotedFirst, status_text};
@@ -20,7 +22,7 @@ use std::sync::Wait;
 use std::thread::Threads;
 use tile_queues::Gate;
 
-// Does what is asked for.
+// Carries out a command.
 fn perform<R: Threads + Wait + Sync, S: Source, W: Sink, E: Sink, G: Gate>(
     rt: &R,
     alloc: Global,
@@ -76,10 +78,11 @@ fn perform<R: Threads + Wait + Sync, S: Source, W: Sink, E: Sink, G: Gate>(
             watch,
         } => {
             let looks = Looks {
+                settings,
                 rounds: *rounds,
                 watch: *watch,
             };
-            live(rt, alloc, settings, looks, input, report, notes, gate)
+            live(rt, alloc, &looks, input, report, notes, gate)
         }
         Command::Demo {
             settings,
@@ -114,7 +117,7 @@ pub fn run<R: Threads + Wait + Sync, S: Source, W: Sink, E: Sink, G: Gate>(
     ensures live { result ≡ Status.Done → IfAsked (map string_bytes words.now) (λ c. IfLive c (λ rounds watch.
         EachScene (S.says input.old) (λ s. GainsLive s rounds watch (E.says notes.old) (E.says notes.new)))) }
 
-    // The words. Plain words are never refused, since they ask for something.
+    // The command line. Plain words are never refused, since they make a command.
     ensures usage { result ≡ Status.Usage → command_of (map string_bytes words.now) ≡ None }
     ensures unasked { command_of (map string_bytes words.now) ≡ None
         → (result ≡ Status.Usage) ⊎ (result ≡ Status.Memory) }

@@ -28,8 +28,8 @@ fn demo_line(seed: u32, triangles: u32) -> Line
     line
 }
 
-/// Writes the summary's first line. Failed and Memory are the sink's; after an error a front of the line that isn't the
-/// whole was appended.
+/// Writes the summary's first line. Failed and Memory are the sink's; after an error a beginning of the line that isn't
+/// the whole was appended.
 pub fn write_demo_line<W: Sink>(sink: &mut W, seed: u32, triangles: u32) -> Result<(), SinkError>
     ensures { Writes (W.says sink.old) (W.says sink.new) result (demo_line seed triangles) }
 {

@@ -7,28 +7,23 @@ use Rattle.maskcull.proofs.live.live.Goals as goal
 
 pub returns-clause-gained : goal.returns-clause-gained
 returns-clause-gained g c =
-    live_gained (g.S.Source.says c.args.input.now) c.in_ok-scene.scene c.args.looks.rounds c.args.looks.watch (g.W.Sink.says c.args.report.now) (g.W.Sink.says c.live_scene.new.report) (g.E.Sink.says c.args.notes.now) (g.E.Sink.says c.live_scene.new.notes)
-    c.live_scene.result c.in_ok-scene.ensures.only c.live_scene.ensures.reported
+    live_gained (g.S.Source.says c.args.input.now) c.live_scene.result c.in_ok-scene.ensures.only c.live_scene.ensures.reported
 
 pub returns-clause-front : goal.returns-clause-front
 returns-clause-front g c =
-    live_rising (g.S.Source.says c.args.input.now) c.in_ok-scene.scene c.args.looks.rounds c.args.looks.watch (g.W.Sink.says c.args.report.now) (g.W.Sink.says c.live_scene.new.report) (g.E.Sink.says c.args.notes.now) (g.E.Sink.says c.live_scene.new.notes)
-    c.live_scene.result c.in_ok-scene.ensures.only c.live_scene.ensures.reported
+    live_rising (g.S.Source.says c.args.input.now) c.live_scene.result c.in_ok-scene.ensures.only c.live_scene.ensures.reported
 
 pub returns-clause-stops : goal.returns-clause-stops
 returns-clause-stops g c =
-    live_stops (g.S.Source.says c.args.input.now) c.in_ok-scene.scene c.args.looks.rounds c.args.looks.watch (g.W.Sink.says c.args.report.now) (g.W.Sink.says c.live_scene.new.report) (g.E.Sink.says c.args.notes.now) (g.E.Sink.says c.live_scene.new.notes)
-    c.live_scene.result c.in_ok-scene.ensures.only c.live_scene.ensures.reported
+    live_stops (g.S.Source.says c.args.input.now) c.live_scene.result c.in_ok-scene.ensures.only c.live_scene.ensures.reported
 
 pub returns-clause-prefix : goal.returns-clause-prefix
 returns-clause-prefix g c =
-    live_prefix (g.S.Source.says c.args.input.now) c.in_ok-scene.scene c.args.looks.rounds c.args.looks.watch (g.W.Sink.says c.args.report.now) (g.W.Sink.says c.live_scene.new.report) (g.E.Sink.says c.args.notes.now) (g.E.Sink.says c.live_scene.new.notes)
-    c.live_scene.result c.in_ok-scene.ensures.only c.live_scene.ensures.reported
+    live_prefix (g.S.Source.says c.args.input.now) c.live_scene.result c.in_ok-scene.ensures.only c.live_scene.ensures.reported
 
 pub returns-clause-drawn : goal.returns-clause-drawn
 returns-clause-drawn g c =
-    live_drawn (g.S.Source.says c.args.input.now) c.in_ok-scene.scene c.args.looks.rounds c.args.looks.watch (g.W.Sink.says c.args.report.now) (g.W.Sink.says c.live_scene.new.report) (g.E.Sink.says c.args.notes.now) (g.E.Sink.says c.live_scene.new.notes)
-    c.live_scene.result c.live_scene.ensures.reported
+    live_drawn (g.S.Source.says c.args.input.now) c.live_scene.result c.live_scene.ensures.reported
 
 pub returns-in_err-scene-clause-front : goal.returns-in_err-scene-clause-front
 returns-in_err-scene-clause-front g c =
@@ -37,4 +32,4 @@ returns-in_err-scene-clause-front g c =
     let e = c.in_err-scene.field-0.0 in
     let r = g.W.Sink.says c.args.report.now in let n = g.E.Sink.says c.args.notes.now in
     rw (p.1, p.2)
-    (λ other. each_scene source (λ s. GainsRising s c.args.looks.rounds c.args.looks.watch (failure_of e) r r n n) (λ s scene. nothing_gained s c.args.looks.rounds c.args.looks.watch (failure_of e) r n scene))
+    (λ other. each_scene source (λ s. GainsRising s c.args.looks.now.rounds c.args.looks.now.watch (failure_of e) r r n n) (λ s scene. nothing_gained s c.args.looks.now.rounds c.args.looks.now.watch (failure_of e) r n scene))

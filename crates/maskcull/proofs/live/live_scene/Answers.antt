@@ -20,7 +20,7 @@ kept_length xs ys n m e f g =
 
 pub returns-in_err-write_header-clause-reported : goal.returns-in_err-write_header-clause-reported
 returns-in_err-write_header-clause-reported g c =
-    let s = c.args.scene.now in let looks = c.args.looks in
+    let s = c.args.drawing.now.scene.now in let looks = c.args.drawing.now.looks.now in
     let e = c.in_err-write_header.field-0.0 in
     let r0 = g.W.Sink.says c.args.report.now in let r = g.W.Sink.says c.write_header.new.sink in let n = g.E.Sink.says c.args.notes.now in
     let p = err_from_is_err_and c.from_residual.result c.from_residual.ensures.1 in
@@ -29,16 +29,16 @@ returns-in_err-write_header-clause-reported g c =
 
 pub loop-frame-init : goal.loop-frame-init
 loop-frame-init g c =
-    let looks = c.args.looks in
+    let looks = c.args.drawing.now.looks.now in
     record {
-      so_far = ((λ f r o t. 0), live_begins c.args.scene.now looks.rounds looks.watch (g.W.Sink.says c.args.report.now) (g.W.Sink.says c.write_header.new.sink) (g.E.Sink.says c.args.notes.now) c.in_ok-write_header.ensures.ok c.write_header.ensures.faults_stay);
+      so_far = ((λ f r o t. 0), live_begins c.args.drawing.now.scene.now looks.rounds looks.watch (g.W.Sink.says c.args.report.now) (g.W.Sink.says c.write_header.new.sink) (g.E.Sink.says c.args.notes.now) c.in_ok-write_header.ensures.ok c.write_header.ensures.faults_stay);
       valid = λ f lt. absurd (omega arith);
       places = search rules;
     }
 
 pub returns-in_err-live_frame-clause-reported : goal.returns-in_err-live_frame-clause-reported
 returns-in_err-live_frame-clause-reported g c =
-    let s = c.args.scene.now in let k = c.loop-frame.frame in let looks = c.args.looks in
+    let s = c.args.drawing.now.scene.now in let k = c.loop-frame.frame in let looks = c.args.drawing.now.looks.now in
     let r0 = g.W.Sink.says c.args.report.now in let r = g.W.Sink.says c.loop-frame.report in let r' = g.W.Sink.says c.live_frame.new.report in
     let n0 = g.E.Sink.says c.args.notes.now in let n = g.E.Sink.says c.loop-frame.notes in let n' = g.E.Sink.says c.live_frame.new.notes in
     let (counts, so) = c.loop-frame.invariant.so_far in
@@ -48,7 +48,7 @@ returns-in_err-live_frame-clause-reported g c =
 
 pub loop-frame-preserved : goal.loop-frame-preserved
 loop-frame-preserved g c =
-    let s = c.args.scene.now in let k = c.loop-frame.frame in let looks = c.args.looks in
+    let s = c.args.drawing.now.scene.now in let k = c.loop-frame.frame in let looks = c.args.drawing.now.looks.now in
     let r0 = g.W.Sink.says c.args.report.now in let r = g.W.Sink.says c.loop-frame.report in let r' = g.W.Sink.says c.live_frame.new.report in
     let n0 = g.E.Sink.says c.args.notes.now in let n = g.E.Sink.says c.loop-frame.notes in let n' = g.E.Sink.says c.live_frame.new.notes in
     let inv = c.loop-frame.invariant in
@@ -61,7 +61,7 @@ loop-frame-preserved g c =
 
 pub returns-clause-reported : goal.returns-clause-reported
 returns-clause-reported g c =
-    let s = c.args.scene.now in let k = c.loop-frame.frame in let looks = c.args.looks in
+    let s = c.args.drawing.now.scene.now in let k = c.loop-frame.frame in let looks = c.args.drawing.now.looks.now in
     let (counts, so) = c.loop-frame.invariant.so_far in
     let m = ap length c.cameras.ensures.value in
     let all = λ (f : ℕ) (lt : f < length s.cameras). c.loop-frame.invariant.valid f (omega (arith, m, lt, c.loop-frame-test.false)) in
@@ -70,13 +70,13 @@ returns-clause-reported g c =
 
 pub returns-clause-hidden : goal.returns-clause-hidden
 returns-clause-hidden g c =
-    let s = c.args.scene.now in
+    let s = c.args.drawing.now.scene.now in
     let m = ap length c.cameras.ensures.value in
     hides_truly s c.near-near.ensures.valid (λ f lt. c.loop-frame.invariant.valid f (omega (arith, m, lt, c.loop-frame-test.false)))
 
 pub returns-in_err-clips-clause-reported : goal.returns-in_err-clips-clause-reported
 returns-in_err-clips-clause-reported g c =
-    let s = c.args.scene.now in let looks = c.args.looks in
+    let s = c.args.drawing.now.scene.now in let looks = c.args.drawing.now.looks.now in
     let r0 = g.W.Sink.says c.args.report.now in let r = g.W.Sink.says c.write_header.new.sink in let n = g.E.Sink.says c.args.notes.now in
     let p = err_from_is_err_and c.from_residual-in_err-clips.result c.from_residual-in_err-clips.ensures.1 in
     rw (p.1, p.2) (header_ends s looks.rounds looks.watch failures.Memory r0 r n c.near-near.ensures.valid (all_is_front r0 r (scene_header s) c.in_ok-write_header.ensures.ok) (λ is. absurd cc) (inl refl) c.write_header.ensures.faults_stay)

@@ -7,7 +7,7 @@ use Rattle.maskcull.proofs.live.live_scene.Given as goal
 
 abbrev pub invariant-loop-frame : goal.invariant-loop-frame
 invariant-loop-frame g l = record {
-  so_far : (counts : Counts) × LiveSoFar l.fn.scene l.looks.rounds l.looks.watch counts l.frame (g.W.Sink.says l.fn.report) (g.W.Sink.says l.report) (g.E.Sink.says l.fn.notes) (g.E.Sink.says l.notes);
-  valid : (f : ℕ) → f < l.frame → ArePieces (frame_pieces l.fn.scene f);
-  places : length l.clips.items ≡ length l.fn.scene.vertices;
+  so_far : (counts : Counts) × LiveSoFar l.fn.drawing.scene.now l.fn.drawing.looks.now.rounds l.fn.drawing.looks.now.watch counts l.frame (g.W.Sink.says l.fn.report) (g.W.Sink.says l.report) (g.E.Sink.says l.fn.notes) (g.E.Sink.says l.notes);
+  valid : (f : ℕ) → f < l.frame → ArePieces (frame_pieces l.fn.drawing.scene.now f);
+  places : length l.clips.items ≡ length l.fn.drawing.scene.now.vertices;
 }

@@ -17,7 +17,7 @@ snapshot-requires-clause-size g c =
 
 pub fill-requires : goal.fill-requires
 fill-requires g c =
-    let s = c.args.watched.now.scene.now in let frame = c.args.watched.now.frame in let o = c.args.object in
+    let s = c.args.watched.now.scene.now in let frame = c.args.watched.now.frame in let o = c.args.numbers.object in
     let lt : o < length s.objects = omega (arith, c.requires.object, c.requires.watched.within) in
     let area = c.object_area-area.result in
     let is : area ≡ object_area s frame (object_at s o) = from_place (λ (x : Object). area ≡ object_area s frame x) s.objects o (Mesh 0 0) lt c.object_area-area.ensures in
@@ -25,7 +25,7 @@ fill-requires g c =
 
 pub returns-clause-told : goal.returns-clause-told
 returns-clause-told g c =
-    let s = c.args.watched.now.scene.now in let frame = c.args.watched.now.frame in let o = c.args.object in
+    let s = c.args.watched.now.scene.now in let frame = c.args.watched.now.frame in let o = c.args.numbers.object in
     let lt : o < length s.objects = omega (arith, c.requires.object, c.requires.watched.within) in
     let area = c.object_area-area.result in
     let is : area ≡ object_area s frame (object_at s o) = from_place (λ (x : Object). area ≡ object_area s frame x) s.objects o (Mesh 0 0) lt c.object_area-area.ensures in
@@ -33,7 +33,7 @@ returns-clause-told g c =
     let verdict = c.object_verdict-verdict.result in
     let answered : verdict ≡ verdict_in s frame (λ t. tile_at view.tiles t) (object_at s o) =
     from_place (λ (x : Object). verdict ≡ verdict_in s frame (λ t. tile_at view.tiles t) x) s.objects o (Mesh 0 0) lt c.object_verdict-verdict.ensures.verdict in
-    look_tells s frame c.args.round o area c.args.reader.now c.snapshot.new.self c.args.snapshot.now view verdict c.fill.new.self c.requires.watched.scene c.requires.reader.list_is c.requires.size is
+    look_tells s frame c.args.numbers.round o area c.args.reader.now c.snapshot.new.self c.args.snapshot.now view verdict c.fill.new.self c.requires.watched.scene c.requires.reader.list_is c.requires.size is
     c.snapshot.ensures.held c.snapshot.ensures.read answered (ap text_of_line c.fill.ensures)
 
 pub returns-clause-rises : goal.returns-clause-rises

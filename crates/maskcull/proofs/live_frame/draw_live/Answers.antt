@@ -15,21 +15,21 @@ returns-clause-live g c =
     let new = c.draw_in_cells.new.caller in
     let kept = c.in_ok-states.ensures.keeps in
     let made = c.in_ok-caller.ensures in
-    kept_is_live c.args.scene.now c.args.looks.rounds c.args.looks.watch c.args.frame new.watched.scene.now new.watched.frame new.watched.objects new.lines.items c.in_ok-states.ensures.done.1.0
+    kept_is_live c.args.drawing.now.scene.now c.args.drawing.now.looks.now.rounds c.args.drawing.now.looks.now.watch c.args.frame new.watched.scene.now new.watched.frame new.watched.objects new.lines.items c.in_ok-states.ensures.done.1.0
     (kept.0 ∙ made.scene) (kept.1 ∙ made.frame) (kept.2 ∙ made.objects) (kept.3 ∙ made.lines)
 
 pub invariant_of-asked-clause-holds : goal.invariant_of-asked-clause-holds
 unfolding frame_list
 invariant_of-asked-clause-holds g c =
-    let s = c.args.scene.now in
+    let s = c.args.drawing.now.scene.now in
     let count : length c.new-view.result.states.now ≡ tile_count_of (frame_list s c.args.frame).size =
     ap length (c.new-view.ensures ∙ c.deref.ensures.value) ∙ subst (λ (l : PieceList). length c.in_ok-states.states.items ≡ tile_count_of l.size) c.in_ok-list.ensures.list c.in_ok-states.ensures.tiles in
     λ t lt. let e : nat_lt t (tile_count_of (size_of s)) ≡ true = grind (arith, nat_tests) in subst (λ n. nat_lt t n ≡ true) (sym count) e
 
-pub verdicts_over-requires-after_bounds : goal.verdicts_over-requires-after_bounds
+pub verdicts_by-requires-after_bounds : goal.verdicts_by-requires-after_bounds
 unfolding frame_list
-verdicts_over-requires-after_bounds g c =
-    let list = frame_list c.args.scene.now c.args.frame in
+verdicts_by-requires-after_bounds g c =
+    let list = frame_list c.args.drawing.now.scene.now c.args.frame in
     let drawn : HaveStates list c.in_ok-states.states.items = subst (λ (l : PieceList). HaveStates l c.in_ok-states.states.items) c.in_ok-list.ensures.list c.in_ok-states.ensures.drawn in
     let seen : HaveStates list c.new-view.result.states.now = subst (λ (ts : List TileOf). HaveStates list ts) (sym (c.new-view.ensures ∙ c.deref.ensures.value)) drawn in
     λ lifetimes within t lt. seen t lt
@@ -37,7 +37,7 @@ verdicts_over-requires-after_bounds g c =
 pub invariant_of-asked-clause-right : goal.invariant_of-asked-clause-right
 unfolding frame_list
 invariant_of-asked-clause-right g c =
-    let s = c.args.scene.now in let frame = c.args.frame in
+    let s = c.args.drawing.now.scene.now in let frame = c.args.frame in
     let new = c.draw_in_cells.new.caller in
     let kept = c.in_ok-states.ensures.keeps in
     let made = c.in_ok-caller.ensures in

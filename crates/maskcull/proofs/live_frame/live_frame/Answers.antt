@@ -14,11 +14,11 @@ pub returns-in_err-seen-clause-reported : goal.returns-in_err-seen-clause-report
 returns-in_err-seen-clause-reported g c =
     let r0 = g.W.Sink.says c.args.report.now in let n0 = g.E.Sink.says c.args.notes.now in
     let p = err_from_is_err_and c.from_residual.result c.from_residual.ensures.1 in
-    rw (p.1, p.2) (frame_unnoted c.args.scene.now c.args.looks.rounds c.args.looks.watch c.args.frame failures.Memory r0 r0 n0 (0, omega arith, nothing_appended r0) (λ is. absurd cc) (inl refl) (omega arith))
+    rw (p.1, p.2) (frame_unnoted c.args.drawing.now.scene.now c.args.drawing.now.looks.now.rounds c.args.drawing.now.looks.now.watch c.args.frame failures.Memory r0 r0 n0 (0, omega arith, nothing_appended r0) (λ is. absurd cc) (inl refl) (omega arith))
 
 pub returns-in_err-write_lines-clause-reported : goal.returns-in_err-write_lines-clause-reported
 returns-in_err-write_lines-clause-reported g c =
-    let s = c.args.scene.now in let looks = c.args.looks in
+    let s = c.args.drawing.now.scene.now in let looks = c.args.drawing.now.looks.now in
     let r0 = g.W.Sink.says c.args.report.now in let r = g.W.Sink.says c.write_lines.new.report in let n0 = g.E.Sink.says c.args.notes.now in
     let e = c.in_err-write_lines.field-0.0 in
     let p = err_from_is_err_and c.from_residual-in_err-write_lines.result c.from_residual-in_err-write_lines.ensures.1 in
@@ -28,7 +28,7 @@ returns-in_err-write_lines-clause-reported g c =
 
 pub returns-clause-reported : goal.returns-clause-reported
 returns-clause-reported g c =
-    let s = c.args.scene.now in let looks = c.args.looks in
+    let s = c.args.drawing.now.scene.now in let looks = c.args.drawing.now.looks.now in
     let r0 = g.W.Sink.says c.args.report.now in let r = g.W.Sink.says c.write_lines.new.report in
     let n0 = g.E.Sink.says c.args.notes.now in let n = g.E.Sink.says c.note_lines.new.notes in
     let is = lines_are s c.args.frame c.in_ok-seen.seen.frame.pieces c.in_ok-seen.seen.frame.verdicts c.in_ok-seen.ensures.pieces c.in_ok-seen.ensures.verdicts in
