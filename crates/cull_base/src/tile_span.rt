@@ -22,7 +22,8 @@ pub struct TileSpan {
 }
 
 impl TileSpan {
-    ghost use Rattle.cull_base.specs.Span.{IsSpan, IsPartOf, HasTilesOf, has_tile, whole_span, columns_in, rows_in, row_start_in};
+    ghost use Rattle.cull_base.specs.Span.{IsSpan, IsPartOf, HasTilesOf, has_tile, whole_span};
+    ghost use Rattle.cull_base.specs.Span.{columns_in, rows_in, row_start_in};
     ghost use Rattle.cull_base.specs.declared.place.Tile.{Tile};
 
     /// The tiles whose pixels on the screen meet a rectangle.
@@ -58,11 +59,12 @@ impl TileSpan {
         }
     }
 
-    /// The tiles in both. Condition: the other's firsts aren't past its ends.
+    /// The tiles in both. Condition: no first of the other is past its end.
     pub fn cut(&self, other: &TileSpan) -> TileSpan
         requires columns { other.now.first_column ≤ other.now.end_column }
         requires rows { other.now.first_row ≤ other.now.end_row }
-        ensures tiles { (place : Tile) → has_tile result place ≡ (has_tile self.now place && has_tile other.now place) }
+        ensures tiles { (place : Tile)
+            → has_tile result place ≡ (has_tile self.now place && has_tile other.now place) }
         ensures part { IsPartOf other.now result }
     {
         let first_column = self

@@ -7,11 +7,11 @@ small : (q : ℕ) → q ≤ GRADE_TOP → Fits w32 q
 small q h = omega (arith, h)
 
 pub overflow_cast-result : goal.overflow_cast-result
-overflow_cast-result c = small c.in-Some.q (nearness_doubled c.args.side GRADE_TOP c.args.near c.args.point.now _ _ _ _ _ c.in-Some.q c.requires.near_least c.requires.near_most c.requires.reach c.requires.sight.w_least
+overflow_cast-result c = small c.in-Some.q (nearness_doubled c.args.side GRADE_TOP c.args.near.distance c.args.point.now _ _ _ _ _ c.in-Some.q c.args.near.least c.args.near.most c.requires.reach c.requires.sight.w_least
     (search rules) (search rules) c.unsigned_abs.ensures.value c.nearness_numerator-numerator.ensures.value c.unsigned_abs-2.ensures.value c.requires.doubled c.addend.ensures.value c.in-Some.ensures).within
 
 pub returns-in-Some : goal.returns-in-Some
 returns-in-Some c =
-    let k = nearness_doubled c.args.side GRADE_TOP c.args.near c.args.point.now _ _ _ _ _ c.in-Some.q c.requires.near_least c.requires.near_most c.requires.reach c.requires.sight.w_least
+    let k = nearness_doubled c.args.side GRADE_TOP c.args.near.distance c.args.point.now _ _ _ _ _ c.in-Some.q c.args.near.least c.args.near.most c.requires.reach c.requires.sight.w_least
     (search rules) (search rules) c.unsigned_abs.ensures.value c.nearness_numerator-numerator.ensures.value c.unsigned_abs-2.ensures.value c.requires.doubled c.addend.ensures.value c.in-Some.ensures in
     (k.value, k.within)
