@@ -4,6 +4,7 @@ pub mod LiveLooks
 pub mod Marks
 pub mod LiveTexts
 pub mod ScenePieces
+pub mod Shares
 pub mod LiveEnds
 pub mod RunEnds
 pub mod RunStatus

@@ -11,7 +11,7 @@ use crate::drawing::{Drawing, draw_plainly};
 use crate::failure::Failure;
 use crate::frames::{Asking, Frame, FrameLines, clip_frame, write_lines};
 use crate::live_frame::{LiveDrawing, Looks, draw_live};
-use crate::window::{report_windows, window_count};
+use crate::window::{report_windows, round_count};
 use command_words::Settings;
 use cull_base::{ClipVertex, Memory, Sink};
 use scene_reader::Scene;
@@ -140,7 +140,7 @@ pub fn report_frames<R: Threads + Wait + Sync, W: Sink, G: Gate>(
     };
     // an accessor tells what is held of a scene
     let _frames = scene.cameras().len();
-    let windows = window_count(settings, scene);
-    report_windows(&drawing, lines, windows, report)?;
-    report_rest(&drawing, lines, windows * settings.workers, report)
+    let rounds = round_count(settings, scene);
+    report_windows(&drawing, lines, rounds, report)?;
+    report_rest(&drawing, lines, rounds * settings.workers, report)
 }

@@ -1,11 +1,12 @@
-//! Frames side by side: a window of as many frames as there are workers, each made by one thread in a slot of its own.
+//! Frames side by side: in a window each worker has a slot, in which one thread makes some frames that follow on one
+//! another.
 ghost use Rattle.std.specs.Prelude.{◌≡◌, ◌<◌, ◌≤◌, ◌+◌, ◌*◌, ◌^◌, length, IfOk, IfSome, OnOk};
 ghost use Rattle.cull_base.specs.Tiles.{ArePieces};
 ghost use Rattle.cull_report.specs.Scene.{frame_clips, frame_pieces};
 ghost use Rattle.maskcull.specs.Culling.{Reports};
 ghost use Rattle.maskcull.specs.Frames.{AreValidFrom, lines_from, lines_of};
 ghost use Rattle.command_words.specs.Words.{AreInRange};
-ghost use Rattle.maskcull.specs.Windows.{AreMadeFrom, HavePlaces, IsDrawn, IsMade, HasPlaces};
+ghost use Rattle.maskcull.specs.Windows.{AreDrawnFrom, AreMadeFrom, HavePlaces, IsDrawn, IsMade, HasPlaces};
 
 use crate::drawing::{Drawing, draw_plainly};
 use crate::failure::Failure;
@@ -21,13 +22,17 @@ use std::sync::Wait;
 use std::thread::Threads;
 use tile_queues::{BinTable, Gate};
 
-/// In bytes, at most what the frames of a window take together.
+/// At most so many frames of a window are a slot's. A path's frames cost more here and less there, and all slots wait
+/// for the last one: with several frames each they come out more alike. And threads are started once for all of them.
+const DEPTH: u32 = 8;
+
+/// In bytes, at most what the slots of a window take together.
 const MOST: u64 = 0x4000_0000;
 
 // In bytes, at least what a frame takes for each: a clip vertex, and what it is on the screen; the two pieces of a
 // triangle; a tile with its number in the table of least references; a verdict with its mark and its line; and for all
 // that doesn't grow with the scene.
-const VERTEX: u64 = 28;
+const VERTEX: u64 = 40;
 
 const TRIANGLE: u64 = 72;
 
@@ -37,11 +42,11 @@ const OBJECT: u64 = 64;
 
 const REST: u64 = 0x10_0000;
 
-/// The clip vertices of a frame, and the frame as it was drawn: none where memory gave out.
+/// The clip vertices of a frame, and the frames of a window as they were drawn: none where memory gave out.
 #[derive(Drop)]
 pub struct Slot {
     pub clips: Vec<ClipVertex>,
-    pub drawn: Option<Frame>,
+    pub drawn: Vec<Option<Frame>>,
 }
 
 // In bytes, what a frame of a scene takes at most.
@@ -57,9 +62,9 @@ fn frame_size(scene: &Scene) -> u64 {
         .saturating_add(REST)
 }
 
-/// How many windows the frames of a scene have. None where a worker is alone, where objects are settled while a frame is
-/// drawn, and where the frames of a window would take too much memory.
-pub fn window_count(settings: &Settings, scene: &Scene) -> u32
+/// How many frames each worker has of a scene's windows. None where a worker is alone, where objects are settled while
+/// a frame is drawn, and where a frame for each worker would take too much memory.
+pub fn round_count(settings: &Settings, scene: &Scene) -> u32
     ensures { result * settings.now.workers ≤ length scene.now.cameras }
 {
     let workers = settings.workers;
@@ -72,16 +77,39 @@ pub fn window_count(settings: &Settings, scene: &Scene) -> u32
     scene.cameras().len() as u32 / workers
 }
 
-// So many slots, each with a place for each vertex.
+// At most so many frames are a slot's in a window, so that what is kept of them until it is written isn't too much.
+fn depth_for(scene: &Scene, workers: u32) -> u32
+    ensures some { 1 ≤ result }
+    ensures few { result ≤ 8 }
+{
+    let share = MOST / u64::from(workers.max(1));
+    let left = share.saturating_sub(frame_size(scene));
+    let kept = OBJECT.saturating_mul(scene.objects().len() as u64).max(1);
+    (left / kept).saturating_add(1).clamp(1, u64::from(DEPTH)) as u32
+}
+
+// A slot with a place for each vertex and for the frames of a window.
+fn empty_slot(alloc: Global, scene: &Scene) -> Result<Slot, Memory>
+    ensures { IfOk result (HasPlaces scene.now) }
+{
+    let nowhere = ClipVertex { x: 0, y: 0, w: 0 };
+    let clips = vec![in alloc; nowhere; scene.vertices().len()].map_err(|_| Memory)?;
+    let mut drawn = Vec::with_capacity(alloc, DEPTH as usize).map_err(|_| Memory)?;
+    for _ in 0..DEPTH {
+        drawn.push_reserved(None);
+    }
+    Ok(Slot { clips, drawn })
+}
+
+// So many slots.
 fn empty_slots(alloc: Global, scene: &Scene, count: u32) -> Result<Vec<Slot>, Memory>
     ensures count { IfOk result (λ v. length v.items ≡ count) }
     ensures places { IfOk result (λ v. HavePlaces scene.now v.items) }
 {
-    let nowhere = ClipVertex { x: 0, y: 0, w: 0 };
     let mut slots = Vec::with_capacity(alloc, count as usize).map_err(|_| Memory)?;
     for _ in 0..count {
-        let clips = vec![in alloc; nowhere; scene.vertices().len()].map_err(|_| Memory)?;
-        slots.push_reserved(Slot { clips, drawn: None });
+        let slot = empty_slot(alloc, scene)?;
+        slots.push_reserved(slot);
     }
     Ok(slots)
 }
@@ -119,31 +147,65 @@ fn drawn_alone<R: Threads + Wait + Sync, G: Gate>(
     }
 }
 
-// Makes a frame in a slot.
+// Makes so many frames from a first on, one after another.
+fn make_frames<R: Threads + Wait + Sync, G: Gate>(
+    drawing: &Drawing<R, G>,
+    asking: Asking,
+    first: u32,
+    count: u32,
+    clips: &mut [ClipVertex],
+    frames: &mut [Option<Frame>],
+)
+    requires within { first + count ≤ length drawing.now.scene.now.cameras }
+    requires room { count ≤ length frames.old }
+    requires places { length clips.old ≡ length drawing.now.scene.now.vertices }
+    ensures drawn { AreDrawnFrom drawing.now.scene.now first count frames.new }
+    ensures room { length frames.new ≡ length frames.old }
+    ensures places { length clips.new ≡ length clips.old }
+{
+    // an accessor tells what is held of a scene
+    let _frames = drawing.scene.cameras().len();
+    for k in 0..count {
+        frames[k as usize] = drawn_alone(drawing, asking, first + k, clips);
+    }
+}
+
+// Makes so many frames from a first on in a slot.
 fn make<R: Threads + Wait + Sync, G: Gate>(
     drawing: &Drawing<R, G>,
     asking: Asking,
-    frame: u32,
+    first: u32,
+    count: u32,
     slot: &mut Slot,
 )
-    requires frame { frame < length drawing.now.scene.now.cameras }
+    requires within { first + count ≤ length drawing.now.scene.now.cameras }
+    requires few { count ≤ 8 }
     requires places { HasPlaces drawing.now.scene.now slot.old }
-    ensures { IsMade drawing.now.scene.now frame slot.new }
+    ensures { IsMade drawing.now.scene.now first count slot.new }
 {
-    let drawn = drawn_alone(drawing, asking, frame, slot.clips.as_mut_slice());
-    slot.drawn = drawn;
+    make_frames(
+        drawing,
+        asking,
+        first,
+        count,
+        slot.clips.as_mut_slice(),
+        slot.drawn.as_mut_slice(),
+    );
 }
 
-// Makes the frames of a window from a first on, each in its slot and in a thread of its own.
+// Makes the frames of a window from a first on: so many in each slot, by a thread of its own.
 fn make_window<R: Threads + Wait + Sync, G: Gate>(
     drawing: &Drawing<R, G>,
     asking: Asking,
     first: u32,
+    count: u32,
     slots: &mut [Slot],
 )
-    requires within { first + length slots.old ≤ length drawing.now.scene.now.cameras }
+    requires within { first + length slots.old * count ≤ length drawing.now.scene.now.cameras }
+    requires few { count ≤ 8 }
+    requires workers { length slots.old ≤ 64 }
     requires places { HavePlaces drawing.now.scene.now slots.old }
-    ensures { AreMadeFrom drawing.now.scene.now first slots.new }
+    ensures { AreMadeFrom drawing.now.scene.now first count slots.new }
 {
     // an accessor tells what is held of a scene
     let _frames = drawing.scene.cameras().len();
@@ -153,27 +215,29 @@ fn make_window<R: Threads + Wait + Sync, G: Gate>(
         slots,
         threads,
         &|k: usize, slot: &mut Slot|
-            requires few { first + k < 2 ^ 32 }
-            requires frame { first + k < length drawing.now.scene.now.cameras }
+            requires few { count ≤ 8 }
+            requires workers { k < 64 }
+            requires small { first < 2 ^ 31 }
+            requires within { first + k * count + count ≤ length drawing.now.scene.now.cameras }
             requires places { HasPlaces drawing.now.scene.now slot.old }
-            ensures { IsMade drawing.entry.now.scene.now (first + k) slot.new }
-        { make(drawing, asking, first + k as u32, slot) },
+            ensures { IsMade drawing.entry.now.scene.now (first + k * count) count slot.new }
+        { make(drawing, asking, first + k as u32 * count, count, slot) },
     );
 }
 
-// Writes the lines of the frame of a slot.
-fn write_slot<W: Sink>(
+// Writes the lines of a frame that was drawn, if it was.
+fn write_drawn<W: Sink>(
     report: &mut W,
     lines: FrameLines,
     _scene: &Scene,
     frame: u32,
-    slot: &Slot,
+    drawn: &Option<Frame>,
 ) -> Result<(), Failure>
-    requires { IsMade _scene.now frame slot.now }
+    requires { IfSome drawn.now (IsDrawn _scene.now frame) }
     ensures reported { Reports (W.says report.old) (W.says report.new) result (lines_of lines _scene.now frame) }
     ensures valid { OnOk result (ArePieces (frame_pieces _scene.now frame)) }
 {
-    match &slot.drawn {
+    match drawn {
         Some(drawn) => {
             write_lines(report, lines, frame, drawn)?;
             Ok(())
@@ -182,68 +246,124 @@ fn write_slot<W: Sink>(
     }
 }
 
-// Writes the lines of the frames of a window, in order, up to the first slot that has none.
+// Writes the lines of so many frames from a first on, up to the first that memory gave out for.
+fn write_frames<W: Sink>(
+    report: &mut W,
+    lines: FrameLines,
+    scene: &Scene,
+    first: u32,
+    count: u32,
+    frames: &[Option<Frame>],
+) -> Result<(), Failure>
+    requires within { first + count ≤ length scene.now.cameras }
+    requires room { count ≤ length frames.now }
+    requires drawn { AreDrawnFrom scene.now first count frames.now }
+    ensures reported { Reports (W.says report.old) (W.says report.new) result (lines_from lines scene.now first count) }
+    ensures valid { OnOk result (AreValidFrom scene.now first count) }
+{
+    // an accessor tells what is held of a scene
+    let _frames = scene.cameras().len();
+    for k in 0..count as usize {
+        write_drawn(report, lines, scene, first + k as u32, &frames[k])?;
+    }
+    Ok(())
+}
+
+// Writes the lines of so many frames of a slot.
+fn write_slot<W: Sink>(
+    report: &mut W,
+    lines: FrameLines,
+    scene: &Scene,
+    first: u32,
+    count: u32,
+    slot: &Slot,
+) -> Result<(), Failure>
+    requires within { first + count ≤ length scene.now.cameras }
+    requires few { count ≤ 8 }
+    requires made { IsMade scene.now first count slot.now }
+    ensures reported { Reports (W.says report.old) (W.says report.new) result (lines_from lines scene.now first count) }
+    ensures valid { OnOk result (AreValidFrom scene.now first count) }
+{
+    write_frames(report, lines, scene, first, count, slot.drawn.as_slice())
+}
+
+// Writes the lines of the frames of a window in order: so many of each slot.
 fn write_window<W: Sink>(
     report: &mut W,
     lines: FrameLines,
     scene: &Scene,
     first: u32,
+    count: u32,
     slots: &[Slot],
 ) -> Result<(), Failure>
-    requires within { first + length slots.now ≤ length scene.now.cameras }
-    requires made { AreMadeFrom scene.now first slots.now }
+    requires within { first + length slots.now * count ≤ length scene.now.cameras }
+    requires few { count ≤ 8 }
+    requires workers { length slots.now ≤ 64 }
+    requires made { AreMadeFrom scene.now first count slots.now }
     ensures reported { Reports (W.says report.old) (W.says report.new) result
-        (lines_from lines scene.now first (length slots.now)) }
-    ensures valid { OnOk result (AreValidFrom scene.now first (length slots.now)) }
+        (lines_from lines scene.now first (length slots.now * count)) }
+    ensures valid { OnOk result (AreValidFrom scene.now first (length slots.now * count)) }
 {
     // an accessor tells what is held of a scene
     let _frames = scene.cameras().len();
     for k in 0..slots.len() {
-        write_slot(report, lines, scene, first + k as u32, &slots[k])?;
+        let place = first + k as u32 * count;
+        write_slot(report, lines, scene, place, count, &slots[k])?;
     }
     Ok(())
 }
 
-// Makes the frames of a window from a first on and writes their lines.
+// Makes the frames of a window from a first on, so many in each slot, and writes their lines.
 fn report_window<R: Threads + Wait + Sync, W: Sink, G: Gate>(
     drawing: &Drawing<R, G>,
     asking: Asking,
     lines: FrameLines,
     first: u32,
+    count: u32,
     slots: &mut [Slot],
     report: &mut W,
 ) -> Result<(), Failure>
-    requires within { first + length slots.old ≤ length drawing.now.scene.now.cameras }
+    requires within { first + length slots.old * count ≤ length drawing.now.scene.now.cameras }
+    requires few { count ≤ 8 }
+    requires workers { length slots.old ≤ 64 }
     requires places { HavePlaces drawing.now.scene.now slots.old }
     ensures reported { Reports (W.says report.old) (W.says report.new) result
-        (lines_from lines drawing.now.scene.now first (length slots.old)) }
-    ensures valid { OnOk result (AreValidFrom drawing.now.scene.now first (length slots.old)) }
+        (lines_from lines drawing.now.scene.now first (length slots.old * count)) }
+    ensures valid { OnOk result (AreValidFrom drawing.now.scene.now first (length slots.old * count)) }
     ensures places { HavePlaces drawing.now.scene.now slots.new }
 {
-    make_window(drawing, asking, first, slots);
-    write_window(report, lines, drawing.scene, first, slots)
+    make_window(drawing, asking, first, count, slots);
+    write_window(report, lines, drawing.scene, first, count, slots)
 }
 
-// Makes window after window in these slots, and writes the lines of each before the next begins.
+// Makes window after window in these slots, of so many frames a slot at most, until each slot had so many as there are
+// rounds, and writes the lines of each before the next begins.
 fn report_in_slots<R: Threads + Wait + Sync, W: Sink, G: Gate>(
     drawing: &Drawing<R, G>,
     asking: Asking,
     lines: FrameLines,
-    windows: u32,
+    rounds: u32,
+    depth: u32,
     slots: &mut [Slot],
     report: &mut W,
 ) -> Result<(), Failure>
-    requires within { windows * length slots.old ≤ length drawing.now.scene.now.cameras }
+    requires some { 1 ≤ depth }
+    requires few { depth ≤ 8 }
+    requires workers { length slots.old ≤ 64 }
+    requires within { rounds * length slots.old ≤ length drawing.now.scene.now.cameras }
     requires places { HavePlaces drawing.now.scene.now slots.old }
     ensures reported { Reports (W.says report.old) (W.says report.new) result
-        (lines_from lines drawing.now.scene.now 0 (windows * length slots.old)) }
-    ensures valid { OnOk result (AreValidFrom drawing.now.scene.now 0 (windows * length slots.old)) }
+        (lines_from lines drawing.now.scene.now 0 (rounds * length slots.old)) }
+    ensures valid { OnOk result (AreValidFrom drawing.now.scene.now 0 (rounds * length slots.old)) }
 {
     // an accessor tells what is held of a scene
     let _frames = drawing.scene.cameras().len();
-    for window in 0..windows {
-        let first = window * slots.len() as u32;
-        report_window(drawing, asking, lines, first, slots, report)?;
+    let mut done = 0u32;
+    while done < rounds {
+        let count = depth.min(rounds - done);
+        let first = done * slots.len() as u32;
+        report_window(drawing, asking, lines, first, count, slots, report)?;
+        done += count;
     }
     Ok(())
 }
@@ -272,22 +392,22 @@ fn asking_for(lines: FrameLines, workers: u32) -> Asking {
     }
 }
 
-/// Draws the frames of so many windows and writes their lines in order. A frame of a window is made by one thread, as
-/// one worker makes it in one bin; where its memory gave out, the run ends behind the frames before it. Condition: there
-/// are so many windows.
+/// Draws so many frames for each worker, side by side, and writes their lines in order. A frame of a window is made by
+/// one thread, as one worker makes it in one bin; where its memory gave out, the run ends behind the frames before it.
+/// Condition: there are so many frames.
 pub fn report_windows<R: Threads + Wait + Sync, W: Sink, G: Gate>(
     drawing: &Drawing<R, G>,
     lines: FrameLines,
-    windows: u32,
+    rounds: u32,
     report: &mut W,
 ) -> Result<(), Failure>
-    requires { windows * drawing.now.settings.now.workers ≤ length drawing.now.scene.now.cameras }
+    requires { rounds * drawing.now.settings.now.workers ≤ length drawing.now.scene.now.cameras }
     ensures reported { Reports (W.says report.old) (W.says report.new) result
-        (lines_from lines drawing.now.scene.now 0 (windows * drawing.now.settings.now.workers)) }
+        (lines_from lines drawing.now.scene.now 0 (rounds * drawing.now.settings.now.workers)) }
     ensures valid { OnOk result
-        (AreValidFrom drawing.now.scene.now 0 (windows * drawing.now.settings.now.workers)) }
+        (AreValidFrom drawing.now.scene.now 0 (rounds * drawing.now.settings.now.workers)) }
 {
-    if windows == 0 {
+    if rounds == 0 {
         return Ok(());
     }
     let (alloc, scene) = (drawing.alloc, drawing.scene);
@@ -308,7 +428,8 @@ pub fn report_windows<R: Threads + Wait + Sync, W: Sink, G: Gate>(
         &in_slot,
         asking,
         lines,
-        windows,
+        rounds,
+        depth_for(scene, workers),
         slots.as_mut_slice(),
         report,
     )

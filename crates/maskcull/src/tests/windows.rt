@@ -59,21 +59,21 @@ fn two_frames_are_drawn_at_once(rt: HostRuntime) -> Result<(), Fail> {
     Ok(())
 }
 
-// Seven frames, in each of which the quad is one further away and hides one rectangle less.
-fn seven_frames(alloc: Global) -> Result<Vec<u8>, AllocError> {
+// So many frames: in each of the first seven the quad is one further away and hides one rectangle less.
+fn path(alloc: Global, frames: u8) -> Result<Vec<u8>, AllocError> {
     let mut rectangles = [[15, 3, 17, 5, 3]; 7];
     for k in 0..7 {
         rectangles[k][4] = 3 + k as i32;
     }
-    seen_from(scene(alloc, 0, &QUAD, &TWO, &rectangles)?, 7)
+    seen_from(scene(alloc, 0, &QUAD, &TWO, &rectangles)?, frames)
 }
 
 #[test]
 fn seven_frames_by_three_workers(rt: HostRuntime) -> Result<(), Fail> {
     let alloc = rt.alloc();
     let words = ["maskcull", "cull", "--workers", "3"];
-    let ended = run_with(&rt, alloc, &words, seven_frames(alloc)?)?;
-    let alone = culled(&rt, alloc, seven_frames(alloc)?)?;
+    let ended = run_with(&rt, alloc, &words, path(alloc, 7)?)?;
+    let alone = culled(&rt, alloc, path(alloc, 7)?)?;
     assert_eq!(rt; ended.report.as_slice(), alone.report.as_slice());
     let text = str::from_utf8(ended.report.as_slice()).map_err(|_| Fail::from("a text"))?;
     assert_eq!(rt;
@@ -83,6 +83,22 @@ fn seven_frames_by_three_workers(rt: HostRuntime) -> Result<(), Fail> {
     assert_eq!(rt;
         text.lines().nth(63),
         Some("end 6 visible 6 occluded 1 outside 0")
+    );
+    Ok(())
+}
+
+// A window of eight frames a worker, one of two, and a frame that is left.
+#[test]
+fn twenty_one_frames_by_two_workers(rt: HostRuntime) -> Result<(), Fail> {
+    let alloc = rt.alloc();
+    let words = ["maskcull", "cull", "--workers", "2"];
+    let ended = run_with(&rt, alloc, &words, path(alloc, 21)?)?;
+    let alone = culled(&rt, alloc, path(alloc, 21)?)?;
+    assert_eq!(rt; ended.report.as_slice(), alone.report.as_slice());
+    let text = str::from_utf8(ended.report.as_slice()).map_err(|_| Fail::from("a text"))?;
+    assert_eq!(rt;
+        text.lines().nth(189),
+        Some("end 20 visible 7 occluded 0 outside 0")
     );
     Ok(())
 }

@@ -14,13 +14,13 @@ returns-in_err-report_windows-clause-reported g c =
     let s0 = g.W.Sink.says c.args.report.now in let s1 = g.W.Sink.says c.report_windows.new.report in
     let e = c.in_err-report_windows.field-0.0 in
     let p = err_from_is_err_and c.from_residual-in_err-report_windows.result c.from_residual-in_err-report_windows.ensures.1 in
-    rw (p.1, p.2) (no_rest c.args.lines s (c.window_count-windows.result * c.args.settings.now.workers) (length s.cameras) s0 s1 e c.window_count-windows.ensures c.in_err-report_windows.ensures.reported)
+    rw (p.1, p.2) (no_rest c.args.lines s (c.round_count-rounds.result * c.args.settings.now.workers) (length s.cameras) s0 s1 e c.round_count-rounds.ensures c.in_err-report_windows.ensures.reported)
 
 pub returns-clause-reported : goal.returns-clause-reported
 returns-clause-reported g c =
     let s = c.args.scene.now in
     let s0 = g.W.Sink.says c.args.report.now in let s1 = g.W.Sink.says c.report_windows.new.report in let s2 = g.W.Sink.says c.report_rest.new.report in
-    then_rest c.args.lines s (c.window_count-windows.result * c.args.settings.now.workers) (length s.cameras) s0 s1 s2 _ c.report_rest.result c.window_count-windows.ensures c.in_ok-report_windows.ensures.reported c.report_rest.ensures.reported
+    then_rest c.args.lines s (c.round_count-rounds.result * c.args.settings.now.workers) (length s.cameras) s0 s1 s2 _ c.report_rest.result c.round_count-rounds.ensures c.in_ok-report_windows.ensures.reported c.report_rest.ensures.reported
 
 rest_valid : (r : Result (Unit {0}) Failure) (s : Parts) (k : ℕ) → k ≤ length s.cameras → AreValidFrom s 0 k → OnOk r (AreValidFrom s k (length s.cameras - k)) → OnOk r (AllArePieces s)
 rest_valid (Ok x) s k le windows rest = all_valid s k le windows rest
@@ -28,4 +28,4 @@ rest_valid (Err e) s k le windows rest = rest
 
 pub returns-clause-valid : goal.returns-clause-valid
 returns-clause-valid g c =
-    rest_valid c.report_rest.result c.args.scene.now (c.window_count-windows.result * c.args.settings.now.workers) c.window_count-windows.ensures c.in_ok-report_windows.ensures.valid c.report_rest.ensures.valid
+    rest_valid c.report_rest.result c.args.scene.now (c.round_count-rounds.result * c.args.settings.now.workers) c.round_count-rounds.ensures c.in_ok-report_windows.ensures.valid c.report_rest.ensures.valid

@@ -1,10 +1,14 @@
-use Rattle.std.proofs.Common.{◌*◌, length}
+use Rattle.std.proofs.Common.{◌*◌, ◌-◌, ◌≤◌, length}
 use Rattle.maskcull.specs.Windows.{HavePlaces}
 use Rattle.maskcull.proofs.FrameByFrame.{Wrote}
 use Rattle.maskcull.proofs.window.report_in_slots.Given as goal
 
-abbrev pub invariant-loop-window : goal.invariant-loop-window
-invariant-loop-window g l = record {
-  wrote : Wrote l.lines l.drawing.scene.now 0 (l.window * length l.fn.slots) (g.W.Sink.says l.fn.report) (g.W.Sink.says l.report);
+abbrev pub invariant-loop-done : goal.invariant-loop-done
+invariant-loop-done g l = record {
+  wrote : Wrote l.lines l.drawing.scene.now 0 (l.done * length l.fn.slots) (g.W.Sink.says l.fn.report) (g.W.Sink.says l.report);
   places : HavePlaces l.drawing.scene.now l.slots;
+  within : l.done ≤ l.rounds;
 }
+
+abbrev pub decreases-loop-done : goal.decreases-loop-done
+decreases-loop-done g l = l.rounds - l.done
