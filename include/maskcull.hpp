@@ -1005,9 +1005,9 @@ private:
         return true;
     }
 
-    // The same at once, where no number needs a closer look; false where one may. The sum of all terms is infinite or no
-    // number where one is, and then, and where it is too great, its bits are those of a greater number. It has too what
-    // keeps it from being small where a number below the least normal one matters, since that may be taken for 0.
+    // The same at once, where no number needs a closer look; false where one may. The sum of all terms is infinite or
+    // no number where one is; then, and where it is too great, its bits are those of a greater number. What is added to
+    // it makes it great too where a number below the least normal one matters, since that may be taken for 0.
     bool set_plain_corners(hull<8> &h, const float *matrix, const float *low, const float *high) const {
         constexpr double tiny = 0x1p-74;
         const unsigned char *l = hidden_from_compiler(low), *u = hidden_from_compiler(high);
