@@ -139,7 +139,8 @@ typedef struct maskcull_tile {
     uint32_t count;
 } maskcull_tile;
 
-/* A triangle on the screen, as maskcull_set_up writes it: 36 bytes, of which only the calls below make sense. */
+/* A triangle on the screen, as maskcull_set_up writes it: its corners' coordinates in sixteenths of a pixel, and their
+ * nearness. To be read, copied and drawn. */
 typedef struct maskcull_piece {
     int32_t x[3];
     int32_t y[3];
@@ -190,7 +191,8 @@ uint32_t maskcull_set_up(const maskcull_setup *setup, const maskcull_vertex *ver
 /* Draws pieces that were set up, as maskcull_draw_band draws triangles: onto some whole rows of the screen's tiles, of
  * which `tiles` points to the first, in row first_row. The setup is that of the whole screen, with which the pieces
  * were set up; its winding isn't read here. Threads that draw the same pieces in the same order, each onto rows of its
- * own, leave the tiles that one thread leaves.
+ * own, leave the tiles that one thread leaves. A piece that doesn't reach these rows may be left out, and is best left
+ * out where there are many (maskcull_piece_rows).
  * BAD_SETUP, BAD_TILES (not whole rows, or past the last one). */
 uint32_t maskcull_draw_pieces(const maskcull_setup *setup, maskcull_tile *tiles, size_t tile_count, uint32_t first_row,
                               const maskcull_piece *pieces, size_t piece_count);
@@ -256,6 +258,19 @@ static inline maskcull_tile *maskcull_open(uint32_t width, uint32_t height, size
 static inline void maskcull_close(maskcull_tile *tiles)
 {
     free(tiles);
+}
+
+/* The rows of tiles that a piece may change: from *first_row to before *end_row. Bands of other rows may leave it out,
+ * and are the same. */
+static inline void maskcull_piece_rows(const maskcull_setup *setup, const maskcull_piece *piece,
+                                       uint32_t *first_row, uint32_t *end_row)
+{
+    const int32_t row_count = (int32_t)((setup->height + 7) / 8), row = 16 * 8;
+    const int32_t a = piece->y[0], b = piece->y[1], c = piece->y[2];
+    const int32_t upper = a < b ? (a < c ? a : c) : (b < c ? b : c), lower = a > b ? (a > c ? a : c) : (b > c ? b : c);
+    const int32_t first = upper < 0 ? 0 : upper / row, end = lower < 0 ? 0 : lower / row + 1;
+    *first_row = (uint32_t)(first < row_count ? first : row_count);
+    *end_row = (uint32_t)(end < row_count ? end : row_count);
 }
 
 /* Whether a pointer can be one to so many elements. */

@@ -118,14 +118,14 @@ struct occluders {
 /// What a frame drew and tested from one clearing to the next, in the whole numbers that were passed to the library, as
 /// a scene that `maskcull cull` reads: so that a hole in a picture, or a slow frame, can be sent to others. Object k of
 /// the scene is the k-th call of the library that tested something, a rectangle at a distance; `answers` has what each
-/// returned. A box takes one call, a mesh several; what is known without a call, as of a box behind the eye, isn't
-/// recorded.
+/// returned. A box takes one call, a mesh several; what is known without a call, as of a box beside the screen or
+/// behind the eye, isn't recorded.
 ///
 /// The program draws all before it tests, so its verdicts are these answers where nothing was drawn after a test. What
 /// was tested farther than the guard is written as at the guard, so it may be visible there.
 class recorder {
 public:
-    /// What each test returned: MASKCULL_VISIBLE, MASKCULL_OCCLUDED or MASKCULL_OUTSIDE.
+    /// What each test returned: MASKCULL_VISIBLE or MASKCULL_OCCLUDED.
     const std::vector<std::uint32_t> &answers() const { return answers_; }
 
     /// The bytes of the scene; none where nothing was recorded, or more than a scene can have: 262,144 vertices, 65,536
@@ -379,17 +379,11 @@ public:
     /// NaN, and where a corner is before 8/7 of the near distance, unless all of the box is beside the screen or behind
     /// the eye.
     verdict test_aabb(const float world_to_clip[16], const float low[3], const float high[3]) const {
-        matrix_rows r;
-        double3 first, last;
-        if (tiles_.empty() || !read(world_to_clip, r) || !load_both(low, high, first, last)) return verdict::visible;
-        const double3 far_off = {std::max(std::fabs(first.x), std::fabs(last.x)),
-                                 std::max(std::fabs(first.y), std::fabs(last.y)),
-                                 std::max(std::fabs(first.w), std::fabs(last.w))};
-        if (!(reach_of(r, far_off) < known)) return verdict::visible;
         hull<8> h;
-        set_corners(h.x, r.x, first, last);
-        set_corners(h.y, r.y, first, last);
-        set_corners(h.w, r.w, first, last);
+        if (tiles_.empty() || world_to_clip == nullptr) return verdict::visible;
+        if (!set_plain_corners(h, world_to_clip, low, high) && !set_corners(h, world_to_clip, low, high)) {
+            return verdict::visible;
+        }
         return verdict_of(h);
     }
 
@@ -432,8 +426,9 @@ private:
     static constexpr double steepest = 1.0 / 16;
 
     frame(const maskcull_setup &setup, double scale, const options &chosen, std::size_t count)
-        : setup_(setup), scale_(scale), up_scale_(chosen.y_is_down ? -scale : scale), matrices_(chosen.matrices),
-          tiles_(count) {}
+        : setup_(setup), half_sizes_{setup.width * 0.5, setup.height * 0.5, setup.width * 0.5, setup.height * 0.5},
+          margins_{margin(setup.width), margin(setup.height), margin(setup.width), margin(setup.height)}, scale_(scale),
+          up_scale_(chosen.y_is_down ? -scale : scale), matrices_(chosen.matrices), tiles_(count) {}
 
     std::size_t columns() const { return (setup_.width + 31) / 32; }
 
@@ -495,23 +490,11 @@ private:
         return is_first & is_second & is_third;
     }
 
-    // Two points at a time.
-    static bool load_both(const float *low, const float *high, double3 &first, double3 &last) {
-        std::uint32_t bits[8] = {}, odd = 0;
-        std::memcpy(bits, hidden_from_compiler(low), 12);
-        std::memcpy(bits + 4, hidden_from_compiler(high), 12);
-        for (std::size_t k = 0; k < 8; k++) odd |= upper_bit(bits[k]) | tiny_bit(bits[k]);
-        if (odd >> 31 != 0) {
-            const unsigned char *at = hidden_from_compiler(bits);
-            const bool is_first = load(at, first), is_last = load(at + 16, last);
-            return is_first & is_last;
-        }
-        float kept[8];
-        double numbers[8];
-        std::memcpy(kept, bits, sizeof kept);
-        for (std::size_t k = 0; k < 8; k++) numbers[k] = static_cast<double>(kept[k]);
-        first = {numbers[0], numbers[1], numbers[2]}, last = {numbers[4], numbers[5], numbers[6]};
-        return true;
+    // One that is known to be a number, or is looked at later.
+    static double load_plain(const unsigned char *at) {
+        float number;
+        std::memcpy(&number, at, sizeof number);
+        return static_cast<double>(number);
     }
 
     // z isn't among them.
@@ -567,15 +550,8 @@ private:
         return std::max({of(r.x), of(r.y), of(r.w)});
     }
 
-    // Whole numbers of what lies within 32 bits, however the processor is told to round.
-    static std::int32_t floor_of(double number) {
-        const auto whole = static_cast<std::int32_t>(number);
-        return whole - (number < whole ? 1 : 0);
-    }
-
-    static std::int32_t ceiling_of(double number) { return -floor_of(-number); }
-
-    // Of what lies within twice the guard: above 0 the part behind the point is dropped, and no branch is needed.
+    // The nearest whole number of what lies within twice the guard: above 0 the part behind the point is dropped,
+    // however the processor is told to round, and no branch is needed.
     static std::int32_t nearest_to(double number) {
         constexpr std::int32_t above = 1 << 25;
         return static_cast<std::int32_t>(number + (above + 0.5)) - above;
@@ -1006,12 +982,57 @@ private:
     }
 
     // The eight sums for one row of a matrix.
-    static void set_corners(double (&sums)[8], const double (&row)[4], const double3 &low, const double3 &high) {
+    static void set_sums(double (&sums)[8], const double (&row)[4], const double3 &low, const double3 &high) {
         const double left = row[0] * low.x, right = row[0] * high.x, under = row[1] * low.y, over = row[1] * high.y;
         const double before = row[2] * low.w + row[3], behind = row[2] * high.w + row[3];
         const double four[4] = {left + under, right + under, left + over, right + over};
         for (int k = 0; k < 4; k++) sums[k] = four[k] + before;
         for (int k = 0; k < 4; k++) sums[4 + k] = four[k] + behind;
+    }
+
+    // A box's corners; false where a number of it is none, or a corner isn't known.
+    bool set_corners(hull<8> &h, const float *matrix, const float *low, const float *high) const {
+        matrix_rows r;
+        double3 first, last;
+        if (!read(matrix, r) || !load(hidden_from_compiler(low), first) || !load(hidden_from_compiler(high), last)) {
+            return false;
+        }
+        const double3 far_off = {std::max(std::fabs(first.x), std::fabs(last.x)),
+                                 std::max(std::fabs(first.y), std::fabs(last.y)),
+                                 std::max(std::fabs(first.w), std::fabs(last.w))};
+        if (!(reach_of(r, far_off) < known)) return false;
+        set_sums(h.x, r.x, first, last), set_sums(h.y, r.y, first, last), set_sums(h.w, r.w, first, last);
+        return true;
+    }
+
+    // The same at once, where no number needs a closer look; false where one may. The sum of all terms is infinite or
+    // no number where one is; then, and where it is too great, its bits are those of a greater number. What is added to
+    // it makes it great too where a number below the least normal one matters, since that may be taken for 0.
+    bool set_plain_corners(hull<8> &h, const float *matrix, const float *low, const float *high) const {
+        constexpr double tiny = 0x1p-74;
+        const unsigned char *l = hidden_from_compiler(low), *u = hidden_from_compiler(high);
+        const double3 first = {load_plain(l), load_plain(l + 4), load_plain(l + 8)};
+        const double3 last = {load_plain(u), load_plain(u + 4), load_plain(u + 8)};
+        const double3 far_off = {std::fabs(first.x) + std::fabs(last.x) + tiny,
+                                 std::fabs(first.y) + std::fabs(last.y) + tiny,
+                                 std::fabs(first.w) + std::fabs(last.w) + tiny};
+        const unsigned char *m = hidden_from_compiler(matrix);
+        const std::size_t row = matrices_ == matrix_layout::rows ? 16 : 4, column = 20 - row;
+        matrix_rows r;
+        double reach = tiny * scale_ * (far_off.x + far_off.y + far_off.w + 1);
+        const auto take = [&](double (&numbers)[4], std::size_t number, double scale, double (&sums)[8]) {
+            const unsigned char *at = m + number * row;
+            for (int k = 0; k < 4; k++, at += column) numbers[k] = load_plain(at) * scale;
+            reach += std::fabs(numbers[0]) * far_off.x + std::fabs(numbers[1]) * far_off.y
+                     + std::fabs(numbers[2]) * far_off.w + std::fabs(numbers[3]);
+            set_sums(sums, numbers, first, last);
+        };
+        take(r.x, 0, scale_, h.x), take(r.y, 1, up_scale_, h.y), take(r.w, 3, scale_, h.w);
+        const unsigned char *kept = hidden_from_compiler(&reach);
+        std::uint64_t bits, most_bits;
+        constexpr double limit = known;
+        std::memcpy(&bits, kept, sizeof bits), std::memcpy(&most_bits, &limit, sizeof limit);
+        return bits < most_bits;
     }
 
     // The least and the greatest of some numbers, by halves: so compilers make vectors of it.
@@ -1050,8 +1071,7 @@ private:
 
     // Whether all points lie beyond one side of the screen, by the margin, or behind the eye: so does all between them.
     template <std::size_t N> bool is_outside(const hull<N> &h) const {
-        const double right = 1 + 2 * margin(setup_.width) / setup_.width;
-        const double top = 1 + 2 * margin(setup_.height) / setup_.height;
+        const double right = 1 + margins_[0] / half_sizes_[0], top = 1 + margins_[1] / half_sizes_[1];
         double past_right[N], past_left[N], past_top[N], past_bottom[N];
         for (std::size_t k = 0; k < N; k++) {
             const double across = right * h.w[k], up = top * h.w[k];
@@ -1065,13 +1085,16 @@ private:
     // Outwards to whole pixels, past all that the edge of an occluder may have moved; the distance down, so that the
     // object isn't held to be farther than its nearest point.
     verdict verdict_of(const extent &e) const {
-        const double half_width = setup_.width * 0.5, half_height = setup_.height * 0.5;
-        const double across = margin(setup_.width), down = margin(setup_.height);
-        const maskcull_area area{floor_of(within(half_width * (1 + e.left) - across)),
-                                 floor_of(within(half_height * (1 - e.high) - down)),
-                                 ceiling_of(within(half_width * (1 + e.right) + across)),
-                                 ceiling_of(within(half_height * (1 - e.low) + down))};
-        const std::int32_t w = floor_of(within(e.nearest));
+        const double inside[4] = {1 + e.left, 1 - e.high, 1 - e.right, 1 + e.low};
+        std::int32_t pixels[4];
+        for (std::size_t k = 0; k < 4; k++) {
+            const double some = greater(inside[k] * half_sizes_[k] - margins_[k], 0.0), all = 2 * half_sizes_[k];
+            pixels[k] = static_cast<std::int32_t>(some < all ? some : all);
+        }
+        const maskcull_area area{pixels[0], pixels[1], static_cast<std::int32_t>(setup_.width) - pixels[2],
+                                 static_cast<std::int32_t>(setup_.height) - pixels[3]};
+        if (area.x0 >= area.x1 || area.y0 >= area.y1) return verdict::outside;
+        const auto w = static_cast<std::int32_t>(e.nearest < most ? e.nearest : most);
         const std::uint32_t answer = maskcull_test(&setup_, tiles_.data(), tiles_.size(), &area, w);
         if (recorder_ != nullptr) recorder_->add(area, w, answer);
         return answer == MASKCULL_OCCLUDED  ? verdict::occluded
@@ -1079,7 +1102,6 @@ private:
                                             : verdict::visible;
     }
 
-    static double within(double number) { return std::min(std::max(number, -most), most); }
 
     // All vertices as one rectangle: visible where that can't be told.
     verdict all_at_once(const matrix_rows &r, const mesh_view &mesh) const {
@@ -1126,6 +1148,8 @@ private:
     static double size(const double3 &p) { return std::max({std::fabs(p.x), std::fabs(p.y), std::fabs(p.w)}); }
 
     maskcull_setup setup_;
+    // For the left, upper, right and lower edge of what is tested.
+    double half_sizes_[4], margins_[4];
     double scale_, up_scale_;
     matrix_layout matrices_;
     std::vector<maskcull_tile> tiles_;

@@ -1,6 +1,6 @@
 // A frame drawn by a pool of threads that is kept from frame to frame. First they set the triangles up, slice by slice,
-// and then they draw the pieces of all slices onto bands of rows of tiles; slices and bands are dealt in turn to
-// whoever is free.
+// and sort each slice's pieces by the bands of rows of tiles that they reach. Then they draw the bands, each from all
+// slices in order. Slices and bands are dealt in turn to whoever is free.
 //
 //     c++ -std=c++17 -O2 -Iinclude examples/c/threads.cpp crates/maskcull_c/out/libmaskcull_c.a -pthread -o threads
 //     ./threads [THREADS]    with a number of threads: how long a frame takes by one thread, and by so many
@@ -81,7 +81,7 @@ private:
 constexpr maskcull_setup setup = {1280, 720, 16, MASKCULL_KEEPS_BOTH};
 constexpr std::uint32_t columns = (setup.width + 31) / 32, rows = (setup.height + 7) / 8;
 constexpr unsigned triangle_count = 20000, slice_triangles = 1000, band_rows = 6;
-constexpr unsigned slices = (triangle_count + slice_triangles - 1) / slice_triangles;
+constexpr unsigned slice_count = (triangle_count + slice_triangles - 1) / slice_triangles;
 constexpr unsigned bands = (rows + band_rows - 1) / band_rows;
 
 std::uint64_t state = 1;
@@ -91,12 +91,15 @@ std::int32_t below(std::int32_t end) {
     return static_cast<std::int32_t>((state >> 33) % static_cast<std::uint64_t>(end));
 }
 
-// What is drawn, and memory that is kept from frame to frame. Each slice's pieces lie at the head of its room.
+// The pieces of some triangles, and those that reach each band. It is memory that is kept from frame to frame.
+struct slice {
+    std::vector<maskcull_piece> pieces = std::vector<maskcull_piece>(2 * slice_triangles), by_band[bands];
+};
+
 struct frame {
     std::vector<maskcull_vertex> vertices;
     std::vector<maskcull_triangle> triangles;
-    std::vector<maskcull_piece> pieces = std::vector<maskcull_piece>(2 * triangle_count);
-    std::size_t piece_counts[slices] = {};
+    std::vector<slice> slices = std::vector<slice>(slice_count);
     std::vector<maskcull_tile> tiles = std::vector<maskcull_tile>(maskcull_tile_count(setup.width, setup.height));
 };
 
@@ -119,10 +122,25 @@ bool draw_by_one(frame &f) {
                          f.triangles.data(), f.triangles.size()) == MASKCULL_DONE;
 }
 
-bool set_up_slice(frame &f, unsigned slice) {
-    const unsigned first = slice * slice_triangles, count = std::min(slice_triangles, triangle_count - first);
-    return maskcull_set_up(&setup, f.vertices.data(), f.vertices.size(), f.triangles.data() + first, count,
-                           f.pieces.data() + 2 * first, 2 * count, &f.piece_counts[slice]) == MASKCULL_DONE;
+void sort_by_band(slice &s, std::size_t count) {
+    for (auto &pieces : s.by_band) pieces.clear();
+    for (std::size_t k = 0; k < count; k++) {
+        std::uint32_t row, end_row;
+        maskcull_piece_rows(&setup, &s.pieces[k], &row, &end_row);
+        for (std::uint32_t band = row / band_rows; band * band_rows < end_row; band++) {
+            s.by_band[band].push_back(s.pieces[k]);
+        }
+    }
+}
+
+bool set_up_slice(frame &f, unsigned number) {
+    const unsigned first = number * slice_triangles, triangles = std::min(slice_triangles, triangle_count - first);
+    slice &s = f.slices[number];
+    std::size_t count = 0;
+    const bool is_set_up = maskcull_set_up(&setup, f.vertices.data(), f.vertices.size(), f.triangles.data() + first,
+                                           triangles, s.pieces.data(), s.pieces.size(), &count) == MASKCULL_DONE;
+    sort_by_band(s, count);
+    return is_set_up;
 }
 
 // Empties a band, and draws all slices onto it, in order.
@@ -132,16 +150,17 @@ bool draw_band(frame &f, unsigned band) {
     const std::size_t count = columns * row_count;
     maskcull_clear(tiles, count);
     bool is_drawn = true;
-    for (unsigned k = 0; k < slices; k++) {
-        const maskcull_piece *pieces = f.pieces.data() + 2 * slice_triangles * k;
-        is_drawn &= maskcull_draw_pieces(&setup, tiles, count, first_row, pieces, f.piece_counts[k]) == MASKCULL_DONE;
+    for (const slice &s : f.slices) {
+        const std::vector<maskcull_piece> &pieces = s.by_band[band];
+        is_drawn &= maskcull_checked_draw_pieces(&setup, tiles, count, first_row, pieces.data(), pieces.size())
+                    == MASKCULL_DONE;
     }
     return is_drawn;
 }
 
 bool draw_by_pool(frame &f, pool &threads) {
     std::atomic<bool> is_drawn{true};
-    threads.run(slices, [&](unsigned k) {
+    threads.run(slice_count, [&](unsigned k) {
         if (!set_up_slice(f, k)) is_drawn = false;
     });
     threads.run(bands, [&](unsigned k) {
