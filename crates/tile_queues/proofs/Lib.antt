@@ -8,3 +8,6 @@ pub mod Dealing
 pub mod FirstInCells
 pub mod Ending
 pub mod Keeping
+pub mod Turning
+pub mod Changing
+pub mod SameRank

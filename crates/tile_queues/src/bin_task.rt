@@ -7,8 +7,8 @@ ghost use Rattle.tile_queues.specs.CellBins.{HoldsBin};
 ghost use Rattle.bin_tasks.specs.Drains.{IsAnswer};
 
 use crate::cell_bin::{CellBin, InCells};
-use bin_queues::{Intake, PartQueues};
-use bin_tasks::{Drained, Task, drain_task};
+use bin_queues::{Batched, Intake, PartQueues};
+use bin_tasks::{Drained, Drawing, Task};
 use bin_tiles::Gate;
 use cull_base::FrameList;
 use std::marker::Model;
@@ -83,8 +83,21 @@ impl BinTask {
         ensures taken { self.new.taken ≡ taken_before self.new.of self.new.batches }
         ensures answer { IsAnswer result self.old self.new }
     {
+        let (cut, size) = (*self.task.intake.cut(), self.task.intake.size());
         let beside = InCells { rt, cells };
-        let drained = drain_task(rt, queues, &mut self.task, &beside, list, gate);
+        let frame = Batched {
+            list,
+            cut: &cut,
+            size,
+        };
+        let drawing = Drawing {
+            rt,
+            queues,
+            frame,
+            beside: &beside,
+            gate,
+        };
+        let drained = drawing.drain(&mut self.task);
         // an accessor tells what is held of an intake
         let _taken = self.task.intake.taken();
         drained
