@@ -2,12 +2,14 @@
 """Milliseconds a frame of a built maskcull, on generated scenes of 1280 by 720 pixels.
 
 usage: bench/frames.py PROGRAM [--triangles 1000,20000,65536] [--rectangles 500] [--rounds 5]
-                       [--workers 1,2,4] [--bins 4] [--batch 64]
+                       [--workers 1,2,4] [--bins 4] [--batch 64] [--path 64]
 
 Each scene has random triangles between near and far, as a camera that looks down the z axis sees them, and random
 rectangles as objects. A frame's time is the least of some runs of the program, less that of a run without triangles
 and with one rectangle, so that starting up falls out; reading the scene and writing the report are part of it. The
-screen is cut into so many columns and rows of bins where there is more than one worker.
+screen is cut into so many columns and rows of bins where there is more than one worker, which then share the frame.
+With --path the same picture is drawn so many times, by cameras in a row, and workers take frames side by side; the
+time of a fourth of them is taken off, so that reading falls out too.
 Measure on a quiet machine."""
 import argparse
 import struct
@@ -29,7 +31,7 @@ class Numbers:
         return (self.state >> 33) % end
 
 
-def scene(seed, triangles, rectangles):
+def scene(seed, triangles, rectangles, frames=1):
     numbers = Numbers(seed)
     vertices = bytearray()
     for _ in range(triangles):
@@ -44,8 +46,8 @@ def scene(seed, triangles, rectangles):
         x, y = numbers.below(WIDTH - w), numbers.below(HEIGHT - h)
         objects += struct.pack("<B6i", 0, x, y, x + w, y + h, NEAR + 200 + numbers.below(16000), 0)
     counts = (3 * triangles, triangles, 0, rectangles)
-    header = struct.pack("<4sHHHHBBHIIII", b"MSOC", 1, WIDTH, HEIGHT, NEAR, 0, 0, 1, *counts)
-    return header + vertices + indices + objects + struct.pack("<12i", *IDENTITY)
+    header = struct.pack("<4sHHHHBBHIIII", b"MSOC", 1, WIDTH, HEIGHT, NEAR, 0, 0, frames, *counts)
+    return header + vertices + indices + objects + frames * struct.pack("<12i", *IDENTITY)
 
 
 def words(workers, bins, batch):
@@ -63,6 +65,14 @@ def seconds(program, words, data, rounds):
     return least
 
 
+def path(program, triangles, rectangles, workers, frames, rounds):
+    """Seconds a frame along a path."""
+    few = frames // 4
+    options = ["cull", "--workers", str(workers)]
+    times = [seconds(program, options, scene(1, triangles, rectangles, n), rounds) for n in (few, frames)]
+    return (times[1] - times[0]) / (frames - few)
+
+
 def main():
     parser = argparse.ArgumentParser(description=__doc__, formatter_class=argparse.RawDescriptionHelpFormatter)
     parser.add_argument("program")
@@ -72,6 +82,7 @@ def main():
     parser.add_argument("--workers", default="1,2,4")
     parser.add_argument("--bins", type=int, default=4)
     parser.add_argument("--batch", type=int, default=64)
+    parser.add_argument("--path", type=int, default=0)
     args = parser.parse_args()
     empty = seconds(args.program, ["cull"], scene(1, 0, 1), args.rounds)
     for triangles in map(int, args.triangles.split(",")):
@@ -79,6 +90,9 @@ def main():
         for workers in map(int, args.workers.split(",")):
             frame = seconds(args.program, words(workers, args.bins, args.batch), data, args.rounds) - empty
             print(f"{triangles:>7} triangles, {args.rectangles} rectangles, {workers} workers: {1000 * frame:.2f} ms")
+            if args.path:
+                frame = path(args.program, triangles, args.rectangles, workers, args.path, args.rounds)
+                print(f"{'':>7} along a path of {args.path} frames: {1000 * frame:.2f} ms, {1 / frame:.0f} a second")
 
 
 if __name__ == "__main__":

@@ -7,9 +7,24 @@
 #include "maskcull.hpp"
 
 #include <cstdio>
+#include <cstdlib>
 #include <cstring>
+#include <new>
 
 using maskcull::clip_point;
+
+// How often memory was asked for.
+static unsigned long memory_asked = 0;
+
+void *operator new(std::size_t size) {
+    memory_asked++;
+    void *place = std::malloc(size == 0 ? 1 : size);
+    if (place == nullptr) std::abort();
+    return place;
+}
+
+void operator delete(void *place) noexcept { std::free(place); }
+void operator delete(void *place, std::size_t) noexcept { std::free(place); }
 
 namespace {
 
@@ -17,8 +32,10 @@ constexpr std::uint32_t infinite = 0x7f800000, greatest = 0x7f7fffff, least_norm
 // No number, quiet and signalling, of either sign, and both infinities.
 constexpr std::uint32_t bad[] = {0x7fc00000, 0xffc00000, 0x7f800001, 0xff800001, 0x7fffffff, 0xffffffff,
                                  infinite,   infinite | sign};
-// 20000 and the greatest number, of either sign: past the guard for an occluder at a near distance of 1.
-constexpr std::uint32_t far_off[] = {0x469c4000, 0x469c4000 | sign, greatest, greatest | sign};
+// 15000 and 20000, of either sign: within what occluders reach at a near distance of 1, and past it.
+constexpr std::uint32_t reached[] = {0x466a6000, 0x466a6000 | sign}, past[] = {0x469c4000, 0x469c4000 | sign};
+// The greatest number, of either sign: farther than is known.
+constexpr std::uint32_t far_off[] = {greatest, greatest | sign};
 
 unsigned answers = 0, wrong = 0;
 
@@ -165,7 +182,7 @@ void try_good_corners(const maskcull::frame &frame) {
     }
 }
 
-// One coordinate of one corner of the wall is bad or past the guard: only what hasn't this corner is drawn.
+// One coordinate of one corner of the wall is bad or farther than is known: only what hasn't this corner is drawn.
 void try_bad_occluders() {
     const std::vector<maskcull_triangle> both = {upper, lower};
     const auto none = drawn(wall(), {}), whole = drawn(wall(), both);
@@ -192,6 +209,30 @@ void try_bad_occluders() {
         put(w.corners[2].x, bits);
         expect(are_same(drawn(w, both), half), "a wall that ends at 0, or about there, is drawn otherwise", 1, 0, bits);
     }
+}
+
+// One corner of the wall is past what occluders reach: it is cut there, and hides what it hides with one that is
+// reached.
+void try_far_occluders() {
+    unsigned hidden = 0;
+    for (unsigned k = 0; k < 4; k++) {
+        for (unsigned axis = 0; axis < 3; axis++) {
+            for (unsigned side = 0; side < 2; side++) {
+                wall near_one, far_one;
+                put(near_one.corners[k], axis, reached[side]);
+                put(far_one.corners[k], axis, past[side]);
+                const auto near_frame = drawn(near_one, {upper, lower}), far_frame = drawn(far_one, {upper, lower});
+                for (const int middle_x : {-4 * 64, 0, 4 * 64}) {
+                    const box b = box_between(middle_x, 64, 8 * 64);
+                    const bool is_so = near_frame && far_frame && is_hidden(*near_frame, b);
+                    hidden += is_so ? 1 : 0;
+                    expect(far_frame && is_hidden(*far_frame, b) == is_so, "a wall that is cut hides otherwise", k,
+                           axis, past[side]);
+                }
+            }
+        }
+    }
+    expect(hidden > 20, "a wall that reaches far hides too little");
 }
 
 // A wall before the near distance, by however little, is cut off by a renderer, and drawn here neither.
@@ -245,6 +286,193 @@ void try_reckoned(const maskcull::frame &frame) {
     w.corners[0].x = infinity - other_infinity;
     expect(are_same(drawn(w, {upper, lower}), drawn(w, {})), "a wall with a difference as a corner is drawn", 0, 0);
     expect(!maskcull::frame::make(128, 64, great * great), "a frame of a square as the near distance");
+    float matrix[16] = {1, 0, 0, 0, 0, 1, 0, 0, 0, 0, 0, 1, 0, 0, 0, 0}, low[3] = {-1, -1, 8}, high[3] = {1, 1, 9};
+    expect(frame.test_aabb(matrix, low, high) == maskcull::verdict::occluded, "a box through a matrix isn't occluded");
+    high[2] = great * 4.0f;
+    expect(frame.test_aabb(matrix, low, high) == maskcull::verdict::visible, "a box of a product is occluded");
+    high[2] = 9;
+    matrix[0] = infinity - other_infinity;
+    expect(frame.test_aabb(matrix, low, high) == maskcull::verdict::visible, "a box is occluded by a difference");
+}
+
+// A matrix that leaves x, y and z as x, y and w, column by column, with numbers that are none in the row for z.
+struct plain_matrix {
+    float numbers[16];
+
+    plain_matrix() {
+        for (unsigned k = 0; k < 16; k++) put(numbers[k], bad[k % 8]);
+        for (unsigned column = 0; column < 4; column++) {
+            for (const unsigned row : {0u, 1u, 3u}) numbers[4 * column + row] = 0;
+        }
+        numbers[0] = 1, numbers[5] = 1, numbers[11] = 1;
+    }
+};
+
+constexpr std::uint16_t wall_indices[] = {0, 1, 2, 0, 2, 3};
+
+maskcull::mesh_view mesh_of(const wall &w) {
+    return maskcull::mesh_view(w.corners, sizeof(clip_point), 4, wall_indices, 6);
+}
+
+std::optional<maskcull::frame> drawn_as_mesh(const wall &w, const plain_matrix &m, int power = 0) {
+    auto frame = frame_of(power);
+    if (frame && frame->draw(m.numbers, mesh_of(w)) != MASKCULL_DONE) return std::nullopt;
+    return frame;
+}
+
+maskcull::verdict verdict_of(const maskcull::frame &frame, const plain_matrix &m, const box &b) {
+    const float low[3] = {b.corners[0].x, b.corners[0].y, b.corners[0].w};
+    const float high[3] = {b.corners[7].x, b.corners[7].y, b.corners[7].w};
+    return frame.test_aabb(m.numbers, low, high);
+}
+
+// The wall and boxes through a matrix: as without one. What is asked is told by three words.
+void try_matrices() {
+    using maskcull::verdict;
+    const plain_matrix m;
+    const std::vector<maskcull_triangle> both = {upper, lower};
+    const auto frame = drawn_as_mesh(wall(false), m), none = frame_of();
+    expect(are_same(frame, drawn(wall(false), both)), "the wall is drawn otherwise through a matrix");
+    if (!frame) return;
+    const box behind = box_between(-4 * 64, 64, 8 * 64), beside = box_between(4 * 64, 64, 8 * 64);
+    const box before = box_between(-4 * 64, 64, 2 * 64), off = box_between(40 * 64, 64, 8 * 64);
+    expect(verdict_of(*frame, m, behind) == verdict::occluded, "a box behind the wall isn't occluded");
+    expect(verdict_of(*frame, m, beside) == verdict::visible, "a box beside the wall isn't visible");
+    expect(verdict_of(*frame, m, before) == verdict::visible, "a box before the wall isn't visible");
+    expect(verdict_of(*frame, m, off) == verdict::outside, "a box beside the screen isn't outside");
+    const float low[3] = {-9, -9, -9}, high[3] = {9, 9, 9}, back[3] = {9, 9, -2};
+    expect(frame->test_aabb(m.numbers, low, high) == verdict::visible, "a box around the eye isn't visible");
+    expect(frame->test_aabb(m.numbers, low, back) == verdict::outside, "a box behind the eye isn't outside");
+    for (unsigned place = 0; place < 16; place++) {
+        for (const std::uint32_t bits : bad) {
+            plain_matrix odd;
+            put(odd.numbers[place], bits);
+            const bool is_read = place % 4 != 2;
+            const auto odd_frame = drawn_as_mesh(wall(false), odd);
+            expect(are_same(odd_frame, is_read ? none : frame), "a mesh is drawn by a bad matrix", place, 0, bits);
+            const verdict found = verdict_of(*frame, odd, behind);
+            expect(found == (is_read ? verdict::visible : verdict::occluded), "a bad matrix", place, 0, bits);
+            wall w(false);
+            const verdict of_mesh = frame->test_mesh(odd.numbers, mesh_of(w));
+            expect(of_mesh == verdict::visible, "a mesh, a bad matrix", place, 0, bits);
+        }
+    }
+}
+
+// One coordinate of one corner is bad: of a mesh that is drawn only what hasn't this corner is, and what is asked is
+// visible.
+void try_bad_meshes(const maskcull::frame &frame) {
+    using maskcull::verdict;
+    const plain_matrix m;
+    for (unsigned k = 0; k < 4; k++) {
+        for (unsigned axis = 0; axis < 3; axis++) {
+            for (const std::uint32_t bits : bad) {
+                wall w;
+                put(w.corners[k], axis, bits);
+                const auto left_over = drawn(w, {upper, lower});
+                expect(are_same(drawn_as_mesh(w, m), left_over), "a bad corner of a mesh", k, axis, bits);
+                wall behind;
+                for (clip_point &corner : behind.corners) put(corner.w, 0x41000000), corner.x /= 4, corner.y /= 4;
+                expect(frame.test_mesh(m.numbers, mesh_of(behind)) == verdict::occluded, "a mesh behind the wall");
+                put(behind.corners[k], axis, bits);
+                expect(frame.test_mesh(m.numbers, mesh_of(behind)) == verdict::visible, "a bad mesh", k, axis, bits);
+                for (const unsigned end : {0u, 1u}) {
+                    float ends[2][3] = {{-1, -1, 8}, {1, 1, 9}};
+                    put(ends[end][axis], bits);
+                    const verdict of_box = frame.test_aabb(m.numbers, ends[0], ends[1]);
+                    expect(of_box == verdict::visible, "a bad box", end, axis, bits);
+                }
+            }
+        }
+    }
+    const std::uint32_t beyond[] = {0, 1, 4};
+    const wall w;
+    const maskcull::mesh_view odd(w.corners, sizeof(clip_point), 4, beyond, 3);
+    auto other = frame_of();
+    expect(other && other->draw(m.numbers, odd) == MASKCULL_BAD_INDEX, "an index that isn't there is drawn");
+    expect(other && other->test_mesh(m.numbers, odd) == verdict::visible, "an index that isn't there is asked");
+    expect(other && other->draw(m.numbers, {nullptr, 12, 3, beyond, 3}) == MASKCULL_NULL, "no positions are drawn");
+    expect(other && other->draw(nullptr, mesh_of(w)) == MASKCULL_NULL, "no matrix is drawn by");
+    expect(frame.test_mesh(m.numbers, {w.corners, 12, 4, beyond, 2}) == verdict::outside, "a mesh without a triangle");
+}
+
+// Corners that are made of terms farther than is known, which cancel: nothing is drawn of them, nor hidden.
+void try_great_terms(const maskcull::frame &frame) {
+    for (const float great_term : {1e12f, 1e20f, 1e30f, 3e38f}) {
+        plain_matrix m;
+        m.numbers[0] = great_term, m.numbers[4] = -great_term;
+        wall w;
+        for (clip_point &corner : w.corners) corner.y = corner.x;
+        std::vector<clip_point> many;
+        std::vector<std::uint32_t> indices;
+        for (std::uint32_t k = 0; k < 100; k++) {
+            many.insert(many.end(), w.corners, w.corners + 3);
+            indices.insert(indices.end(), {3 * k, 3 * k + 1, 3 * k + 2});
+        }
+        auto other = frame_of();
+        const maskcull::mesh_view mesh(many.data(), sizeof(clip_point), many.size(), indices.data(), indices.size());
+        expect(other && other->draw(m.numbers, mesh) == MASKCULL_DONE && are_same(other, frame_of()), "great terms");
+        expect(frame.test_mesh(m.numbers, mesh) == maskcull::verdict::visible, "a mesh of great terms is hidden");
+    }
+}
+
+// The same in other units, down to where all numbers are below the least normal one.
+void try_mesh_units() {
+    const plain_matrix m;
+    for (const int power : {0, 1, 60, 120, -60, -120, -126, -128, -131, -140}) {
+        const auto frame = drawn_as_mesh(wall(false, power), m, power);
+        const auto bits = bits_of(64, power);
+        expect(are_same(frame, drawn(wall(false, power), {upper, lower}, power)), "a mesh in other units", 0, 0, bits);
+    }
+}
+
+// A ground 1.7 m below the eye reaches 10 km to all sides, past the guard, which is at 1.6 km for a near distance of
+// 10 cm, and is seen too much from its edge there. A box is under it at a distance of 20 m and one stands on it.
+void try_ground() {
+    using maskcull::verdict;
+    const float ground[] = {-1e4f, -1.7f, -1e4f, 1e4f, -1.7f, -1e4f, 1e4f, -1.7f, 1e4f, -1e4f, -1.7f, 1e4f};
+    const std::uint32_t indices[] = {0, 1, 2, 0, 2, 3};
+    const plain_matrix m;
+    float near_distance = 0.1f;
+    auto frame = maskcull::frame::make(1280, 720, near_distance);
+    if (!frame) return;
+    expect(frame->draw(m.numbers, {ground, 12, 4, indices, 6}) == MASKCULL_DONE, "the ground isn't drawn");
+    for (const float away : {8.0f, 20.0f, 100.0f, 200.0f}) {
+        const float under[2][3] = {{-1, -4, away}, {1, -3, away + 2}}, on[2][3] = {{-1, -1.6f, away}, {1, 0, away + 2}};
+        expect(frame->test_aabb(m.numbers, under[0], under[1]) == verdict::occluded, "a box under the ground is seen");
+        expect(frame->test_aabb(m.numbers, on[0], on[1]) == verdict::visible, "a box on the ground is hidden");
+    }
+}
+
+// Meshes that are prepared one behind another are drawn as each by itself; and what is prepared, drawn and asked again,
+// with a wall that is cut among it, asks for no memory.
+void try_room() {
+    const plain_matrix m;
+    const std::uint32_t first[] = {0, 1, 2}, second[] = {0, 2, 3};
+    wall w(false), far_one(false);
+    put(far_one.corners[3], 1, past[1]);
+    const maskcull::mesh_view meshes[] = {{w.corners, sizeof(clip_point), 4, first, 3},
+                                          {far_one.corners, sizeof(clip_point), 4, second, 3}};
+    auto by_one = frame_of(), one_by_one = frame_of();
+    if (!by_one || !one_by_one) return;
+    maskcull::occluders made;
+    unsigned long before = 0;
+    const float low[3] = {-5, -1, 8}, high[3] = {-3, 1, 9};
+    for (int round = 0; round < 3; round++) {
+        if (round == 1) before = memory_asked;
+        by_one->clear(), one_by_one->clear();
+        by_one->prepare_into(made, m.numbers, meshes[0]);
+        by_one->prepare_more_into(made, m.numbers, meshes[1]);
+        expect(by_one->draw(made) == MASKCULL_DONE, "two meshes aren't drawn");
+        for (const maskcull::mesh_view &mesh : meshes) {
+            expect(one_by_one->draw(m.numbers, mesh) == MASKCULL_DONE, "a mesh isn't drawn");
+        }
+        expect(by_one->test_aabb(m.numbers, low, high) == maskcull::verdict::occluded, "a box behind two meshes");
+        expect(by_one->test_mesh(m.numbers, meshes[0]) == maskcull::verdict::visible, "a mesh that is drawn itself");
+    }
+    expect(memory_asked == before && before != 0, "memory is asked for in a frame like the last one");
+    expect(made.vertices.size() > 8, "nothing is cut");
+    expect(are_same(by_one, one_by_one) && !are_same(by_one, frame_of()), "two meshes are drawn otherwise at once");
 }
 
 } // namespace
@@ -256,9 +484,16 @@ int main() {
     try_bad_corners(*frame);
     try_good_corners(*frame);
     try_bad_occluders();
+    try_far_occluders();
     try_near_plane();
     try_units();
     try_reckoned(*frame);
+    try_matrices();
+    try_bad_meshes(*frame);
+    try_great_terms(*frame);
+    try_mesh_units();
+    try_ground();
+    try_room();
     std::printf("%u answers, %u of them wrong\n", answers, wrong);
     return wrong == 0 ? 0 : 1;
 }

@@ -1,5 +1,5 @@
 #!/usr/bin/env python3
-"""Draws a tile with its subtiles, their two depths and their coverage masks, for README.md.
+"""Draws a tile with its subtiles, their two depths and their coverage masks, for docs/ALGORITHM.md.
 
 usage: docs/tile.py > docs/tile.svg
 
@@ -116,7 +116,7 @@ def legend():
     yield f'<text x="{LEFT + 548}" y="{y}">a sample in the coverage mask</text>'
     solid = "Solid: a piece with nearness 20000, drawn over a wall with nearness 8000."
     yield f'<text x="{LEFT}" y="{y + 24}">{solid}</text>'
-    yield f'<text x="{LEFT}" y="{y + 44}">Dashed: two rectangles with nearness 12000 that are asked for.</text>'
+    yield f'<text x="{LEFT}" y="{y + 44}">Dashed: two rectangles with nearness 12000 that are tested.</text>'
 
 
 def main():

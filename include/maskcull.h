@@ -8,8 +8,9 @@
  * screen, a drawn triangle strictly nearer. A pixel has one sample, in its middle. "Visible" is no promise: it is also
  * said where it can't be told.
  *
- * The tiles lie in your memory. No call allocates, keeps a pointer, starts a thread, takes a lock or writes anything
- * but the tiles, and none prints or exits. All is reckoned in whole numbers, so each machine gives the same answers.
+ * The tiles lie in your memory. No call allocates, keeps a pointer, starts a thread, takes a lock, or writes anything
+ * but the tiles or the room that is handed to it, and none prints or exits. All is reckoned in whole numbers, so each
+ * machine gives the same answers.
  *
  *     #include "maskcull.h"
  *
@@ -25,6 +26,8 @@
  *     maskcull_close(tiles);
  *
  * Link with libmaskcull_c.a, which `rt lib` makes in crates/maskcull_c: cc game.c libmaskcull_c.a
+ * It runs on each processor of x86-64-v2. One that was made for x86-64-v3 (AVX2) is faster, and doesn't ask which
+ * processor it runs on: a program that carries both asks __builtin_cpu_supports("avx2") with "bmi2" and "fma".
  *
  * Units
  *   - Pixels count from the upper left corner, x to the right and y downwards.
@@ -40,13 +43,15 @@
  *      stands for as many elements as its count says. (The maskcull_checked_ forms below answer for null.)
  *   2. Each tile is all zero bytes, which is an empty tile, or was last written by these calls, or is a copy of such a
  *      tile. So tiles come from maskcull_open, calloc, std::vector<maskcull_tile>(count), or by memcpy from tiles, and
- *      never from malloc alone.
- *   3. The tiles of a call that writes them overlap nothing else that is handed to it.
- *   4. While a call runs no other thread writes what it reads, or touches the tiles that it writes. Tests may run side
- *      by side, and so may maskcull_draw_band on tiles that don't overlap.
+ *      never from malloc alone. Each piece that is drawn was last written by maskcull_set_up, or is a copy of such a
+ *      piece: zero bytes are none. Room that a call only writes to may hold anything, and may come from malloc.
+ *   3. What a call writes, tiles, pieces, a count or a picture, overlaps nothing else that is handed to it.
+ *   4. While a call runs no other thread writes what it reads, or touches what it writes. Tests may run side by side,
+ *      and so may maskcull_draw_band and maskcull_draw_pieces on tiles that don't overlap, and maskcull_set_up into
+ *      room that doesn't.
  *   Meaning
- *   5. From one clearing to the next all calls on some tiles have the same width, height and near distance. The winding
- *      may change from call to call.
+ *   5. From one clearing to the next all calls on some tiles have the same width, height and near distance, and so have
+ *      the calls that set up the pieces which are drawn. The winding may change from call to call.
  *   6. Tiles are copied all together, those of a whole screen, each to the place that it had, and the copy is used with
  *      the width, height and near distance of what it is a copy of. A tile that is copied to another place, or from a
  *      frame of another size or near distance, is safe to read, but what it hides may be in sight. */
@@ -66,13 +71,14 @@
 extern "C" {
 #endif
 
-/* What calls answer. With 1 to 4 a call did nothing, and the tiles are as they were. */
+/* What calls answer. With 1 to 5 a call did nothing, and all memory is as it was. */
 enum maskcull_status {
     MASKCULL_DONE = 0,      /* all was drawn */
     MASKCULL_BAD_SETUP = 1, /* the size, the near distance or the winding is none */
     MASKCULL_BAD_TILES = 2, /* these aren't as many tiles as the screen has, or as a band can have */
     MASKCULL_BAD_INDEX = 3, /* a triangle names a vertex that isn't there */
     MASKCULL_NULL = 4,      /* a pointer is null: only the maskcull_checked_ forms answer this */
+    MASKCULL_BAD_ROOM = 5,  /* there is too little room for what is to be written */
     MASKCULL_VISIBLE = 16,  /* not hidden, or it can't be told */
     MASKCULL_OCCLUDED = 17, /* hidden at each of its samples in the screen, and it has one there */
     MASKCULL_OUTSIDE = 18   /* without a pixel in the screen, or a box or mesh behind the near plane */
@@ -131,6 +137,13 @@ typedef struct maskcull_tile {
     uint32_t count;
 } maskcull_tile;
 
+/* A triangle on the screen, as maskcull_set_up writes it: 36 bytes, of which only the calls below make sense. */
+typedef struct maskcull_piece {
+    int32_t x[3];
+    int32_t y[3];
+    uint32_t q[3];
+} maskcull_piece;
+
 /* What a subtile holds, in nearness from 0 to 65535: something drawn is at least so near as `working` at each sample
  * of the mask, and as `reference` at the others; 0 says nothing. Sample (column c, row r) is bit 8 r + c. */
 typedef struct maskcull_subtile_state {
@@ -162,6 +175,24 @@ uint32_t maskcull_draw_band(const maskcull_setup *setup, maskcull_tile *tiles, s
                             const maskcull_vertex *vertices, size_t vertex_count,
                             const maskcull_triangle *triangles, size_t triangle_count);
 
+/* Sets triangles up, for maskcull_draw_pieces. What is drawn of them, their pieces, goes to the head of the room, in
+ * order, and how many there are into `count`. A triangle has one piece; or two, where the near plane cuts it; or none,
+ * where it isn't drawn. There has to be room for two pieces a triangle, so that none is lost; the room behind the
+ * last piece is left as it was. Any threads may set up any slices of a mesh's triangles, into parts of one array: the
+ * pieces of all slices, drawn in the order of the triangles, leave the tiles that one maskcull_draw leaves.
+ * BAD_SETUP, BAD_ROOM (less than two pieces a triangle), BAD_INDEX. */
+uint32_t maskcull_set_up(const maskcull_setup *setup, const maskcull_vertex *vertices, size_t vertex_count,
+                         const maskcull_triangle *triangles, size_t triangle_count,
+                         maskcull_piece *pieces, size_t room, size_t *count);
+
+/* Draws pieces that were set up, as maskcull_draw_band draws triangles: onto some whole rows of the screen's tiles, of
+ * which `tiles` points to the first, in row first_row. The setup is that of the whole screen, with which the pieces
+ * were set up; its winding isn't asked here. Threads that draw the same pieces in the same order, each onto rows of its
+ * own, leave the tiles that one thread leaves.
+ * BAD_SETUP, BAD_TILES (not whole rows, or past the last one). */
+uint32_t maskcull_draw_pieces(const maskcull_setup *setup, maskcull_tile *tiles, size_t tile_count, uint32_t first_row,
+                              const maskcull_piece *pieces, size_t piece_count);
+
 /* Tests the pixels of an area at distance w. OUTSIDE without a pixel in the screen; else VISIBLE where w is below the
  * near distance; else OCCLUDED where each pixel in the screen is hidden at its sample.
  * BAD_SETUP, BAD_TILES. */
@@ -186,6 +217,13 @@ uint32_t maskcull_test_mesh(const maskcull_setup *setup, const maskcull_tile *ti
 /* What a subtile of a tile holds; zeros where there is no such tile or subtile. */
 maskcull_subtile_state maskcull_subtile(const maskcull_tile *tiles, size_t tile_count, size_t tile, uint32_t subtile);
 
+/* Writes what the tiles hold as a picture: the element at y * row_stride + x is the nearness, from 0 to 65535, that
+ * something drawn has at least at the sample of pixel (x, y), or 0. No other element is written. `out` has out_count
+ * elements, and row_stride is how many of them lie from one row to the next: the width, or more.
+ * BAD_SETUP, BAD_TILES, BAD_ROOM (row_stride below the width, or out_count below (height - 1) * row_stride + width). */
+uint32_t maskcull_nearness(const maskcull_setup *setup, const maskcull_tile *tiles, size_t tile_count,
+                           uint16_t *out, size_t out_count, size_t row_stride);
+
 /* The layouts that the library was built for. */
 static_assert(sizeof(maskcull_setup) == 16 && offsetof(maskcull_setup, winding) == 12, "maskcull_setup");
 static_assert(sizeof(maskcull_vertex) == 12 && offsetof(maskcull_vertex, w) == 8, "maskcull_vertex");
@@ -195,6 +233,8 @@ static_assert(sizeof(maskcull_box) == 96 && offsetof(maskcull_box, corners) == 0
 static_assert(offsetof(maskcull_tile, references) == 0 && offsetof(maskcull_tile, workings) == 32, "maskcull_tile");
 static_assert(offsetof(maskcull_tile, masks) == 64 && offsetof(maskcull_tile, count) == 96, "maskcull_tile");
 static_assert(sizeof(maskcull_tile) == 100, "maskcull_tile");
+static_assert(offsetof(maskcull_piece, y) == 12 && offsetof(maskcull_piece, q) == 24, "maskcull_piece");
+static_assert(sizeof(maskcull_piece) == 36, "maskcull_piece");
 static_assert(sizeof(maskcull_subtile_state) == 12 && offsetof(maskcull_subtile_state, mask) == 8,
               "maskcull_subtile_state");
 
@@ -268,6 +308,36 @@ static inline uint32_t maskcull_checked_draw_band(const maskcull_setup *setup, m
                               triangles == NULL ? &no_triangle : triangles, triangle_count);
 }
 
+static inline uint32_t maskcull_checked_set_up(const maskcull_setup *setup,
+                                               const maskcull_vertex *vertices, size_t vertex_count,
+                                               const maskcull_triangle *triangles, size_t triangle_count,
+                                               maskcull_piece *pieces, size_t room, size_t *count)
+{
+    const maskcull_vertex no_vertex = {0, 0, 0};
+    const maskcull_triangle no_triangle = {0, 0, 0};
+    maskcull_piece no_piece;
+    if (setup == NULL || count == NULL || !maskcull_is_there(vertices, vertex_count)
+        || !maskcull_is_there(triangles, triangle_count) || !maskcull_is_there(pieces, room)) {
+        return MASKCULL_NULL;
+    }
+    return maskcull_set_up(setup, vertices == NULL ? &no_vertex : vertices, vertex_count,
+                           triangles == NULL ? &no_triangle : triangles, triangle_count,
+                           pieces == NULL ? &no_piece : pieces, room, count);
+}
+
+static inline uint32_t maskcull_checked_draw_pieces(const maskcull_setup *setup, maskcull_tile *tiles,
+                                                    size_t tile_count, uint32_t first_row,
+                                                    const maskcull_piece *pieces, size_t piece_count)
+{
+    const maskcull_piece no_piece = {{0}, {0}, {0}};
+    maskcull_tile no_tile;
+    if (setup == NULL || !maskcull_is_there(tiles, tile_count) || !maskcull_is_there(pieces, piece_count)) {
+        return MASKCULL_NULL;
+    }
+    return maskcull_draw_pieces(setup, tiles == NULL ? &no_tile : tiles, tile_count, first_row,
+                                pieces == NULL ? &no_piece : pieces, piece_count);
+}
+
 static inline uint32_t maskcull_checked_test(const maskcull_setup *setup, const maskcull_tile *tiles, size_t tile_count,
                                              const maskcull_area *area, int32_t w)
 {
@@ -299,6 +369,16 @@ static inline uint32_t maskcull_checked_test_mesh(const maskcull_setup *setup, c
     }
     return maskcull_test_mesh(setup, tiles, tile_count, vertices == NULL ? &no_vertex : vertices, vertex_count,
                               triangles == NULL ? &no_triangle : triangles, triangle_count);
+}
+
+static inline uint32_t maskcull_checked_nearness(const maskcull_setup *setup, const maskcull_tile *tiles,
+                                                 size_t tile_count,
+                                                 uint16_t *out, size_t out_count, size_t row_stride)
+{
+    if (setup == NULL || tiles == NULL || out == NULL) {
+        return MASKCULL_NULL;
+    }
+    return maskcull_nearness(setup, tiles, tile_count, out, out_count, row_stride);
 }
 
 /* Zeros also where the tiles are null. */

@@ -15,7 +15,7 @@ A camera takes the vertex (x, y, z) to three numbers, x, y and w. Each is (a x +
 and then d is added, where a, b, c, d is its row. w is the distance along the view; x / w runs from -1 at the left
 edge of the screen to 1 at the right edge, and y / w from -1 at the lower edge to 1 at the upper one.
 
-README.md has the table of offsets and the limits of each number.
+docs/FORMAT.md has the table of offsets and the limits of each number.
 """
 import struct
 import sys

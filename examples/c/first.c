@@ -31,6 +31,7 @@ static const char *word_of(uint32_t status)
     case MASKCULL_BAD_TILES: return "bad tiles";
     case MASKCULL_BAD_INDEX: return "bad index";
     case MASKCULL_NULL: return "null";
+    case MASKCULL_BAD_ROOM: return "bad room";
     case MASKCULL_VISIBLE: return "visible";
     case MASKCULL_OCCLUDED: return "occluded";
     case MASKCULL_OUTSIDE: return "outside";
@@ -135,6 +136,49 @@ static void draw_by_bands(const maskcull_tile *whole)
     say_whether("both make the same tiles", memcmp(tiles, whole, sizeof tiles) == 0);
 }
 
+/* The wall's triangles, set up one by one into parts of one array, and drawn onto two bands, leave the same. */
+static void draw_by_pieces(const maskcull_tile *whole)
+{
+    maskcull_tile tiles[TILES];
+    maskcull_piece pieces[4];
+    size_t first = 0, second = 0;
+    const size_t half = TILES / 2;
+    memset(tiles, 0, sizeof tiles);
+    say("room for one piece too few", maskcull_set_up(&setup, wall, 4, quad, 2, pieces, 3, &first));
+    say("the first triangle", maskcull_set_up(&setup, wall, 4, quad, 1, pieces, 2, &first));
+    say("the second triangle", maskcull_set_up(&setup, wall, 4, quad + 1, 1, pieces + 2, 2, &second));
+    printf("pieces: %u and %u\n", (unsigned)first, (unsigned)second);
+    say("onto a row too many", maskcull_draw_pieces(&setup, tiles, TILES, 1, pieces, first));
+    for (uint32_t band = 0; band < 2; band++) {
+        maskcull_tile *rows = tiles + band * half;
+        const uint32_t first_row = band * (TILE_ROWS / 2);
+        say("the first piece onto a band", maskcull_draw_pieces(&setup, rows, half, first_row, pieces, first));
+        say("the second piece onto it", maskcull_draw_pieces(&setup, rows, half, first_row, pieces + 2, second));
+    }
+    say_whether("they make the same tiles", memcmp(tiles, whole, sizeof tiles) == 0);
+    say("no pieces at all", maskcull_checked_set_up(&setup, wall, 4, quad, 0, NULL, 0, &first));
+    say("and none drawn", maskcull_checked_draw_pieces(&setup, tiles, TILES, 0, NULL, first));
+}
+
+/* A picture has the wall's nearness in its left half. Four elements behind each row are left as they were. */
+static void show(const maskcull_tile *tiles)
+{
+    enum { STRIDE = WIDTH + 4, ELEMENTS = (HEIGHT - 1) * STRIDE + WIDTH };
+    uint16_t picture[ELEMENTS];
+    int is_right = 1;
+    for (size_t i = 0; i < ELEMENTS; i++) {
+        picture[i] = 7;
+    }
+    say("rows shorter than the screen", maskcull_nearness(&setup, tiles, TILES, picture, ELEMENTS, WIDTH - 1));
+    say("an element too few", maskcull_nearness(&setup, tiles, TILES, picture, ELEMENTS - 1, STRIDE));
+    say("a picture", maskcull_nearness(&setup, tiles, TILES, picture, ELEMENTS, STRIDE));
+    for (size_t i = 0; i < ELEMENTS; i++) {
+        const uint16_t expected = i % STRIDE < WIDTH / 2 ? 21845 : i % STRIDE < WIDTH ? 0 : 7;
+        is_right = is_right && picture[i] == expected;
+    }
+    say_whether("it shows the wall alone", is_right);
+}
+
 int main(void)
 {
     size_t tile_count;
@@ -154,6 +198,8 @@ int main(void)
     test_meshes(tiles);
     be_refused(tiles);
     draw_by_bands(tiles);
+    draw_by_pieces(tiles);
+    show(tiles);
     maskcull_clear(tiles, tile_count);
     const maskcull_tile zero_bytes = {{0}, {0}, {0}, 0};
     say_whether("a cleared tile is zero bytes", memcmp(&tiles[0], &zero_bytes, sizeof zero_bytes) == 0);

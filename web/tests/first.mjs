@@ -5,10 +5,11 @@ import { growBy } from '../calls.js';
 import { module } from './module.mjs';
 
 const WIDTH = 64, HEIGHT = 32, NEAR = 16, TILES = 8, TILE_ROWS = 4, TILE_BYTES = 100;
+const PIECE_BYTES = 36, TRIANGLE_BYTES = 12;
 const WALL = [-48, 48, 48, 0, 48, 48, 0, -48, 48, -48, -48, 48]; // clockwise from the upper left corner
 const QUAD = [0, 1, 2, 0, 2, 3];
 const WORDS = {
-    0: 'done', 1: 'bad setup', 2: 'bad tiles', 3: 'bad index', 16: 'visible', 17: 'occluded', 18: 'outside',
+    0: 'done', 1: 'bad setup', 2: 'bad tiles', 3: 'bad index', 5: 'bad room', 16: 'visible', 17: 'occluded', 18: 'outside',
 };
 
 const { exports } = await WebAssembly.instantiate(module, {});
@@ -100,6 +101,44 @@ function drawByBands() {
     sayWhether('both make the same tiles', areSame(bytesOf(upper), bytesOf(tiles)));
 }
 
+/** Sets some of the wall's triangles up into room for so many pieces: how many there are stands at a place. */
+function setUp(what, first, triangles, pieces, room, listed) {
+    const from = quad + BigInt(TRIANGLE_BYTES * first);
+    say(what, exports.maskcull_set_up(setup, wall, 4n, from, BigInt(triangles), pieces, BigInt(room), listed));
+    return new BigUint64Array(exports.memory.buffer, Number(listed), 1)[0];
+}
+
+function drawByPieces() {
+    const anew = emptyTiles(), half = count / 2n, pieces = placed(new Int32Array(4 * PIECE_BYTES / 4));
+    const listed = (placed([0, 0, 0]) + 7n) / 8n * 8n, behind = pieces + BigInt(2 * PIECE_BYTES);
+    setUp('room for one piece too few', 0, 2, pieces, 3, listed);
+    const first = setUp('the first triangle', 0, 1, pieces, 2, listed);
+    const second = setUp('the second triangle', 1, 1, behind, 2, listed);
+    lines.push(`pieces: ${first} and ${second}`);
+    say('onto a row too many', exports.maskcull_draw_pieces(setup, anew, count, 1, pieces, first));
+    for (const row of [0, TILE_ROWS / 2]) {
+        const rows = row === 0 ? anew : anew + BigInt(TILES / 2 * TILE_BYTES);
+        say('the first piece onto a band', exports.maskcull_draw_pieces(setup, rows, half, row, pieces, first));
+        say('the second piece onto it', exports.maskcull_draw_pieces(setup, rows, half, row, behind, second));
+    }
+    sayWhether('they make the same tiles', areSame(bytesOf(anew), bytesOf(tiles)));
+    const none = setUp('no pieces at all', 0, 0, pieces, 0, listed);
+    say('and none drawn', exports.maskcull_draw_pieces(setup, anew, count, 0, pieces, none));
+}
+
+function showPicture() {
+    const stride = WIDTH + 4, elements = (HEIGHT - 1) * stride + WIDTH;
+    const out = placed(new Int32Array(Math.ceil(elements / 2)));
+    const picture = new Uint16Array(exports.memory.buffer, Number(out), elements).fill(7);
+    const show = (what, room, apart) => say(what,
+        exports.maskcull_nearness(setup, tiles, count, out, BigInt(room), BigInt(apart)));
+    show('rows shorter than the screen', elements, WIDTH - 1);
+    show('an element too few', elements - 1, stride);
+    show('a picture', elements, stride);
+    sayWhether('it shows the wall alone', picture.every((shade, i) =>
+        shade === (i % stride < WIDTH / 2 ? 21845 : i % stride < WIDTH ? 0 : 7)));
+}
+
 export function checkFirst() {
     lines.push(`tiles: ${exports.maskcull_tile_count(WIDTH, HEIGHT)}, of a width of 60: `
         + `${exports.maskcull_tile_count(60, HEIGHT)}`);
@@ -113,6 +152,8 @@ export function checkFirst() {
     testMeshes();
     beRefused();
     drawByBands();
+    drawByPieces();
+    showPicture();
     exports.maskcull_clear(tiles, count);
     sayWhether('a cleared tile is zero bytes', bytesOf(tiles).every((byte) => byte === 0));
     // The line with null is of inline code in maskcull.h.

@@ -8,8 +8,9 @@ export const CLIP_FROM_VIEW = [1, 0, 0, 0, 0, 1, 0, 0, 0, 0, 0, 1, 0, 0, 0, 0]; 
 export const bytes = fs.readFileSync(new URL('../out/maskcull.wasm', import.meta.url));
 export const module = await loadModule(bytes);
 
-const CALLS = ['maskcull_clear', 'maskcull_draw', 'maskcull_draw_band', 'maskcull_subtile', 'maskcull_test',
-    'maskcull_test_box', 'maskcull_test_mesh', 'maskcull_tile_count'];
+const CALLS = ['maskcull_clear', 'maskcull_draw', 'maskcull_draw_band', 'maskcull_draw_pieces', 'maskcull_nearness',
+    'maskcull_set_up', 'maskcull_subtile', 'maskcull_test', 'maskcull_test_box', 'maskcull_test_mesh',
+    'maskcull_tile_count'];
 const MOST_BYTES = 200000;
 
 export function checkModule() {

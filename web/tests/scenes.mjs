@@ -12,7 +12,7 @@ const RECTANGLE = 0, BOX = 1;
 const MOST = 0x7fffffff; // past the guard, as all beyond it
 const WRITERS = 4;
 
-/** The parts of a scene; README.md has the table of offsets. */
+/** The parts of a scene; docs/FORMAT.md has the table of offsets. */
 function sceneOf(bytes) {
     const short = (offset) => bytes.readUInt16LE(offset), counts = [16, 20, 24, 28].map((at) => bytes.readUInt32LE(at));
     let end = HEADER_BYTES;

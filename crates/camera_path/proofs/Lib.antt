@@ -1,2 +1,3 @@
 pub mod ClipCoordinates
+pub mod Coordinates
 pub mod Rows

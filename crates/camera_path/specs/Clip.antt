@@ -24,6 +24,14 @@ coordinate_of camera r v = floor_of (factors_sum camera r v) (pos 65536) +ℤ nu
 unfoldable pub clip_of : List ℤ → List ℤ → ClipVertex
 clip_of camera v = record { x = coordinate_of camera 0 v; y = coordinate_of camera 4 v; w = coordinate_of camera 8 v }
 
+-- the eight corners of a box between its least and its greatest
+abbrev pub corners_of : List ℤ → List ℤ → List (List ℤ)
+corners_of low high =
+    let x0 = number low 0 in let y0 = number low 1 in let z0 = number low 2 in
+    let x1 = number high 0 in let y1 = number high 1 in let z1 = number high 2 in
+    (x0 ∷ y0 ∷ z0 ∷ []) ∷ (x1 ∷ y0 ∷ z0 ∷ []) ∷ (x0 ∷ y1 ∷ z0 ∷ []) ∷ (x1 ∷ y1 ∷ z0 ∷ [])
+    ∷ (x0 ∷ y0 ∷ z1 ∷ []) ∷ (x1 ∷ y0 ∷ z1 ∷ []) ∷ (x0 ∷ y1 ∷ z1 ∷ []) ∷ (x1 ∷ y1 ∷ z1 ∷ []) ∷ []
+
 -- a vertex whose numbers are its clip coordinates
 abbrev pub as_clip : List ℤ → ClipVertex
 as_clip v = record { x = number v 0; y = number v 1; w = number v 2 }

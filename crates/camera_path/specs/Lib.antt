@@ -1,1 +1,2 @@
 pub mod Clip
+pub mod Products

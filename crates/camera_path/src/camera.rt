@@ -3,7 +3,8 @@ ghost use Rattle.std.specs.Prelude.{◌≡◌, ℤ, pos, ◌+◌, ◌<◌, ◌�
 ghost use Rattle.std.specs.List.{All};
 ghost use Rattle.cull_base.specs.Bounds.{Bounded};
 ghost use Rattle.cull_base.specs.Depth.{floor_of};
-ghost use Rattle.camera_path.specs.Clip.{coordinate_of, clip_of, factors_sum, number, AreWithin};
+ghost use Rattle.camera_path.specs.Clip.{coordinate_of, clip_of, number, AreWithin};
+ghost use Rattle.camera_path.specs.Products.{AreProducts};
 
 use cull_base::ClipVertex;
 use cull_base::arithmetic::product;
@@ -35,7 +36,43 @@ fn floor_of_sum(a: i64, b: i64, c: i64) -> i64
     (a + b + c).div_euclid(65536)
 }
 
+/// What a row of a camera adds up for a vertex: a factor's product on each axis.
+#[derive(Clone, Copy)]
+pub(crate) struct Products {
+    pub(crate) x: i64,
+    pub(crate) y: i64,
+    pub(crate) z: i64,
+}
+
 impl Camera {
+    /// The products of the row that begins at number r.
+    #[inline(always)]
+    pub(crate) fn products(&self, r: usize, v: &[i32; 3]) -> Products
+        requires row { r + 4 ≤ 12 }
+        requires camera { AreWithin (2 ^ 24) self.now.0 }
+        requires vertex { AreWithin (2 ^ 24) v.now }
+        ensures { AreProducts self.now.0 r v.now result }
+    {
+        Products {
+            x: product(number(&self.0, r), number(v, 0)),
+            y: product(number(&self.0, r + 1), number(v, 1)),
+            z: product(number(&self.0, r + 2), number(v, 2)),
+        }
+    }
+
+    /// The coordinate that the row from number r gives of a product on each axis.
+    #[inline(always)]
+    pub(crate) fn added_up(&self, r: usize, x: i64, y: i64, z: i64) -> i64
+        requires row { r + 4 ≤ 12 }
+        requires camera { AreWithin (2 ^ 24) self.now.0 }
+        requires x { Bounded (2 ^ 60) x }
+        requires y { Bounded (2 ^ 60) y }
+        requires z { Bounded (2 ^ 60) z }
+        ensures { result ≡ floor_of ((x +ℤ y) +ℤ z) (pos 65536) +ℤ number self.now.0 (r + 3) }
+    {
+        floor_of_sum(x, y, z) + number(&self.0, r + 3)
+    }
+
     // The coordinate of the row that begins at number r.
     #[inline(always)]
     fn coordinate(&self, r: usize, v: &[i32; 3]) -> i64
@@ -44,12 +81,8 @@ impl Camera {
         requires vertex { AreWithin (2 ^ 24) v.now }
         ensures { result ≡ coordinate_of self.now.0 r v.now }
     {
-        let sum = floor_of_sum(
-            product(number(&self.0, r), number(v, 0)),
-            product(number(&self.0, r + 1), number(v, 1)),
-            product(number(&self.0, r + 2), number(v, 2)),
-        );
-        sum + number(&self.0, r + 3)
+        let Products { x, y, z } = self.products(r, v);
+        self.added_up(r, x, y, z)
     }
 
     /// Where a vertex lies: x, y and w, each a floor and then an offset. Condition: the camera's numbers and the

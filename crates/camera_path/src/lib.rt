@@ -2,6 +2,7 @@
 //! and the guard, past which nothing is held in whole numbers.
 #![tactic(auto)]
 
+mod boxes;
 mod camera;
 mod clips;
 mod guard;

@@ -1,5 +1,5 @@
 -- The report of a scene: that of one thread that merges all drawn triangles in submission order, frame by frame.
-use Rattle.std.specs.Prelude.{ℕ, ℤ, pos, ◌≡◌, List, [], ◌∷◌, ◌++◌, ◌<◌, Bool, true, false, ◌&&◌, nat_lt, length, map, take, drop, slice_index_or}
+use Rattle.std.specs.Prelude.{ℕ, ℤ, ◌≡◌, List, [], ◌++◌, ◌<◌, Bool, true, false, ◌&&◌, nat_lt, length, map, take, drop, slice_index_or}
 use Rattle.std.specs.List.{flat_map, range_with_len}
 use Rattle.cull_base.specs.declared.clip.ClipVertex.{ClipVertex}
 use Rattle.cull_base.specs.declared.nearness.TheConstants.{GRADE_TOP}
@@ -17,7 +17,7 @@ use Rattle.cull_base.specs.Fold.{after}
 use Rattle.cull_base.specs.Shape.{Shape, has_sample, near_at, area_of, verdict_of}
 use Rattle.cull_base.specs.Tiles.{PieceList}
 use Rattle.scene_reader.specs.Layout.{Parts}
-use Rattle.camera_path.specs.Clip.{clip_of}
+use Rattle.camera_path.specs.Clip.{clip_of, corners_of}
 use Rattle.snap_setup.specs.Pieces.{list_of_clips}
 use Rattle.masked_update.specs.TileOf.{TileOf}
 use Rattle.masked_update.specs.Views.{state_in}
@@ -42,14 +42,6 @@ frame_list s frame = record { size = size_of s; members = list_of_clips (frame_c
 
 abbrev pub frame_pieces : Parts → ℕ → List Piece
 frame_pieces s frame = (frame_list s frame).members
-
--- the eight corners of a box between its least and its greatest
-abbrev pub corners_of : List ℤ → List ℤ → List (List ℤ)
-corners_of low high =
-    let x0 = slice_index_or low 0 (pos 0) in let y0 = slice_index_or low 1 (pos 0) in let z0 = slice_index_or low 2 (pos 0) in
-    let x1 = slice_index_or high 0 (pos 0) in let y1 = slice_index_or high 1 (pos 0) in let z1 = slice_index_or high 2 (pos 0) in
-    (x0 ∷ y0 ∷ z0 ∷ []) ∷ (x1 ∷ y0 ∷ z0 ∷ []) ∷ (x0 ∷ y1 ∷ z0 ∷ []) ∷ (x1 ∷ y1 ∷ z0 ∷ [])
-    ∷ (x0 ∷ y0 ∷ z1 ∷ []) ∷ (x1 ∷ y0 ∷ z1 ∷ []) ∷ (x0 ∷ y1 ∷ z1 ∷ []) ∷ (x1 ∷ y1 ∷ z1 ∷ []) ∷ []
 
 -- the shape of an object in a frame: a rectangle doesn't move with the camera
 unfoldable pub object_shape : Parts → ℕ → Object → Shape

@@ -17,7 +17,7 @@ mod tests;
 mod text;
 
 pub use asked::Asked;
-pub use by_workers::verdicts_by_workers;
+pub use by_workers::{verdicts_by_workers, verdicts_with_lines};
 pub use counts::Counts;
 pub use frame_verdicts::FrameVerdicts;
 pub use live_line::{LiveLine, TileCount};

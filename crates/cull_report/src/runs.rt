@@ -1,7 +1,7 @@
 //! Runs of a frame's objects, each with its verdicts and their lines.
 ghost use Rattle.std.specs.Prelude.{◌≡◌, ℕ, List, ◌+◌, ◌*◌, ◌-◌, ◌/◌, ◌<◌, length, IfOk};
 ghost use Rattle.cull_base.specs.declared.scene_types.Verdict.{Verdict};
-ghost use Rattle.cull_report.specs.Runs.{AreRunsFor, IsMadeRun, IsRunOf, IsRunSize, IsWaitingRun};
+ghost use Rattle.cull_report.specs.Runs.{AreRunsFor, AreRunsOf, IsMadeRun, IsRunOf, IsRunSize, IsWaitingRun};
 ghost use Rattle.cull_report.specs.Scene.{verdicts_in};
 
 use crate::asked::Asked;
@@ -90,4 +90,40 @@ impl Run {
             self.make(size, asked);
         }
     }
+}
+
+// A run of a number, made at once. Err where memory gave out.
+fn run_made<V: TileView>(
+    alloc: Global,
+    asked: &Asked<V>,
+    size: usize,
+    number: usize,
+) -> Result<Run, Memory>
+    requires size { IsRunSize size }
+    requires some { size * number < length asked.now.scene.now.objects }
+    ensures { IfOk result (λ r.
+        IsMadeRun (verdicts_in asked.now.scene.now asked.now.frame (V.tile_of asked.now.view.now)) size number r) }
+{
+    let mut run = Run::with_room(alloc, size, number)?;
+    run.make(size, asked);
+    Ok(run)
+}
+
+/// The runs of all objects of a frame, made one after the other. Err where memory gave out.
+pub(crate) fn runs_in_turn<V: TileView>(
+    alloc: Global,
+    asked: &Asked<V>,
+    size: usize,
+) -> Result<Vec<Run>, Memory>
+    requires size { IsRunSize size }
+    ensures { IfOk result (λ v.
+        AreRunsOf (verdicts_in asked.now.scene.now asked.now.frame (V.tile_of asked.now.view.now)) size v.items) }
+{
+    let count = run_count(asked.count(), size);
+    let mut runs = Vec::with_capacity(alloc, count).map_err(|_| Memory)?;
+    for number in 0..count {
+        let run = run_made(alloc, asked, size, number)?;
+        runs.push_reserved(run);
+    }
+    Ok(runs)
 }

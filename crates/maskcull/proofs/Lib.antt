@@ -1,14 +1,3 @@
-pub mod DecimalWords
-pub mod OptionRules
-pub mod UseRows
-pub mod UseWalk
-pub mod UseDefaults
-pub mod PlainWords
-pub mod TakenWords
-pub mod DefaultTexts
-pub mod Builders
-pub mod OptionNumbers
-pub mod AskedWords
 pub mod FrameByFrame
 pub mod ClosedCells
 pub mod LiveLooks

@@ -22,11 +22,11 @@ use Rattle.masked_update.specs.Views.{state_in}
 use Rattle.scene_reader.specs.Layout.{Parts}
 use Rattle.tile_cells.specs.Cells.{Reading}
 use Rattle.tile_cells.specs.Snapshots.{HoldsExactly, ReadMet, SnapshotOf}
-use Rattle.cull_report.specs.Scene.{IsMarkedRight, frame_list, frame_pieces, object_area, object_shape, size_of, verdict_in}
+use Rattle.cull_report.specs.Scene.{IsMarkedRight, frame_list, frame_pieces, frame_verdicts, object_area, object_shape, size_of, verdict_in, verdicts_in}
 use Rattle.cull_report.specs.Live.{object_at, prefixed_tiles}
 use Rattle.cull_report.specs.Settled.{SettlesObject, is_settled_shape, settled_in}
 use Rattle.rect_query.specs.Settled.{is_settled, is_settled_at}
-use Rattle.cull_report.proofs.Agreement.{shape_alike}
+use Rattle.cull_report.proofs.Agreement.{objects_alike, shape_alike}
 use Rattle.cull_report.proofs.Occluders.{sample_in_area}
 use Rattle.cull_report.proofs.TileStates.{drawn_agrees, place_in_tile}
 use Rattle.maskcull.specs.Culling.{AreSettled, TookFrame}
@@ -193,3 +193,11 @@ settled_over s frame tile_of marks drawn right o d lt mark =
     let f : Sub → State = state_in (size_of s) tile_of in
     let whole : Sub → State = λ u. after u (frame_pieces s frame) in
     shape_alike (size_of s) f whole (object_shape s frame (slice_index_or s.objects o d)) (drawn_agrees (size_of s) (frame_pieces s frame) tile_of drawn) ∙ right o d lt mark
+
+-- the verdicts over tiles that took the whole list are those of the frame
+pub verdicts_over_frame : (s : Parts) (frame : ℕ) (tile_of : ℕ → TileOf) → TookFrame s frame tile_of → verdicts_in s frame tile_of ≡ frame_verdicts s frame
+unfolding frame_verdicts
+verdicts_over_frame s frame tile_of drawn =
+    let f : Sub → State = state_in (size_of s) tile_of in
+    let whole : Sub → State = λ u. after u (frame_pieces s frame) in
+    objects_alike s frame f whole (drawn_agrees (size_of s) (frame_pieces s frame) tile_of drawn) s.objects

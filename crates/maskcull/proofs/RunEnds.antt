@@ -13,8 +13,8 @@ use Rattle.maskcull.specs.declared.failure.Failure.{Failure}
 use Rattle.maskcull.specs.declared.failure.Failure.TheVariants.{Scene, ReadFault, ReportFault, NotesFault, Memory}
 use Rattle.maskcull.specs.declared.failure.Status.{Status}
 use Rattle.maskcull.specs.declared.failure.Status.TheVariants as statuses
-use Rattle.maskcull.specs.declared.request.Command.{Command}
-use Rattle.maskcull.specs.declared.request.Command.TheVariants.{Cull, Live, Demo}
+use Rattle.command_words.specs.declared.command.Command.{Command}
+use Rattle.command_words.specs.declared.command.Command.TheVariants.{Cull, Live, Demo}
 use Rattle.maskcull.specs.Culling.{EachScene, EndsAs, GainsFront, Reports, IfLive, IsSceneOf, MayHaveWritten}
 use Rattle.maskcull.specs.LiveRuns.{GainsLive, GainsLiveFront, StopsAtNotes}
 use Rattle.maskcull.specs.LiveScenes.{CountsStay, GainsRising, ReportsLive}
@@ -46,14 +46,14 @@ each_of source P f = by source.left
     by (Some bytes) = λ s is. f s
 
 pub live_map : (c : Command) (P Q : ℕ → ℕ → Type 0) → ((rounds watch : ℕ) → P rounds watch → Q rounds watch) → IfLive c P → IfLive c Q
-live_map Cull P Q f h = tt
-live_map (Live rounds watch) P Q f h = f rounds watch h
-live_map (Demo seed m) P Q f h = tt
+live_map (Cull settings) P Q f h = tt
+live_map (Live settings rounds watch) P Q f h = f rounds watch h
+live_map (Demo settings seed m) P Q f h = tt
 
 pub live_of : (c : Command) (Q : ℕ → ℕ → Type 0) → ((rounds watch : ℕ) → Q rounds watch) → IfLive c Q
-live_of Cull Q f = tt
-live_of (Live rounds watch) Q f = f rounds watch
-live_of (Demo seed m) Q f = tt
+live_of (Cull settings) Q f = tt
+live_of (Live settings rounds watch) Q f = f rounds watch
+live_of (Demo settings seed m) Q f = tt
 
 rose_of_either : (n0 n1 n2 : SinkSays) → CountsStay n0 n1 → Rose n1.faults n2.faults ⊎ Rose n1.refusals n2.refusals → Rose n0.faults n2.faults ⊎ Rose n0.refusals n2.refusals
 rose_of_either n0 n1 n2 stay h = elim h [

@@ -11,19 +11,18 @@ use Rattle.maskcull.specs.declared.failure.Failure.{Failure}
 use Rattle.maskcull.specs.declared.failure.Failure.TheVariants.{Scene, ReadFault, ReportFault, NotesFault, Memory}
 use Rattle.maskcull.specs.declared.failure.Status.{Status}
 use Rattle.maskcull.specs.declared.failure.Status.TheVariants as statuses
-use Rattle.maskcull.specs.declared.request.Command.{Command}
-use Rattle.maskcull.specs.declared.request.Command.TheVariants.{Cull, Live, Demo}
-use Rattle.maskcull.specs.declared.request.Request.{Request}
-use Rattle.maskcull.specs.declared.words.Refusal.{Refusal}
-use Rattle.maskcull.specs.declared.words.Refusal.TheVariants as refusals
+use Rattle.command_words.specs.declared.command.Command.{Command}
+use Rattle.command_words.specs.declared.command.Command.TheVariants.{Cull, Live, Demo}
+use Rattle.command_words.specs.declared.words.Refusal.{Refusal}
+use Rattle.command_words.specs.declared.words.Refusal.TheVariants as refusals
 use Rattle.maskcull.specs.Culling.{Asks, EachScene, HasFault, IfAsked, IfLive, IfScene, IsBeforeReport, IsLive, IsSceneOf, MayHaveWritten, WithoutScene}
 use Rattle.maskcull.specs.Culling.{NotesFault as NotesFaultOf}
 use Rattle.scene_reader.specs.Fault.{IsRefusal}
 use Rattle.maskcull.specs.LiveRuns.{GainsLiveFront, StopsAtNotes}
 use Rattle.maskcull.specs.LiveScenes.{CountsStay, GainsRising}
 use Rattle.maskcull.specs.Notes.{note_text, refusal_text, status_text}
-use Rattle.maskcull.specs.Outcome.{status_of}
-use Rattle.maskcull.specs.Words.{AreWords, refusal_status, request_of}
+use Rattle.maskcull.specs.Outcome.{refusal_status, status_of}
+use Rattle.command_words.specs.Words.{AreWords, command_of}
 use Rattle.maskcull.proofs.RunEnds.{each_map, each_scene, front_noted, live_map, live_of, none_noted, nothing_more, text_by_status}
 
 -- ---- failures by their status
@@ -81,21 +80,21 @@ refusal_wants_memory (refusals.Words text) is are = absurd cc
 
 -- ---- what words ask for
 
-pub asked_by : (words : List Text) (r : Request) (P : Command → Type 0) → request_of words ≡ Some r → P r.command → IfAsked words P
-asked_by words r P e p = subst (λ (o : Option Request). IfSome o (λ q. P q.command)) (sym e) p
+pub asked_by : (words : List Text) (c : Command) (P : Command → Type 0) → command_of words ≡ Some c → P c → IfAsked words P
+asked_by words c P e p = subst (λ (o : Option Command). IfSome o P) (sym e) p
 
 pub asked_all : (words : List Text) (P : Command → Type 0) → ((c : Command) → P c) → IfAsked words P
-asked_all words P f = by (request_of words)
+asked_all words P f = by (command_of words)
   where
-    by : (o : Option Request) → IfSome o (λ q. P q.command)
+    by : (o : Option Command) → IfSome o P
     by None = tt
-    by (Some q) = f q.command
+    by (Some q) = f q
 
-pub of_asks : (words : List Text) (r : Request) (P : Command → Type 0) → request_of words ≡ Some r → Asks words P → P r.command
-of_asks words r P e asks =
+pub of_asks : (words : List Text) (c : Command) (P : Command → Type 0) → command_of words ≡ Some c → Asks words P → P c
+of_asks words c P e asks =
     let (q, is, p) = asks in
-    let same : q ≡ r = cc in
-    subst (λ (x : Request). P x.command) same p
+    let same : q ≡ c = cc in
+    subst P same p
 
 -- ---- what stands on the notes
 
@@ -176,9 +175,9 @@ written_is_no_scene Memory may is = absurd cc
 -- nothing was noted before a note that isn't behind lines of a scene
 pub unnoted_by : {E : Type 0} (e0 e1 : E) (c : Command) (f : Failure) → ((IsLive c → ⊥) → e1 ≡ e0) → (IsBeforeReport f → e1 ≡ e0)
     → (status_of f ≡ statuses.NotesFault → ⊥) → (IsLive c → MayHaveWritten (status_of f) → ⊥) → e1 ≡ e0
-unnoted_by e0 e1 Cull f quiet unnoted no_fault no_live = quiet (λ live. let (rounds, watch, is) = live in absurd cc)
-unnoted_by e0 e1 (Live rounds watch) f quiet unnoted no_fault no_live = unnoted (before_report f (no_live (rounds, watch, refl)) no_fault)
-unnoted_by e0 e1 (Demo seed m) f quiet unnoted no_fault no_live = quiet (λ live. let (rounds, watch, is) = live in absurd cc)
+unnoted_by e0 e1 (Cull settings) f quiet unnoted no_fault no_live = quiet (λ live. let (s, rounds, watch, is) = live in absurd cc)
+unnoted_by e0 e1 (Live settings rounds watch) f quiet unnoted no_fault no_live = unnoted (before_report f (no_live (settings, rounds, watch, refl)) no_fault)
+unnoted_by e0 e1 (Demo settings seed m) f quiet unnoted no_fault no_live = quiet (λ live. let (s, rounds, watch, is) = live in absurd cc)
 
 -- ---- a command that isn't `live`
 

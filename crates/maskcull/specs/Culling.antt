@@ -5,10 +5,10 @@ use Rattle.scene_reader.specs.Fault.{first_fault, IsRefusal}
 use Rattle.maskcull.specs.Notes.{refusal_text}
 use Rattle.demo_scene.specs.Demo.{demo_of}
 use Rattle.maskcull.specs.Summary.{summary_text}
-use Rattle.maskcull.specs.Words.{request_of}
-use Rattle.maskcull.specs.declared.request.Command.{Command}
-use Rattle.maskcull.specs.declared.request.Command.TheVariants.{Cull, Live, Demo}
-use Rattle.maskcull.specs.declared.request.Request.{Request}
+use Rattle.command_words.specs.Words.{command_of}
+use Rattle.command_words.specs.declared.command.Command.{Command}
+use Rattle.command_words.specs.declared.command.Command.TheVariants.{Cull, Live, Demo}
+use Rattle.command_words.specs.declared.settings.Settings.{Settings}
 use Rattle.clap.specs.Words.{Text}
 use Rattle.cull_report.specs.Hiding.{HidesTruly}
 use Rattle.scene_reader.specs.Layout.{Parts, IsScene, layout}
@@ -123,39 +123,39 @@ NotesFault source before after = (e : SceneError) × IsRefusal e × HasFault sou
 
 -- the words ask for something of which this holds
 abbrev pub Asks : List Text → (Command → Type 0) → Type 0
-Asks words P = (r : Request) × (request_of words ≡ Some r) × P r.command
+Asks words P = (c : Command) × (command_of words ≡ Some c) × P c
 
 -- a fact of what the words ask for, if they ask for something
 abbrev pub IfAsked : List Text → (Command → Type 0) → Type 0
-IfAsked words P = IfSome (request_of words) (λ r. P r.command)
+IfAsked words P = IfSome (command_of words) P
 
 -- the command reads a scene, and writes its report
 abbrev pub ReadsScene : Command → Type 0
-ReadsScene Cull = Unit {0}
-ReadsScene (Live rounds watch) = Unit {0}
-ReadsScene (Demo seed m) = ⊥
+ReadsScene (Cull settings) = Unit {0}
+ReadsScene (Live settings rounds watch) = Unit {0}
+ReadsScene (Demo settings seed m) = ⊥
 
 abbrev pub IsLive : Command → Type 0
-IsLive command = (rounds : ℕ) × (watch : ℕ) × (command ≡ Live rounds watch)
+IsLive command = (settings : Settings) × (rounds : ℕ) × (watch : ℕ) × (command ≡ Live settings rounds watch)
 
 -- a fact of the rounds and of how many objects are watched, if the command looks at objects while frames are drawn
 abbrev pub IfLive : Command → (ℕ → ℕ → Type 0) → Type 0
-IfLive Cull P = Unit {0}
-IfLive (Live rounds watch) P = P rounds watch
-IfLive (Demo seed m) P = Unit {0}
+IfLive (Cull settings) P = Unit {0}
+IfLive (Live settings rounds watch) P = P rounds watch
+IfLive (Demo settings seed m) P = Unit {0}
 
 abbrev pub IsDemo : Command → Type 0
-IsDemo command = (seed : ℕ) × (m : ℕ) × (command ≡ Demo seed m)
+IsDemo command = (settings : Settings) × (seed : ℕ) × (m : ℕ) × (command ≡ Demo settings seed m)
 
 -- the command did its work: the whole report of a scene was written, or the whole summary; and what it calls occluded is hidden
 abbrev pub IsDone : Command → SourceSays → SourceSays → SinkSays → SinkSays → Type 0
-IsDone Cull before after report_before report_after = IsCulled before after report_before report_after
-IsDone (Live rounds watch) before after report_before report_after = IsCulled before after report_before report_after
-IsDone (Demo seed m) before after report_before report_after =
+IsDone (Cull settings) before after report_before report_after = IsCulled before after report_before report_after
+IsDone (Live settings rounds watch) before after report_before report_after = IsCulled before after report_before report_after
+IsDone (Demo settings seed m) before after report_before report_after =
     Appends report_before report_after (summary_text seed m) × HidesTruly (demo_of seed m)
 
 -- the report gained a front of what the command writes
 abbrev pub GainsFrontOf : Command → SourceSays → SinkSays → SinkSays → Type 0
-GainsFrontOf Cull source before after = GainsFront source before after
-GainsFrontOf (Live rounds watch) source before after = GainsFront source before after
-GainsFrontOf (Demo seed m) source before after = AppendsPrefix before after (summary_text seed m)
+GainsFrontOf (Cull settings) source before after = GainsFront source before after
+GainsFrontOf (Live settings rounds watch) source before after = GainsFront source before after
+GainsFrontOf (Demo settings seed m) source before after = AppendsPrefix before after (summary_text seed m)

@@ -1,7 +1,6 @@
-pub mod App
-pub mod Words
 pub mod Summary
 pub mod Frames
+pub mod Windows
 pub mod LiveFrames
 pub mod Notes
 pub mod Outcome

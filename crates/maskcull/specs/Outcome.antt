@@ -4,6 +4,8 @@ use Rattle.scene_reader.specs.declared.error.SceneError.{SceneError}
 use Rattle.scene_reader.specs.declared.error.SceneError.TheVariants as errors
 use Rattle.cull_base.specs.declared.memory.SinkError.{SinkError}
 use Rattle.cull_base.specs.declared.memory.SinkError.TheVariants as sink
+use Rattle.command_words.specs.declared.words.Refusal.{Refusal}
+use Rattle.command_words.specs.declared.words.Refusal.TheVariants as refusals
 use Rattle.maskcull.specs.declared.failure.Failure.{Failure}
 use Rattle.maskcull.specs.declared.failure.Failure.TheVariants as failures
 use Rattle.maskcull.specs.declared.failure.Status.{Status}
@@ -41,3 +43,8 @@ code_of statuses.ReadFault = 4
 code_of statuses.ReportFault = 5
 code_of statuses.NotesFault = 6
 code_of statuses.Memory = 7
+
+-- the status of a run whose words ask for nothing
+abbrev pub refusal_status : Refusal → Status
+refusal_status refusals.Memory = statuses.Memory
+refusal_status (refusals.Words text) = statuses.Usage

@@ -4,13 +4,13 @@ ghost use Rattle.cull_base.specs.Stream.{Rose};
 ghost use Rattle.scene_reader.specs.Fault.{IsRefusal};
 ghost use Rattle.cull_report.specs.Hiding.{HidesTruly};
 ghost use Rattle.cull_report.specs.Scene.{report_text};
-ghost use Rattle.maskcull.specs.Words.{AreInRange};
+ghost use Rattle.command_words.specs.Words.{AreInRange};
 ghost use Rattle.maskcull.specs.Culling.{IfScene, EndsAs, IsCulled, HasFault, EachFault, EachScene, GainsFront, WithoutScene, Reports, IsReportFailure, IsBeforeReport};
 
 use crate::failure::Failure;
 use crate::frame_by_frame::report_frames;
 use crate::frames::FrameLines;
-use crate::settings::Settings;
+use command_words::Settings;
 use cull_base::{Sink, Source};
 use cull_report::write_header;
 use scene_reader::{Scene, read_scene};

@@ -4,13 +4,13 @@ ghost use Rattle.cull_report.specs.Hiding.{HidesTruly};
 ghost use Rattle.maskcull.specs.Culling.{Reports};
 ghost use Rattle.demo_scene.specs.Demo.{demo_of};
 ghost use Rattle.maskcull.specs.Summary.{summary_text};
-ghost use Rattle.maskcull.specs.Words.{AreInRange};
+ghost use Rattle.command_words.specs.Words.{AreInRange};
 
 use crate::failure::Failure;
 use crate::frame_by_frame::report_frames;
 use crate::frames::FrameLines;
-use crate::settings::Settings;
 use crate::summary::write_demo_line;
+use command_words::Settings;
 use cull_base::Sink;
 use demo_scene::demo_scene;
 use std::alloc::Global;

@@ -9,10 +9,10 @@ ghost use Rattle.maskcull.specs.Frames.{lines_by};
 use crate::summary::write_summary;
 use camera_path::{Camera, clip_into};
 use cull_base::{ClipVertex, FrameList, Memory, Sink, SinkError};
-use cull_report::{Asked, FrameVerdicts, verdicts_by_workers};
+use cull_report::{Asked, FrameVerdicts, verdicts_by_workers, verdicts_with_lines};
 use masked_update::TileView;
 use scene_reader::Scene;
-use snap_setup::frame_list_by_workers;
+use snap_setup::{Occluders, frame_list_by_workers};
 use std::alloc::Global;
 use std::sync::Wait;
 use std::thread::Threads;
@@ -24,6 +24,15 @@ pub enum FrameLines {
     Report,
     /// The summary's line: how many objects have each verdict.
     Summary,
+}
+
+/// Who asks a frame's objects.
+#[derive(Clone, Copy)]
+pub enum Asking {
+    /// So many workers. Where they start threads these make the lines too, else a line is made when it is written.
+    Workers(u32),
+    /// The caller's thread, which makes the lines too: in the pieces in which they are written by so many workers.
+    Caller(u32),
 }
 
 /// What a frame's lines tell.
@@ -72,6 +81,34 @@ pub fn verdicts_over<R: Threads + Wait + Sync, V: TileView + Sync>(
     verdicts_by_workers(rt, alloc, asked, workers)
 }
 
+/// The same by the caller's thread alone, with the lines, in the pieces in which so many workers would make them.
+pub fn lines_over<V: TileView>(
+    alloc: Global,
+    asked: &Asked<V>,
+    workers: u32,
+) -> Result<FrameVerdicts, Memory>
+    requires { TookFrame asked.now.scene.now asked.now.frame (V.tile_of asked.now.view.now) }
+    ensures { IfOk result (λ v. v ≡ frame_verdicts asked.now.scene.now asked.now.frame) }
+{
+    verdicts_with_lines(alloc, asked, workers)
+}
+
+/// The same by who is to ask the objects.
+pub fn verdicts_by<R: Threads + Wait + Sync, V: TileView + Sync>(
+    rt: &R,
+    alloc: Global,
+    asked: &Asked<V>,
+    asking: Asking,
+) -> Result<FrameVerdicts, Memory>
+    requires { TookFrame asked.now.scene.now asked.now.frame (V.tile_of asked.now.view.now) }
+    ensures { IfOk result (λ v. v ≡ frame_verdicts asked.now.scene.now asked.now.frame) }
+{
+    match asking {
+        Asking::Workers(workers) => verdicts_over(rt, alloc, asked, workers),
+        Asking::Caller(workers) => lines_over(alloc, asked, workers),
+    }
+}
+
 /// The pieces of a frame, in submission order. Its clauses alone ask for the frame's number.
 pub fn pieces_of<R: Threads + Sync>(
     rt: &R,
@@ -85,16 +122,14 @@ pub fn pieces_of<R: Threads + Sync>(
     ensures list { IfOk result (λ f. f.list ≡ frame_list scene.now _frame) }
     ensures scene { IsScene scene.now }
 {
-    frame_list_by_workers(
-        rt,
-        alloc,
+    let occluders = Occluders {
         clips,
-        scene.occluders(),
-        scene.near(),
-        scene.size(),
-        scene.winding(),
-        workers,
-    )
+        tris: scene.occluders(),
+        near: scene.near(),
+        size: scene.size(),
+        winding: scene.winding(),
+    };
+    frame_list_by_workers(rt, alloc, &occluders, workers)
 }
 
 /// Writes a frame's lines. Failed and Memory are the sink's.

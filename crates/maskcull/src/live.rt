@@ -6,11 +6,11 @@ ghost use Rattle.cull_report.specs.Hiding.{HidesTruly};
 ghost use Rattle.maskcull.specs.Culling.{IfScene, EndsAs, IsCulled, HasFault, EachFault, EachScene, GainsFront, WithoutScene, IsBeforeReport};
 ghost use Rattle.maskcull.specs.LiveRuns.{GainsLive, StopsAtNotes};
 ghost use Rattle.maskcull.specs.LiveScenes.{CountsStay, GainsRising, ReportsLive};
-ghost use Rattle.maskcull.specs.Words.{AreInRange};
+ghost use Rattle.command_words.specs.Words.{AreInRange};
 
 use crate::failure::Failure;
 use crate::live_frame::{Looks, live_frame};
-use crate::settings::Settings;
+use command_words::Settings;
 use cull_base::{ClipVertex, Memory, Sink, Source};
 use cull_report::write_header;
 use scene_reader::{Scene, read_scene};

@@ -10,15 +10,15 @@ ghost use Rattle.tile_cells.specs.Cells.{Reading};
 ghost use Rattle.tile_queues.specs.Frames.{HaveStates};
 ghost use Rattle.maskcull.specs.LiveFrames.{AreLive, HaveRoom, IsReady, IsWatching, RoomFor};
 ghost use Rattle.maskcull.specs.LiveScenes.{NotesLines, ReportsFrame};
-ghost use Rattle.maskcull.specs.Words.{AreInRange};
+ghost use Rattle.command_words.specs.Words.{AreInRange};
 
 use crate::failure::Failure;
 use crate::frames::{
     Frame, FrameLines, clip_frame, pieces_of, unset_marks, verdicts_over, write_lines,
 };
 use crate::live_caller::{LiveCaller, Watched};
-use crate::settings::Settings;
 use binning::batch_size;
+use command_words::Settings;
 use cull_base::{ClipVertex, FrameList, Memory, Sink, SinkError, TileSpan};
 use cull_report::{Asked, LiveLine, object_area, write_live};
 use masked_update::{PlainView, TileState};

@@ -4,17 +4,16 @@
 mod adapters;
 mod cull;
 mod demo;
+mod drawing;
 mod failure;
 mod frame_by_frame;
 mod frames;
 mod live;
 mod live_caller;
 mod live_frame;
-mod request;
 mod run;
-mod settings;
 mod summary;
-mod words;
+mod window;
 
 use adapters::{Input, Output};
 use cull_base::Memory;
@@ -26,9 +25,6 @@ use std::env;
 use std::io::{BufReader, ErrorKind, Stdin};
 use std::process::ExitCode;
 use tile_queues::OpenGate;
-
-/// The version of the program and of the library for C.
-pub const VERSION: &str = "0.1.0";
 
 // The words that the program was started with; none where one isn't UTF-8, which is no command.
 fn words_of(rt: &HostRuntime, alloc: Global) -> Result<Vec<String>, Memory> {

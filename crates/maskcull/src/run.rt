@@ -6,15 +6,14 @@ ghost use Rattle.maskcull.specs.Culling.{IfScene, EndsAs, HasFault, IsOfInput, I
 ghost use Rattle.maskcull.specs.LiveRuns.{GainsLive, GainsLiveFront, StopsAtNotes};
 ghost use Rattle.maskcull.specs.LiveScenes.{CountsStay, GainsRising};
 ghost use Rattle.maskcull.specs.Notes.{IsNotedFirst, status_text};
-ghost use Rattle.maskcull.specs.Words.{AreInRange, ArePlain, IsWithinLimits, request_of};
+ghost use Rattle.command_words.specs.Words.{ArePlain, IsWithinLimits, command_of};
 
 use crate::cull::cull;
 use crate::demo::demo;
-use crate::failure::{Failure, Status};
+use crate::failure::{Failure, Status, end_refused};
 use crate::live::live;
 use crate::live_frame::Looks;
-use crate::request::{Command, Request};
-use crate::words::request_of;
+use command_words::{Command, command_of};
 use cull_base::{Sink, Source};
 use std::alloc::Global;
 use std::sync::Wait;
@@ -25,61 +24,68 @@ use tile_queues::Gate;
 fn perform<R: Threads + Wait + Sync, S: Source, W: Sink, E: Sink, G: Gate>(
     rt: &R,
     alloc: Global,
-    request: &Request,
+    command: &Command,
     input: &mut S,
     report: &mut W,
     notes: &mut E,
     gate: &G,
 ) -> Result<(), Failure>
-    requires settings { AreInRange request.now.settings }
-    requires limits { IsWithinLimits request.now.command }
-    ensures done { OnOk result (IsDone request.now.command
+    requires limits { IsWithinLimits command.now }
+    ensures done { OnOk result (IsDone command.now
         (S.says input.old) (S.says input.new) (W.says report.old) (W.says report.new)) }
-    ensures live { OnOk result (IfLive request.now.command (λ rounds watch. EachScene (S.says input.old)
+    ensures live { OnOk result (IfLive command.now (λ rounds watch. EachScene (S.says input.old)
         (λ s. GainsLive s rounds watch (E.says notes.old) (E.says notes.new)))) }
 
     // The causes.
     ensures refusal { IfErr result (λ f. IfScene f IsRefusal) }
     ensures scene { IfErr result (λ f. IfScene f (HasFault (S.says input.old))) }
-    ensures asked { IfErr result (λ f. IsOfInput f → ReadsScene request.now.command) }
+    ensures asked { IfErr result (λ f. IsOfInput f → ReadsScene command.now) }
     ensures read { IsErrOf result Failure.ReadFault → Rose (S.says input.old).faults (S.says input.new).faults }
     ensures report { IsErrOf result Failure.ReportFault → Rose (W.says report.old).faults (W.says report.new).faults }
     ensures notes { IsErrOf result Failure.NotesFault → Rose (E.says notes.old).faults (E.says notes.new).faults }
-    ensures notes_asked { IsErrOf result Failure.NotesFault → IsLive request.now.command }
+    ensures notes_asked { IsErrOf result Failure.NotesFault → IsLive command.now }
 
     // What comes of bytes that are refused, of a scene's, and of a scene from a seed.
-    ensures refused { ReadsScene request.now.command
+    ensures refused { ReadsScene command.now
         → EachFault (S.says input.old) (λ e. EndsAs result (Failure.Scene e)) }
-    ensures drawn { ReadsScene request.now.command → EachScene (S.says input.old)
+    ensures drawn { ReadsScene command.now → EachScene (S.says input.old)
         (λ _. OnErr result (IsErrOf result Failure.NotesFault ⊎ EndsAs result Failure.ReportFault)) }
 
     // What stands on the input, on the report and on the notes.
-    ensures unread { (ReadsScene request.now.command → ⊥) → input.new ≡ input.old }
+    ensures unread { (ReadsScene command.now → ⊥) → input.new ≡ input.old }
     ensures untouched { IfErr result (λ f. IsBeforeReport f → report.new ≡ report.old) }
-    ensures prefix { OnErr result (GainsFrontOf request.now.command
+    ensures prefix { OnErr result (GainsFrontOf command.now
         (S.says input.old) (W.says report.old) (W.says report.new)) }
-    ensures nothing { ReadsScene request.now.command → WithoutScene (S.says input.old) (report.new ≡ report.old) }
-    ensures quiet { (IsLive request.now.command → ⊥) → notes.new ≡ notes.old }
+    ensures nothing { ReadsScene command.now → WithoutScene (S.says input.old) (report.new ≡ report.old) }
+    ensures quiet { (IsLive command.now → ⊥) → notes.new ≡ notes.old }
     ensures unnoted { IfErr result (λ f. IsBeforeReport f → notes.new ≡ notes.old) }
-    ensures front { IfErr result (λ f. (f ≡ Failure.NotesFault → ⊥) → IfLive request.now.command (λ rounds watch.
+    ensures front { IfErr result (λ f. (f ≡ Failure.NotesFault → ⊥) → IfLive command.now (λ rounds watch.
         EachScene (S.says input.old) (λ s. GainsRising s rounds watch f
         (W.says report.old) (W.says report.new) (E.says notes.old) (E.says notes.new)))) }
-    ensures stops { IsErrOf result Failure.NotesFault → IfLive request.now.command (λ rounds watch.
+    ensures stops { IsErrOf result Failure.NotesFault → IfLive command.now (λ rounds watch.
         EachScene (S.says input.old) (λ s. StopsAtNotes s rounds watch
         (W.says report.old) (W.says report.new) (E.says notes.old) (E.says notes.new))) }
     ensures nothing_noted { WithoutScene (S.says input.old) (notes.new ≡ notes.old) }
     ensures stay { CountsStay (E.says notes.old) (E.says notes.new) }
 {
-    let settings = &request.settings;
-    match request.command {
-        Command::Cull => cull(rt, alloc, settings, input, report, gate),
-        Command::Live { rounds, watch } => {
-            let looks = Looks { rounds, watch };
+    match command {
+        Command::Cull { settings } => cull(rt, alloc, settings, input, report, gate),
+        Command::Live {
+            settings,
+            rounds,
+            watch,
+        } => {
+            let looks = Looks {
+                rounds: *rounds,
+                watch: *watch,
+            };
             live(rt, alloc, settings, looks, input, report, notes, gate)
         }
-        Command::Demo { seed, triangles } => {
-            demo(rt, alloc, settings, seed, triangles, report, gate)
-        }
+        Command::Demo {
+            settings,
+            seed,
+            triangles,
+        } => demo(rt, alloc, settings, *seed, *triangles, report, gate),
     }
 }
 
@@ -109,11 +115,11 @@ pub fn run<R: Threads + Wait + Sync, S: Source, W: Sink, E: Sink, G: Gate>(
         EachScene (S.says input.old) (λ s. GainsLive s rounds watch (E.says notes.old) (E.says notes.new)))) }
 
     // The words. Plain words are never refused, since they ask for something.
-    ensures usage { result ≡ Status.Usage → request_of (map string_bytes words.now) ≡ None }
-    ensures unasked { request_of (map string_bytes words.now) ≡ None
+    ensures usage { result ≡ Status.Usage → command_of (map string_bytes words.now) ≡ None }
+    ensures unasked { command_of (map string_bytes words.now) ≡ None
         → (result ≡ Status.Usage) ⊎ (result ≡ Status.Memory) }
-    ensures plain { (r : Request) → ArePlain (map string_bytes words.now) r
-        → request_of (map string_bytes words.now) ≡ Some r }
+    ensures plain { (c : Command) → ArePlain (map string_bytes words.now) c
+        → command_of (map string_bytes words.now) ≡ Some c }
 
     // The other causes.
     ensures scene { result ≡ Status.Scene → NotesFault (S.says input.old) (E.says notes.old) (E.says notes.new) }
@@ -150,7 +156,7 @@ pub fn run<R: Threads + Wait + Sync, S: Source, W: Sink, E: Sink, G: Gate>(
     ensures live_front { MayHaveWritten result → IfAsked (map string_bytes words.now) (λ c. IfLive c (λ rounds watch.
         EachScene (S.says input.old) (λ s. GainsLiveFront s rounds watch
         (W.says report.old) (W.says report.new) (E.says notes.old) (E.says notes.new) result))) }
-    ensures nothing_asked { request_of (map string_bytes words.now) ≡ None → report.new ≡ report.old }
+    ensures nothing_asked { command_of (map string_bytes words.now) ≡ None → report.new ≡ report.old }
     ensures noted { (result ≡ Status.Done → ⊥) → (result ≡ Status.Scene → ⊥) → (result ≡ Status.Usage → ⊥)
         → (result ≡ Status.NotesFault → ⊥)
         → (Asks (map string_bytes words.now) IsLive → MayHaveWritten result → ⊥)
@@ -161,11 +167,11 @@ pub fn run<R: Threads + Wait + Sync, S: Source, W: Sink, E: Sink, G: Gate>(
     ensures noted_usage { result ≡ Status.Usage
         → IsNotedFirst (E.says notes.old) (E.says notes.new) (status_text result) }
 {
-    let request = match request_of(alloc, words) {
-        Ok(request) => request,
-        Err(refusal) => return refusal.end(notes),
+    let command = match command_of(alloc, words) {
+        Ok(command) => command,
+        Err(refusal) => return end_refused(&refusal, notes),
     };
-    match perform(rt, alloc, &request, input, report, notes, gate) {
+    match perform(rt, alloc, &command, input, report, notes, gate) {
         Ok(()) => Status::Done,
         Err(failure) => failure.end(notes),
     }

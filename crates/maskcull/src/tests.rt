@@ -1,5 +1,4 @@
 mod busy_run;
-mod command_words;
 mod counting_run;
 mod demo;
 mod drawing;
@@ -15,3 +14,5 @@ mod meeting_run;
 mod objects;
 mod scenes;
 mod waiting;
+mod windows;
+mod words;

@@ -5,5 +5,8 @@ mod Codes
 mod Eight
 mod Hiding
 mod Joined
+mod Listed
 mod Merged
+mod Pictures
+mod Slices
 mod Triangles

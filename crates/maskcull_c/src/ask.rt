@@ -28,7 +28,7 @@ fn code(verdict: Verdict) -> u32
 }
 
 // Whether there are as many tiles as the screen has.
-fn are_all(tiles: &[TileState], size: Size) -> bool
+pub(crate) fn are_all(tiles: &[TileState], size: Size) -> bool
     ensures { IsTrue result ↔ AreAll size tiles.now }
 {
     tiles.len() == size.tile_count() as usize

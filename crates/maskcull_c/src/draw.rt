@@ -89,7 +89,7 @@ fn draw_onto(
 }
 
 // The window that tiles from a row of the screen's tiles on fill. None where they aren't whole rows in the screen.
-fn window_from(size: Size, first_row: u32, tiles: &[TileState]) -> Option<TileSpan>
+pub(crate) fn window_from(size: Size, first_row: u32, tiles: &[TileState]) -> Option<TileSpan>
     ensures { MatchOption result (AreRows size first_row tiles.now → ⊥)
         (λ w. IsBand size w tiles.now × (w.first_row ≡ first_row)) }
 {

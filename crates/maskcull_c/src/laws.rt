@@ -4,7 +4,11 @@ ghost use Rattle.cull_base.specs.Piece.{Piece};
 ghost use Rattle.cull_base.specs.Screen.{Dimensions};
 ghost use Rattle.masked_update.specs.TileOf.{TileOf, empty_tile, tile_at};
 ghost use Rattle.maskcull_c.specs.Bands.{AreMerged};
+ghost use Rattle.maskcull_c.specs.Given.{pieces_drawn, size_of};
 ghost use Rattle.maskcull_c.specs.Tiles.{AreRows, IsAfter, IsSoundFor, lists_from, none_between, row_start};
+ghost use Rattle.maskcull_c.specs.declared.given.Setup.{Setup};
+ghost use Rattle.maskcull_c.specs.declared.given.Triangle.{Triangle};
+ghost use Rattle.maskcull_c.specs.declared.given.Vertex.{Vertex};
 
 /// Tiles that follow each other, each part after lists of its own, are together after all of these lists, and each part
 /// is after the lists that all are after. What is drawn onto the parts is what one draw onto all leaves. Behind a band's
@@ -40,4 +44,20 @@ pub fn part_cleared()
 pub fn after_is_sound()
     ensures { (size : Dimensions) (lists : ℕ → List Piece) (tiles : List TileOf) (t : ℕ)
         → IsAfter size 0 lists tiles → t < length tiles → IsSoundFor size t (lists t) (tile_at tiles t) }
+{}
+
+/// Slices of triangles that are set up one by one give, one after another, the pieces of all. Pieces that are drawn in
+/// parts, one after another, are drawn as one list. So what is set up in slices and drawn slice by slice is what one
+/// draw of all triangles leaves.
+pub fn slices_join()
+    ensures listed { (s : Setup) (vertices : List Vertex) (a b : List Triangle)
+        → pieces_drawn s vertices (a ++ b) ≡ pieces_drawn s vertices a ++ pieces_drawn s vertices b }
+    ensures merged { (size : Dimensions) (first : ℕ) (ps qs : List Piece) (old between new : List TileOf)
+        → AreMerged size first ps old between → AreMerged size first qs between new
+        → AreMerged size first (ps ++ qs) old new }
+    ensures drawn { (s : Setup) (first : ℕ) (vertices : List Vertex) (a b : List Triangle)
+        (old between new whole : List TileOf)
+        → AreMerged (size_of s) first (pieces_drawn s vertices a) old between
+        → AreMerged (size_of s) first (pieces_drawn s vertices b) between new
+        → AreMerged (size_of s) first (pieces_drawn s vertices (a ++ b)) old whole → new ≡ whole }
 {}

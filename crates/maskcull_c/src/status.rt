@@ -12,6 +12,9 @@ pub const BAD_TILES: u32 = 2;
 /// A triangle names a vertex that isn't there. Nothing was drawn.
 pub const BAD_INDEX: u32 = 3;
 
+/// There is too little room for what was to be written. Nothing was.
+pub const BAD_ROOM: u32 = 5;
+
 /// Not hidden.
 pub const VISIBLE: u32 = 16;
 

@@ -1,17 +1,22 @@
 -- The list of a frame grows triangle by triangle.
-use Rattle.std.proofs.Common.{◌≡◌, ℕ, ◌+◌, ◌*◌, ◌<◌, ◌≤◌, Bool, true, false, not, cond, filter, List, [], ◌∷◌, ◌++◌, length, get_or, take, append-nil, length-append, refl, sym, ap, ◌∙◌, arith}
+use Rattle.std.proofs.Common.{◌≡◌, ℕ, ◌+◌, ◌*◌, ◌<◌, ◌≤◌, Bool, true, false, not, cond, filter, List, [], ◌∷◌, ◌++◌, length, get_or, take, append-nil, length-append, length-take-le, refl, sym, ap, ◌∙◌, arith}
 use Rattle.std.proofs.lemmas.List.{take_more, length-map}
 use mathlib.Core.List.{append_assoc}
 use Rattle.std.proofs.lemmas.List.Sums.{length-filter, count_by-le-length}
 use Rattle.std.proofs.lemmas.Grind.{flat_map-append}
 use Rattle.cull_base.specs.declared.clip.ClipVertex.{ClipVertex}
+use Rattle.cull_base.specs.declared.nearness.TheConstants.{GRADE_TOP}
 use Rattle.cull_base.specs.declared.triangle.Side.TheVariants.{Occluder}
 use Rattle.cull_base.specs.declared.triangle.Winding.{Winding}
 use Rattle.cull_base.specs.declared.scene_types.Tri.{Tri}
 use Rattle.cull_base.specs.Screen.{Dimensions}
 use Rattle.cull_base.specs.Piece.{Piece}
 use Rattle.cull_base.specs.Tiles.{FrameListOf, with_members}
+use Rattle.snap_setup.specs.declared.occluders.Occluders.{Occluders}
 use Rattle.snap_setup.specs.declared.snapping.Snapped.{Snapped}
+use Rattle.snap_setup.specs.declared.triangle.Corners.{Corners}
+use Rattle.snap_setup.specs.Corners.{pieces_of_corners}
+use Rattle.snap_setup.specs.Occluders.{list_of_some}
 use Rattle.snap_setup.specs.Pieces.{pieces_of, pieces_at, clip_at, list_of_clips, triangles_of, kept_of, snapped_part, is_left_out, is_any_past_guard, turned}
 
 pub list_none : (clips : List ClipVertex) (top near : ℕ) (size : Dimensions) (winding : Winding) → [] ≡ list_of_clips clips [] top near size winding
@@ -73,3 +78,21 @@ with_none f ps e = sym (ap (λ (xs : List Piece). record { list = record { size 
 pub with_more : (f g h : FrameListOf) (a b c : List Piece) → g ≡ with_members f a → h ≡ with_members g b → a ++ b ≡ c → h ≡ with_members f c
 with_more f g h a b c eg eh e = eh ∙ ap (λ (x : FrameListOf). with_members x b) eg
     ∙ ap (λ (xs : List Piece). record { list = record { size = f.list.size; members = xs }; room = f.room }) (append_assoc f.list.members a b ∙ ap (λ (xs : List Piece). f.list.members ++ xs) e)
+
+-- where there was room for two pieces a triangle, there is room for those of the next
+pub room_for_two : (o : Occluders) (tris : List Tri) (i : ℕ) (f g : FrameListOf) → i < length tris → g ≡ with_members f (list_of_some o (take i tris))
+    → length f.list.members + 2 * length tris ≤ f.room → length g.list.members + 2 ≤ g.room
+room_for_two o tris i f g lt is room =
+    let most = list_most o.clips.now (take i tris) GRADE_TOP o.near o.size o.winding in
+    let members = ap (λ (x : FrameListOf). length x.list.members) is in
+    let rooms = ap (λ (x : FrameListOf). x.room) is in
+    omega (arith, most, members, rooms, room, lt, length-take-le i tris (omega (arith, lt)), length-append f.list.members (list_of_some o (take i tris)))
+
+-- the next triangle's pieces behind those of the ones before it
+pub one_more : (o : Occluders) (tris : List Tri) (i : ℕ) (d : Tri) (f g h : FrameListOf) (r : Corners) → i < length tris → g ≡ with_members f (list_of_some o (take i tris))
+    → r.v0.now ≡ clip_at o.clips.now (get_or tris i d) 0 → r.v1.now ≡ clip_at o.clips.now (get_or tris i d) 1 → r.v2.now ≡ clip_at o.clips.now (get_or tris i d) 2
+    → h ≡ with_members g (pieces_of_corners r o.near o.size o.winding) → h ≡ with_members f (list_of_some o (take (i + 1) tris))
+one_more o tris i d f g h r lt is e0 e1 e2 grown =
+    let before = list_of_some o (take i tris) in
+    let ps = by_corners o.clips.now r.v0.now r.v1.now r.v2.now GRADE_TOP o.near o.size o.winding (get_or tris i d) e0 e1 e2 in
+    with_more f g h before _ _ is grown (list_more o.clips.now tris GRADE_TOP o.near o.size o.winding i d before _ lt refl ps)

@@ -5,19 +5,20 @@ use Rattle.std.proofs.Math.Seq.{take-add}
 use Rattle.std.proofs.lemmas.List.{take_all, take_more}
 use Rattle.std.proofs.lemmas.Grind.{flat_map-append, div_ceil_times}
 use Rattle.std.specs.Int.{div_ceil}
-use Rattle.cull_base.specs.declared.clip.ClipVertex.{ClipVertex}
 use Rattle.cull_base.specs.declared.scene_types.Tri.{Tri}
-use Rattle.cull_base.specs.declared.triangle.Winding.{Winding}
 use Rattle.cull_base.specs.declared.nearness.TheConstants.{GRADE_TOP}
 use Rattle.cull_base.specs.Piece.{Piece}
-use Rattle.cull_base.specs.Screen.{Dimensions}
 use Rattle.cull_base.specs.Tiles.{FrameListOf}
+use Rattle.snap_setup.specs.declared.occluders.Occluders.{Occluders}
 use Rattle.snap_setup.specs.Pieces.{list_of_clips}
 use Rattle.snap_setup.specs.Runs.{run_of, AreMade, members_of}
 
-module _ (clips : List ClipVertex) (tris : List Tri) (near : ℕ) (size : Dimensions) (winding : Winding) (share : ℕ) where
+module _ (o : Occluders) (share : ℕ) where
+  abbrev tris : List Tri
+  tris = o.tris.now
+
   abbrev pieces : List Tri → List Piece
-  pieces some = list_of_clips clips some GRADE_TOP near size winding
+  pieces some = list_of_clips o.clips.now some GRADE_TOP o.near o.size o.winding
 
   both : (some others : List Tri) → pieces (some ++ others) ≡ pieces some ++ pieces others
   unfolding list_of_clips
@@ -28,11 +29,11 @@ module _ (clips : List ClipVertex) (tris : List Tri) (near : ℕ) (size : Dimens
   none = refl
 
   -- the runs before the k-th hold the pieces of the first k shares
-  first_runs : (rooms : List FrameListOf) → AreMade clips tris near size winding share rooms → (k : ℕ) → k ≤ length rooms
+  first_runs : (rooms : List FrameListOf) → AreMade o share rooms → (k : ℕ) → k ≤ length rooms
       → members_of (take k rooms) ≡ pieces (take (k * share) tris)
   first_runs rooms made zero h = none ∙ ap (λ (n : ℕ). pieces (take n tris)) (let e : zero ≡ zero * share = omega arith in e)
   first_runs rooms made (suc k) h =
-      let d : FrameListOf = record { list = record { size = size; members = [] }; room = 0 } in
+      let d : FrameListOf = record { list = record { size = o.size; members = [] }; room = 0 } in
       let lt : k < length rooms = omega (arith, h) in
       let more = take_more rooms k d lt in
       let old = first_runs rooms made k (omega (arith, h)) in
@@ -42,12 +43,12 @@ module _ (clips : List ClipVertex) (tris : List Tri) (near : ℕ) (size : Dimens
       ∙ sym (both (take (k * share) tris) (run_of tris share k))
       ∙ ap pieces (sym (take-add (k * share) share tris) ∙ ap (λ n. take n tris) (sym (suc-mul k share)))
 
-  all_runs : (rooms : List FrameListOf) → AreMade clips tris near size winding share rooms → length tris ≤ length rooms * share → members_of rooms ≡ list_of_clips clips tris GRADE_TOP near size winding
+  all_runs : (rooms : List FrameListOf) → AreMade o share rooms → length tris ≤ length rooms * share → members_of rooms ≡ list_of_clips o.clips.now o.tris.now GRADE_TOP o.near o.size o.winding
   all_runs rooms made whole = ap members_of (sym (take_all (length rooms) rooms (omega arith))) ∙ first_runs rooms made (length rooms) (omega arith) ∙ ap pieces (take_all (length rooms * share) tris whole)
 
   -- where the share is the triangles by the number of runs, rounded up
-  shared_out : (rooms : List FrameListOf) → AreMade clips tris near size winding share rooms → 0 < length rooms → share ≡ div_ceil (length tris) (length rooms)
-      → members_of rooms ≡ list_of_clips clips tris GRADE_TOP near size winding
+  shared_out : (rooms : List FrameListOf) → AreMade o share rooms → 0 < length rooms → share ≡ div_ceil (length tris) (length rooms)
+      → members_of rooms ≡ list_of_clips o.clips.now o.tris.now GRADE_TOP o.near o.size o.winding
   shared_out rooms made some is = all_runs rooms made (rw (mul_comm (length rooms) share) (rw is (div_ceil_times (length tris) (length rooms) some).0))
 
 -- the first of some lists, and the others behind it
@@ -55,9 +56,9 @@ first_and_others : (rooms : List FrameListOf) (d : FrameListOf) → 0 < length r
 first_and_others [] d some = absurd (omega arith)
 first_and_others (r ∷ rooms) d some = refl
 
-module _ (clips : List ClipVertex) (tris : List Tri) (near : ℕ) (size : Dimensions) (winding : Winding) (share : ℕ) where
+module _ (o : Occluders) (share : ℕ) where
   -- so the first list with the members of the others behind its own has all pieces
-  pub joined : (rooms others : List FrameListOf) (first : FrameListOf) → AreMade clips tris near size winding share rooms → 0 < length rooms → share ≡ div_ceil (length tris) (length rooms)
-      → first ≡ get_or rooms 0 first → others ≡ drop 1 rooms → first.list.members ++ members_of others ≡ list_of_clips clips tris GRADE_TOP near size winding
+  pub joined : (rooms others : List FrameListOf) (first : FrameListOf) → AreMade o share rooms → 0 < length rooms → share ≡ div_ceil (length o.tris.now) (length rooms)
+      → first ≡ get_or rooms 0 first → others ≡ drop 1 rooms → first.list.members ++ members_of others ≡ list_of_clips o.clips.now o.tris.now GRADE_TOP o.near o.size o.winding
   joined rooms others first made some is e f =
-      (λ i. (e i).list.members ++ members_of (f i)) ∙ sym (first_and_others rooms first some) ∙ shared_out clips tris near size winding share rooms made some is
+      (λ i. (e i).list.members ++ members_of (f i)) ∙ sym (first_and_others rooms first some) ∙ shared_out o share rooms made some is

@@ -8,4 +8,5 @@ pub mod BoxSteps
 pub mod Rows
 pub mod ValidPieces
 pub mod PieceBoxes
+pub mod SharedVertices
 mod Joining

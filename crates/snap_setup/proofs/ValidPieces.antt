@@ -43,7 +43,7 @@ snapped_nearness : (p : HomPoint) (near : ℕ) (side : Side) → 1 ≤ near → 
 snapped_nearness p near Occluder hn le r = let k = nearness_is GRADE_TOP near p hn le r in subst (λ n. n ≤ HELD_TOP) k.down_is k.down_small
 snapped_nearness p near Object hn le r = let k = nearness_is GRADE_TOP near p hn le r in subst (λ n. n ≤ HELD_TOP) k.up_is k.up_small
 
-snapped_is : (p : HomPoint) (near : ℕ) (size : Dimensions) (side : Side) → IsSize size.width size.height → 1 ≤ near → near ≤ 1024 → IsInReach near p → IsSnapped (snapped p GRADE_TOP near size side)
+pub snapped_is : (p : HomPoint) (near : ℕ) (size : Dimensions) (side : Side) → IsSize size.width size.height → 1 ≤ near → near ≤ 1024 → IsInReach near p → IsSnapped (snapped p GRADE_TOP near size side)
 unfolding snapped
 snapped_is p near size side valid hn le r =
     let s = in_sight near p hn le r in

@@ -4,30 +4,84 @@ ghost use Rattle.std.specs.List.{All};
 ghost use Rattle.cull_base.specs.declared.nearness.TheConstants.{GRADE_TOP};
 ghost use Rattle.cull_base.specs.Tiles.{with_members};
 ghost use Rattle.near_clip.specs.NearPart.{corner};
+ghost use Rattle.snap_setup.specs.Occluders.{list_of_some};
 ghost use Rattle.snap_setup.specs.Pieces.{list_of_clips, clip_at, HasClips};
+ghost use Rattle.snap_setup.specs.Vertices.{screen_vertices, vertex_at, AreShared};
 
-use crate::triangle::{Corners, push_pieces};
+use crate::occluders::Occluders;
+use crate::triangle::{Corners, ScreenCorners, push_pieces, push_shared};
+use crate::vertices::{ScreenVertex, shared_vertices};
 use cull_base::{ClipVertex, FrameList, Memory, Size, Tri, Winding};
 use std::alloc::Global;
 
-/// The occluder pieces of the triangles, one triangle after another, behind those that a list has. Conditions: `near`
-/// is 1 to 1024, each index is below the number of clips, and the list has room for two pieces a triangle.
-pub(crate) fn push_all(
-    clips: &[ClipVertex],
-    tris: &[Tri],
-    near: u16,
-    size: Size,
-    winding: Winding,
-    list: &mut FrameList,
-)
-    requires near_least { 1 ≤ near }
-    requires near_most { near ≤ 1024 }
-    requires indices { All (HasClips (length clips.now)) tris.now }
+// As `push_all`, each corner snapped by itself.
+fn push_by_corners(occluders: &Occluders, tris: &[Tri], list: &mut FrameList)
+    requires indices { All (HasClips (length occluders.now.clips.now)) tris.now }
     requires room { length list.old.list.members + 2 * length tris.now ≤ list.old.room }
-    ensures { list.new ≡ with_members list.old (list_of_clips clips.now tris.now GRADE_TOP near size winding) }
+    ensures { list.new ≡ with_members list.old (list_of_some occluders.now tris.now) }
 {
+    let Occluders {
+        clips,
+        near,
+        size,
+        winding,
+        ..
+    } = *occluders;
     for tri in tris {
         push_pieces(&corner_references(clips, tri), near, size, winding, list);
+    }
+}
+
+// As `push_all`, by all vertices on the screen.
+fn push_by_vertices(
+    occluders: &Occluders,
+    vertices: &[ScreenVertex],
+    tris: &[Tri],
+    list: &mut FrameList,
+)
+    requires vertices { let o = occluders.now in vertices.now ≡ screen_vertices o.clips.now o.near o.size }
+    requires indices { All (HasClips (length occluders.now.clips.now)) tris.now }
+    requires room { length list.old.list.members + 2 * length tris.now ≤ list.old.room }
+    ensures { list.new ≡ with_members list.old (list_of_some occluders.now tris.now) }
+{
+    let Occluders {
+        clips,
+        near,
+        size,
+        winding,
+        ..
+    } = *occluders;
+    for tri in tris {
+        let corners = vertex_references(vertices, tri);
+        push_shared(
+            &corner_references(clips, tri),
+            &corners,
+            near,
+            size,
+            winding,
+            list,
+        );
+    }
+}
+
+/// The occluder pieces of some of a frame's triangles, one triangle after another, behind those that a list has.
+/// Conditions: the vertices are all of the frame's or none, each index is below the number of clips, and the list has
+/// room for two pieces a triangle.
+pub(crate) fn push_all(
+    occluders: &Occluders,
+    vertices: &[ScreenVertex],
+    tris: &[Tri],
+    list: &mut FrameList,
+)
+    requires vertices { AreShared occluders.now vertices.now }
+    requires indices { All (HasClips (length occluders.now.clips.now)) tris.now }
+    requires room { length list.old.list.members + 2 * length tris.now ≤ list.old.room }
+    ensures { list.new ≡ with_members list.old (list_of_some occluders.now tris.now) }
+{
+    if vertices.is_empty() {
+        push_by_corners(occluders, tris, list);
+    } else {
+        push_by_vertices(occluders, vertices, tris, list);
     }
 }
 
@@ -48,8 +102,24 @@ pub fn frame_list(
     ensures members { IfOk result (λ f. f.list.members ≡ list_of_clips clips.now tris.now GRADE_TOP near size winding) }
     ensures size { IfOk result (λ f. f.list.size ≡ size) }
 {
-    let mut list = FrameList::with_room(alloc, size, 2 * tris.len() as u32)?;
-    push_all(clips, tris, near, size, winding, &mut list);
+    let occluders = Occluders {
+        clips,
+        tris,
+        near,
+        size,
+        winding,
+    };
+    list_in_turn(alloc, &occluders)
+}
+
+/// As `frame_list`.
+pub(crate) fn list_in_turn(alloc: Global, occluders: &Occluders) -> Result<FrameList, Memory>
+    ensures members { IfOk result (λ f. f.list.members ≡ list_of_some occluders.now occluders.now.tris.now) }
+    ensures size { IfOk result (λ f. f.list.size ≡ occluders.now.size) }
+{
+    let mut list = FrameList::with_room(alloc, occluders.size, 2 * occluders.tris.len() as u32)?;
+    let vertices = shared_vertices(alloc, occluders)?;
+    push_all(occluders, vertices.as_slice(), occluders.tris, &mut list);
     Ok(list)
 }
 
@@ -66,6 +136,23 @@ fn corner_references<'a>(clips: &'a [ClipVertex], tri: &Tri) -> Corners<'a>
         v0: &clips[a as usize],
         v1: &clips[b as usize],
         v2: &clips[c as usize],
+    }
+}
+
+// Where the vertices of a triangle stand among those on the screen.
+#[inline(always)]
+fn vertex_references<'a>(vertices: &'a [ScreenVertex], tri: &Tri) -> ScreenCorners<'a>
+    requires { HasClips (length vertices.now) tri.now }
+    ensures first { result.v0.now ≡ vertex_at vertices.now tri.now 0 }
+    ensures second { result.v1.now ≡ vertex_at vertices.now tri.now 1 }
+    ensures third { result.v2.now ≡ vertex_at vertices.now tri.now 2 }
+    ensures three { length tri.now.0 ≡ 3 }
+{
+    let [a, b, c] = tri.0;
+    ScreenCorners {
+        v0: &vertices[a as usize],
+        v1: &vertices[b as usize],
+        v2: &vertices[c as usize],
     }
 }
 

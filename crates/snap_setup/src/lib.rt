@@ -4,13 +4,16 @@
 
 mod boxes;
 mod frame;
+mod occluders;
 mod pieces;
 mod runs;
 mod snapping;
 mod triangle;
+mod vertices;
 
 pub use boxes::{near_box, rect_between};
 pub use frame::{corners, frame_list};
+pub use occluders::Occluders;
 pub use pieces::Pieces;
 pub use runs::frame_list_by_workers;
 pub use snapping::{Place, Snapped, place_of, snap};

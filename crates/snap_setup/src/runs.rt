@@ -5,11 +5,15 @@ ghost use Rattle.std.specs.List.{All};
 ghost use Rattle.cull_base.specs.Screen.{Dimensions};
 ghost use Rattle.cull_base.specs.Tiles.{with_members};
 ghost use Rattle.cull_base.specs.declared.nearness.TheConstants.{GRADE_TOP};
+ghost use Rattle.snap_setup.specs.Occluders.{list_of_some};
 ghost use Rattle.snap_setup.specs.Pieces.{list_of_clips, HasClips};
-ghost use Rattle.snap_setup.specs.Runs.{members_of, run_of, AreFilled, AreMade, IsFirstFor, IsRoom};
+ghost use Rattle.snap_setup.specs.Runs.{members_of, run_of, run_pieces, AreFilled, AreMade, IsFirstFor, IsRoom};
+ghost use Rattle.snap_setup.specs.Vertices.{AreShared};
 
-use crate::frame::{frame_list, push_all};
-use cull_base::{ClipVertex, FrameList, Memory, Size, Tri, Winding};
+use crate::frame::{list_in_turn, push_all};
+use crate::occluders::Occluders;
+use crate::vertices::{ScreenVertex, shared_vertices_by_workers};
+use cull_base::{FrameList, Memory, Size, Tri};
 use side_by_side::for_each_share;
 use std::alloc::Global;
 use std::mem;
@@ -57,26 +61,23 @@ fn run(tris: &[Tri], share: usize, k: usize) -> &[Tri]
 // which each piece would take from the others.
 fn push_all_apart(
     alloc: Global,
-    clips: &[ClipVertex],
+    occluders: &Occluders,
+    vertices: &[ScreenVertex],
     tris: &[Tri],
-    near: u16,
-    size: Size,
-    winding: Winding,
     list: &mut FrameList,
 )
-    requires near_least { 1 ≤ near }
-    requires near_most { near ≤ 1024 }
-    requires indices { All (HasClips (length clips.now)) tris.now }
+    requires vertices { AreShared occluders.now vertices.now }
+    requires indices { All (HasClips (length occluders.now.clips.now)) tris.now }
     requires room { length list.old.list.members + 2 * length tris.now ≤ list.old.room }
-    ensures { list.new ≡ with_members list.old (list_of_clips clips.now tris.now GRADE_TOP near size winding) }
+    ensures { list.new ≡ with_members list.old (list_of_some occluders.now tris.now) }
 {
-    match FrameList::with_room(alloc, size, 0) {
+    match FrameList::with_room(alloc, occluders.size, 0) {
         Ok(empty) => {
             let mut apart = mem::replace(list, empty);
-            push_all(clips, tris, near, size, winding, &mut apart);
+            push_all(occluders, vertices, tris, &mut apart);
             *list = apart;
         }
-        Err(_) => push_all(clips, tris, near, size, winding, list),
+        Err(_) => push_all(occluders, vertices, tris, list),
     }
 }
 
@@ -85,22 +86,16 @@ fn fill<R: Threads + Sync>(
     rt: &R,
     alloc: Global,
     rooms: &mut [FrameList],
-    clips: &[ClipVertex],
-    tris: &[Tri],
-    near: u16,
-    size: Size,
-    winding: Winding,
+    occluders: &Occluders,
+    vertices: &[ScreenVertex],
     share: usize,
 )
-    requires near_least { 1 ≤ near }
-    requires near_most { near ≤ 1024 }
-    requires triangles { length tris.now ≤ 65536 }
-    requires indices { All (HasClips (length clips.now)) tris.now }
+    requires vertices { AreShared occluders.now vertices.now }
     requires share { share ≤ 65536 }
     requires runs { 0 < length rooms.old }
     requires few { length rooms.old ≤ 65536 }
-    requires empty { All (IsRoom size (2 * share)) rooms.old }
-    ensures filled { AreFilled clips.now tris.now near size winding share rooms.old rooms.new }
+    requires empty { All (IsRoom occluders.now.size (2 * share)) rooms.old }
+    ensures filled { AreFilled occluders.now share rooms.old rooms.new }
     ensures runs { length rooms.new ≡ length rooms.old }
 {
     let threads = rooms.len();
@@ -109,16 +104,20 @@ fn fill<R: Threads + Sync>(
         rooms,
         threads,
         &|k: usize, room: &mut FrameList|
-            requires near_least { 1 ≤ near }
-            requires near_most { near ≤ 1024 }
-            requires triangles { length tris.now ≤ 65536 }
-            requires indices { All (HasClips (length clips.now)) tris.now }
+            requires vertices { AreShared occluders.now vertices.now }
             requires share { share ≤ 65536 }
             requires run { k ≤ 65536 }
-            requires empty { IsRoom size (2 * share) room.old }
-            ensures { room.new ≡ with_members room.old
-                (list_of_clips clips.entry.now (run_of tris.entry.now share k) GRADE_TOP near size winding) }
-        { push_all_apart(alloc, clips, run(tris, share, k), near, size, winding, room) },
+            requires empty { IsRoom occluders.now.size (2 * share) room.old }
+            ensures { room.new ≡ with_members room.old (run_pieces occluders.entry.now share k) }
+        {
+            push_all_apart(
+                alloc,
+                occluders,
+                vertices,
+                run(occluders.tris, share, k),
+                room,
+            )
+        },
     );
 }
 
@@ -126,37 +125,21 @@ fn fill<R: Threads + Sync>(
 fn make_runs<R: Threads + Sync>(
     rt: &R,
     alloc: Global,
-    clips: &[ClipVertex],
-    tris: &[Tri],
-    near: u16,
-    size: Size,
-    winding: Winding,
+    occluders: &Occluders,
+    vertices: &[ScreenVertex],
     share: usize,
     runs: usize,
 ) -> Result<Vec<FrameList>, Memory>
-    requires near_least { 1 ≤ near }
-    requires near_most { near ≤ 1024 }
-    requires triangles { length tris.now ≤ 65536 }
-    requires indices { All (HasClips (length clips.now)) tris.now }
-    requires share { share ≤ length tris.now }
+    requires vertices { AreShared occluders.now vertices.now }
+    requires share { share ≤ length occluders.now.tris.now }
     requires runs { 0 < runs }
     requires few { runs ≤ 65536 }
-    ensures made { IfOk result (λ v. AreMade clips.now tris.now near size winding share v.items) }
-    ensures first { IfOk result (λ v. IsFirstFor size (2 * length tris.now) v.items) }
+    ensures made { IfOk result (λ v. AreMade occluders.now share v.items) }
+    ensures first { IfOk result (λ v. IsFirstFor occluders.now.size (2 * length occluders.now.tris.now) v.items) }
     ensures runs { IfOk result (λ v. length v.items ≡ runs) }
 {
-    let mut rooms = rooms_for(alloc, size, tris.len(), share, runs)?;
-    fill(
-        rt,
-        alloc,
-        rooms.as_mut_slice(),
-        clips,
-        tris,
-        near,
-        size,
-        winding,
-        share,
-    );
+    let mut rooms = rooms_for(alloc, occluders.size, occluders.tris.len(), share, runs)?;
+    fill(rt, alloc, rooms.as_mut_slice(), occluders, vertices, share);
     Ok(rooms)
 }
 
@@ -171,30 +154,24 @@ fn join_all(list: &mut FrameList, rooms: &[FrameList])
 }
 
 /// The pieces of the triangles as `frame_list` gives them, made by so many workers side by side where there are many
-/// triangles. Conditions as for `frame_list`, and there is a worker.
+/// triangles.
 pub fn frame_list_by_workers<R: Threads + Sync>(
     rt: &R,
     alloc: Global,
-    clips: &[ClipVertex],
-    tris: &[Tri],
-    near: u16,
-    size: Size,
-    winding: Winding,
+    occluders: &Occluders,
     workers: u32,
 ) -> Result<FrameList, Memory>
-    requires near_least { 1 ≤ near }
-    requires near_most { near ≤ 1024 }
-    requires triangles { length tris.now ≤ 65536 }
-    requires indices { All (HasClips (length clips.now)) tris.now }
-    ensures members { IfOk result (λ f. f.list.members ≡ list_of_clips clips.now tris.now GRADE_TOP near size winding) }
-    ensures size { IfOk result (λ f. f.list.size ≡ size) }
+    ensures members { let o = occluders.now in IfOk result (λ f. f.list.members
+        ≡ list_of_clips o.clips.now o.tris.now GRADE_TOP o.near o.size o.winding) }
+    ensures size { IfOk result (λ f. f.list.size ≡ occluders.now.size) }
 {
-    let runs = (tris.len() / SHARE).min(workers as usize);
+    let runs = (occluders.tris.len() / SHARE).min(workers as usize);
     if runs <= 1 {
-        return frame_list(alloc, clips, tris, near, size, winding);
+        return list_in_turn(alloc, occluders);
     }
-    let share = tris.len().div_ceil(runs);
-    let mut rooms = make_runs(rt, alloc, clips, tris, near, size, winding, share, runs)?;
+    let share = occluders.tris.len().div_ceil(runs);
+    let vertices = shared_vertices_by_workers(rt, alloc, occluders, workers)?;
+    let mut rooms = make_runs(rt, alloc, occluders, vertices.as_slice(), share, runs)?;
     let mut list = rooms.remove(0);
     join_all(&mut list, rooms.as_slice());
     Ok(list)

@@ -238,3 +238,75 @@ fn pieces_run_clockwise_in_submission_order(rt: HostRuntime) -> Result<(), Fail>
     );
     Ok(())
 }
+
+#[test]
+fn a_cut_and_an_uncut_triangle_share_vertices(rt: HostRuntime) -> Result<(), Fail> {
+    let size = Size::new(32, 8).ok_or("size")?;
+    let clips = [
+        vertex(0, 0, 6),
+        vertex(0, 4, 6),
+        vertex(4, 0, 0),
+        vertex(4, 0, 2),
+    ];
+    let tris = [Tri([0, 1, 2]), Tri([0, 1, 3])];
+    let list = frame_list(rt.alloc(), &clips, &tris, 2, size, Winding::Both)?;
+    assert_eq!(rt; list.len(), 3);
+    let cut = list.get(1);
+    assert_eq!(rt;
+        (cut.x(), cut.y(), cut.q()),
+        ([256, 597, 597], [64, 21, 64], [21845, 65535, 65535])
+    );
+    let on_the_plane = list.get(2);
+    assert_eq!(rt;
+        (on_the_plane.x(), on_the_plane.y(), on_the_plane.q()),
+        ([256, 256, 768], [64, 21, 64], [21845, 21845, 65535])
+    );
+    Ok(())
+}
+
+#[test]
+fn shared_vertices_are_drawn_up_to_the_guard(rt: HostRuntime) -> Result<(), Fail> {
+    let size = Size::new(32, 8).ok_or("size")?;
+    let clips = [
+        vertex(-2, 2, 2),
+        vertex(16384, 2, 2),
+        vertex(-2, -16384, 2),
+        vertex(16385, 2, 2),
+        vertex(0, 0, 0),
+    ];
+    let tris = [Tri([0, 3, 2]), Tri([4, 4, 4]), Tri([0, 1, 2])];
+    let list = frame_list(rt.alloc(), &clips, &tris, 1, size, Winding::Both)?;
+    assert_eq!(rt; list.len(), 1);
+    let piece = list.get(0);
+    assert_eq!(rt;
+        (piece.x(), piece.y(), piece.q()),
+        ([0, 2097408, 0], [0, 0, 524352], [32767; 3])
+    );
+    Ok(())
+}
+
+#[test]
+fn there_may_be_more_vertices_than_corners(rt: HostRuntime) -> Result<(), Fail> {
+    let size = Size::new(32, 8).ok_or("size")?;
+    let clips = [
+        vertex(0, 0, 0),
+        vertex(-2, 2, 2),
+        vertex(2, 2, 2),
+        vertex(2, -2, 2),
+    ];
+    let list = frame_list(
+        rt.alloc(),
+        &clips,
+        &[Tri([1, 2, 3])],
+        1,
+        size,
+        Winding::Both,
+    )?;
+    assert_eq!(rt; list.len(), 1);
+    let piece = list.get(0);
+    assert_eq!(rt;
+        (piece.x(), piece.y(), piece.q()),
+        ([0, 512, 512], [0, 0, 128], [32767; 3])
+    );
+    Ok(())
+}

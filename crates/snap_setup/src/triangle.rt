@@ -8,9 +8,11 @@ ghost use Rattle.snap_setup.specs.Pieces.{triangle, is_dropped, piece_if, kept_o
 ghost use Rattle.snap_setup.specs.Corners.{part_of, pieces_of_corners};
 ghost use Rattle.snap_setup.specs.Triangles.{pieces_of_triangle, TriangleGivesNone};
 ghost use Rattle.snap_setup.specs.Snapping.{IsSnapped};
+ghost use Rattle.snap_setup.specs.Vertices.{are_all_placed, is_any_placed, is_any_past, AreCornersOf};
 
 use crate::pieces::Pieces;
 use crate::snapping::{Snapped, snap};
+use crate::vertices::ScreenVertex;
 use camera_path::past_guard;
 use cull_base::arithmetic::edge_value;
 use cull_base::{ClipVertex, FrameList, ScreenTri, Side, Size, Winding};
@@ -202,6 +204,72 @@ pub(crate) fn push_pieces(
     if is_all_in_front(tri, near) {
         push_if(whole_piece(tri, near, size, winding, Side::Occluder), list);
     } else {
+        push_clipped(tri, near, size, winding, list);
+    }
+}
+
+/// The vertices of a triangle as they come to the screen, where they stand.
+#[derive(Clone, Copy)]
+pub(crate) struct ScreenCorners<'a> {
+    pub(crate) v0: &'a ScreenVertex,
+    pub(crate) v1: &'a ScreenVertex,
+    pub(crate) v2: &'a ScreenVertex,
+}
+
+impl<'a> ScreenCorners<'a> {
+    #[inline(always)]
+    fn are_all_placed(&self) -> bool
+        ensures { result ≡ are_all_placed self.now }
+    {
+        self.v0.placed & self.v1.placed & self.v2.placed
+    }
+
+    #[inline(always)]
+    fn is_any_placed(&self) -> bool
+        ensures { result ≡ is_any_placed self.now }
+    {
+        self.v0.placed | self.v1.placed | self.v2.placed
+    }
+
+    #[inline(always)]
+    fn is_any_past(&self) -> bool
+        ensures { result ≡ is_any_past self.now }
+    {
+        self.v0.past | self.v1.past | self.v2.past
+    }
+}
+
+/// As `push_pieces`, by what is known of the vertices: a triangle has no pieces where one of them is past the guard or
+/// all are behind the near plane, and only one that the plane cuts is snapped anew. Conditions as there.
+#[inline(always)]
+pub(crate) fn push_shared(
+    tri: &Corners,
+    corners: &ScreenCorners,
+    near: u16,
+    size: Size,
+    winding: Winding,
+    list: &mut FrameList,
+)
+    requires near_least { 1 ≤ near }
+    requires near_most { near ≤ 1024 }
+    requires corners { AreCornersOf tri.now near size corners.now }
+    requires room { length list.old.list.members + 2 ≤ list.old.room }
+    ensures value { list.new ≡ with_members list.old (pieces_of_corners tri.now near size winding) }
+    ensures most { length (pieces_of_corners tri.now near size winding) ≤ 2 }
+{
+    // an accessor tells what is held of a size
+    let _width = size.width();
+    if corners.are_all_placed() {
+        push_if(
+            piece(&corners.v0.at, &corners.v1.at, &corners.v2.at, winding),
+            list,
+        );
+        return;
+    }
+    if corners.is_any_past() {
+        return;
+    }
+    if corners.is_any_placed() {
         push_clipped(tri, near, size, winding, list);
     }
 }

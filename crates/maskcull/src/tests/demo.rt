@@ -103,6 +103,28 @@ fn many_triangles_by_many_workers_in_many_bins(rt: HostRuntime) -> Result<(), Fa
     assert_many(&rt, rt.alloc(), "8", "4")
 }
 
+// Four frames: in windows of two, in one of three with a frame left, in one of four, or shared.
+#[test]
+fn frames_side_by_side_have_the_same_summary(rt: HostRuntime) -> Result<(), Fail> {
+    let alloc = rt.alloc();
+    let alone = ["maskcull", "demo", "--triangles", "1000"];
+    let summary = run_with(&rt, alloc, &alone, Vec::new(alloc))?.report;
+    for workers in ["2", "3", "4", "5", "64"] {
+        let words = [
+            "maskcull",
+            "demo",
+            "--triangles",
+            "1000",
+            "--workers",
+            workers,
+        ];
+        let ended = run_with(&rt, alloc, &words, Vec::new(alloc))?;
+        assert_eq!(rt; ended.report.as_slice(), summary.as_slice());
+        assert_eq!(rt; ended.status, Status::Done);
+    }
+    Ok(())
+}
+
 #[test]
 fn many_triangles_with_objects_settled_early(rt: HostRuntime) -> Result<(), Fail> {
     for (workers, bins) in [("1", "1"), ("1", "4"), ("8", "1"), ("8", "4")] {

@@ -2,7 +2,9 @@
 ghost use Rattle.std.specs.Prelude.{◌≤◌};
 
 use crate::run::run;
-use crate::tests::scenes::{Ended, FIRST, OCCLUDED, QUAD, TWO, assert_refused, scene, words};
+use crate::tests::scenes::{
+    Ended, FIRST, OCCLUDED, QUAD, TWO, assert_refused, scene, seen_from, words,
+};
 use cull_base::{BytesSink, BytesSource};
 use std::alloc::{AllocError, Global};
 use std::process::Abort;
@@ -194,27 +196,64 @@ fn a_refusal_that_cannot_be_noted_is_told_by_the_status(rt: HostRuntime) -> Resu
     Ok(())
 }
 
-// The quad, with the rectangle of the whole screen 1024 times behind it.
-fn many_objects(alloc: Global) -> Result<BytesSource, AllocError> {
+// The quad in so many frames, with the rectangle of the whole screen 1024 times behind it.
+fn many_objects(alloc: Global, frames: u8) -> Result<BytesSource, AllocError> {
     let mut bytes = scene(alloc, 0, &QUAD, &TWO, &[[0, 0, 32, 8, 3]; 1024])?;
     // the second byte of the number of objects
     if 29 < bytes.len() {
         bytes[29] = 4;
     }
-    Ok(BytesSource::new(bytes, 4096, Vec::new(alloc)))
+    Ok(BytesSource::new(seen_from(bytes, frames)?, 4096, Vec::new(alloc)))
 }
 
 // The second piece of verdicts is the fourth write: before it stand the header, the line of the frame and the first one.
 #[test]
 fn lines_of_128_verdicts_or_of_a_run_are_a_piece(rt: HostRuntime) -> Result<(), Fail> {
     let alloc = rt.alloc();
-    for (workers, lines) in [("1", 130), ("2", 66), ("64", 66)] {
+    for (workers, frames, lines) in [("1", 1, 130), ("2", 1, 66), ("64", 1, 66), ("2", 2, 66)] {
         let given = ["maskcull", "cull", "--workers", workers];
         let (report, notes) = (sink(alloc, LARGE, 4)?, sink(alloc, WHOLE, NEVER)?);
-        let ended = run_over(&rt, alloc, &given, many_objects(alloc)?, report, notes)?;
+        let ended = run_over(
+            &rt,
+            alloc,
+            &given,
+            many_objects(alloc, frames)?,
+            report,
+            notes,
+        )?;
         assert_eq!(rt; ended.status.code(), 5);
         let text = str::from_utf8(ended.report.as_slice()).map_err(|_| Fail::from("a text"))?;
         assert_eq!(rt; text.lines().count(), lines);
     }
+    Ok(())
+}
+
+// What comes of culling the quad in five frames by so many workers where a write fails.
+fn five_frames_with_fault<R: Threads + Wait + Sync>(
+    rt: &R,
+    alloc: Global,
+    workers: &str,
+    call: u64,
+) -> Result<Ended, AllocError> {
+    let bytes = seen_from(scene(alloc, 0, &QUAD, &TWO, &[[0, 0, 32, 8, 3]])?, 5)?;
+    let input = BytesSource::new(bytes, 4096, Vec::new(alloc));
+    let (report, notes) = (sink(alloc, LARGE, call)?, sink(alloc, WHOLE, NEVER)?);
+    let given = ["maskcull", "cull", "--workers", workers];
+    run_over(rt, alloc, &given, input, report, notes)
+}
+
+// The header, and for each frame its first line, its one verdict and its last line.
+#[test]
+fn a_fault_at_each_write_of_frames_side_by_side(rt: HostRuntime) -> Result<(), Fail> {
+    let alloc = rt.alloc();
+    for call in 1..17 {
+        let ended = five_frames_with_fault(&rt, alloc, "2", call)?;
+        let alone = five_frames_with_fault(&rt, alloc, "1", call)?;
+        assert_eq!(rt; ended.status.code(), 5);
+        assert_eq!(rt; ended.report.as_slice(), alone.report.as_slice());
+        assert_eq!(rt; ended.notes.as_slice(), b"report fault\n".as_slice());
+    }
+    let ended = five_frames_with_fault(&rt, alloc, "2", 17)?;
+    assert_eq!(rt; ended.status.code(), 0);
     Ok(())
 }

@@ -190,6 +190,17 @@ pub fn seen_twice(mut bytes: Vec<u8>) -> Result<Vec<u8>, AllocError> {
     Ok(bytes)
 }
 
+/// The scene of some bytes with so many cameras, each of which stands one further away than the one before.
+pub fn seen_from(mut bytes: Vec<u8>, frames: u8) -> Result<Vec<u8>, AllocError> {
+    for frame in 1..frames {
+        bytes.extend_from_slice(&FIRST[129..])?;
+        let last = bytes.len() - 4;
+        bytes[14] = frame + 1;
+        bytes[last] = frame;
+    }
+    Ok(bytes)
+}
+
 /// The quad with two rectangles behind it.
 pub fn two_frames(alloc: Global) -> Result<Vec<u8>, AllocError> {
     let rectangles = [WHOLE, [8, 2, 24, 6, 5]];

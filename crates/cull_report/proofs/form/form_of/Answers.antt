@@ -2,11 +2,11 @@ use Rattle.std.proofs.Common.{◌≡◌, ℕ, List, ℤ, map, FitsSigned, w32, r
 use Rattle.std.proofs.lemmas.Int.{to_z-of_z}
 use Rattle.cull_base.specs.declared.nearness.TheConstants.{GRADE_TOP}
 use Rattle.cull_base.specs.Screen.{Dimensions}
-use Rattle.camera_path.specs.Clip.{clip_of}
+use Rattle.camera_path.specs.Clip.{clip_of, corners_of}
 use Rattle.rect_query.specs.Boxes.{box_shape}
 use Rattle.rect_query.specs.Rectangles.{rectangle_shape}
 use Rattle.cull_report.specs.Forms.{IsFlatForm}
-use Rattle.cull_report.specs.Scene.{size_of, camera_at, corners_of, object_shape}
+use Rattle.cull_report.specs.Scene.{size_of, camera_at, object_shape}
 use Rattle.cull_report.proofs.Forms.{flat_form}
 use Rattle.cull_report.proofs.form.form_of.Goals as goal
 
@@ -25,11 +25,11 @@ unfolding object_shape
 returns-in-Block-clause-shape c =
     let s = c.args.scene.now in
     let corners = corners_of c.in-Block.low c.in-Block.high in
-    let P : Dimensions → ℕ → Type 0 = λ size near. IsFlatForm size c.box_form.result (box_shape GRADE_TOP near size c.corners-corners.result) in
+    let P : Dimensions → ℕ → Type 0 = λ size near. IsFlatForm size c.box_form.result (box_shape GRADE_TOP near size c.clip_box-corners.result) in
     let is = subst (P (size_of s)) c.near-in-Block.ensures.value (subst (λ (size : Dimensions). P size c.near-in-Block.result) c.size-in-Block.ensures c.box_form.ensures) in
-    let alike : c.corners-corners.result ≡ map (clip_of (camera_at s c.args.frame)) corners = c.corners-corners.ensures ∙ ap (λ (camera : List ℤ). map (clip_of camera) corners) c.camera_of.ensures.value in
+    let alike : c.clip_box-corners.result ≡ map (clip_of (camera_at s c.args.frame)) corners = c.clip_box-corners.ensures ∙ ap (λ (camera : List ℤ). map (clip_of camera) corners) c.camera_of.ensures.value in
     rw c.in-Block.is
-    (flat_form s c.args.frame c.box_form.result (box_shape GRADE_TOP s.near (size_of s) c.corners-corners.result) is ∙ ap (box_shape GRADE_TOP s.near (size_of s)) alike)
+    (flat_form s c.args.frame c.box_form.result (box_shape GRADE_TOP s.near (size_of s) c.clip_box-corners.result) is ∙ ap (box_shape GRADE_TOP s.near (size_of s)) alike)
 
 pub returns-in-Mesh-clause-shape : goal.returns-in-Mesh-clause-shape
 unfolding object_shape

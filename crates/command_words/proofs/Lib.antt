@@ -1,0 +1,10 @@
+pub mod DecimalWords
+pub mod OptionRules
+pub mod UseRows
+pub mod UseWalk
+pub mod UseDefaults
+pub mod PlainWords
+pub mod TakenWords
+pub mod Builders
+pub mod OptionNumbers
+pub mod AskedWords

@@ -1,0 +1,172 @@
+-- The command words: what they ask for by the table, and which of them are plain.
+use Rattle.std.specs.Prelude.{ℕ, pos, Bool, ◌≡◌, ◌≤◌, ◌⊎◌, List, [], ◌∷◌, ◌++◌, Option, Some, None, All, Contains, IfSome, find, flat_map, codes, if◌then◌else◌, option_and_then, is_some, option_map, unwrap_or}
+use Rattle.std.specs.Fmt.{decimal}
+use Rattle.std.specs.List.{AllByRecursion}
+use Rattle.std.specs.Option.{option_map_or}
+use Rattle.std.specs.Str.{bytes_eq}
+use Rattle.std.specs.Str.Parse.{digits_value, without_leading_plus}
+use Rattle.clap.specs.Walk.{is_empty}
+use Rattle.clap.specs.Words.{IsSignedIn, Row, Text, one_of, without_minus, subcommand_of, fault_of}
+use Rattle.binning.specs.Cut.{cut_into}
+use Rattle.command_words.specs.App.{the_app}
+use Rattle.command_words.specs.Table.{ACommand, AnOption, Taken, batch, bins_x, bins_y, commands, early, rounds, row_named, seed, triangles, watch, workers}
+use Rattle.command_words.specs.declared.command.Command.{Command}
+use Rattle.command_words.specs.declared.command.Command.TheVariants.{Cull, Live, Demo}
+use Rattle.command_words.specs.declared.settings.Settings.{Settings}
+use Rattle.command_words.specs.declared.table.CommandKind.{CommandKind}
+use Rattle.command_words.specs.declared.table.CommandKind.TheVariants as kinds
+use Rattle.command_words.specs.declared.table.Takes.TheVariants.{Number, Nothing}
+use Rattle.command_words.specs.declared.words.Refusal.{Refusal}
+use Rattle.command_words.specs.declared.words.Refusal.TheVariants as refusals
+
+-- the option may have this number; a flag has none, which is written as 0
+abbrev pub IsIn : Taken → ℕ → Type 0
+IsIn (Number least most default) n = (least ≤ n) × (n ≤ most)
+IsIn Nothing n = n ≡ 0
+
+-- so many workers and such batches can be drawn with
+pub record AreInRange (s : Settings) : Type 0 where
+  pub some_workers : 1 ≤ s.workers
+  pub few_workers : s.workers ≤ 64
+  pub some_batch : 1 ≤ s.batch
+  pub small_batch : s.batch ≤ 4096
+
+-- such commands can be done: the ranges of the table lie within
+abbrev pub IsWithinLimits : Command → Type 0
+IsWithinLimits (Cull settings) = AreInRange settings
+IsWithinLimits (Live settings n m) = AreInRange settings × ((1 ≤ n) × (n ≤ 8)) × ((1 ≤ m) × (m ≤ 8))
+IsWithinLimits (Demo settings _ m) = AreInRange settings × (m ≤ 65536)
+
+-- the words are refused, and memory isn't wanted
+abbrev pub AreWords : Refusal → Type 0
+AreWords refusals.Memory = ⊥
+AreWords (refusals.Words text) = Unit {0}
+
+-- ---- what words ask for: of any words that `clap` takes, what it makes of them
+
+-- the number that a text says, if there is one
+abbrev pub number_said : Option Text → Option ℕ
+number_said = option_map (λ text. digits_value 10 (without_leading_plus text))
+
+-- 0 where the text says that a flag is given
+abbrev pub flag_said : Option Text → Option ℕ
+flag_said = option_and_then (λ text. if bytes_eq text (codes "true") then Some 0 else None)
+
+abbrev pub value_by : Taken → Option Text → Option ℕ
+value_by (Number least most default) = number_said
+value_by Nothing = flag_said
+
+-- the value that an option has among the matches
+abbrev pub value_in : List Row → AnOption → Option ℕ
+value_in rows o = value_by o.takes (one_of o.name rows)
+
+-- the number of an option that has a default
+abbrev pub number_of : (AnOption → Option ℕ) → AnOption → ℕ
+number_of values o = unwrap_or (values o) 0
+
+-- how frames are cut and shared, where the options have these values
+abbrev pub settings_by : (AnOption → Option ℕ) → Settings
+settings_by values = record {
+  workers = number_of values workers;
+  cut = cut_into (number_of values bins_x) (number_of values bins_y);
+  batch = number_of values batch;
+  early = is_some (values early);
+}
+
+-- what a command asks for, where its options have these values
+abbrev pub asked_by : CommandKind → (AnOption → Option ℕ) → Command
+asked_by kinds.Cull values = Cull (settings_by values)
+asked_by kinds.Live values = Live (settings_by values) (number_of values rounds) (number_of values watch)
+asked_by kinds.Demo values = Demo (settings_by values) (number_of values seed) (number_of values triangles)
+
+-- what the command of this name asks for by its matches; none where no command has the name
+abbrev pub asked_in : Text → List Row → Option Command
+asked_in name rows = option_map (λ row. asked_by row.kind (value_in rows)) (row_named name)
+
+-- what the words ask for; none where `clap` refuses them
+unfoldable pub command_of : List Text → Option Command
+command_of words =
+    if is_empty (fault_of the_app words) then option_and_then (λ p. asked_in p.0 p.1) (subcommand_of the_app words)
+    else None
+
+-- ---- what `clap` has seen to
+
+-- the option of this name has a value among the matches, and it is a number in this range
+pub record IsNumbered (rows : List Row) (name : Text) (least most : ℕ) : Type 0 where
+  pub text : Text
+  pub is : one_of name rows ≡ Some (without_minus text)
+  pub within : IsSignedIn (pos least) (pos most) text
+
+-- a flag is true or false
+abbrev pub IsFlag : Text → List Row → Type 0
+IsFlag name rows = (one_of name rows ≡ Some (codes "true")) ⊎ (one_of name rows ≡ Some (codes "false"))
+
+-- a number is in its range, and is missing only where there is no default
+abbrev pub HasValueBy : Taken → Text → List Row → Type 0
+HasValueBy (Number least most (Some default)) name rows = IsNumbered rows name least most
+HasValueBy (Number least most None) name rows = IsNumbered rows name least most ⊎ (one_of name rows ≡ None)
+HasValueBy Nothing name rows = IsFlag name rows
+
+abbrev pub HasValue : List Row → AnOption → Type 0
+HasValue rows o = HasValueBy o.takes o.name rows
+
+abbrev pub HaveValues : List AnOption → List Row → Type 0
+HaveValues options rows = AllByRecursion (HasValue rows) options
+
+-- the options of the command of this name have their values
+abbrev pub IsEntered : Text → List Row → Type 0
+IsEntered name rows = IfSome (row_named name) (λ row. HaveValues row.options rows)
+
+-- ---- plain words: a command's name, and its options in any order, each at most once
+
+-- an option with its number, as one word or as two; or a flag, with 0
+pub record Use : Type 0 where
+  pub option : AnOption
+  pub number : ℕ
+  pub is_joined : Bool
+
+-- `--name=value`, or `--name` and then the value, in decimal without leading zeros; of a flag `--name`
+abbrev pub words_by : Taken → Text → ℕ → Bool → List Text
+words_by (Number least most default) name n is_joined =
+    if is_joined then (codes "--" ++ name ++ codes "=" ++ decimal n) ∷ []
+    else (codes "--" ++ name) ∷ decimal n ∷ []
+words_by Nothing name n is_joined = (codes "--" ++ name) ∷ []
+
+abbrev pub words_of_use : Use → List Text
+words_of_use u = words_by u.option.takes u.option.name u.number u.is_joined
+
+-- the number is one that the option may have
+abbrev pub IsInRange : Use → Type 0
+IsInRange u = IsIn u.option.takes u.number
+
+-- no option is used twice
+abbrev pub AreApart : List Use → Type 0
+AreApart [] = Unit {0}
+AreApart (u ∷ rest) = All (λ v. u.option ≡ v.option → ⊥) rest × AreApart rest
+
+-- uses of some of these options
+pub record AreUses (options : List AnOption) (uses : List Use) : Type 0 where
+  pub known : All (λ u. Contains options u.option) uses
+  pub in_range : All IsInRange uses
+  pub apart : AreApart uses
+
+-- the number that stands where an option isn't given
+abbrev pub default_by : Taken → Option ℕ
+default_by (Number least most default) = option_map (digits_value 10) default
+default_by Nothing = None
+
+-- the number that an option's use states, or its default
+abbrev pub stated : List Use → AnOption → Option ℕ
+stated uses o = option_map_or (λ u. Some u.number) (find (λ u. bytes_eq u.option.name o.name) uses) (default_by o.takes)
+
+-- the words are the program's name, this command's, and uses of its options; what they ask for
+pub record ArePlainFor (row : ACommand) (words : List Text) (c : Command) : Type 0 where
+  pub program : Text
+  pub uses : List Use
+  pub are_uses : AreUses row.options uses
+  pub spelled : words ≡ program ∷ row.name ∷ flat_map words_of_use uses
+  pub asked : asked_by row.kind (stated uses) ≡ c
+
+-- plain words, and what they ask for
+abbrev pub ArePlain : List Text → Command → Type 0
+ArePlain words c = (row : ACommand) × Contains commands row × ArePlainFor row words c

@@ -1,0 +1,18 @@
+//! The program's command line: the table of commands, and what words ask for by it.
+#![tactic(auto)]
+
+mod command;
+mod program;
+mod settings;
+mod table;
+mod words;
+
+pub use command::Command;
+pub use settings::Settings;
+pub use words::{Refusal, command_of};
+
+/// The version of the program and of the library for C.
+pub const VERSION: &str = "0.1.0";
+
+#[cfg(test)]
+mod tests;

@@ -1,0 +1,158 @@
+//! The table of commands: what each is called, which options it has, and what help says of both. What words ask for and
+//! how clap reads them are definitions over it.
+
+/// What stands behind an option's name. `T` is a text: a constant whose type has a reference for a field can't be named
+/// in specs/.
+#[derive(Clone, Copy)]
+pub enum Takes<T> {
+    /// A number from `least` to `most`, and the text of the one that stands where the option isn't given; without such
+    /// a default the option has no value then.
+    Number {
+        least: u32,
+        most: u32,
+        default: Option<T>,
+    },
+    /// Nothing: the option is a flag, given or not.
+    Nothing,
+}
+
+/// An option: its name behind two hyphens, what it takes, and what help says of it.
+#[derive(Clone, Copy)]
+pub struct OptionRow<T> {
+    pub name: T,
+    pub takes: Takes<T>,
+    pub help: T,
+}
+
+/// Which command it is.
+#[derive(Clone, Copy)]
+pub enum CommandKind {
+    Cull,
+    Live,
+    Demo,
+}
+
+/// A command: its name, what help says of it in a line and on its own page, and its options `O` in the page's order.
+#[derive(Clone, Copy)]
+pub struct CommandRow<T, O> {
+    pub kind: CommandKind,
+    pub name: T,
+    pub about: T,
+    pub more: T,
+    pub options: O,
+}
+
+/// An option of the table.
+pub type AnOption = OptionRow<&'static str>;
+
+/// A command of the table.
+pub type ACommand = CommandRow<&'static str, &'static [AnOption]>;
+
+// An option with a number, whose help tells the range. The default is decimal text without leading zeros.
+macro_rules! number {
+    ($name:literal, $least:literal to $most:literal, $default:literal, $help:literal) => {
+        OptionRow {
+            name: $name,
+            takes: Takes::Number {
+                least: $least,
+                most: $most,
+                default: Some($default),
+            },
+            help: concat!($help, ", ", $least, " to ", $most),
+        }
+    };
+}
+
+pub const WORKERS: AnOption =
+    number!("workers", 1 to 64, "1", "How many workers draw side by side");
+
+pub const BINS_X: AnOption =
+    number!("bins-x", 1 to 8, "1", "Into how many columns of bins the screen is cut");
+
+pub const BINS_Y: AnOption =
+    number!("bins-y", 1 to 8, "1", "Into how many rows of bins the screen is cut");
+
+pub const BATCH: AnOption =
+    number!("batch", 1 to 4096, "64", "How many pieces a batch has at least");
+
+pub const ROUNDS: AnOption =
+    number!("rounds", 1 to 8, "1", "How often the objects are looked at in each frame");
+
+pub const WATCH: AnOption =
+    number!("watch", 1 to 8, "1", "How many of the first objects are looked at");
+
+pub const SEED: AnOption = number!("seed", 0 to 4294967295, "1", "The number that makes the scene");
+
+pub const TRIANGLES: AnOption =
+    number!("triangles", 0 to 65536, "20000", "How many triangles the scene has");
+
+pub const EARLY: AnOption = OptionRow {
+    name: "early",
+    takes: Takes::Nothing,
+    help: "Settle objects that are hidden for good while a frame is drawn; the report stays the same",
+};
+
+/// Reads a scene and writes its report.
+pub const CULL: ACommand = CommandRow {
+    kind: CommandKind::Cull,
+    name: "cull",
+    about: "Reads a scene from standard input and writes its report to standard output",
+    more: "Reads the bytes of a scene from standard input, to their end.
+Writes to standard output a header, and for each frame: how many pieces it has, whether each object is visible, occluded
+or outside the screen, and how many are. No option changes a byte of it.
+Notes on standard error why a run isn't done.
+
+Exit status:
+  0  done: the input was read and the report written
+  2  the words were refused, or help was asked for
+  3  the input is no scene
+  4  the input couldn't be read
+  5  the report couldn't be written
+  7  memory was wanted",
+    options: &[WORKERS, BINS_X, BINS_Y, BATCH, EARLY],
+};
+
+/// The same, and looks at objects while each frame is drawn.
+pub const LIVE: ACommand = CommandRow {
+    kind: CommandKind::Live,
+    name: "live",
+    about: "Reads a scene and writes its report, as cull does, and notes looks at its objects while it is drawn",
+    more: "Reads the bytes of a scene from standard input, to their end.
+Writes to standard output the report, as cull does. No option changes a byte of it.
+While a frame is drawn, its first objects are looked at in turn, --watch of them or all where there are fewer, --rounds
+times over. After the frame's lines of the report, each look has a line on standard error: live, the frame, the round,
+the object, its verdict at the look, and TILE:COUNT for each tile of the object's area, where COUNT says from how many
+pieces of that tile's list the verdict was found.
+Notes on standard error why a run isn't done.
+
+Exit status:
+  0  done: the input was read, the report written and each look noted
+  2  the words were refused, or help was asked for
+  3  the input is no scene
+  4  the input couldn't be read
+  5  the report couldn't be written
+  6  the notes couldn't be written
+  7  memory was wanted",
+    options: &[WORKERS, BINS_X, BINS_Y, BATCH, ROUNDS, WATCH, EARLY],
+};
+
+/// Makes a scene from a number and writes its summary.
+pub const DEMO: ACommand = CommandRow {
+    kind: CommandKind::Demo,
+    name: "demo",
+    about: "Makes a scene from a number and writes a summary of its report to standard output",
+    more: "Reads nothing: the scene is made of a number, with 500 boxes as objects, and 4 frames.
+Writes to standard output a header, and for each frame: how many pieces it has, and how many boxes are visible, occluded
+or outside the screen. Of the options only --seed and --triangles change it.
+Notes on standard error why a run isn't done.
+
+Exit status:
+  0  done: the summary was written
+  2  the words were refused, or help was asked for
+  5  the summary couldn't be written
+  7  memory was wanted",
+    options: &[WORKERS, BINS_X, BINS_Y, BATCH, SEED, TRIANGLES, EARLY],
+};
+
+/// The commands, in the order of the program's help.
+pub const COMMANDS: &[ACommand] = &[CULL, LIVE, DEMO];

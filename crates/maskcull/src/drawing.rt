@@ -1,0 +1,76 @@
+//! The drawing of a frame, and its objects tested over what was drawn.
+ghost use Rattle.std.specs.Prelude.{◌≡◌, ◌<◌, length, IfOk, OnOk};
+ghost use Rattle.cull_base.specs.Tiles.{ArePieces};
+ghost use Rattle.cull_report.specs.Scene.{size_of, frame_clips, frame_pieces, frame_verdicts};
+ghost use Rattle.bin_tiles.specs.BinViews.{table_of};
+ghost use Rattle.command_words.specs.Words.{AreInRange};
+
+use crate::frames::{Asking, Frame, pieces_of, unset_marks, verdicts_by};
+use binning::batch_size;
+use command_words::Settings;
+use cull_base::{ClipVertex, Memory};
+use cull_report::Asked;
+use scene_reader::Scene;
+use std::alloc::Global;
+use std::sync::Wait;
+use std::thread::Threads;
+use tile_queues::{BinTable, BinView, Gate, draw_plain_frame};
+
+/// What all frames of a scene share while they are drawn. Conditions: the settings are in range, and the table is that
+/// of the screen and of the settings' cut.
+#[derive(Drop)]
+pub struct Drawing<'a, R, G> {
+    pub rt: &'a R,
+    pub alloc: Global,
+    pub settings: &'a Settings,
+    pub table: &'a BinTable,
+    pub scene: &'a Scene,
+    pub gate: &'a G,
+    ghost in_range: { AreInRange settings.now },
+    ghost is_table: { table.now ≡ table_of (size_of scene.now) settings.now.cut },
+}
+
+/// Draws a frame and then tests the objects, by workers as the settings ask: what each tile takes, and in which order,
+/// is as by one thread that merges all pieces in order. Conditions: there is such a frame, and these are its clip
+/// vertices.
+pub fn draw_plainly<R: Threads + Wait + Sync, G: Gate>(
+    drawing: &Drawing<R, G>,
+    asking: Asking,
+    frame: u32,
+    clips: &[ClipVertex],
+) -> Result<Frame, Memory>
+    requires frame { frame < length drawing.now.scene.now.cameras }
+    requires clips { clips.now ≡ frame_clips drawing.now.scene.now frame }
+    ensures pieces { IfOk result (λ f. f.pieces ≡ length (frame_pieces drawing.now.scene.now frame)) }
+    ensures verdicts { IfOk result (λ f. f.verdicts ≡ frame_verdicts drawing.now.scene.now frame) }
+    ensures valid { OnOk result (ArePieces (frame_pieces drawing.now.scene.now frame)) }
+{
+    let (rt, alloc, scene) = (drawing.rt, drawing.alloc, drawing.scene);
+    let settings = drawing.settings;
+    let workers = settings.workers;
+    let list = pieces_of(rt, alloc, scene, frame, clips, workers)?;
+    let batch = batch_size(list.len(), settings.batch);
+    let bins = draw_plain_frame(
+        rt,
+        alloc,
+        &list,
+        &settings.cut,
+        workers,
+        batch,
+        drawing.gate,
+    )?;
+    let view = BinView::of(drawing.table, &bins, &list);
+    let settled = unset_marks(alloc, scene.objects().len())?;
+    let asked = Asked {
+        scene,
+        frame,
+        clips,
+        view: &view,
+        settled: &settled,
+    };
+    let verdicts = verdicts_by(rt, alloc, &asked, asking)?;
+    Ok(Frame {
+        pieces: list.len(),
+        verdicts,
+    })
+}

@@ -1,0 +1,248 @@
+//! Triangles that are set up once and drawn piece by piece, room for pieces, and pictures of what tiles hold.
+use super::*;
+use cull_base::ScreenTri;
+use masked_update::TileState;
+use std::test::Fail;
+
+const SETUP: Setup = Setup {
+    width: 32,
+    height: 8,
+    near: 1,
+    winding: 0,
+};
+
+// The corners of the screen at distance 2.
+const CORNERS: [Vertex; 4] = [
+    Vertex { x: -2, y: 2, w: 2 },
+    Vertex { x: 2, y: 2, w: 2 },
+    Vertex { x: 2, y: -2, w: 2 },
+    Vertex { x: -2, y: -2, w: 2 },
+];
+
+const QUAD: [Triangle; 2] = [Triangle { a: 0, b: 1, c: 2 }, Triangle { a: 0, b: 2, c: 3 }];
+
+// Room that nothing was written to.
+const UNWRITTEN: PieceRoom = PieceRoom {
+    x: [-7; 3],
+    y: [7; 3],
+    q: [77; 3],
+};
+
+fn numbers(room: &PieceRoom) -> ([i32; 3], [i32; 3], [u32; 3]) {
+    (room.x, room.y, room.q)
+}
+
+#[test]
+fn a_quad_has_two_pieces_and_the_room_behind_them_is_left(rt: HostRuntime) -> Result<(), Fail> {
+    let mut room = [UNWRITTEN; 5];
+    let mut count = 99;
+    assert_eq!(rt;
+        maskcull_set_up(&SETUP, &CORNERS, &QUAD, &mut room, &mut count),
+        DONE
+    );
+    assert_eq!(rt; count, 2);
+    // the corners in sixteenths of a pixel, clockwise; half of the greatest nearness, rounded down
+    assert_eq!(rt; numbers(&room[0]), ([0, 512, 512], [0, 0, 128], [32767; 3]));
+    assert_eq!(rt; numbers(&room[1]), ([0, 512, 0], [0, 128, 128], [32767; 3]));
+    for left in &room[2..] {
+        assert_eq!(rt; numbers(left), numbers(&UNWRITTEN));
+    }
+    Ok(())
+}
+
+#[test]
+fn a_refused_set_up_writes_nothing(rt: HostRuntime) -> Result<(), Fail> {
+    let mut room = [UNWRITTEN; 4];
+    let mut count = 99;
+    let wrong = Setup { near: 0, ..SETUP };
+    let beyond = [Triangle { a: 0, b: 1, c: 2 }, Triangle { a: 0, b: 4, c: 3 }];
+    assert_eq!(rt;
+        maskcull_set_up(&wrong, &CORNERS, &QUAD, &mut room, &mut count),
+        BAD_SETUP
+    );
+    assert_eq!(rt;
+        maskcull_set_up(&SETUP, &CORNERS, &QUAD, &mut room[..3], &mut count),
+        BAD_ROOM
+    );
+    assert_eq!(rt;
+        maskcull_set_up(&SETUP, &CORNERS, &beyond, &mut room, &mut count),
+        BAD_INDEX
+    );
+    assert_eq!(rt; count, 99);
+    for left in &room {
+        assert_eq!(rt; numbers(left), numbers(&UNWRITTEN));
+    }
+    Ok(())
+}
+
+// Two tiles side by side, in two rows.
+const WIDE: Setup = Setup {
+    width: 64,
+    height: 16,
+    near: 1,
+    winding: 0,
+};
+
+// A middle and eight points around it, the last of which is behind the near plane.
+const POINTS: [Vertex; 9] = [
+    Vertex { x: 0, y: 0, w: 3 },
+    Vertex { x: -4, y: 4, w: 4 },
+    Vertex { x: 0, y: 2, w: 2 },
+    Vertex { x: 6, y: 6, w: 6 },
+    Vertex { x: 3, y: 0, w: 3 },
+    Vertex { x: 2, y: -2, w: 2 },
+    Vertex { x: 0, y: -5, w: 5 },
+    Vertex { x: -4, y: -4, w: 4 },
+    Vertex { x: -3, y: 0, w: -1 },
+];
+
+const FAN: [Triangle; 8] = [
+    Triangle { a: 0, b: 1, c: 2 },
+    Triangle { a: 0, b: 2, c: 3 },
+    Triangle { a: 0, b: 3, c: 4 },
+    Triangle { a: 0, b: 4, c: 5 },
+    Triangle { a: 0, b: 5, c: 6 },
+    Triangle { a: 0, b: 6, c: 7 },
+    Triangle { a: 0, b: 7, c: 8 },
+    Triangle { a: 0, b: 8, c: 1 },
+];
+
+// Draws a piece as C hands it back.
+fn draw_one(
+    tiles: &mut [TileState],
+    first_row: u32,
+    room: &PieceRoom,
+) -> Result<u32, &'static str> {
+    let tri = ScreenTri::new(room.x, room.y, room.q).ok_or("a piece")?;
+    Ok(maskcull_draw_pieces(&WIDE, tiles, first_row, &[ListedPiece::of(&tri)]))
+}
+
+// Sets triangles up in slices of so many, and draws piece by piece. How many pieces there were.
+fn draw_in_slices(tiles: &mut [TileState], most: usize) -> Result<usize, &'static str> {
+    let mut room = [UNWRITTEN; 16];
+    let mut pieces: usize = 0;
+    let mut left: &[Triangle] = &FAN;
+    for _ in 0..FAN.len() {
+        let (slice, others) = left.split_at(most.min(left.len()));
+        let mut count = 0;
+        if maskcull_set_up(&WIDE, &POINTS, slice, &mut room, &mut count) != DONE {
+            return Err("a slice");
+        }
+        for written in room.iter().take(count) {
+            if draw_one(tiles, 0, written)? != DONE {
+                return Err("a piece");
+            }
+        }
+        pieces = pieces.saturating_add(count);
+        left = others;
+    }
+    Ok(pieces)
+}
+
+fn held(tiles: &[TileState], tile: usize, subtile: u32) -> (u32, u32, u32) {
+    let state = maskcull_subtile(tiles, tile, subtile);
+    (state.reference, state.working, state.mask)
+}
+
+#[test]
+fn slices_drawn_piece_by_piece_are_one_draw(rt: HostRuntime) -> Result<(), Fail> {
+    let mut whole = [TileState::empty(); 4];
+    assert_eq!(rt; maskcull_draw(&WIDE, &mut whole, &POINTS, &FAN), DONE);
+    slices_join();
+    for most in [1, 7, 8] {
+        let mut tiles = [TileState::empty(); 4];
+        // the near plane cuts the last two triangles, which have two pieces each
+        assert_eq!(rt; draw_in_slices(&mut tiles, most)?, 10);
+        for tile in 0..4 {
+            for subtile in 0..8 {
+                assert_eq!(rt;
+                    held(&tiles, tile, subtile),
+                    held(&whole, tile, subtile),
+                    "tile {tile}, subtile {subtile}, slices of {most}"
+                );
+            }
+        }
+    }
+    Ok(())
+}
+
+#[test]
+fn pieces_are_drawn_onto_rows_of_the_screen(rt: HostRuntime) -> Result<(), Fail> {
+    let mut room = [UNWRITTEN; 4];
+    let mut count = 0;
+    let mut tiles = [TileState::empty(); 2];
+    assert_eq!(rt;
+        maskcull_set_up(&WIDE, &CORNERS, &QUAD, &mut room, &mut count),
+        DONE
+    );
+    for piece in &room[..2] {
+        assert_eq!(rt; draw_one(&mut tiles, 2, piece)?, BAD_TILES);
+        assert_eq!(rt; draw_one(&mut tiles[..1], 0, piece)?, BAD_TILES);
+    }
+    let wrong = Setup { winding: 3, ..WIDE };
+    assert_eq!(rt; maskcull_draw_pieces(&wrong, &mut tiles, 0, &[]), BAD_SETUP);
+    assert_eq!(rt; held(&tiles, 1, 7), (0, 0, 0));
+    for piece in &room[..2] {
+        assert_eq!(rt; draw_one(&mut tiles, 1, piece)?, DONE);
+    }
+    assert_eq!(rt; held(&tiles, 1, 7), (32767, 0, 0));
+    Ok(())
+}
+
+#[test]
+fn a_picture_has_the_bound_at_each_pixel(rt: HostRuntime) -> Result<(), Fail> {
+    let mut tiles = [TileState::empty(); 1];
+    let mut out = [9; 256];
+    // the upper right half of the screen, and what it leaves
+    assert_eq!(rt;
+        maskcull_draw(&SETUP, &mut tiles, &CORNERS, &QUAD[..1]),
+        DONE
+    );
+    assert_eq!(rt; maskcull_nearness(&SETUP, &tiles, &mut out, 32), DONE);
+    for (place, shade) in [
+        (1, 0),
+        (3, 32767),
+        (31, 32767),
+        (224, 0),
+        (253, 0),
+        (254, 32767),
+    ] {
+        assert_eq!(rt; out[place], shade, "element {place}");
+    }
+    assert_eq!(rt; maskcull_draw(&SETUP, &mut tiles, &CORNERS, &QUAD), DONE);
+    assert_eq!(rt; maskcull_nearness(&SETUP, &tiles, &mut out, 32), DONE);
+    for shade in &out {
+        assert_eq!(rt; *shade, 32767);
+    }
+    Ok(())
+}
+
+#[test]
+fn rows_may_stand_farther_apart_than_the_screen_is_wide(rt: HostRuntime) -> Result<(), Fail> {
+    let mut tiles = [TileState::empty(); 1];
+    let mut out = [9; 320];
+    assert_eq!(rt; maskcull_draw(&SETUP, &mut tiles, &CORNERS, &QUAD), DONE);
+    assert_eq!(rt;
+        maskcull_nearness(&SETUP, &tiles, &mut out[..311], 40),
+        BAD_ROOM
+    );
+    assert_eq!(rt; maskcull_nearness(&SETUP, &tiles, &mut out, 31), BAD_ROOM);
+    assert_eq!(rt; maskcull_nearness(&SETUP, &[], &mut out, 40), BAD_TILES);
+    for left in &out {
+        assert_eq!(rt; *left, 9);
+    }
+    assert_eq!(rt;
+        maskcull_nearness(&SETUP, &tiles, &mut out[..312], 40),
+        DONE
+    );
+    for y in 0..8 {
+        for x in 0..40 {
+            assert_eq!(rt;
+                out[40 * y + x],
+                if x < 32 { 32767 } else { 9 },
+                "pixel {x}, {y}"
+            );
+        }
+    }
+    Ok(())
+}

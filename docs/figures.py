@@ -1,0 +1,249 @@
+#!/usr/bin/env python3
+"""Draws the figures of docs/ALGORITHM.md: bins and workers over time, a cell's words, a command's bytes.
+
+usage: docs/figures.py turns|cell|bytes > docs/NAME.svg
+
+The turns are reckoned by the rule that docs/ALGORITHM.md tells, for the pieces and the times below; the words of the
+cell are packed as docs/DEFINITIONS.md tells it."""
+import sys
+
+STYLE = """
+  .panel { fill: #ffffff } .none { fill: #e6eaef } .one { fill: #cfdff1 } .two { fill: #f3b36b }
+  .three { fill: #bfe3c0 } .line { stroke: #1b1f24; fill: none } .thin { stroke: #9aa3ad; fill: none }
+  .ink { fill: #1b1f24 }
+  text { font: 13px sans-serif; fill: #1b1f24 } .strong { font-weight: bold } .small { font-size: 11px }
+  .code { font-family: monospace }
+  @media (prefers-color-scheme: dark) {
+    .panel { fill: #14171c } .none { fill: #262c34 } .one { fill: #294766 } .two { fill: #b8641a }
+    .three { fill: #2f6b39 } .line { stroke: #e8ebef } .thin { stroke: #5c6672 } .ink { fill: #e8ebef }
+    text { fill: #e8ebef }
+  }"""
+
+
+def rect(x, y, width, height, shade, more=""):
+    return f'<rect class="{shade}" x="{x:g}" y="{y:g}" width="{width:g}" height="{height:g}"{more}/>'
+
+
+def text(x, y, words, shade="", anchor="start"):
+    words = words.replace("&", "&amp;").replace("<", "&lt;")
+    return f'<text class="{shade}" x="{x:g}" y="{y:g}" text-anchor="{anchor}">{words}</text>'
+
+
+def line(x0, y0, x1, y1, shade="line", more=""):
+    return f'<line class="{shade}" x1="{x0:g}" y1="{y0:g}" x2="{x1:g}" y2="{y1:g}"{more}/>'
+
+
+def arrow(x0, y0, x1, y1, shade="line"):
+    """A line with a head, level or upright."""
+    yield line(x0, y0, x1, y1, shade)
+    across, down = (x1 > x0) - (x1 < x0), (y1 > y0) - (y1 < y0)
+    for side in (-4, 4):
+        yield line(x1 - 7 * across + side * down, y1 - 7 * down + side * across, x1, y1, shade)
+
+
+# Bins and workers over time.
+
+BATCHES, AHEAD, TURN = 32, 1, 128
+# Of each bin the pieces that a batch has for it.
+PIECES = (12, 30, 18, 44)
+# What a batch costs the submitter, and what a worker's start, its visit to the lock and a piece cost.
+SUBMIT, STARTS, LOCK, DRAW = 8, (4, 14), 2, 0.28
+
+
+def turns():
+    """The turns: a worker, a bin, when it began and ended, and the batches from a first to before an end."""
+    done, free_at = [0] * len(PIECES), [0] * len(PIECES)
+    clocks = dict(enumerate(STARTS))
+    while min(done) < BATCHES:
+        worker = min(clocks, key=clocks.get)
+        now = clocks[worker]
+        submitted = min(BATCHES, AHEAD + int(now / SUBMIT))
+        waiting = [b for b in range(len(PIECES)) if free_at[b] <= now and done[b] < submitted]
+        if not waiting:
+            clocks[worker] = now + 1
+            continue
+        taken = min(waiting, key=lambda b: done[b])
+        first, drawn = done[taken], 0
+        while done[taken] < submitted and drawn < TURN:
+            drawn += PIECES[taken]
+            done[taken] += 1
+        clocks[worker] = free_at[taken] = now + LOCK + DRAW * drawn
+        yield worker, taken, now + LOCK, clocks[worker], first, done[taken]
+
+
+def turns_figure():
+    left, top, height = 92, 58, 36
+    made = list(turns())
+    end = max(turn[3] for turn in made)
+    scale = 760 / end
+    yield 880, 354, "Bins that workers take in turn, over time"
+    yield text(24, 30, "One frame: 32 batches of pieces, four bins, two workers. Each bar is a turn, with the batches"
+               " that are drawn in it.", "strong")
+    yield text(left - 12, top + 18, "submitter", anchor="end")
+    for batch in range(BATCHES):
+        begin, stop = (0, 0) if batch < AHEAD else ((batch - AHEAD) * SUBMIT, (batch + 1 - AHEAD) * SUBMIT)
+        yield rect(left + begin * scale, top + 4, max(1, (stop - begin) * scale - 1), height - 16, "three")
+    for number, pieces in enumerate(PIECES):
+        y = top + (number + 1) * (height + 8)
+        yield text(left - 12, y + 22, f"bin {number}", anchor="end")
+        yield rect(left, y, end * scale, height, "none")
+    for worker, number, begin, stop, first, past in made:
+        x, y = left + begin * scale, top + (number + 1) * (height + 8)
+        yield rect(x, y, (stop - begin) * scale, height, ("one", "two")[worker])
+        yield rect(x, y, (stop - begin) * scale, height, "line")
+        told = f"{first}" if past == first + 1 else f"{first}-{past - 1}"
+        if (stop - begin) * scale > 7 * len(told):
+            yield text(x + (stop - begin) * scale / 2, y + 22, told, "small", "middle")
+    y = top + 5 * (height + 8) + 14
+    yield from arrow(left, y, left + end * scale, y, "thin")
+    yield text(left + end * scale, y + 18, "time", "small", "end")
+    for place, shade, told in ((0, "three", "the submitter bins a batch"), (230, "one", "worker 0 draws"),
+                               (390, "two", "worker 1 draws"), (550, "none", "the bin waits")):
+        yield rect(left + place, y + 28, 16, 16, shade)
+        yield text(left + place + 24, y + 41, told)
+
+
+# The words of a cell.
+
+# Of each of eight subtiles the reference, the working depth and the mask.
+SUBTILES = ((0, 100, 0x0F0F0F0F), (0, 100, 0x00FFFFFF), (100, 0, 0), (100, 240, 0x0000C0FC),
+            (0, 0, 0), (0, 100, 0x0F0F0F0F), (100, 0, 0), (100, 0, 0))
+COUNT = 3
+
+
+def packed(reference, working, mask):
+    return reference | working << 16 | mask << 32
+
+
+def words_of_cell():
+    yield text(24, 30, "A cell has nine words. One writer stores all of them at once.", "strong")
+    width = 92
+    for number in range(9):
+        x = 24 + number * width
+        yield rect(x, 44, width, 44, "two" if number == 0 else "one")
+        yield rect(x, 44, width, 44, "line")
+        yield text(x + width / 2, 62, "count" if number == 0 else f"subtile {number - 1}", "small", "middle")
+        told = str(COUNT) if number == 0 else f"{packed(*SUBTILES[number - 1]):016X}"[:8] + ".."
+        yield text(x + width / 2, 79, told, "small code", "middle")
+
+
+def bits_of_word(left, top):
+    reference, working, mask = SUBTILES[0]
+    yield line(24 + 92, 88, left, top, "thin")
+    yield line(24 + 2 * 92, 88, left + 480, top, "thin")
+    parts = (("mask: bits 63 to 32", f"{mask:08X}", 240), ("working: 31 to 16", f"{working:04X}", 120),
+             ("reference: 15 to 0", f"{reference:04X}", 120))
+    x = left
+    for name, told, width in parts:
+        yield rect(x, top, width, 30, "one")
+        yield rect(x, top, width, 30, "line")
+        yield text(x + width / 2, top + 20, told, "code", "middle")
+        yield text(x + width / 2, top + 46, name, "small", "middle")
+        x += width
+    for sample in range(32):
+        x, y = left + 530 + sample % 8 * 29, top - 14 + sample // 8 * 18
+        yield rect(x, y, 28, 17, "one" if mask >> sample & 1 else "none")
+        yield text(x + 14, y + 13, str(working if mask >> sample & 1 else reference), "small", "middle")
+    yield text(left + 530, top + 76, "subtile 0: the bounds of its 32 samples", "small")
+
+
+def loads_of_cell(top):
+    """A writer's stores and a reader's loads over time."""
+    yield text(24, top, "A load that meets a store is made again: what is read is the tile after exactly k pieces.",
+               "strong")
+    yield text(86, top + 40, "writer", anchor="end")
+    yield text(86, top + 88, "reader", anchor="end")
+    stores = ((130, 3), (330, 4), (560, 5))
+    ends = [x for x, _ in stores[1:]] + [850]
+    yield rect(98, top + 22, 32, 28, "none")
+    yield text(114, top + 40, "2", "small", "middle")
+    for (x, count), end in zip(stores, ends):
+        yield rect(x, top + 22, 60, 28, "two")
+        yield text(x + 30, top + 40, "store", "small", "middle")
+        yield rect(x + 60, top + 22, end - x - 60, 28, "none")
+        yield text((x + 60 + end) / 2, top + 40, f"after {count} pieces", "small", "middle")
+    for x, width, told, shade in ((215, 80, "load: k = 3", "three"), (350, 60, "again", "none"),
+                                  (412, 80, "load: k = 4", "three"), (690, 80, "load: k = 5", "three")):
+        yield rect(x, top + 70, width, 28, shade)
+        yield rect(x, top + 70, width, 28, "line", ' stroke-dasharray="4 3"' if shade == "none" else "")
+        yield text(x + width / 2, top + 88, told, "small", "middle")
+
+
+def cell_figure():
+    yield 880, 344, "The nine words of a tile's cell, and loads beside stores"
+    yield from words_of_cell()
+    yield from bits_of_word(76, 124)
+    yield from loads_of_cell(234)
+
+
+# The life of a command's bytes.
+
+
+def box(x, y, width, name, told, shade):
+    yield rect(x, y, width, 46, shade, ' rx="6"')
+    yield rect(x, y, width, 46, "line", ' rx="6"')
+    yield text(x + width / 2, y + 19, name, "strong", "middle")
+    yield text(x + width / 2, y + 36, told, "small", "middle")
+
+
+def bytes_figure():
+    yield 880, 400, "What becomes of a command's bytes"
+    yield text(24, 30, "maskcull cull < town.msoc > town.report", "strong code")
+    for x, width, name, told, shade in ((24, 160, "command line", "cull and its options", "none"),
+                                        (250, 160, "Request", "a command, its settings", "one")):
+        yield from box(x, 48, width, name, told, shade)
+    yield from arrow(184, 71, 250, 71)
+    for x, width, name, told, shade in ((24, 160, "standard input", "bytes", "none"),
+                                        (250, 160, "Scene", "tables of whole numbers", "one")):
+        yield from box(x, 118, width, name, told, shade)
+    yield from arrow(184, 141, 250, 141)
+    yield text(217, 133, "read", "small", "middle")
+    yield from arrow(330, 94, 330, 118)
+    yield rect(24, 192, 832, 116, "line", ' rx="8" stroke-dasharray="6 4"')
+    yield text(126, 210, "for each frame, one after another", "small")
+    steps = (("clip vertices", "x, y, w by a camera"), ("pieces", "triangles on the screen"),
+             ("tiles", "two depths and a mask"), ("verdicts", "one an object"), ("lines", "text of the report"))
+    for number, (name, told) in enumerate(steps):
+        x = 36 + 164 * number
+        yield from box(x, 224, 148, name, told, "one")
+        if number:
+            yield from arrow(x - 16, 247, x, 247)
+    yield from arrow(330, 164, 330, 178)
+    yield line(330, 178, 110, 178)
+    yield from arrow(110, 178, 110, 224)
+    yield text(110 + 82, 296, "each step is shared by threads; the next begins when it is done", "small")
+    yield from box(692, 334, 148, "standard output", "town.report", "three")
+    yield from arrow(766, 270, 766, 334)
+    yield text(756, 324, "a piece of lines at a time", "small", "end")
+    yield from box(520, 48, 200, "standard error", "a line that says why", "two")
+    yield from box(748, 48, 108, "status", "0 to 7", "two")
+    yield from arrow(720, 71, 748, 71)
+    for y, told in ((71, "usage refused"), (141, "scene refused, read fault")):
+        if y == 71:
+            yield from arrow(410, y, 520, y, "thin")
+        else:
+            yield line(410, y, 600, y, "thin")
+            yield from arrow(600, y, 600, 94, "thin")
+        yield text(418, y - 8, told, "small")
+    yield line(836, 224, 836, 178, "thin")
+    yield line(836, 178, 660, 178, "thin")
+    yield from arrow(660, 178, 660, 94, "thin")
+    yield text(670, 170, "report fault, out of memory", "small")
+
+
+FIGURES = {"turns": turns_figure, "cell": cell_figure, "bytes": bytes_figure}
+
+
+def main():
+    if len(sys.argv) != 2 or sys.argv[1] not in FIGURES:
+        sys.exit(__doc__)
+    (width, height, title), *parts = FIGURES[sys.argv[1]]()
+    size = f'viewBox="0 0 {width} {height}" width="{width}" height="{height}"'
+    print(f'<svg xmlns="http://www.w3.org/2000/svg" {size}>\n<title>{title}</title>\n<style>{STYLE}\n</style>')
+    print(rect(0, 0, width, height, "panel", ' rx="8"'))
+    print("\n".join(parts))
+    print("</svg>")
+
+
+if __name__ == "__main__":
+    main()
