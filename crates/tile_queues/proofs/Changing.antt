@@ -1,5 +1,5 @@
 -- Tasks that change, worker by worker, until all batches are drawn.
-use Rattle.std.proofs.Common.{◌≡◌, ℕ, ◌+◌, ◌-◌, ◌*◌, ◌<◌, ◌≤◌, inl, inr, List, length, get_or, All, ◌++◌, arith, refl, ap, sym, subst, ◌∙◌}
+use Rattle.std.proofs.Common.{◌≡◌, ℕ, ◌+◌, ◌-◌, ◌*◌, ◌≤◌, inl, inr, List, length, get_or, All, ◌++◌, arith, refl, ap, sym, subst, ◌∙◌}
 use Rattle.std.proofs.lemmas.Bool.{cases_lt}
 use Rattle.std.proofs.lemmas.List.{get_or_append_left, get_or-append_right, length-append}
 use Rattle.cull_base.specs.Tiles.{PieceList}
@@ -10,7 +10,7 @@ use Rattle.bin_tasks.specs.Drains.{HasDrained, IsTaskIn, WasTold}
 use Rattle.bin_tasks.specs.declared.task.Task.{Task}
 use Rattle.bin_tasks.proofs.TasksOn.{drained_on}
 use Rattle.side_by_side.proofs.Parts.{both_parts, first_part as first_of_both, second_part as second_of_both}
-use Rattle.tile_queues.specs.Shares.{AreAllIn, AreChanged, AreChangedIn, AreDealt, AreDrained, AreShares, IsDrawnAt, IsShare, IsTaskAt}
+use Rattle.tile_queues.specs.Shares.{AreAllIn, AreChanged, AreChangedIn, AreDrained, AreShares, IsDrawnAt, IsTaskAt}
 use Rattle.tile_queues.specs.declared.share.Share.{Share}
 use Rattle.tile_queues.proofs.Turning.{IsTurnedTo}
 
@@ -52,9 +52,6 @@ module _ {X : Type 0} where
       }
 
 module _ {X B : Type 0} (stands : X → B → PieceList → TileSpan → ℕ → Type 0) (beside : B) (queues : QueuesOf) (frame : BatchedFrame) (workers : ℕ) where
-  may : Task X → Type 0
-  may = IsTaskIn stands beside queues frame
-
   pub all_may : (shares : List (Share X)) → AreShares stands beside queues frame workers shares → AreAllIn (IsTaskIn stands beside queues frame) shares
   all_may shares at w s lt = λ j t below. ((at.each w s lt).each j t below).task
 

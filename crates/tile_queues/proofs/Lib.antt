@@ -10,4 +10,3 @@ pub mod Ending
 pub mod Keeping
 pub mod Turning
 pub mod Changing
-pub mod SameRank

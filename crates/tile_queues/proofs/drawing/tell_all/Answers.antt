@@ -1,4 +1,4 @@
-use Rattle.std.proofs.Common.{All, arith, get_or, refl, ap, sym, subst, ◌∙◌}
+use Rattle.std.proofs.Common.{All, arith, get_or, refl, subst, ◌∙◌}
 use Rattle.std.proofs.lemmas.List.{get_or_default}
 use Rattle.bin_queues.specs.Tasks.{Submitting}
 use Rattle.bin_tasks.specs.Drains.{MayDrain, WasTold}
