@@ -1,4 +1,5 @@
 pub mod QueueParts
+pub mod Frames
 pub mod QueueRule
 pub mod NumberRule
 pub mod Tasks

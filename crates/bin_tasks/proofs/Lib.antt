@@ -1,1 +1,1 @@
-pub mod Draining
+pub mod TasksOn

@@ -1,10 +1,13 @@
 -- The task of a bin as it drains the bin's queue, and what the bin's tiles took then.
-use Rattle.std.specs.Prelude.{◌≡◌, ℕ, ◌<◌, ◌≤◌}
+use Rattle.std.specs.Prelude.{◌≡◌, ℕ, ◌<◌, ◌≤◌, List}
+use Rattle.atomic_table.specs.Seated.{TableId}
 use Rattle.cull_base.specs.Tiles.{PieceList}
 use Rattle.cull_base.specs.declared.tile_span.TileSpan.{TileSpan}
-use Rattle.bin_queues.specs.QueueParts.{BatchedFrame, batches_in, bin_of_frame, places_before}
-use Rattle.bin_queues.specs.Tasks.{IsTaskOf, QueuesOf, Tasking}
+use Rattle.bin_queues.specs.Frames.{over}
+use Rattle.bin_queues.specs.QueueParts.{BatchedFrame, batches_in, places_before}
+use Rattle.bin_queues.specs.Tasks.{GoesOn, IsTaskOf, QueuesOf, Tasking}
 use Rattle.bin_tiles.specs.Bins.{IsBinAt}
+use Rattle.bin_tasks.specs.declared.drawing.Drawing.{Drawing}
 use Rattle.bin_tasks.specs.declared.task.Task.{Task}
 use Rattle.bin_tasks.specs.declared.task.Drained.{Drained}
 use Rattle.bin_tasks.specs.declared.task.Drained.TheVariants.{Whole, Empty}
@@ -26,17 +29,25 @@ abbrev pub StandsAtBatches : {X B : Type 0} → (X → B → PieceList → TileS
 StandsAtBatches {X} {B} stands beside t c =
     IsBinAt stands beside t.of.frame.list t.of.frame.cut (places_before t.of.frame t.batches) t.of.bin c
 
--- The task of a bin of this frame and of these queues, which was told of so many batches. Its tiles took the members of
--- those that it drew.
+-- the task of a bin of this frame and of these queues, whose tiles took the members of the batches that it drew
 pub record IsTaskIn {X B : Type 0} (stands : X → B → PieceList → TileSpan → ℕ → Type 0) (beside : B)
-    (queues : QueuesOf) (frame : BatchedFrame) (told bin : ℕ) (t : Task X) : Type 0 where
-  pub of_is : t.intake.of ≡ bin_of_frame frame bin
+    (queues : QueuesOf) (frame : BatchedFrame) (t : Task X) : Type 0 where
+  pub frame_is : t.intake.of.frame ≡ frame
   pub queues_are : IsTaskOf queues t.intake
-  pub told_is : t.intake.told ≡ told
   pub at : StandsAtBatches stands beside t.intake t.keeper
 
--- and which drew them all, where it was told of all
-pub record IsDrainedIn {X B : Type 0} (stands : X → B → PieceList → TileSpan → ℕ → Type 0) (beside : B)
-    (queues : QueuesOf) (frame : BatchedFrame) (told bin : ℕ) (t : Task X) : Type 0 where
-  pub task : IsTaskIn stands beside queues frame told bin t
-  pub whole : told ≡ batches_in frame → t.intake.batches ≡ batches_in frame
+-- the task of a bin of the frame that is drawn, over the cells that lie beside
+abbrev pub MayDrain : {X R B G : Type 0} → (X → B → PieceList → TileSpan → ℕ → Type 0) → (B → List TableId)
+    → Drawing R B G → Task X → Type 0
+MayDrain {X} {R} {B} {G} stands cells d t =
+    IsTaskIn stands d.beside.now d.queues.now (over d.frame (cells d.beside.now)) t
+
+-- the task went on, and drew all batches where it was told of all
+pub record HasDrained (old new : Tasking) : Type 0 where
+  pub on : GoesOn old new
+  pub whole : batches_in old.of.frame ≤ old.told → new.batches ≡ batches_in new.of.frame
+
+-- the same task was told of so many batches
+pub record WasTold (batches : ℕ) (old new : Tasking) : Type 0 where
+  pub of : new.of ≡ old.of
+  pub told : batches ≤ new.told

@@ -3,9 +3,9 @@
 #![tactic(auto)]
 
 mod batches;
-mod frame_task;
+mod draining;
+mod drawing;
 mod task;
 
-pub use batches::submit_next_ones;
-pub use frame_task::{drain_one, tell_one};
-pub use task::{Drained, Task, drain_some, drain_task};
+pub use drawing::Drawing;
+pub use task::{Drained, Task};

@@ -7,6 +7,7 @@ mod keeper;
 mod one_worker;
 mod part;
 mod plain;
+mod screen;
 mod unbinned;
 
 pub use bin_view::{BinTable, BinView};
@@ -14,4 +15,5 @@ pub use gate::{Gate, OpenGate};
 pub use keeper::Keeper;
 pub use one_worker::draw_batches;
 pub use part::draw_part;
+pub use screen::Screen;
 pub use unbinned::draw_unbinned;

@@ -8,6 +8,7 @@ ghost use Rattle.bin_tiles.specs.Bins.{AreBinsAt, AreRoomsOf, HavePlaces, HaveTa
 use crate::gate::Gate;
 use crate::keeper::Keeper;
 use crate::part::draw_part;
+use crate::screen::Screen;
 use binning::{BinRoom, Cut, batch_count, bin_into, rect_around};
 use cull_base::{FrameList, Memory, Rect};
 use std::alloc::Global;
@@ -39,68 +40,64 @@ fn none_taken(alloc: Global, cut: &Cut) -> Result<Vec<u32>, Memory>
 fn draw_parts<B, K: Keeper<B>, G: Gate>(
     bins: &mut [K],
     taken: &mut [u32],
-    beside: &B,
+    screen: &Screen<B, G>,
     rooms: &[BinRoom],
-    list: &FrameList,
-    cut: &Cut,
     from: u32,
     to: u32,
-    gate: &G,
 )
     requires order { from ≤ to }
-    requires within { to ≤ length list.now.list.members }
+    requires within { to ≤ length screen.now.list.now.list.members }
     requires count { length rooms.now ≡ length bins.old }
-    requires places { HavePlaces list.now.list cut.now from to rooms.now }
-    requires taken { HaveTaken list.now.list cut.now from taken.old }
-    requires bins { AreBinsAt K.stands beside.now list.now.list cut.now from bins.old }
-    ensures taken { HaveTaken list.now.list cut.now to taken.new }
-    ensures bins { AreBinsAt K.stands beside.now list.now.list cut.now to bins.new }
+    requires places { let s = screen.now in HavePlaces s.list.now.list s.cut.now from to rooms.now }
+    requires taken { let s = screen.now in HaveTaken s.list.now.list s.cut.now from taken.old }
+    requires bins { let s = screen.now in
+        AreBinsAt K.stands s.beside.now s.list.now.list s.cut.now from bins.old }
+    ensures taken { let s = screen.now in HaveTaken s.list.now.list s.cut.now to taken.new }
+    ensures bins { let s = screen.now in
+        AreBinsAt K.stands s.beside.now s.list.now.list s.cut.now to bins.new }
 {
-    let _bins = cut.bins();
+    let _bins = screen.cut.bins();
     for bin in 0..bins.len() {
+        let indices = rooms[bin].indices();
         taken[bin] = draw_part(
             &mut bins[bin],
-            beside,
-            list,
-            rooms[bin].indices(),
-            cut,
+            screen,
             bin as u32,
+            indices,
             from,
             to,
             taken[bin],
-            gate,
         );
     }
 }
 
-// Bins a batch, once the gate has returned, and draws its parts.
+// Bins a batch and draws its parts.
 fn draw_batch<B, K: Keeper<B>, G: Gate>(
     bins: &mut [K],
     taken: &mut [u32],
-    beside: &B,
+    screen: &Screen<B, G>,
     rooms: &mut [BinRoom],
     around: &Rect,
-    list: &FrameList,
-    cut: &Cut,
-    batch: u32,
     from: u32,
     to: u32,
-    gate: &G,
 ) -> Result<(), Memory>
     requires order { from ≤ to }
-    requires within { to ≤ length list.now.list.members }
-    requires rooms { AreRoomsOf list.now.list.size cut.now rooms.old }
+    requires within { to ≤ length screen.now.list.now.list.members }
+    requires rooms { AreRoomsOf screen.now.list.now.list.size screen.now.cut.now rooms.old }
     requires around { IsAround around.now rooms.old }
-    requires taken { HaveTaken list.now.list cut.now from taken.old }
-    requires bins { AreBinsAt K.stands beside.now list.now.list cut.now from bins.old }
-    ensures rooms { OnOk result (AreRoomsOf list.now.list.size cut.now rooms.new) }
+    requires taken { let s = screen.now in HaveTaken s.list.now.list s.cut.now from taken.old }
+    requires bins { let s = screen.now in
+        AreBinsAt K.stands s.beside.now s.list.now.list s.cut.now from bins.old }
+    ensures rooms { let s = screen.now in
+        OnOk result (AreRoomsOf s.list.now.list.size s.cut.now rooms.new) }
     ensures around { OnOk result (IsAround around.now rooms.new) }
-    ensures taken { OnOk result (HaveTaken list.now.list cut.now to taken.new) }
-    ensures bins { OnOk result (AreBinsAt K.stands beside.now list.now.list cut.now to bins.new) }
+    ensures taken { let s = screen.now in
+        OnOk result (HaveTaken s.list.now.list s.cut.now to taken.new) }
+    ensures bins { let s = screen.now in
+        OnOk result (AreBinsAt K.stands s.beside.now s.list.now.list s.cut.now to bins.new) }
 {
-    gate.submits(batch);
-    bin_into(rooms, around, list, from, to)?;
-    draw_parts(bins, taken, beside, rooms, list, cut, from, to, gate);
+    bin_into(rooms, around, screen.list, from, to)?;
+    draw_parts(bins, taken, screen, rooms, from, to);
     Ok(())
 }
 
@@ -108,28 +105,25 @@ fn draw_batch<B, K: Keeper<B>, G: Gate>(
 fn draw_in_rooms<B, K: Keeper<B>, G: Gate>(
     bins: &mut [K],
     taken: &mut [u32],
-    beside: &B,
+    screen: &Screen<B, G>,
     rooms: &mut [BinRoom],
-    list: &FrameList,
-    cut: &Cut,
     size: u32,
-    gate: &G,
 ) -> Result<(), Memory>
     requires size { 1 ≤ size }
-    requires rooms { AreRoomsOf list.now.list.size cut.now rooms.old }
-    requires taken { HaveTaken list.now.list cut.now 0 taken.old }
-    requires bins { AreBinsAt K.stands beside.now list.now.list cut.now 0 bins.old }
-    ensures { let drawn = length list.now.list.members in
-        OnOk result (AreBinsAt K.stands beside.now list.now.list cut.now drawn bins.new) }
+    requires rooms { AreRoomsOf screen.now.list.now.list.size screen.now.cut.now rooms.old }
+    requires taken { let s = screen.now in HaveTaken s.list.now.list s.cut.now 0 taken.old }
+    requires bins { let s = screen.now in
+        AreBinsAt K.stands s.beside.now s.list.now.list s.cut.now 0 bins.old }
+    ensures { let s = screen.now in let drawn = length s.list.now.list.members in
+        OnOk result (AreBinsAt K.stands s.beside.now s.list.now.list s.cut.now drawn bins.new) }
 {
-    let len = list.len();
+    let len = screen.list.len();
     let around = rect_around(rooms);
     let mut from = 0u32;
     for batch in 0..batch_count(len, size) {
         let to = len.min(from.saturating_add(size));
-        draw_batch(
-            bins, taken, beside, rooms, &around, list, cut, batch, from, to, gate,
-        )?;
+        screen.gate.submits(batch);
+        draw_batch(bins, taken, screen, rooms, &around, from, to)?;
         from = to;
     }
     Ok(())
@@ -140,19 +134,17 @@ fn draw_in_rooms<B, K: Keeper<B>, G: Gate>(
 pub fn draw_batches<B, K: Keeper<B>, G: Gate>(
     alloc: Global,
     bins: &mut [K],
-    beside: &B,
-    list: &FrameList,
-    cut: &Cut,
+    screen: &Screen<B, G>,
     size: u32,
-    gate: &G,
 ) -> Result<(), Memory>
     requires size { 1 ≤ size }
-    requires bins { AreBinsAt K.stands beside.now list.now.list cut.now 0 bins.old }
-    ensures { let drawn = length list.now.list.members in
-        OnOk result (AreBinsAt K.stands beside.now list.now.list cut.now drawn bins.new) }
+    requires bins { let s = screen.now in
+        AreBinsAt K.stands s.beside.now s.list.now.list s.cut.now 0 bins.old }
+    ensures { let s = screen.now in let drawn = length s.list.now.list.members in
+        OnOk result (AreBinsAt K.stands s.beside.now s.list.now.list s.cut.now drawn bins.new) }
 {
-    let mut rooms = make_rooms(alloc, list, cut, size)?;
-    let mut taken = none_taken(alloc, cut)?;
+    let mut rooms = make_rooms(alloc, screen.list, screen.cut, size)?;
+    let mut taken = none_taken(alloc, screen.cut)?;
     let (rooms, taken) = (rooms.as_mut_slice(), taken.as_mut_slice());
-    draw_in_rooms(bins, taken, beside, rooms, list, cut, size, gate)
+    draw_in_rooms(bins, taken, screen, rooms, size)
 }

@@ -8,30 +8,28 @@ ghost use Rattle.bin_tiles.specs.Bins.{IsBinAt, drawn_of};
 
 use crate::gate::Gate;
 use crate::keeper::Keeper;
-use binning::Cut;
-use cull_base::FrameList;
+use crate::screen::Screen;
 
 /// Asks the gate, then draws a member of the list. Conditions: the bin has drawn so many, which are the members before
 /// that meet it, and its tiles stand at this member.
 #[inline(always)]
 pub(crate) fn draw_next<B, K: Keeper<B>, G: Gate>(
     keeper: &mut K,
-    beside: &B,
-    list: &FrameList,
-    index: u32,
-    cut: &Cut,
+    screen: &Screen<B, G>,
     bin: u32,
+    index: u32,
     taken: u32,
-    gate: &G,
 )
-    requires index { index < length list.now.list.members }
-    requires window { IsSpan list.now.list.size (bin_span_of list.now.list.size cut.now bin) }
-    requires taken { taken ≡ drawn_of list.now.list cut.now index bin }
-    requires stands { IsBinAt K.stands beside.now list.now.list cut.now index bin keeper.old }
-    ensures { IsBinAt K.stands beside.now list.now.list cut.now (index + 1) bin keeper.new }
+    requires index { index < length screen.now.list.now.list.members }
+    requires window { let s = screen.now in IsSpan s.list.now.list.size (bin_span_of s.list.now.list.size s.cut.now bin) }
+    requires taken { let s = screen.now in taken ≡ drawn_of s.list.now.list s.cut.now index bin }
+    requires stands { let s = screen.now in
+        IsBinAt K.stands s.beside.now s.list.now.list s.cut.now index bin keeper.old }
+    ensures { let s = screen.now in
+        IsBinAt K.stands s.beside.now s.list.now.list s.cut.now (index + 1) bin keeper.new }
 {
-    gate.before(bin, taken);
-    keeper.draw_member(beside, list, cut, bin, index);
+    screen.gate.before(bin, taken);
+    keeper.draw_member(screen.beside, screen.list, screen.cut, bin, index);
 }
 
 /// Draws the members of a part in order, and gives how many the bin has drawn then. A member between them misses the
@@ -39,31 +37,30 @@ pub(crate) fn draw_next<B, K: Keeper<B>, G: Gate>(
 /// stand at the one, and the bin has drawn so many.
 pub fn draw_part<B, K: Keeper<B>, G: Gate>(
     keeper: &mut K,
-    beside: &B,
-    list: &FrameList,
-    indices: &[u32],
-    cut: &Cut,
+    screen: &Screen<B, G>,
     bin: u32,
+    indices: &[u32],
     _from: u32,
     _to: u32,
     taken: u32,
-    gate: &G,
 ) -> u32
-    requires bin { bin < bin_count_of cut.now }
+    requires bin { bin < bin_count_of screen.now.cut.now }
     requires order { _from ≤ _to }
-    requires within { _to ≤ length list.now.list.members }
-    requires places { indices.now ≡ indices_in list.now.list cut.now _from _to bin }
-    requires taken { taken ≡ drawn_of list.now.list cut.now _from bin }
-    requires stands { IsBinAt K.stands beside.now list.now.list cut.now _from bin keeper.old }
-    ensures taken { result ≡ drawn_of list.now.list cut.now _to bin }
-    ensures stands { IsBinAt K.stands beside.now list.now.list cut.now _to bin keeper.new }
+    requires within { _to ≤ length screen.now.list.now.list.members }
+    requires places { let s = screen.now in indices.now ≡ indices_in s.list.now.list s.cut.now _from _to bin }
+    requires taken { let s = screen.now in taken ≡ drawn_of s.list.now.list s.cut.now _from bin }
+    requires stands { let s = screen.now in
+        IsBinAt K.stands s.beside.now s.list.now.list s.cut.now _from bin keeper.old }
+    ensures taken { let s = screen.now in result ≡ drawn_of s.list.now.list s.cut.now _to bin }
+    ensures stands { let s = screen.now in
+        IsBinAt K.stands s.beside.now s.list.now.list s.cut.now _to bin keeper.new }
 {
     // accessors tell what is held of a size and of a cut
-    let _width = list.size().width();
-    let _columns = cut.columns();
+    let _width = screen.list.size().width();
+    let _columns = screen.cut.columns();
     let mut drawn = taken;
     for index in indices {
-        draw_next(keeper, beside, list, *index, cut, bin, drawn, gate);
+        draw_next(keeper, screen, bin, *index, drawn);
         drawn += 1;
     }
     drawn

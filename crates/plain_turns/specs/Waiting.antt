@@ -13,9 +13,9 @@ use Rattle.bin_tasks.specs.Drains.{IsTaskIn}
 use Rattle.bin_queues.specs.Tasks.{QueuesOf}
 use Rattle.bin_tasks.specs.declared.task.Task.{Task}
 
--- the task of a bin of this frame, with the bin's plain tiles, which was told of nothing yet
-abbrev pub IsPlainTask : QueuesOf → BatchedFrame → ℕ → Task CanvasOf → Type 0
-IsPlainTask queues frame bin t = IsTaskIn StandsPlain (tt {0}) queues frame 0 bin t
+-- the task of a bin of this frame, with the bin's plain tiles
+abbrev pub IsPlainTask : QueuesOf → BatchedFrame → Task CanvasOf → Type 0
+IsPlainTask queues frame t = IsTaskIn StandsPlain (tt {0}) queues frame t
 
 -- tiles that stand so, or that aren't made yet where nothing is drawn
 pub record StandsMade {B : Type 0} (c : Option CanvasOf) (beside : B) (list : PieceList) (window : TileSpan) (k : ℕ) : Type 0 where
@@ -23,8 +23,13 @@ pub record StandsMade {B : Type 0} (c : Option CanvasOf) (beside : B) (list : Pi
   pub made : (d : CanvasOf) → c ≡ Some d → IsPlainAt list window k d
 
 -- the task of a bin, with its tiles where they are made
-abbrev pub IsWaitingTask : QueuesOf → BatchedFrame → ℕ → Task (Option CanvasOf) → Type 0
-IsWaitingTask queues frame bin t = IsTaskIn StandsMade (tt {0}) queues frame 0 bin t
+abbrev pub MayBegin : QueuesOf → BatchedFrame → Task (Option CanvasOf) → Type 0
+MayBegin queues frame t = IsTaskIn StandsMade (tt {0}) queues frame t
+
+-- the same of the bin with this number
+pub record IsWaitingTask (queues : QueuesOf) (frame : BatchedFrame) (bin : ℕ) (t : Task (Option CanvasOf)) : Type 0 where
+  pub task : MayBegin queues frame t
+  pub bin_is : t.intake.of.bin ≡ bin
 
 -- the tasks of all bins, each in the seat of its bin
 pub record AreWaiting (queues : QueuesOf) (frame : BatchedFrame) (slots : List (Option (Loan (Task (Option CanvasOf)))))

@@ -1,19 +1,17 @@
 //! What is left of the bins after the workers: each is drawn to the end.
-ghost use Rattle.std.specs.Prelude.{◌≡◌, ◌≤◌, ◌<◌, [], length, IfOk, MatchOption};
-ghost use Rattle.binning.specs.Cut.{bin_count_of};
-ghost use Rattle.binning.specs.Parts.{batch_count_of};
+ghost use Rattle.std.specs.Prelude.{◌≡◌, ◌<◌, [], length, IfOk, MatchOption};
 ghost use Rattle.bin_tiles.specs.Bins.{AreBinsAt, IsBinAt};
 ghost use Rattle.bin_tiles.specs.Plain.{StandsPlain};
-ghost use Rattle.bin_queues.specs.QueueParts.{batched, batches_in};
+ghost use Rattle.bin_queues.specs.Frames.{over};
+ghost use Rattle.bin_queues.specs.QueueParts.{batches_in};
 ghost use Rattle.bin_queues.specs.Tasks.{IsSubmitterOf};
 ghost use Rattle.plain_turns.specs.Waiting.{AreWaiting, IsPlainTask, IsWaitingTask};
 
 use crate::plain_tasks::{WaitingTask, begun};
-use bin_queues::{PartQueues, Sender};
-use bin_tasks::{Task, drain_one, tell_one};
+use bin_queues::Sender;
+use bin_tasks::{Drawing, Task};
 use bin_tiles::Gate;
-use binning::{Cut, batch_count};
-use cull_base::{FrameList, Memory};
+use cull_base::Memory;
 use masked_update::Canvas;
 use seats::Loan;
 use std::alloc::Global;
@@ -21,106 +19,66 @@ use std::sync::Wait;
 
 // The bin of a task, drawn to the end.
 fn drawn_on<R: Wait, G: Gate>(
-    rt: &R,
-    queues: &PartQueues,
+    drawing: &Drawing<R, (), G>,
     sender: &mut Sender,
     task: Task<Canvas>,
-    list: &FrameList,
-    cut: &Cut,
-    size: u32,
-    bin: u32,
-    gate: &G,
 ) -> Canvas
-    requires size { 1 ≤ size }
-    requires sender { IsSubmitterOf queues.now sender.old }
-    requires frame { sender.old.frame ≡ batched list.now.list cut.now size [] }
+    requires sender { IsSubmitterOf drawing.now.queues.now sender.old }
+    requires frame { sender.old.frame ≡ over drawing.now.frame [] }
     requires all { sender.old.batches ≡ batches_in sender.old.frame }
-    requires task { IsPlainTask queues.now (batched list.now.list cut.now size []) bin task }
+    requires task { IsPlainTask drawing.now.queues.now (over drawing.now.frame []) task }
     ensures same { sender.new ≡ sender.old }
-    ensures drawn { IsBinAt StandsPlain (tt {0}) list.now.list cut.now (length list.now.list.members) bin result }
+    ensures drawn { let list = drawing.now.frame.list.now.list in
+        IsBinAt StandsPlain (tt {0}) list drawing.now.frame.cut.now (length list.members) task.intake.of.bin result }
 {
-    let batches = batch_count(list.len(), size);
     let mut task = task;
-    tell_one(
-        queues,
-        sender,
-        &mut task,
-        &(),
-        list,
-        cut,
-        size,
-        batches,
-        bin,
-    );
-    drain_one(
-        rt,
-        queues,
-        &mut task,
-        &(),
-        list,
-        cut,
-        size,
-        batches,
-        bin,
-        gate,
-    );
+    drawing.tell(sender, &mut task);
+    drawing.drain(&mut task);
     task.keeper
 }
 
 // A bin at the whole list.
 fn finish<R: Wait, G: Gate>(
-    rt: &R,
+    drawing: &Drawing<R, (), G>,
     alloc: Global,
-    queues: &PartQueues,
     sender: &mut Sender,
     slot: Option<Loan<WaitingTask>>,
-    list: &FrameList,
-    cut: &Cut,
-    size: u32,
-    bin: u32,
-    gate: &G,
+    _bin: u32,
 ) -> Result<Canvas, Memory>
-    requires size { 1 ≤ size }
-    requires bin { bin < bin_count_of cut.now }
-    requires sender { IsSubmitterOf queues.now sender.old }
-    requires frame { sender.old.frame ≡ batched list.now.list cut.now size [] }
+    requires sender { IsSubmitterOf drawing.now.queues.now sender.old }
+    requires frame { sender.old.frame ≡ over drawing.now.frame [] }
     requires all { sender.old.batches ≡ batches_in sender.old.frame }
     requires there { MatchOption slot ⊥
-        (λ l. IsWaitingTask queues.now (batched list.now.list cut.now size []) bin l.task) }
+        (λ l. IsWaitingTask drawing.now.queues.now (over drawing.now.frame []) _bin l.task) }
     ensures same { sender.new ≡ sender.old }
-    ensures drawn { IfOk result (λ c.
-        IsBinAt StandsPlain (tt {0}) list.now.list cut.now (length list.now.list.members) bin c) }
+    ensures drawn { let list = drawing.now.frame.list.now.list in IfOk result (λ c.
+        IsBinAt StandsPlain (tt {0}) list drawing.now.frame.cut.now (length list.members) _bin c) }
 {
     let loan = slot.unwrap();
-    let task = begun(alloc, queues, loan.task, list, cut, size).map_err(|_| Memory)?;
-    Ok(drawn_on(rt, queues, sender, task, list, cut, size, bin, gate))
+    let task = begun(drawing, alloc, loan.task).map_err(|_| Memory)?;
+    Ok(drawn_on(drawing, sender, task))
 }
 
 /// The tiles of all bins in order, at the whole list. Err where memory gave out. Conditions: the sender submitted all
 /// batches, and the tasks are of these queues and of this frame.
 pub(crate) fn finish_all<R: Wait, G: Gate>(
-    rt: &R,
+    drawing: &Drawing<R, (), G>,
     alloc: Global,
-    queues: &PartQueues,
     sender: &mut Sender,
     slots: Vec<Option<Loan<WaitingTask>>>,
-    list: &FrameList,
-    cut: &Cut,
-    size: u32,
-    gate: &G,
 ) -> Result<Vec<Canvas>, Memory>
-    requires size { 1 ≤ size }
-    requires sender { IsSubmitterOf queues.now sender.old }
-    requires frame { sender.old.frame ≡ batched list.now.list cut.now size [] }
+    requires sender { IsSubmitterOf drawing.now.queues.now sender.old }
+    requires frame { sender.old.frame ≡ over drawing.now.frame [] }
     requires all { sender.old.batches ≡ batches_in sender.old.frame }
-    requires slots { AreWaiting queues.now (batched list.now.list cut.now size []) slots.items }
-    ensures { let drawn = length list.now.list.members in
-        IfOk result (λ v. AreBinsAt StandsPlain (tt {0}) list.now.list cut.now drawn v.items) }
+    requires slots { AreWaiting drawing.now.queues.now (over drawing.now.frame []) slots.items }
+    ensures { let list = drawing.now.frame.list.now.list in IfOk result (λ v.
+        AreBinsAt StandsPlain (tt {0}) list drawing.now.frame.cut.now (length list.members) v.items) }
 {
-    let mut bins = Vec::with_capacity(alloc, cut.bins() as usize).map_err(|_| Memory)?;
+    let count = drawing.frame.cut.bins();
+    let mut bins = Vec::with_capacity(alloc, count as usize).map_err(|_| Memory)?;
     let mut bin = 0u32;
     for slot in slots {
-        let canvas = finish(rt, alloc, queues, sender, slot, list, cut, size, bin, gate)?;
+        let canvas = finish(drawing, alloc, sender, slot, bin)?;
         bins.push_reserved(canvas);
         bin += 1;
     }

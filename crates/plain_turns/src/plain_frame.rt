@@ -9,8 +9,9 @@ ghost use Rattle.bin_tiles.specs.Plain.{StandsPlain};
 use crate::finishing::finish_all;
 use crate::plain_tasks::first_tasks;
 use crate::turns::submit_and_take;
-use bin_queues::PartQueues;
-use bin_tiles::{Gate, draw_batches, draw_unbinned};
+use bin_queues::{Batched, PartQueues};
+use bin_tasks::Drawing;
+use bin_tiles::{Gate, Screen, draw_batches, draw_unbinned};
 use binning::{Cut, bin_span};
 use cull_base::{FrameList, Memory};
 use masked_update::Canvas;
@@ -33,7 +34,14 @@ fn draw_one_bin<G: Gate>(
 {
     let mut bins = Vec::with_capacity(alloc, 1).map_err(|_| Memory)?;
     let mut canvas = Canvas::empty(alloc, bin_span(list.size(), cut, 0))?;
-    draw_unbinned(&mut canvas, &(), list, cut, 0, batch, gate);
+    let beside = &();
+    let screen = Screen {
+        list,
+        cut,
+        beside,
+        gate,
+    };
+    draw_unbinned(&mut canvas, &screen, 0, batch);
     bins.push_reserved(canvas);
     Ok(bins)
 }
@@ -65,7 +73,14 @@ fn draw_by_one<G: Gate>(
         IfOk result (λ v. AreBinsAt StandsPlain (tt {0}) list.now.list cut.now drawn v.items) }
 {
     let mut bins = empty_bins(alloc, list, cut)?;
-    draw_batches(alloc, bins.as_mut_slice(), &(), list, cut, batch, gate)?;
+    let beside = &();
+    let screen = Screen {
+        list,
+        cut,
+        beside,
+        gate,
+    };
+    draw_batches(alloc, bins.as_mut_slice(), &screen, batch)?;
     Ok(bins)
 }
 
@@ -73,44 +88,25 @@ fn draw_by_one<G: Gate>(
 fn draw_by_workers<R: Threads + Wait + Sync, G: Gate>(
     rt: &R,
     alloc: Global,
-    list: &FrameList,
-    cut: &Cut,
+    frame: Batched,
     workers: u32,
-    batch: u32,
     gate: &G,
 ) -> Result<Vec<Canvas>, Memory>
-    requires some { 0 < workers }
-    requires few { workers ≤ 64 }
-    requires batch { 1 ≤ batch }
-    requires batches { batch_count_of (length list.now.list.members) batch ≤ 2048 }
-    ensures { let drawn = length list.now.list.members in
-        IfOk result (λ v. AreBinsAt StandsPlain (tt {0}) list.now.list cut.now drawn v.items) }
+    ensures { let list = frame.entry.list.now.list in IfOk result (λ v.
+        AreBinsAt StandsPlain (tt {0}) list frame.entry.cut.now (length list.members) v.items) }
 {
-    let (queues, mut sender, intakes) = PartQueues::open(alloc, list, cut, batch)?;
-    let slots = first_tasks(alloc, &queues, intakes, list, cut, batch)?;
-    let slots = submit_and_take(
+    let (queues, mut sender, intakes) = PartQueues::open(alloc, &frame)?;
+    let slots = first_tasks(alloc, &queues, &frame, intakes)?;
+    let beside = &();
+    let drawing = Drawing {
         rt,
-        alloc,
-        &queues,
-        &mut sender,
-        slots,
-        list,
-        cut,
-        batch,
-        workers,
+        queues: &queues,
+        frame,
+        beside,
         gate,
-    )?;
-    finish_all(
-        rt,
-        alloc,
-        &queues,
-        &mut sender,
-        slots,
-        list,
-        cut,
-        batch,
-        gate,
-    )
+    };
+    let slots = submit_and_take(&drawing, alloc, &mut sender, slots, workers)?;
+    finish_all(&drawing, alloc, &mut sender, slots)
 }
 
 /// The bins of a frame over plain tiles, which nobody reads while they are drawn, in order: each tile of the screen has
@@ -145,6 +141,11 @@ pub fn draw_plain_frame<R: Threads + Wait + Sync, G: Gate>(
     } else if workers == 1 {
         draw_by_one(alloc, list, cut, batch, gate)
     } else {
-        draw_by_workers(rt, alloc, list, cut, workers, batch, gate)
+        let frame = Batched {
+            list,
+            cut,
+            size: batch,
+        };
+        draw_by_workers(rt, alloc, frame, workers, gate)
     }
 }

@@ -1,19 +1,21 @@
 //! The tasks of bins over plain tiles: each waits in the seat of its bin, and has its tiles once they are drawn.
 ghost use Rattle.std.specs.Prelude.{◌≡◌, [], None, Some, IfErr, IfOk, OnErr};
+ghost use Rattle.bin_queues.specs.Frames.{over};
 ghost use Rattle.bin_queues.specs.Tasks.{AreFirstTasks};
-ghost use Rattle.bin_queues.specs.QueueParts.{batched};
-ghost use Rattle.plain_turns.specs.Waiting.{AreWaiting, IsPlainTask, IsWaitingTask};
+ghost use Rattle.plain_turns.specs.Waiting.{AreWaiting, IsPlainTask, MayBegin};
 ghost use Rattle.bin_tasks.specs.declared.task.Task.{Task};
 ghost use Rattle.masked_update.specs.Canvas.{CanvasOf};
 ghost use Rattle.std.specs.declared.option.Option.{Option};
 
-use bin_queues::{Intake, PartQueues};
-use bin_tasks::Task;
-use binning::{Cut, bin_span};
-use cull_base::{FrameList, Memory};
+use bin_queues::{Batched, Intake, PartQueues};
+use bin_tasks::{Drawing, Task};
+use bin_tiles::Gate;
+use binning::bin_span;
+use cull_base::Memory;
 use masked_update::Canvas;
 use seats::Loan;
 use std::alloc::Global;
+use std::sync::Wait;
 
 /// A bin's task as it waits. Its tiles are made by who draws the bin first.
 pub(crate) type WaitingTask = Task<Option<Canvas>>;
@@ -30,21 +32,19 @@ pub(crate) fn waiting_of(task: Task<Canvas>) -> WaitingTask
 }
 
 // A bin's tiles: empty ones where none are made yet.
-fn made(
+fn made<R: Wait, G: Gate>(
+    drawing: &Drawing<R, (), G>,
     alloc: Global,
-    _queues: &PartQueues,
     intake: &Intake,
     keeper: Option<Canvas>,
-    list: &FrameList,
-    cut: &Cut,
-    _size: u32,
 ) -> Result<Canvas, Memory>
     requires { let task : Task (Option CanvasOf) = record { intake = intake.now; keeper = keeper } in
-        IsWaitingTask _queues.now (batched list.now.list cut.now _size []) intake.now.of.bin task }
+        MayBegin drawing.now.queues.now (over drawing.now.frame []) task }
     ensures made { IfOk result (λ c. let task : Task CanvasOf = record { intake = intake.now; keeper = c } in
-        IsPlainTask _queues.now (batched list.now.list cut.now _size []) intake.now.of.bin task) }
+        IsPlainTask drawing.now.queues.now (over drawing.now.frame []) task) }
     ensures none { OnErr result (keeper ≡ None) }
 {
+    let (list, cut) = (drawing.frame.list, drawing.frame.cut);
     match keeper {
         Some(canvas) => Ok(canvas),
         None => Canvas::empty(alloc, bin_span(list.size(), cut, intake.bin())),
@@ -53,21 +53,18 @@ fn made(
 
 /// The task of a bin with its tiles. Err gives the task back, where memory gave out for them. Condition: it is of these
 /// queues and this frame.
-pub(crate) fn begun(
+pub(crate) fn begun<R: Wait, G: Gate>(
+    drawing: &Drawing<R, (), G>,
     alloc: Global,
-    queues: &PartQueues,
     task: WaitingTask,
-    list: &FrameList,
-    cut: &Cut,
-    size: u32,
 ) -> Result<Task<Canvas>, WaitingTask>
-    requires { IsWaitingTask queues.now (batched list.now.list cut.now size []) task.intake.of.bin task }
-    ensures task { IfOk result (IsPlainTask queues.now (batched list.now.list cut.now size []) task.intake.of.bin) }
+    requires { MayBegin drawing.now.queues.now (over drawing.now.frame []) task }
+    ensures task { IfOk result (IsPlainTask drawing.now.queues.now (over drawing.now.frame [])) }
     ensures intake { IfOk result (λ t. t.intake ≡ task.intake) }
     ensures same { IfErr result (λ t. t ≡ task) }
 {
     let Task { intake, keeper } = task;
-    match made(alloc, queues, &intake, keeper, list, cut, size) {
+    match made(drawing, alloc, &intake, keeper) {
         Ok(keeper) => Ok(Task { intake, keeper }),
         Err(_) => Err(Task {
             intake,
@@ -80,15 +77,13 @@ pub(crate) fn begun(
 pub(crate) fn first_tasks(
     alloc: Global,
     _queues: &PartQueues,
+    frame: &Batched,
     intakes: Vec<Intake>,
-    _list: &FrameList,
-    cut: &Cut,
-    _size: u32,
 ) -> Result<Vec<Option<Loan<WaitingTask>>>, Memory>
-    requires { AreFirstTasks _queues.now (batched _list.now.list cut.now _size []) intakes.items }
-    ensures { IfOk result (λ v. AreWaiting _queues.now (batched _list.now.list cut.now _size []) v.items) }
+    requires { AreFirstTasks _queues.now (over frame.now []) intakes.items }
+    ensures { IfOk result (λ v. AreWaiting _queues.now (over frame.now []) v.items) }
 {
-    let count = cut.bins();
+    let count = frame.cut.bins();
     let mut slots = Vec::with_capacity(alloc, count as usize).map_err(|_| Memory)?;
     for intake in intakes {
         let keeper = None;

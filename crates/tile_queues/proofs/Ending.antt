@@ -13,8 +13,8 @@ use Rattle.tile_queues.specs.CellBins.{StandsInCells, HoldsBin}
 use Rattle.tile_queues.specs.declared.cell_bin.CellBin.{CellBin}
 use Rattle.tile_queues.specs.Owners.{AreHandedBack, cells_of}
 use Rattle.bin_queues.specs.QueueParts.{BatchedFrame, BinOfFrame, batches_in, bin_of_frame, places_before}
-use Rattle.bin_tasks.specs.Drains.{IsDrainedIn, StandsAtBatches}
-use Rattle.tile_queues.specs.Shares.{AreWhole}
+use Rattle.bin_tasks.specs.Drains.{StandsAtBatches}
+use Rattle.tile_queues.specs.Shares.{AreWhole, IsDrawnAt}
 use Rattle.bin_queues.specs.Tasks.{IsTaskOf, QueuesOf, Tasking}
 use Rattle.bin_tasks.specs.declared.task.Task.{Task}
 use Rattle.bin_queues.proofs.Intaking.{places_end}
@@ -49,13 +49,13 @@ pub record IsWholeTask (queues : QueuesOf) (frame : BatchedFrame) (bin : ℕ) (t
   pub queues_are : IsTaskOf queues t
   pub whole : t.batches ≡ batches_in frame
 
-pub whole_task : (queues : QueuesOf) (frame : BatchedFrame) (bin : ℕ) (t : Task CellBin) (u : Tasking) → u ≡ t.intake → IsDrainedIn StandsInCells frame.cells queues frame (batches_in frame) bin t → IsWholeTask queues frame bin u
-whole_task queues frame bin t u same at = subst (IsWholeTask queues frame bin) (sym same) (record { of_is = at.task.of_is; queues_are = at.task.queues_are; whole = at.whole (λ i. batches_in frame) })
+pub whole_task : (queues : QueuesOf) (frame : BatchedFrame) (bin : ℕ) (t : Task CellBin) (u : Tasking) → u ≡ t.intake → IsDrawnAt StandsInCells frame.cells queues frame bin t → IsWholeTask queues frame bin u
+whole_task queues frame bin t u same at = subst (IsWholeTask queues frame bin) (sym same) (record { of_is = λ i. record { frame = at.at.task.frame_is i; bin = at.at.bin_is i }; queues_are = at.at.task.queues_are; whole = at.whole })
 
 -- and its bin's writers
-pub holds_whole : (queues : QueuesOf) (frame : BatchedFrame) (bin : ℕ) (t : Task CellBin) → IsDrainedIn StandsInCells frame.cells queues frame (batches_in frame) bin t → HoldsBin t.intake t.keeper
+pub holds_whole : (queues : QueuesOf) (frame : BatchedFrame) (bin : ℕ) (t : Task CellBin) → IsDrawnAt StandsInCells frame.cells queues frame bin t → HoldsBin t.intake t.keeper
 holds_whole queues frame bin t at =
-    subst (λ (cells : List TableId). StandsAtBatches StandsInCells cells t.intake t.keeper) (ap (λ (b : BinOfFrame). b.frame.cells) (sym at.task.of_is)) at.task.at
+    subst (λ (cells : List TableId). StandsAtBatches StandsInCells cells t.intake t.keeper) (ap (λ (f : BatchedFrame). f.cells) (sym at.at.task.frame_is)) at.at.task.at
 
 -- all tasks, from the last bin's on
 pub all_whole : (queues : QueuesOf) (frame : BatchedFrame) (bins : ℕ) (tasks : List Tasking) → bins ≡ bin_count_of frame.cut → length tasks ≡ bins → ((i : ℕ) (d : Tasking) → i < bins → IsWholeTask queues frame (bins - 1 - i) (get_or tasks i d)) → AreWhole queues frame tasks

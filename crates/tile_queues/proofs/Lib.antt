@@ -8,3 +8,5 @@ pub mod Dealing
 pub mod FirstInCells
 pub mod Ending
 pub mod Keeping
+pub mod Turning
+pub mod Changing

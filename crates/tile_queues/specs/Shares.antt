@@ -1,12 +1,12 @@
 -- The tasks of a frame's bins, and the workers to which they are dealt.
-use Rattle.std.specs.Prelude.{◌≡◌, ℕ, ◌+◌, ◌-◌, ◌*◌, ◌/◌, ◌<◌, ◌≤◌, ◌++◌, List, [], ◌∷◌, length, slice_index_or}
+use Rattle.std.specs.Prelude.{◌≡◌, ℕ, ◌+◌, ◌-◌, ◌*◌, ◌/◌, ◌<◌, ◌++◌, List, [], ◌∷◌, All, length, slice_index_or}
 use Rattle.binning.specs.Cut.{bin_count_of}
 use Rattle.cull_base.specs.Tiles.{PieceList}
 use Rattle.cull_base.specs.declared.tile_span.TileSpan.{TileSpan}
 use Rattle.tile_queues.specs.Owners.{AreTasksOf}
 use Rattle.bin_queues.specs.QueueParts.{BatchedFrame, batches_in}
 use Rattle.bin_queues.specs.Tasks.{QueuesOf, Tasking}
-use Rattle.bin_tasks.specs.Drains.{IsDrainedIn, IsTaskIn}
+use Rattle.bin_tasks.specs.Drains.{IsTaskIn}
 use Rattle.tile_queues.specs.declared.share.Share.{Share}
 use Rattle.bin_tasks.specs.declared.task.Task.{Task}
 
@@ -21,16 +21,21 @@ pub record IsShare {X : Type 0} (P : ℕ → Task X → Type 0) (workers bins wo
   pub count : length tasks ≡ bins_owned bins workers worker
   pub each : (j : ℕ) (t : Task X) → j < length tasks → P (j * workers + worker) (slice_index_or tasks j t)
 
--- of a worker's tasks the same holds of those from one place to before another
-abbrev pub HoldsFrom : {X : Type 0} → (ℕ → Task X → Type 0) → ℕ → ℕ → ℕ → ℕ → List (Task X) → Type 0
-HoldsFrom {X} P workers worker from to tasks =
-    (j : ℕ) (t : Task X) → from ≤ j → j < to → P (j * workers + worker) (slice_index_or tasks j t)
-
--- the others stay as they are
-pub record AreOutside {X : Type 0} (from to : ℕ) (old new : List (Task X)) : Type 0 where
+-- each of some tasks changed so
+pub record AreChanged {X : Type 0} (R : Tasking → Tasking → Type 0) (old new : List (Task X)) : Type 0 where
   pub count : length new ≡ length old
-  pub before : (j : ℕ) (t : Task X) → j < from → slice_index_or new j t ≡ slice_index_or old j t
-  pub behind : (j : ℕ) (t : Task X) → to ≤ j → slice_index_or new j t ≡ slice_index_or old j t
+  pub each : (j : ℕ) (t : Task X) → j < length old
+      → R (slice_index_or old j t).intake (slice_index_or new j t).intake
+
+-- each task of each worker is so
+abbrev pub AreAllIn : {X : Type 0} → (Task X → Type 0) → List (Share X) → Type 0
+AreAllIn {X} P shares = (w : ℕ) (s : Share X) → w < length shares → All P (slice_index_or shares w s).tasks.items
+
+-- each task of each worker changed so
+pub record AreChangedIn {X : Type 0} (R : Tasking → Tasking → Type 0) (old new : List (Share X)) : Type 0 where
+  pub count : length new ≡ length old
+  pub each : (w : ℕ) (s : Share X) → w < length old
+      → AreChanged R (slice_index_or old w s).tasks.items (slice_index_or new w s).tasks.items
 
 -- the tasks of the first bins, of so many, are dealt to so many workers
 pub record AreDealt {X : Type 0} (P : ℕ → Task X → Type 0) (workers bins : ℕ) (shares : List (Share X)) : Type 0 where
@@ -42,17 +47,29 @@ pub record AreIdle {X : Type 0} (workers : ℕ) (shares : List (Share X)) : Type
   pub count : length shares ≡ workers
   pub none : (w : ℕ) (s : Share X) → w < length shares → (slice_index_or shares w s).tasks.items ≡ []
 
--- all tasks of a frame are dealt, and each was told of so many batches
-abbrev pub AreShares : {X B : Type 0} → (X → B → PieceList → TileSpan → ℕ → Type 0) → B → QueuesOf → BatchedFrame
-    → ℕ → ℕ → List (Share X) → Type 0
-AreShares {X} {B} stands beside queues frame told workers shares =
-    AreDealt (IsTaskIn stands beside queues frame told) workers (bin_count_of frame.cut) shares
+-- the task of the bin with this number
+pub record IsTaskAt {X B : Type 0} (stands : X → B → PieceList → TileSpan → ℕ → Type 0) (beside : B)
+    (queues : QueuesOf) (frame : BatchedFrame) (bin : ℕ) (t : Task X) : Type 0 where
+  pub task : IsTaskIn stands beside queues frame t
+  pub bin_is : t.intake.of.bin ≡ bin
 
--- and drew them all, where it was told of all
+-- which drew all batches
+pub record IsDrawnAt {X B : Type 0} (stands : X → B → PieceList → TileSpan → ℕ → Type 0) (beside : B)
+    (queues : QueuesOf) (frame : BatchedFrame) (bin : ℕ) (t : Task X) : Type 0 where
+  pub at : IsTaskAt stands beside queues frame bin t
+  pub whole : t.intake.batches ≡ batches_in frame
+
+-- all tasks of a frame are dealt
+abbrev pub AreShares : {X B : Type 0} → (X → B → PieceList → TileSpan → ℕ → Type 0) → B → QueuesOf → BatchedFrame
+    → ℕ → List (Share X) → Type 0
+AreShares {X} {B} stands beside queues frame workers shares =
+    AreDealt (IsTaskAt stands beside queues frame) workers (bin_count_of frame.cut) shares
+
+-- and drew all batches
 abbrev pub AreDrained : {X B : Type 0} → (X → B → PieceList → TileSpan → ℕ → Type 0) → B → QueuesOf → BatchedFrame
-    → ℕ → ℕ → List (Share X) → Type 0
-AreDrained {X} {B} stands beside queues frame told workers shares =
-    AreDealt (IsDrainedIn stands beside queues frame told) workers (bin_count_of frame.cut) shares
+    → ℕ → List (Share X) → Type 0
+AreDrained {X} {B} stands beside queues frame workers shares =
+    AreDealt (IsDrawnAt stands beside queues frame) workers (bin_count_of frame.cut) shares
 
 -- a worker was given one task more, behind its own
 pub record IsGiven {X : Type 0} (worker : ℕ) (task : Task X) (old new : List (Share X)) : Type 0 where

@@ -1,14 +1,15 @@
 //! A bin's task over the cells of its tiles.
 ghost use Rattle.std.specs.Prelude.{◌≡◌, ◌≤◌, ◌<◌};
 ghost use Rattle.binning.specs.Cut.{bin_count_of};
+ghost use Rattle.bin_queues.specs.Frames.{over};
 ghost use Rattle.bin_queues.specs.QueueParts.{batches_in, taken_before};
 ghost use Rattle.bin_queues.specs.Tasks.{GoesOn, IsTaskOf};
-ghost use Rattle.tile_queues.specs.CellBins.{HoldsBin};
-ghost use Rattle.bin_tasks.specs.Drains.{IsAnswer};
+ghost use Rattle.tile_queues.specs.CellBins.{HoldsBin, StandsInCells};
+ghost use Rattle.bin_tasks.specs.Drains.{HasDrained, IsAnswer, IsTaskIn};
 
 use crate::cell_bin::{CellBin, InCells};
-use bin_queues::{Intake, PartQueues};
-use bin_tasks::{Drained, Task, drain_task};
+use bin_queues::{Batched, Intake, PartQueues};
+use bin_tasks::{Drained, Drawing, Task};
 use bin_tiles::Gate;
 use cull_base::FrameList;
 use std::marker::Model;
@@ -31,6 +32,32 @@ impl Model for BinTask {
     ghost view = { λ s. s.task.intake };
 
     ghost invariant = { λ s. HoldsBin s.task.intake s.task.keeper };
+}
+
+// Draws what is in the queue of a bin.
+fn drain_in<'x, R: Wait, G: Gate>(
+    task: &mut Task<CellBin>,
+    queues: &'x PartQueues,
+    frame: Batched<'x>,
+    beside: &'x InCells<'x, R>,
+    gate: &'x G,
+) -> Drained
+    requires { let cells = beside.now.cells.now in
+        IsTaskIn StandsInCells cells queues.now (over frame cells) task.old }
+    ensures task { let cells = beside.now.cells.now in
+        IsTaskIn StandsInCells cells queues.now (over frame.entry cells) task.new }
+    ensures answer { IsAnswer result task.old.intake task.new.intake }
+    ensures drained { HasDrained task.old.intake task.new.intake }
+{
+    let rt = beside.rt;
+    let drawing = Drawing {
+        rt,
+        queues,
+        frame,
+        beside,
+        gate,
+    };
+    drawing.drain(task)
 }
 
 impl BinTask {
@@ -83,8 +110,17 @@ impl BinTask {
         ensures taken { self.new.taken ≡ taken_before self.new.of self.new.batches }
         ensures answer { IsAnswer result self.old self.new }
     {
+        let cut = *self.task.intake.cut();
+        let size = self.task.intake.size();
+        // an accessor tells what is held of a frame
+        let _bin = self.task.intake.bin();
         let beside = InCells { rt, cells };
-        let drained = drain_task(rt, queues, &mut self.task, &beside, list, gate);
+        let frame = Batched {
+            list,
+            cut: &cut,
+            size,
+        };
+        let drained = drain_in(&mut self.task, queues, frame, &beside, gate);
         // an accessor tells what is held of an intake
         let _taken = self.task.intake.taken();
         drained

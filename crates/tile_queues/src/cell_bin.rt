@@ -28,76 +28,71 @@ pub(crate) struct InCells<'a, R> {
     pub(crate) cells: &'a TileCells,
 }
 
-// Stores a member of the list in the cell of a tile that it meets.
+// A member of the list, set up, and the cells that take it.
+#[derive(Drop)]
+struct Member<'a, R> {
+    rt: &'a R,
+    cells: &'a TileCells,
+    list: &'a FrameList,
+    index: u32,
+    piece: &'a PieceSetup,
+    ghost inside: { index < length list.now.list.members },
+    ghost is: { slice_index_or list.now.list.members index piece.now ≡ piece.now },
+}
+
+// Stores a member in the cell of a tile that it meets.
 #[inline(always)]
-fn store<R: Wait>(
-    writer: &mut TileWriter,
-    beside: &InCells<R>,
-    list: &FrameList,
-    _index: u32,
-    piece: &PieceSetup,
-)
-    requires index { _index < length list.now.list.members }
-    requires piece { slice_index_or list.now.list.members _index piece.now ≡ piece.now }
-    requires met { meets (box_of piece.now) (tile_rect_of list.now.list.size writer.old.tile) ≡ true }
-    requires stands { Stands beside.now.cells.now list.now.list _index writer.old }
+fn store<R: Wait>(writer: &mut TileWriter, member: &Member<R>)
+    requires met { let m = member.now in
+        meets (box_of m.piece.now) (tile_rect_of m.list.now.list.size writer.old.tile) ≡ true }
+    requires stands { let m = member.now in Stands m.cells.now m.list.now.list m.index writer.old }
     ensures tile { writer.new.tile ≡ writer.old.tile }
-    ensures stands { Stands beside.now.cells.now list.now.list (_index + 1) writer.new }
+    ensures stands { let m = member.now in Stands m.cells.now m.list.now.list (m.index + 1) writer.new }
 {
-    let _list = list;
-    writer.take_set_up(beside.rt, beside.cells, piece);
+    writer.take_set_up(member.rt, member.cells, member.piece);
 }
 
 // Stores it in the tiles of one row, in the columns of a span.
 fn store_in_row<R: Wait>(
     writers: &mut [TileWriter],
-    beside: &InCells<R>,
-    list: &FrameList,
-    index: u32,
-    piece: &PieceSetup,
+    member: &Member<R>,
     window: TileSpan,
     span: TileSpan,
     row: u32,
 )
-    requires index { index < length list.now.list.members }
-    requires piece { slice_index_or list.now.list.members index piece.now ≡ piece.now }
-    requires window { IsSpan list.now.list.size window }
+    requires window { IsSpan member.now.list.now.list.size window }
     requires part { IsPartOf window span }
-    requires met { HasMet list.now.list.size window span piece.now }
+    requires met { HasMet member.now.list.now.list.size window span member.now.piece.now }
     requires row { (span.first_row ≤ row) × (row < span.end_row) }
-    requires stored { HasStored (is_passed span row span.first_column)
-        beside.now.cells.now list.now.list window index writers.old }
-    ensures { HasStored (is_passed span row span.end_column)
-        beside.now.cells.now list.now.list window index writers.new }
+    requires stored { let m = member.now in
+        HasStored (is_passed span row span.first_column) m.cells.now m.list.now.list window m.index writers.old }
+    ensures { let m = member.now in
+        HasStored (is_passed span row span.end_column) m.cells.now m.list.now.list window m.index writers.new }
 {
     let start = window.row_start(row);
     for column in span.first_column..span.end_column {
         let number = start + (column - window.first_column) as usize;
-        store(&mut writers[number], beside, list, index, piece);
+        store(&mut writers[number], member);
     }
 }
 
 // Stores it in the tiles of a span.
 fn store_in_span<R: Wait>(
     writers: &mut [TileWriter],
-    beside: &InCells<R>,
-    list: &FrameList,
-    index: u32,
-    piece: &PieceSetup,
+    member: &Member<R>,
     window: TileSpan,
     span: TileSpan,
 )
-    requires index { index < length list.now.list.members }
-    requires piece { slice_index_or list.now.list.members index piece.now ≡ piece.now }
-    requires window { IsSpan list.now.list.size window }
+    requires window { IsSpan member.now.list.now.list.size window }
     requires part { IsPartOf window span }
-    requires met { HasMet list.now.list.size window span piece.now }
-    requires stored { HasStored (is_passed span span.first_row span.first_column)
-        beside.now.cells.now list.now.list window index writers.old }
-    ensures { HasStored (has_tile span) beside.now.cells.now list.now.list window index writers.new }
+    requires met { HasMet member.now.list.now.list.size window span member.now.piece.now }
+    requires stored { let m = member.now in HasStored (is_passed span span.first_row span.first_column)
+        m.cells.now m.list.now.list window m.index writers.old }
+    ensures { let m = member.now in
+        HasStored (has_tile span) m.cells.now m.list.now.list window m.index writers.new }
 {
     for row in span.first_row..span.end_row {
-        store_in_row(writers, beside, list, index, piece, window, span, row);
+        store_in_row(writers, member, window, span, row);
     }
 }
 
@@ -120,8 +115,15 @@ impl<'a, R: Wait> Keeper<InCells<'a, R>> for CellBin {
         let tri = list.get(index);
         let span = TileSpan::of(&tri.boxed(), list.size()).cut(&self.window);
         let piece = PieceSetup::of(tri);
+        let member = Member {
+            rt: beside.rt,
+            cells: beside.cells,
+            list,
+            index,
+            piece: &piece,
+        };
         let writers = self.writers.as_mut_slice();
-        store_in_span(writers, beside, list, index, &piece, self.window, span);
+        store_in_span(writers, &member, self.window, span);
     }
 
     ghost passes = { λ k beside list window m n. writers_pass beside.cells.now list window m n k };

@@ -1,6 +1,5 @@
 //! A frame drawn by workers through cells, while a caller reads them.
 ghost use Rattle.std.specs.Prelude.{◌≡◌, ◌≤◌, ◌<◌, length, IfOk, OnOk};
-ghost use Rattle.binning.specs.Cut.{bin_count_of};
 ghost use Rattle.binning.specs.Parts.{batch_count_of};
 ghost use Rattle.cull_base.specs.Screen.{tile_count_of};
 ghost use Rattle.cull_base.specs.Tiles.{ArePieces};
@@ -8,7 +7,8 @@ ghost use Rattle.tile_cells.specs.Cells.{AreFresh};
 ghost use Rattle.tile_cells.specs.Standing.{AreStanding, IsReading};
 ghost use Rattle.tile_queues.specs.CellBins.{StandsInCells};
 ghost use Rattle.tile_queues.specs.Callers.{Follows};
-ghost use Rattle.bin_queues.specs.QueueParts.{batched, batches_in};
+ghost use Rattle.bin_queues.specs.Frames.{over};
+ghost use Rattle.bin_queues.specs.QueueParts.{batches_in};
 ghost use Rattle.tile_queues.specs.Shares.{AreDrained, AreShares};
 ghost use Rattle.bin_queues.specs.Tasks.{IsSubmitterOf};
 
@@ -20,7 +20,8 @@ use crate::drawing::draw_all;
 use crate::make_queues::make_over_cells;
 use crate::share::Share;
 use crate::submitter::Submitter;
-use bin_queues::{PartQueues, Sender};
+use bin_queues::{Batched, Sender};
+use bin_tasks::Drawing;
 use bin_tiles::Gate;
 use binning::Cut;
 use cull_base::{FrameList, Memory};
@@ -31,36 +32,23 @@ use tile_cells::{TileCells, TileReader, TileWriter};
 
 // Draws all batches into the cells.
 fn draw_cells<R: Threads + Wait + Sync, G: Gate>(
-    rt: &R,
+    drawing: &Drawing<R, InCells<R>, G>,
     alloc: Global,
-    queues: &PartQueues,
     sender: &mut Sender,
     shares: &mut [Share<CellBin>],
-    cells: &TileCells,
-    list: &FrameList,
-    cut: &Cut,
-    size: u32,
     workers: u32,
-    gate: &G,
 ) -> Result<(), Memory>
-    requires size { 1 ≤ size }
-    requires some { 0 < workers }
-    requires few { workers ≤ 64 }
-    requires sender { IsSubmitterOf queues.now sender.old }
-    requires frame { sender.old.frame ≡ batched list.now.list cut.now size cells.now }
+    requires sender { IsSubmitterOf drawing.now.queues.now sender.old }
+    requires frame { sender.old.frame ≡ over drawing.now.frame drawing.now.beside.now.cells.now }
     requires none { sender.old.batches ≡ 0 }
-    requires shares { let frame = batched list.now.list cut.now size cells.now in
-        AreShares StandsInCells cells.now queues.now frame 0 workers shares.old }
+    requires shares { let d = drawing.now in let cells = d.beside.now.cells.now in
+        AreShares StandsInCells cells d.queues.now (over d.frame cells) workers shares.old }
     ensures submitted { OnOk result
         (sender.new ≡ record sender.old { batches = batches_in sender.old.frame }) }
-    ensures drawn { let frame = batched list.now.list cut.now size cells.now in
-        OnOk result (AreDrained StandsInCells cells.now queues.now frame (batches_in frame) workers shares.new) }
+    ensures drawn { let d = drawing.now in let cells = d.beside.now.cells.now in
+        OnOk result (AreDrained StandsInCells cells d.queues.now (over d.frame cells) workers shares.new) }
 {
-    let beside = InCells { rt, cells };
-    draw_all(
-        rt, alloc, queues, sender, shares, &beside, list, cut, size, workers, gate,
-    )?;
-    Ok(())
+    draw_all(drawing, alloc, sender, shares, workers)
 }
 
 // The caller reads the cells.
@@ -82,38 +70,30 @@ fn read_cells<R: Threads + Wait + Sync, C: Caller>(
 
 // Draws all batches into the cells, while the caller reads them. The caller has a thread of its own.
 fn draw_and_read<R: Threads + Wait + Sync, G: Gate, C: Caller>(
-    rt: &R,
+    drawing: &Drawing<R, InCells<R>, G>,
     alloc: Global,
-    queues: &PartQueues,
     sender: &mut Sender,
     shares: &mut [Share<CellBin>],
-    cells: &TileCells,
-    reader: &mut TileReader,
-    list: &FrameList,
-    cut: &Cut,
-    size: u32,
     workers: u32,
-    gate: &G,
+    reader: &mut TileReader,
     caller: &mut C,
 ) -> Result<(), Memory>
-    requires size { 1 ≤ size }
-    requires some { 0 < workers }
-    requires few { workers ≤ 64 }
-    requires sender { IsSubmitterOf queues.now sender.old }
-    requires frame { sender.old.frame ≡ batched list.now.list cut.now size cells.now }
+    requires sender { IsSubmitterOf drawing.now.queues.now sender.old }
+    requires frame { sender.old.frame ≡ over drawing.now.frame drawing.now.beside.now.cells.now }
     requires none { sender.old.batches ≡ 0 }
-    requires shares { let frame = batched list.now.list cut.now size cells.now in
-        AreShares StandsInCells cells.now queues.now frame 0 workers shares.old }
-    requires reader { IsReading cells.now list.now.list reader.old }
-    requires ready { C.ready caller.old list.now.list }
+    requires shares { let d = drawing.now in let cells = d.beside.now.cells.now in
+        AreShares StandsInCells cells d.queues.now (over d.frame cells) workers shares.old }
+    requires reader { IsReading drawing.now.beside.now.cells.now drawing.now.frame.list.now.list reader.old }
+    requires ready { C.ready caller.old drawing.now.frame.list.now.list }
     ensures submitted { OnOk result
         (sender.new ≡ record sender.old { batches = batches_in sender.old.frame }) }
-    ensures drawn { let frame = batched list.now.list cut.now size cells.now in
-        OnOk result (AreDrained StandsInCells cells.now queues.now frame (batches_in frame) workers shares.new) }
-    ensures done { C.done caller.new list.now.list reader.new }
+    ensures drawn { let d = drawing.now in let cells = d.beside.now.cells.now in
+        OnOk result (AreDrained StandsInCells cells d.queues.now (over d.frame cells) workers shares.new) }
+    ensures done { C.done caller.new drawing.now.frame.list.now.list reader.new }
     ensures keeps { C.keeps caller.old caller.new }
     ensures follows { Follows reader.old reader.new }
 {
+    let (rt, cells, list) = (drawing.rt, drawing.beside.cells, drawing.frame.list);
     let ((), drawn) = join_mut(
         rt,
         &mut ||
@@ -124,24 +104,16 @@ fn draw_and_read<R: Threads + Wait + Sync, G: Gate, C: Caller>(
             ensures follows { Follows reader.entry.now reader.exit.now }
         { read_cells(rt, cells, reader, list, caller) },
         &mut || -> Result<(), Memory>
-            requires size { 1 ≤ size }
-            requires some { 0 < workers }
-            requires few { workers ≤ 64 }
-            requires sender { IsSubmitterOf queues.now sender.now }
-            requires frame { sender.now.frame ≡ batched list.now.list cut.now size cells.now }
+            requires sender { IsSubmitterOf drawing.now.queues.now sender.now }
+            requires frame { sender.now.frame ≡ over drawing.now.frame drawing.now.beside.now.cells.now }
             requires none { sender.now.batches ≡ 0 }
-            requires shares { let frame = batched list.now.list cut.now size cells.now in
-                AreShares StandsInCells cells.now queues.now frame 0 workers shares.now }
+            requires shares { let d = drawing.now in let cells = d.beside.now.cells.now in
+                AreShares StandsInCells cells d.queues.now (over d.frame cells) workers shares.now }
             ensures submitted { OnOk result
                 (sender.exit.now ≡ record sender.entry.now { batches = batches_in sender.entry.now.frame }) }
-            ensures drawn { let frame = batched list.entry.now.list cut.entry.now size cells.entry.now in
-                OnOk result (AreDrained StandsInCells cells.entry.now queues.entry.now frame (batches_in frame) workers
-                shares.exit.now) }
-        {
-            draw_cells(
-                rt, alloc, queues, sender, shares, cells, list, cut, size, workers, gate,
-            )
-        },
+            ensures drawn { let d = drawing.entry.now in let cells = d.beside.now.cells.now in
+                OnOk result (AreDrained StandsInCells cells d.queues.now (over d.frame cells) workers shares.exit.now) }
+        { draw_cells(drawing, alloc, sender, shares, workers) },
     );
     drawn
 }
@@ -186,24 +158,24 @@ pub fn draw_frame<R: Threads + Wait + Sync, G: Gate, C: Caller>(
     // accessors tell what is held of a cut and of a list
     let (_columns, _len) = (cut.columns(), list.len());
     let workers = workers.min(cut.bins());
-    let (queues, submitter, tasks) = make_over_cells(alloc, list, cut, batch, writers)?;
-    let (mut sender, slots, room) = submitter.into_parts();
-    let mut shares = deal(alloc, &queues, tasks, cells, list, cut, batch, workers)?;
-    draw_and_read(
-        rt,
-        alloc,
-        &queues,
-        &mut sender,
-        shares.as_mut_slice(),
-        cells,
-        reader,
+    let frame = Batched {
         list,
         cut,
-        batch,
-        workers,
+        size: batch,
+    };
+    let (queues, submitter, tasks) = make_over_cells(alloc, &frame, writers)?;
+    let (mut sender, slots, room) = submitter.into_parts();
+    let beside = InCells { rt, cells };
+    let drawing = Drawing {
+        rt,
+        queues: &queues,
+        frame,
+        beside: &beside,
         gate,
-        caller,
-    )?;
-    let tasks = take_tasks(alloc, &queues, shares, cells, list, cut, batch, workers)?;
+    };
+    let mut shares = deal(&drawing, alloc, tasks, workers)?;
+    let lent = shares.as_mut_slice();
+    draw_and_read(&drawing, alloc, &mut sender, lent, workers, reader, caller)?;
+    let tasks = take_tasks(&drawing, alloc, shares, workers)?;
     Ok(hand_back(&queues, Submitter::of(sender, slots, room), tasks))
 }

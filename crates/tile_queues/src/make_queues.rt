@@ -1,17 +1,16 @@
 //! How the queues of a frame over cells are made, with their submitter and the bins' tasks.
 ghost use Rattle.std.specs.Prelude.{◌≡◌, ◌≤◌, List, [], length, vec_capacity, IfOk};
 ghost use Rattle.atomic_table.specs.Seated.{TableId};
-ghost use Rattle.binning.specs.Parts.{batch_count_of};
 ghost use Rattle.cull_base.specs.Screen.{tile_count_of};
-ghost use Rattle.bin_queues.specs.QueueParts.{BatchedFrame, batched};
+ghost use Rattle.bin_queues.specs.Frames.{over};
+ghost use Rattle.bin_queues.specs.QueueParts.{BatchedFrame};
 ghost use Rattle.bin_queues.specs.Tasks.{AreFirstTasks, IsSubmitterOf};
 ghost use Rattle.tile_queues.specs.Owners.{AreFirst, AreFirstOf, cells_of};
 
 use crate::bin_task::BinTask;
 use crate::submitter::Submitter;
 use crate::tile_slots::{into_slots, make_tasks};
-use bin_queues::{Intake, PartQueues, Sender};
-use binning::Cut;
+use bin_queues::{Batched, Intake, PartQueues, Sender};
 use cull_base::{FrameList, Memory};
 use std::alloc::Global;
 use tile_cells::TileWriter;
@@ -19,21 +18,17 @@ use tile_cells::TileWriter;
 // The queues of a frame over the cells of these writers.
 fn open_over(
     alloc: Global,
-    list: &FrameList,
-    cut: &Cut,
-    batch: u32,
+    frame: &Batched,
     _writers: &[TileWriter],
 ) -> Result<(PartQueues, Sender, Vec<Intake>), Memory>
     ghost cells: { List TableId }
-    requires batch { 1 ≤ batch }
-    requires few { batch_count_of (length list.now.list.members) batch ≤ 2048 }
     requires cells { cells ≡ cells_of _writers.now }
     ensures sender { IfOk result (λ r. IsSubmitterOf r.0 r.1) }
     ensures frame { IfOk result (λ r.
-        (r.1.frame ≡ batched list.now.list cut.now batch (cells_of _writers.now)) × (r.1.batches ≡ 0)) }
+        (r.1.frame ≡ over frame.now (cells_of _writers.now)) × (r.1.batches ≡ 0)) }
     ensures intakes { IfOk result (λ r. AreFirstTasks r.0 r.1.frame r.2.items) }
 {
-    PartQueues::open(alloc, list, cut, batch)
+    PartQueues::open(alloc, frame)
 }
 
 // Gives each bin's task its writers. With the tasks come the slots of all tiles, and an empty list with room for all
@@ -60,20 +55,16 @@ fn deal(
 /// What `BinQueues::make` gives.
 pub(crate) fn make_over_cells(
     alloc: Global,
-    list: &FrameList,
-    cut: &Cut,
-    batch: u32,
+    frame: &Batched,
     writers: Vec<TileWriter>,
 ) -> Result<(PartQueues, Submitter, Vec<BinTask>), Memory>
-    requires batch { 1 ≤ batch }
-    requires few { batch_count_of (length list.now.list.members) batch ≤ 2048 }
-    requires writers { AreFirst list.now.list writers.items }
+    requires writers { AreFirst frame.now.list.now.list writers.items }
     ensures submitter { IfOk result (λ r. IsSubmitterOf r.0 r.1) }
     ensures frame { IfOk result (λ r.
-        (r.1.frame ≡ batched list.now.list cut.now batch (cells_of writers.items)) × (r.1.batches ≡ 0)) }
+        (r.1.frame ≡ over frame.now (cells_of writers.items)) × (r.1.batches ≡ 0)) }
     ensures tasks { IfOk result (λ r. AreFirstTasks r.0 r.1.frame r.2.items) }
 {
-    let (queues, sender, intakes) = open_over(alloc, list, cut, batch, writers.as_slice())?;
-    let (slots, room, tasks) = deal(alloc, list, intakes, writers)?;
+    let (queues, sender, intakes) = open_over(alloc, frame, writers.as_slice())?;
+    let (slots, room, tasks) = deal(alloc, frame.list, intakes, writers)?;
     Ok((queues, Submitter::of(sender, slots, room), tasks))
 }

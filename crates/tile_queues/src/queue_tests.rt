@@ -1,12 +1,13 @@
 //! Batches go through queues to the tasks of two bins.
-ghost use Rattle.std.specs.Prelude.{◌≡◌, ◌≤◌, ◌<◌, ◌+◌, length, IfOk, OnOk};
-ghost use Rattle.binning.specs.Parts.{batch_count_of};
+ghost use Rattle.std.specs.Prelude.{◌≡◌, ◌<◌, ◌+◌, length, IfOk, OnOk};
 ghost use Rattle.tile_queues.specs.Owners.{AreTasksOf};
-ghost use Rattle.bin_queues.specs.QueueParts.{batched, batches_in};
+ghost use Rattle.bin_queues.specs.Frames.{over};
+ghost use Rattle.bin_queues.specs.QueueParts.{batches_in};
 ghost use Rattle.bin_queues.specs.Tasks.{IsSubmitterOf};
 
 use crate::{BinQueues, BinTask, Drained, Gate, Submitter};
-use binning::{BinPart, Cut, batch_count, batch_size, bin_batch};
+use bin_queues::Batched;
+use binning::{BinPart, Cut, batch_size, bin_batch};
 use cull_base::{FrameList, Memory, ScreenTri, Size};
 use std::alloc::Global;
 use std::sync::Wait;
@@ -59,18 +60,15 @@ fn three(rt: &HostRuntime) -> Result<FrameList, Fail> {
 fn open<R: Wait>(
     rt: &R,
     alloc: Global,
-    list: &FrameList,
-    cut: &Cut,
-    batch: u32,
+    frame: &Batched,
 ) -> Result<(TileCells, BinQueues, Submitter, Vec<BinTask>), Memory>
-    requires batch { 1 ≤ batch }
-    requires few { batch_count_of (length list.now.list.members) batch ≤ 2048 }
     ensures submitter { IfOk result (λ r. IsSubmitterOf r.1 r.2) }
-    ensures frame { IfOk result (λ r. r.2.frame ≡ batched list.now.list cut.now batch r.0) }
-    ensures tasks { IfOk result (λ r. AreTasksOf r.1 (batched list.now.list cut.now batch r.0) r.3.items) }
+    ensures frame { IfOk result (λ r. r.2.frame ≡ over frame.now r.0) }
+    ensures tasks { IfOk result (λ r. AreTasksOf r.1 (over frame.now r.0) r.3.items) }
 {
+    let (list, cut) = (frame.list, frame.cut);
     let (cells, writers, _readers) = TileCells::make(rt, alloc, list, 0)?;
-    let (queues, submitter, tasks) = BinQueues::make(rt, alloc, list, cut, batch, writers)?;
+    let (queues, submitter, tasks) = BinQueues::make(rt, alloc, list, cut, frame.size, writers)?;
     Ok((cells, queues, submitter, tasks))
 }
 
@@ -82,56 +80,48 @@ fn have_members(parts: &[BinPart], first: &[u32], second: &[u32]) -> bool {
 // Bins and submits the next batch. Whether its parts have these members.
 fn submit_parts<R: Wait>(
     rt: &R,
-    alloc: Global,
     queues: &BinQueues,
     submitter: &mut Submitter,
-    list: &FrameList,
-    cut: &Cut,
-    size: u32,
+    frame: &Batched,
+    alloc: Global,
     first: &[u32],
     second: &[u32],
 ) -> Result<bool, Memory>
     requires queues { IsSubmitterOf queues.now submitter.old }
-    requires list { submitter.old.frame.list ≡ list.now.list }
-    requires cut { submitter.old.frame.cut ≡ cut.now }
-    requires size { submitter.old.frame.size ≡ size }
-    requires some { 1 ≤ size }
+    requires frame { submitter.old.frame ≡ over frame.now submitter.old.frame.cells }
     requires short { submitter.old.batches < batches_in submitter.old.frame }
     ensures { OnOk result (submitter.new ≡ record submitter.old { batches = submitter.old.batches + 1 }) }
 {
+    let (list, size) = (frame.list, frame.size);
     let batch = submitter.batches();
     let len = list.len();
     let from = len.min(batch.saturating_mul(size));
     let to = len.min((batch + 1).saturating_mul(size));
-    let parts = bin_batch(alloc, list, batch, from, to, cut)?;
+    let parts = bin_batch(alloc, list, batch, from, to, frame.cut)?;
     let same = have_members(parts.as_slice(), first, second);
     queues.submit(rt, submitter, parts);
     Ok(same)
 }
 
-// The same of a frame, if a batch is left.
+// The same, if a batch is left.
 fn submit_next<R: Wait>(
     rt: &R,
-    alloc: Global,
     queues: &BinQueues,
     submitter: &mut Submitter,
-    _cells: &TileCells,
-    list: &FrameList,
-    cut: &Cut,
-    size: u32,
+    frame: &Batched,
+    alloc: Global,
     first: &[u32],
     second: &[u32],
 ) -> Result<bool, Memory>
     requires of { IsSubmitterOf queues.now submitter.old }
-    requires frame { submitter.old.frame ≡ batched list.now.list cut.now size _cells.now }
-    requires some { 1 ≤ size }
+    requires frame { submitter.old.frame ≡ over frame.now submitter.old.frame.cells }
     ensures of { OnOk result (IsSubmitterOf queues.now submitter.new) }
-    ensures frame { OnOk result (submitter.new.frame ≡ batched list.now.list cut.now size _cells.now) }
+    ensures frame { OnOk result (submitter.new.frame ≡ submitter.old.frame) }
 {
-    if submitter.batches() >= batch_count(list.len(), size) {
+    if submitter.batches() >= frame.batches() {
         return Ok(false);
     }
-    submit_parts(rt, alloc, queues, submitter, list, cut, size, first, second)
+    submit_parts(rt, queues, submitter, frame, alloc, first, second)
 }
 
 // Drains the queue of a task, and gives how that ended.
@@ -141,16 +131,14 @@ fn drain_at<R: Wait, G: Gate>(
     tasks: &mut Vec<BinTask>,
     place: usize,
     cells: &TileCells,
-    list: &FrameList,
-    _cut: &Cut,
-    _size: u32,
+    frame: &Batched,
     gate: &G,
 ) -> Drained
     requires place { place < length tasks.old.items }
-    requires tasks { AreTasksOf queues.now (batched list.now.list _cut.now _size cells.now) tasks.old.items }
-    ensures { AreTasksOf queues.now (batched list.now.list _cut.now _size cells.now) tasks.new.items }
+    requires tasks { AreTasksOf queues.now (over frame.now cells.now) tasks.old.items }
+    ensures { AreTasksOf queues.now (over frame.now cells.now) tasks.new.items }
 {
-    queues.drain(rt, &mut tasks[place], cells, list, gate)
+    queues.drain(rt, &mut tasks[place], cells, frame.list, gate)
 }
 
 // The same, if there is such a task.
@@ -160,18 +148,16 @@ fn drain_one<R: Wait, G: Gate>(
     tasks: &mut Vec<BinTask>,
     place: usize,
     cells: &TileCells,
-    list: &FrameList,
-    cut: &Cut,
-    size: u32,
+    frame: &Batched,
     gate: &G,
 ) -> Option<Drained>
-    requires { AreTasksOf queues.now (batched list.now.list cut.now size cells.now) tasks.old.items }
-    ensures { AreTasksOf queues.now (batched list.now.list cut.now size cells.now) tasks.new.items }
+    requires { AreTasksOf queues.now (over frame.now cells.now) tasks.old.items }
+    ensures { AreTasksOf queues.now (over frame.now cells.now) tasks.new.items }
 {
     if place >= tasks.len() {
         return None;
     }
-    let drained = drain_at(rt, queues, tasks, place, cells, list, cut, size, gate);
+    let drained = drain_at(rt, queues, tasks, place, cells, frame, gate);
     Some(drained)
 }
 
@@ -181,13 +167,11 @@ fn close(
     submitter: Submitter,
     tasks: Vec<BinTask>,
     _cells: &TileCells,
-    _list: &FrameList,
-    _cut: &Cut,
-    _batch: u32,
+    _frame: &Batched,
 ) -> Vec<TileWriter>
     requires of { IsSubmitterOf queues submitter }
-    requires frame { submitter.frame ≡ batched _list.now.list _cut.now _batch _cells.now }
-    requires tasks { AreTasksOf queues (batched _list.now.list _cut.now _batch _cells.now) tasks.items }
+    requires frame { submitter.frame ≡ over _frame.now _cells.now }
+    requires tasks { AreTasksOf queues (over _frame.now _cells.now) tasks.items }
 {
     queues.close(submitter, tasks)
 }
@@ -195,45 +179,19 @@ fn close(
 // Submits both batches of the three pieces. Whether their parts are as they should be.
 fn submit_both<R: Wait>(
     rt: &R,
-    alloc: Global,
     queues: &BinQueues,
     submitter: &mut Submitter,
-    cells: &TileCells,
-    list: &FrameList,
-    cut: &Cut,
-    size: u32,
+    frame: &Batched,
+    alloc: Global,
 ) -> Result<bool, Memory>
     requires of { IsSubmitterOf queues.now submitter.old }
-    requires frame { submitter.old.frame ≡ batched list.now.list cut.now size cells.now }
-    requires some { 1 ≤ size }
+    requires frame { submitter.old.frame ≡ over frame.now submitter.old.frame.cells }
     ensures of { OnOk result (IsSubmitterOf queues.now submitter.new) }
-    ensures frame { OnOk result (submitter.new.frame ≡ batched list.now.list cut.now size cells.now) }
+    ensures frame { OnOk result (submitter.new.frame ≡ submitter.old.frame) }
 {
     let both = [0, 1];
-    let first = submit_next(
-        rt,
-        alloc,
-        queues,
-        submitter,
-        cells,
-        list,
-        cut,
-        size,
-        &both,
-        &[1],
-    )?;
-    let second = submit_next(
-        rt,
-        alloc,
-        queues,
-        submitter,
-        cells,
-        list,
-        cut,
-        size,
-        &[],
-        &[2],
-    )?;
+    let first = submit_next(rt, queues, submitter, frame, alloc, &both, &[1])?;
+    let second = submit_next(rt, queues, submitter, frame, alloc, &[], &[2])?;
     Ok(first && second)
 }
 
@@ -243,16 +201,14 @@ fn drain_both<R: Wait, G: Gate>(
     queues: &BinQueues,
     tasks: &mut Vec<BinTask>,
     cells: &TileCells,
-    list: &FrameList,
-    cut: &Cut,
-    size: u32,
+    frame: &Batched,
     gate: &G,
 ) -> [Option<Drained>; 2]
-    requires { AreTasksOf queues.now (batched list.now.list cut.now size cells.now) tasks.old.items }
-    ensures { AreTasksOf queues.now (batched list.now.list cut.now size cells.now) tasks.new.items }
+    requires { AreTasksOf queues.now (over frame.now cells.now) tasks.old.items }
+    ensures { AreTasksOf queues.now (over frame.now cells.now) tasks.new.items }
 {
-    let left = drain_one(rt, queues, tasks, 0, cells, list, cut, size, gate);
-    let right = drain_one(rt, queues, tasks, 1, cells, list, cut, size, gate);
+    let left = drain_one(rt, queues, tasks, 0, cells, frame, gate);
+    let right = drain_one(rt, queues, tasks, 1, cells, frame, gate);
     [left, right]
 }
 
@@ -261,33 +217,25 @@ fn both_bins_are_whole_after_both_batches(rt: HostRuntime) -> Result<(), Fail> {
     let alloc = rt.alloc();
     let list = three(&rt)?;
     let cut = Cut::new(2, 1).ok_or("a cut")?;
-    let batch = batch_size(list.len(), 2);
+    let size = batch_size(list.len(), 2);
+    let frame = Batched {
+        list: &list,
+        cut: &cut,
+        size,
+    };
     let gate = CountingGate::new();
-    let (cells, queues, mut submitter, mut tasks) = open(&rt, alloc, &list, &cut, batch)?;
-    let drained = drain_one(
-        &rt, &queues, &mut tasks, 0, &cells, &list, &cut, batch, &gate,
-    );
+    let (cells, queues, mut submitter, mut tasks) = open(&rt, alloc, &frame)?;
+    let drained = drain_one(&rt, &queues, &mut tasks, 0, &cells, &frame, &gate);
     assert!(rt; drained == Some(Drained::Empty));
     assert_eq!(rt; gate.idle.load(Ordering::SeqCst), 1);
     assert_eq!(rt; gate.before.load(Ordering::SeqCst), 0);
-    assert!(rt;
-        submit_both(
-            &rt,
-            alloc,
-            &queues,
-            &mut submitter,
-            &cells,
-            &list,
-            &cut,
-            batch
-        )?
-    );
+    assert!(rt; submit_both(&rt, &queues, &mut submitter, &frame, alloc)?);
     assert_eq!(rt; submitter.batches(), 2);
-    let drained = drain_both(&rt, &queues, &mut tasks, &cells, &list, &cut, batch, &gate);
+    let drained = drain_both(&rt, &queues, &mut tasks, &cells, &frame, &gate);
     assert!(rt; drained == [Some(Drained::Whole), Some(Drained::Whole)]);
     assert_eq!(rt; gate.idle.load(Ordering::SeqCst), 1);
     assert_eq!(rt; gate.before.load(Ordering::SeqCst), 4);
-    let writers = close(queues, submitter, tasks, &cells, &list, &cut, batch);
+    let writers = close(queues, submitter, tasks, &cells, &frame);
     assert_eq!(rt; writers.len(), 2);
     assert_eq!(rt; writers[0].count(), 2);
     assert_eq!(rt; writers[1].count(), 2);

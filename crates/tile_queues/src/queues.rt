@@ -10,7 +10,7 @@ use crate::bin_task::BinTask;
 use crate::close_queues::hand_back;
 use crate::make_queues::make_over_cells;
 use crate::submitter::Submitter;
-use bin_queues::PartQueues;
+use bin_queues::{Batched, PartQueues};
 use bin_tasks::Drained;
 use bin_tiles::Gate;
 use binning::{BinPart, Cut};
@@ -55,7 +55,12 @@ impl BinQueues {
             (r.1.frame ≡ batched list.now.list cut.now batch (cells_of writers.items)) × (r.1.batches ≡ 0)) }
         ensures tasks { IfOk result (λ r. AreFirstTasks r.0 r.1.frame r.2.items) }
     {
-        let (queues, submitter, tasks) = make_over_cells(alloc, list, cut, batch, writers)?;
+        let frame = Batched {
+            list,
+            cut,
+            size: batch,
+        };
+        let (queues, submitter, tasks) = make_over_cells(alloc, &frame, writers)?;
         Ok((BinQueues { queues }, submitter, tasks))
     }
 

@@ -6,9 +6,9 @@ use Rattle.bin_tiles.proofs.one_worker.draw_in_rooms.Given as goal
 abbrev pub invariant-loop-batch : goal.invariant-loop-batch
 invariant-loop-batch g l =
     record {
-      from : l.from ≡ min (l.batch * l.size) (length l.list.list.members);
-      rooms : AreRoomsOf l.list.list.size l.cut l.rooms;
+      from : l.from ≡ min (l.batch * l.size) (length l.screen.list.now.list.members);
+      rooms : AreRoomsOf l.screen.list.now.list.size l.screen.cut.now l.rooms;
       around : IsAround l.around l.rooms;
-      taken : HaveTaken l.list.list l.cut l.from l.taken;
-      bins : AreBinsAt g.K.Keeper.stands l.beside l.list.list l.cut l.from l.bins;
+      taken : HaveTaken l.screen.list.now.list l.screen.cut.now l.from l.taken;
+      bins : AreBinsAt g.K.Keeper.stands l.screen.beside.now l.screen.list.now.list l.screen.cut.now l.from l.bins;
     }

@@ -5,6 +5,6 @@ use Rattle.bin_tiles.proofs.unbinned.draw_places.Given as goal
 abbrev pub invariant-loop-index : goal.invariant-loop-index
 invariant-loop-index g l =
     record {
-      drawn : l.drawn ≡ drawn_of l.list.list l.cut l.index l.bin;
-      stands : IsBinAt g.K.Keeper.stands l.beside l.list.list l.cut l.index l.bin l.keeper;
+      drawn : l.drawn ≡ drawn_of l.screen.list.now.list l.screen.cut.now l.index l.bin;
+      stands : IsBinAt g.K.Keeper.stands l.screen.beside.now l.screen.list.now.list l.screen.cut.now l.index l.bin l.keeper;
     }

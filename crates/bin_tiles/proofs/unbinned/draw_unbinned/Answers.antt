@@ -6,12 +6,12 @@ use Rattle.bin_tiles.proofs.Counting.{drawn_none}
 use Rattle.bin_tiles.proofs.unbinned.draw_unbinned.Goals as goal
 
 pub loop-batch-init : goal.loop-batch-init
-loop-batch-init g c = record { from = omega arith; taken = sym (drawn_none c.args.list.now.list c.args.cut.now c.args.bin); stands = c.requires.stands }
+loop-batch-init g c = record { from = omega arith; taken = sym (drawn_none c.args.screen.now.list.now.list c.args.screen.now.cut.now c.args.bin); stands = c.requires.stands }
 
 pub returns : goal.returns
 returns g c =
-    let len = length c.args.list.now.list.members in
+    let len = length c.args.screen.now.list.now.list.members in
     let all : c.batch_count-batch-end.result ≡ batch_count_of len c.args.size = c.batch_count-batch-end.ensures ∙ ap (λ n. batch_count_of n c.args.size) c.len-len.ensures.value in
     let last : c.loop-batch.batch ≡ batch_count_of len c.args.size = omega (arith, all, c.loop-batch-test.false, c.loop-batch.auto.batch-end) in
     let whole = c.loop-batch.invariant.from ∙ ap (λ n. min (n * c.args.size) len) last ∙ batches_end len c.args.size (omega (arith, c.requires.size)) in
-    subst (λ k. IsBinAt g.K.Keeper.stands c.args.beside.now c.args.list.now.list c.args.cut.now k c.args.bin c.loop-batch.keeper) whole c.loop-batch.invariant.stands
+    subst (λ k. IsBinAt g.K.Keeper.stands c.args.screen.now.beside.now c.args.screen.now.list.now.list c.args.screen.now.cut.now k c.args.bin c.loop-batch.keeper) whole c.loop-batch.invariant.stands

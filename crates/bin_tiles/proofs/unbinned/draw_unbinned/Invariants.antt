@@ -5,7 +5,7 @@ use Rattle.bin_tiles.proofs.unbinned.draw_unbinned.Given as goal
 abbrev pub invariant-loop-batch : goal.invariant-loop-batch
 invariant-loop-batch g l =
     record {
-      from : l.from ≡ min (l.batch * l.size) (length l.list.list.members);
-      taken : l.taken ≡ drawn_of l.list.list l.cut l.from l.bin;
-      stands : IsBinAt g.K.Keeper.stands l.beside l.list.list l.cut l.from l.bin l.keeper;
+      from : l.from ≡ min (l.batch * l.size) (length l.screen.list.now.list.members);
+      taken : l.taken ≡ drawn_of l.screen.list.now.list l.screen.cut.now l.from l.bin;
+      stands : IsBinAt g.K.Keeper.stands l.screen.beside.now l.screen.list.now.list l.screen.cut.now l.from l.bin l.keeper;
     }

@@ -10,35 +10,35 @@ use Rattle.bin_tiles.proofs.PlacesInTurn.{moved}
 use Rattle.bin_tiles.proofs.unbinned.draw_where_met.Goals as goal
 
 pub draw_next-requires-clause-window : goal.draw_next-requires-clause-window
-draw_next-requires-clause-window g c κs within = bin_is_span c.args.list.now.list.size c.args.cut.now c.args.bin c.columns-columns.ensures.valid c.requires.bin
+draw_next-requires-clause-window g c κs within = bin_is_span c.args.screen.now.list.now.list.size c.args.screen.now.cut.now c.args.bin c.columns-columns.ensures.valid c.requires.bin
 
 pub overflow_add-result : goal.overflow_add-result
 overflow_add-result g c =
-    let most = drawn_within c.args.list.now.list c.args.cut.now c.args.bin c.args.index in
+    let most = drawn_within c.args.screen.now.list.now.list c.args.screen.now.cut.now c.args.bin c.args.index in
     omega (arith, most, c.requires.taken, c.requires.index, c.len-len.ensures.value, c.len-len.ensures.within, c.len-len.ensures.small)
 
 pub returns-then-meets-clause-taken : goal.returns-then-meets-clause-taken
 returns-then-meets-clause-taken g c =
-    let list = c.args.list.now.list in
-    let rect = bin_rect_of list.size c.args.cut.now c.args.bin in
+    let list = c.args.screen.now.list.now.list in
+    let rect = bin_rect_of list.size c.args.screen.now.cut.now c.args.bin in
     let met : meets_at rect list.members c.args.index ≡ true =
     meets_at-is rect list.members c.args.index c.get.result.now c.requires.index (sym c.get.ensures) ∙ (λ i. meets (sym c.boxed.ensures i) (sym c.requires.rect i)) ∙ sym c.meets.ensures.value ∙ c.if-meets.true in
-    ap (λ k. k + 1) c.requires.taken ∙ sym (drawn_more list c.args.cut.now c.args.bin c.args.index met)
+    ap (λ k. k + 1) c.requires.taken ∙ sym (drawn_more list c.args.screen.now.cut.now c.args.bin c.args.index met)
 
 pub returns-else-meets-clause-taken : goal.returns-else-meets-clause-taken
 returns-else-meets-clause-taken g c =
-    let list = c.args.list.now.list in
-    let rect = bin_rect_of list.size c.args.cut.now c.args.bin in
+    let list = c.args.screen.now.list.now.list in
+    let rect = bin_rect_of list.size c.args.screen.now.cut.now c.args.bin in
     let off : meets_at rect list.members c.args.index ≡ false =
     meets_at-is rect list.members c.args.index c.get.result.now c.requires.index (sym c.get.ensures) ∙ (λ i. meets (sym c.boxed.ensures i) (sym c.requires.rect i)) ∙ sym c.meets.ensures.value ∙ c.if-meets.false in
-    c.requires.taken ∙ sym (drawn_missed list c.args.cut.now c.args.bin c.args.index off)
+    c.requires.taken ∙ sym (drawn_missed list c.args.screen.now.cut.now c.args.bin c.args.index off)
 
 pub returns-else-meets-clause-stands : goal.returns-else-meets-clause-stands
 returns-else-meets-clause-stands g c =
-    let list = c.args.list.now.list in
-    let rect = bin_rect_of list.size c.args.cut.now c.args.bin in
+    let list = c.args.screen.now.list.now.list in
+    let rect = bin_rect_of list.size c.args.screen.now.cut.now c.args.bin in
     let sized = subst (λ (s : Dimensions). IsSize s.width s.height) c.size.ensures c.width-width.ensures.valid in
     let off : meets_at rect list.members c.args.index ≡ false =
     meets_at-is rect list.members c.args.index c.get.result.now c.requires.index (sym c.get.ensures) ∙ (λ i. meets (sym c.boxed.ensures i) (sym c.requires.rect i)) ∙ sym c.meets.ensures.value ∙ c.if-meets.false in
-    moved g.K.Keeper.stands g.met.K.Keeper.passes c.args.beside.now list c.args.cut.now c.args.bin sized c.columns-columns.ensures.valid c.args.index (c.args.index + 1) c.args.keeper.now (omega arith)
+    moved g.K.Keeper.stands g.met.K.Keeper.passes c.args.screen.now.beside.now list c.args.screen.now.cut.now c.args.bin sized c.columns-columns.ensures.valid c.args.index (c.args.index + 1) c.args.keeper.now (omega arith)
     (λ n le lt. let here : n ≡ c.args.index = omega (arith, le, lt) in ap (meets_at rect list.members) here ∙ off) c.requires.stands

@@ -12,6 +12,6 @@ invariant-loop-slot g l =
     (into_iter_items l.slot-iterator ≡ drop l.bin l.fn.slots.items) ×
     (l.bin + into_iter_len l.slot-iterator ≡ length l.fn.slots.items) ×
     (length l.bins.items ≡ l.bin) ×
-    ((b : ℕ) (d : CanvasOf) → b < l.bin → IsBinAt StandsPlain (tt {0}) l.list.list l.cut (length l.list.list.members) b (get_or l.bins.items b d)) ×
+    ((b : ℕ) (d : CanvasOf) → b < l.bin → IsBinAt StandsPlain (tt {0}) l.drawing.frame.list.now.list l.drawing.frame.cut.now (length l.drawing.frame.list.now.list.members) b (get_or l.bins.items b d)) ×
     (length l.fn.slots.items ≤ vec_capacity l.bins) ×
     (l.sender ≡ l.initial.sender)

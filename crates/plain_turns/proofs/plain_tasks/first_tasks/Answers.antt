@@ -3,9 +3,9 @@ use Rattle.std.proofs.lemmas.List.{length-append}
 use Rattle.std.specs.declared.option.Option.{Option}
 use Rattle.masked_update.specs.Canvas.{CanvasOf}
 use Rattle.seats.specs.declared.seats.Loan.{Loan}
-use Rattle.seats.proofs.First.{AreFirst, BeginsWith, all_seated, first_pushed, none_first}
+use Rattle.seats.proofs.First.{AreFirst, BeginsWith, all_seated, first_pushed}
 use Rattle.bin_queues.proofs.Lists.{turn}
-use Rattle.bin_queues.specs.QueueParts.{batched}
+use Rattle.bin_queues.specs.Frames.{over}
 use Rattle.plain_turns.specs.Waiting.{IsWaitingTask}
 use Rattle.bin_tasks.specs.declared.task.Task.{Task}
 use Rattle.bin_queues.proofs.GoingOn.{first_task_at}
@@ -25,7 +25,7 @@ loop-intake-preserved c =
     let i = c.loop-intake.invariant in
     let s = c.in-Some.ensures.steps in
     let queues = c.args._queues.now in
-    let frame = batched c.args._list.now.list c.args.cut.now c.args._size [] in
+    let frame = over c.args.frame.now [] in
     let old = c.loop-intake.slots.items in
     let n = length old in
     let t = turn c.args.intakes.items n c.in-Some.intake _ (sym i.2 ∙ s.0) in
@@ -53,7 +53,7 @@ loop-intake-preserved c =
 pub returns : goal.returns
 returns c =
     let i = c.loop-intake.invariant in
-    let frame = batched c.args._list.now.list c.args.cut.now c.args._size [] in
+    let frame = over c.args.frame.now [] in
     let none = c.in-None.ensures.steps.0 in
     let count = c.requires.count in
     let all : length c.loop-intake.slots.items ≡ length c.args.intakes.items = omega (arith, i.3, none) in

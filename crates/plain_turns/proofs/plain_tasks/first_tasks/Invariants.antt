@@ -1,7 +1,7 @@
 use Rattle.std.proofs.Common.{◌≡◌, ◌+◌, ◌≤◌, [], drop, length, vec_capacity}
 use Rattle.std.specs.Vec.Iter.{into_iter_items, into_iter_len}
 use Rattle.seats.proofs.First.{AreFirst}
-use Rattle.bin_queues.specs.QueueParts.{batched}
+use Rattle.bin_queues.specs.Frames.{over}
 use Rattle.plain_turns.specs.Waiting.{IsWaitingTask}
 use Rattle.plain_turns.proofs.plain_tasks.first_tasks.Given as goal
 
@@ -11,5 +11,5 @@ invariant-loop-intake l =
     (goal.iterator-loop-intake).is_finite l.intake-iterator ×
     (into_iter_items l.intake-iterator ≡ drop (length l.slots.items) l.fn.intakes.items) ×
     (length l.slots.items + into_iter_len l.intake-iterator ≡ length l.fn.intakes.items) ×
-    AreFirst (IsWaitingTask l._queues (batched l._list.list l.cut l._size [])) l.slots.items ×
+    AreFirst (IsWaitingTask l._queues (over l.frame [])) l.slots.items ×
     (l.count ≤ vec_capacity l.slots)

@@ -8,21 +8,21 @@ use Rattle.tile_queues.proofs.cell_bin.store.Goals as goal
 
 pub take_set_up-requires-clause-next : goal.take_set_up-requires-clause-next
 take_set_up-requires-clause-next g c =
-    let x = c.args.piece.now in
+    let x = c.args.member.now.piece.now in
     let w = c.args.writer.now in
     let s = c.requires.stands in
-    subst (λ (z : ℕ × PieceList). IsMember w.tile z.0 z.1 x) (λ i. (sym s.count i, sym s.list_is i)) (is_member w.tile c.args.list.now.list c.args._index x c.requires.index c.requires.piece c.requires.met)
+    subst (λ (z : ℕ × PieceList). IsMember w.tile z.0 z.1 x) (λ i. (sym s.count i, sym s.list_is i)) (is_member w.tile c.args.member.now.list.now.list c.args.member.now.index x c.args.member.now.inside c.args.member.now.is c.requires.met)
 
 pub returns-clause-stands : goal.returns-clause-stands
 returns-clause-stands g c =
-    let list = c.args.list.now.list in
+    let list = c.args.member.now.list.now.list in
     let w = c.args.writer.now in
     let s = c.requires.stands in
     let t = c.take_set_up.ensures in
     record {
-      at = subst (λ (z : Writing). IsAt c.args.beside.now.cells.now z.tile z.cell) (sym t) s.at;
+      at = subst (λ (z : Writing). IsAt c.args.member.now.cells.now z.tile z.cell) (sym t) s.at;
       tile_is = refl;
       list_is = ap (λ (z : Writing). z.list) t ∙ s.list_is;
-      count = ap (λ (z : Writing). z.count) t ∙ ap (λ n. n + 1) s.count ∙ sym (rank_met w.tile list c.args._index c.args.piece.now c.requires.index c.requires.piece c.requires.met)
-          ∙ ap (λ u. rank u list (c.args._index + 1)) (sym (ap (λ (z : Writing). z.tile) t));
+      count = ap (λ (z : Writing). z.count) t ∙ ap (λ n. n + 1) s.count ∙ sym (rank_met w.tile list c.args.member.now.index c.args.member.now.piece.now c.args.member.now.inside c.args.member.now.is c.requires.met)
+          ∙ ap (λ u. rank u list (c.args.member.now.index + 1)) (sym (ap (λ (z : Writing). z.tile) t));
     }

@@ -14,7 +14,7 @@ store-requires-clause-met g c =
     let is = row_number c.args.window c.args.window c.args.row c.loop-column.column c.row_start-start.result refl c.row_start-start.ensures in
     let w = c.index-writers-number.result in
     let e = c.index-writers-number.is in
-    subst (λ (z : Writing). meets (box_of c.args.piece.now) (tile_rect_of c.args.list.now.list.size z.tile) ≡ true) e (met_here c.args.beside.now.cells.now c.args.list.now.list c.args.window c.args.span c.args.index c.args.row c.loop-column.column n c.loop-column.writers c.requires.window c.requires.part c.requires.row.0 c.requires.row.1 c.loop-column.auto.column c.loop-column-test.true is c.loop-column.invariant c.args.piece.now w e c.requires.met)
+    subst (λ (z : Writing). meets (box_of c.args.member.now.piece.now) (tile_rect_of c.args.member.now.list.now.list.size z.tile) ≡ true) e (met_here c.args.member.now.cells.now c.args.member.now.list.now.list c.args.window c.args.span c.args.member.now.index c.args.row c.loop-column.column n c.loop-column.writers c.requires.window c.requires.part c.requires.row.0 c.requires.row.1 c.loop-column.auto.column c.loop-column-test.true is c.loop-column.invariant c.args.member.now.piece.now w e c.requires.met)
 
 pub store-requires-clause-stands : goal.store-requires-clause-stands
 store-requires-clause-stands g c =
@@ -22,7 +22,7 @@ store-requires-clause-stands g c =
     let is = row_number c.args.window c.args.window c.args.row c.loop-column.column c.row_start-start.result refl c.row_start-start.ensures in
     let w = c.index-writers-number.result in
     let e = c.index-writers-number.is in
-    subst (Stands c.args.beside.now.cells.now c.args.list.now.list c.args.index) e (stands_here c.args.beside.now.cells.now c.args.list.now.list c.args.window c.args.span c.args.index c.args.row c.loop-column.column n c.loop-column.writers c.requires.window c.requires.part c.requires.row.0 c.requires.row.1 c.loop-column.auto.column c.loop-column-test.true is c.loop-column.invariant w e)
+    subst (Stands c.args.member.now.cells.now c.args.member.now.list.now.list c.args.member.now.index) e (stands_here c.args.member.now.cells.now c.args.member.now.list.now.list c.args.window c.args.span c.args.member.now.index c.args.row c.loop-column.column n c.loop-column.writers c.requires.window c.requires.part c.requires.row.0 c.requires.row.1 c.loop-column.auto.column c.loop-column-test.true is c.loop-column.invariant w e)
 
 pub loop-column-preserved : goal.loop-column-preserved
 loop-column-preserved g c =
@@ -31,4 +31,4 @@ loop-column-preserved g c =
     let w = c.index-writers-number.result in
     let e = c.index-writers-number.is in
     let tile = subst (λ (z : Writing). c.store.new.writer.tile ≡ z.tile) (sym e) c.store.ensures.tile in
-    stored_more c.args.beside.now.cells.now c.args.list.now.list c.args.window c.args.span c.args.index c.args.row c.loop-column.column n c.loop-column.writers c.requires.window c.requires.part c.requires.row.0 c.requires.row.1 c.loop-column.auto.column c.loop-column-test.true is c.loop-column.invariant w c.store.new.writer e tile c.store.ensures.stands
+    stored_more c.args.member.now.cells.now c.args.member.now.list.now.list c.args.window c.args.span c.args.member.now.index c.args.row c.loop-column.column n c.loop-column.writers c.requires.window c.requires.part c.requires.row.0 c.requires.row.1 c.loop-column.auto.column c.loop-column-test.true is c.loop-column.invariant w c.store.new.writer e tile c.store.ensures.stands

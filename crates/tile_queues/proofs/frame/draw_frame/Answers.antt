@@ -4,7 +4,7 @@ use Rattle.atomic_table.specs.Seated.{TableId}
 use Rattle.tile_queues.specs.CellBins.{StandsInCells}
 use Rattle.bin_queues.specs.Tasks.{AreFirstTasks, Submitting}
 use Rattle.tile_queues.specs.Owners.{AreHandedBack, AreTasksOf}
-use Rattle.bin_queues.specs.QueueParts.{BatchedFrame, batched, batches_in}
+use Rattle.bin_queues.specs.QueueParts.{BatchedFrame, batched}
 use Rattle.tile_queues.specs.Shares.{AreDrained}
 use Rattle.tile_queues.proofs.Ending.{fresh_cells, standing_back}
 use Rattle.tile_queues.proofs.frame.draw_frame.Goals as goal
@@ -31,7 +31,7 @@ take_tasks-requires-clause-drawn g c =
     let new = c.draw_and_read.new.shares in
     let same : length new ≡ c.in_ok-shares.shares.len = search rules in
     let is = with_items_is c.in_ok-shares.shares new same in
-    subst (AreDrained StandsInCells c.args.cells.now c.in_ok-queues.queues frame (batches_in frame) c.min-workers.result) (sym is) c.in_ok-draw_and_read.ensures.drawn
+    subst (AreDrained StandsInCells c.args.cells.now c.in_ok-queues.queues frame c.min-workers.result) (sym is) c.in_ok-draw_and_read.ensures.drawn
 
 pub hand_back-requires-clause-tasks : goal.hand_back-requires-clause-tasks
 hand_back-requires-clause-tasks g c =

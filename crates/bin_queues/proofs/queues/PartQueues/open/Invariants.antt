@@ -1,5 +1,4 @@
-use Rattle.bin_queues.specs.QueueParts.{batched}
 use Rattle.bin_queues.proofs.queues.PartQueues.open.Given as goal
 
 abbrev pub ghost-open_all : goal.ghost-open_all
-ghost-open_all g a = batched a.list.now.list a.cut.now a.size g.cells
+ghost-open_all g a = g.cells

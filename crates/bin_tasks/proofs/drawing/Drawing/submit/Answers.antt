@@ -1,8 +1,9 @@
-use Rattle.std.proofs.Common.{◌≡◌, ◌+◌, arith, ap, ◌∙◌}
-use Rattle.bin_queues.specs.QueueParts.{batches_in}
+use Rattle.std.proofs.Common.{◌≡◌, ◌+◌, arith, ap, sym, subst, ◌∙◌}
+use Rattle.bin_queues.specs.Frames.{over}
+use Rattle.bin_queues.specs.QueueParts.{BatchedFrame, batches_in}
 use Rattle.bin_queues.specs.Tasks.{Submitting}
 use Rattle.bin_queues.proofs.GoingOn.{submitter_on}
-use Rattle.bin_tasks.proofs.batches.submit_next_ones.Goals as goal
+use Rattle.bin_tasks.proofs.drawing.Drawing.submit.Goals as goal
 
 pub loop-init : goal.loop-init
 loop-init g c =
@@ -10,16 +11,11 @@ loop-init g c =
     λ i. record c.args.sender.now { batches = none i }
 
 pub submit_next-requires-clause-queues : goal.submit_next-requires-clause-queues
-submit_next-requires-clause-queues g c κs within = submitter_on c.args.queues.now c.args.sender.now c.loop.sender (c.args.sender.now.batches + c.loop.counter) c.loop.invariant c.requires.queues
+submit_next-requires-clause-queues g c κs within = submitter_on c.args.self.now.queues.now c.args.sender.now c.loop.sender (c.args.sender.now.batches + c.loop.counter) c.loop.invariant c.requires.queues
 
-pub submit_next-requires-clause-list : goal.submit_next-requires-clause-list
-submit_next-requires-clause-list g c κs within = ap (λ (s : Submitting). s.frame.list) c.loop.invariant ∙ c.requires.list
-
-pub submit_next-requires-clause-cut : goal.submit_next-requires-clause-cut
-submit_next-requires-clause-cut g c κs within = ap (λ (s : Submitting). s.frame.cut) c.loop.invariant ∙ c.requires.cut
-
-pub submit_next-requires-clause-size : goal.submit_next-requires-clause-size
-submit_next-requires-clause-size g c κs within = ap (λ (s : Submitting). s.frame.size) c.loop.invariant ∙ c.requires.size
+pub submit_next-requires-clause-frame : goal.submit_next-requires-clause-frame
+submit_next-requires-clause-frame g c κs within =
+    subst (λ (f : BatchedFrame). f ≡ over c.args.self.now.frame f.cells) (sym (ap (λ (s : Submitting). s.frame) c.loop.invariant)) c.requires.frame
 
 pub submit_next-requires-clause-short : goal.submit_next-requires-clause-short
 submit_next-requires-clause-short g c =
