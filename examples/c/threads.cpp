@@ -80,7 +80,7 @@ private:
 
 constexpr maskcull_setup setup = {1280, 720, 16, MASKCULL_KEEPS_BOTH};
 constexpr std::uint32_t columns = (setup.width + 31) / 32, rows = (setup.height + 7) / 8;
-constexpr unsigned triangle_count = 20000, slice_triangles = 1000, band_rows = 6;
+constexpr unsigned triangle_count = 20000, slice_triangles = 1250, band_rows = 6;
 constexpr unsigned slice_count = (triangle_count + slice_triangles - 1) / slice_triangles;
 constexpr unsigned bands = (rows + band_rows - 1) / band_rows;
 
