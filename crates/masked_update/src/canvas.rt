@@ -69,6 +69,17 @@ impl Canvas {
         self.window
     }
 
+    // How many tiles it has, of eight subtiles each.
+    #[inline(always)]
+    pub(crate) fn tile_count(&self) -> usize
+        ensures count { result ≡ length self.now.tiles }
+        ensures eight { (t : ℕ) → t < length self.now.tiles → length (tile_at self.now.tiles t).subs ≡ 8 }
+    {
+        // what is held of both is known where both are read
+        let _table = self.least.len();
+        self.tiles.len()
+    }
+
     /// The tile at a place. Condition: the window has it.
     pub fn tile(&self, place: Tile) -> TileState
         requires { has_tile self.now.window place ≡ true }

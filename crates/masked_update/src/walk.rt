@@ -11,6 +11,7 @@ ghost use Rattle.masked_update.specs.Walk.{CountedWhere, MayCount, MergedWhere, 
 
 use crate::canvas::Canvas;
 use crate::piece_setup::PieceSetup;
+use crate::sample_box::sampled;
 use crate::sub_span::{SubBox, ones_between};
 use cull_base::{ScreenTri, Size, Tile, TileSpan};
 use edge_lanes::TileRow;
@@ -199,13 +200,15 @@ fn merge_piece(canvas: &mut Canvas, tri: &ScreenTri, size: Size, span: TileSpan)
     merge_in_span(canvas, &piece, &piece.reached_on(size), span);
 }
 
-/// Merges a piece into the tiles of the canvas that its box reaches, and counts it nowhere. One that stands behind all
-/// of them changes nothing and isn't set up. Condition: the window is of the screen.
+/// Merges a piece into the tiles of the canvas that its box reaches, and counts it nowhere. One that has no sample there,
+/// or stands behind all of them, changes nothing and isn't set up. Condition: the window is of the screen.
 pub fn draw_piece(canvas: &mut Canvas, tri: &ScreenTri, size: Size)
     requires window { IsSpan size canvas.old.window }
     ensures { MergedMet size tri.now canvas.old canvas.new }
 {
-    let span = TileSpan::of(&tri.boxed(), size).cut(&canvas.window());
+    // an accessor tells what is held of a canvas
+    let _count = canvas.tile_count();
+    let span = TileSpan::of(&sampled(tri), size).cut(&canvas.window());
     let first_row = first_row_ahead(canvas, span, tri.greatest_nearness());
     if first_row < span.end_row {
         merge_piece(canvas, tri, size, TileSpan { first_row, ..span });
