@@ -43,7 +43,7 @@ impl Model for Canvas {
 }
 
 impl Canvas {
-    /// The tiles of the window, empty. Err where memory gave out.
+    /// The tiles of the window, empty. Err if out of memory.
     pub fn empty(alloc: Global, window: TileSpan) -> Result<Canvas, Memory>
         ensures value { IfOk result (λ c. c ≡ empty_canvas window) }
         ensures stands { IfOk result (λ c. (list : PieceList) → StandsAt list 0 c) }
