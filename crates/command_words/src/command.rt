@@ -1,4 +1,4 @@
-//! What the words ask for.
+//! What a command line names.
 use crate::settings::Settings;
 
 /// A command, with what its options say.

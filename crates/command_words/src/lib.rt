@@ -1,4 +1,4 @@
-//! The program's command line: the table of commands, and what words ask for by it.
+//! The program's command line: the table of commands, and what a command line names by it.
 #![tactic(auto)]
 
 mod command;

@@ -17,12 +17,12 @@ const MORE: &str = "A command's own help says what it reads and writes. Notes go
 
 Exit status:
   0  done: the input was read and the report written
-  2  the words were refused, or help or the version was asked for
+  2  the command line was refused, or help or the version was printed
   3  the input is no scene
   4  the input couldn't be read
   5  the report couldn't be written
   6  the notes couldn't be written
-  7  memory was wanted";
+  7  out of memory";
 
 // An option of the table.
 fn argument<'a>(alloc: Global, option: &AnOption) -> Arg<'a>

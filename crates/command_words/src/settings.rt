@@ -1,7 +1,8 @@
 //! How a frame is cut and shared. No setting changes the report.
 use binning::Cut;
 
-/// How many workers draw side by side, into which bins the screen is cut, and how many pieces a batch has at least.
+/// How many threads draw, into which bins the screen is cut, and how many pieces a batch has at least. Bins and batches
+/// are for a frame that threads share.
 #[derive(Clone, Copy)]
 pub struct Settings {
     /// 1 to 64.

@@ -1,5 +1,5 @@
-//! The table of commands: what each is called, which options it has, and what help says of both. What words ask for and
-//! how clap reads them are definitions over it.
+//! The table of commands: what each is called, which options it has, and what help says of both. What a command line
+//! names and how clap reads it are definitions over it.
 
 /// What stands behind an option's name. `T` is a text: a constant whose type has a reference for a field can't be named
 /// in specs/.
@@ -63,17 +63,16 @@ macro_rules! number {
     };
 }
 
-pub const WORKERS: AnOption =
-    number!("workers", 1 to 64, "1", "How many workers draw side by side");
+pub const WORKERS: AnOption = number!("workers", 1 to 64, "1", "How many threads draw");
 
 pub const BINS_X: AnOption =
-    number!("bins-x", 1 to 8, "1", "Into how many columns of bins the screen is cut");
+    number!("bins-x", 1 to 8, "1", "Into how many columns of bins the screen is cut, for a frame that threads share");
 
 pub const BINS_Y: AnOption =
-    number!("bins-y", 1 to 8, "1", "Into how many rows of bins the screen is cut");
+    number!("bins-y", 1 to 8, "1", "Into how many rows of bins the screen is cut, for a frame that threads share");
 
 pub const BATCH: AnOption =
-    number!("batch", 1 to 4096, "64", "How many pieces a batch has at least");
+    number!("batch", 1 to 4096, "64", "How many pieces a batch has at least, for a frame that threads share");
 
 pub const ROUNDS: AnOption =
     number!("rounds", 1 to 8, "1", "How often the objects are looked at in each frame");
@@ -100,15 +99,17 @@ pub const CULL: ACommand = CommandRow {
     more: "Reads the bytes of a scene from standard input, to their end.
 Writes to standard output a header, and for each frame: how many pieces it has, whether each object is visible, occluded
 or outside the screen, and how many are. No option changes a byte of it.
-Notes on standard error why a run isn't done.
+For a path of many cameras give --workers alone: without --early each thread draws frames of its own while the scene has
+as many left, and bins and batches change nothing. For a single frame, which threads share, give bins too.
+Tells on standard error why a run isn't done.
 
 Exit status:
   0  done: the input was read and the report written
-  2  the words were refused, or help was asked for
+  2  the command line was refused, or help was printed
   3  the input is no scene
   4  the input couldn't be read
   5  the report couldn't be written
-  7  memory was wanted",
+  7  out of memory",
     options: &[WORKERS, BINS_X, BINS_Y, BATCH, EARLY],
 };
 
@@ -123,16 +124,16 @@ While a frame is drawn, its first objects are looked at in turn, --watch of them
 times over. After the frame's lines of the report, each look has a line on standard error: live, the frame, the round,
 the object, its verdict at the look, and TILE:COUNT for each tile of the object's area, where COUNT says from how many
 pieces of that tile's list the verdict was found.
-Notes on standard error why a run isn't done.
+Tells on standard error why a run isn't done.
 
 Exit status:
   0  done: the input was read, the report written and each look noted
-  2  the words were refused, or help was asked for
+  2  the command line was refused, or help was printed
   3  the input is no scene
   4  the input couldn't be read
   5  the report couldn't be written
   6  the notes couldn't be written
-  7  memory was wanted",
+  7  out of memory",
     options: &[WORKERS, BINS_X, BINS_Y, BATCH, ROUNDS, WATCH, EARLY],
 };
 
@@ -144,13 +145,15 @@ pub const DEMO: ACommand = CommandRow {
     more: "Reads nothing: the scene is made of a number, with 500 boxes as objects, and 4 frames.
 Writes to standard output a header, and for each frame: how many pieces it has, and how many boxes are visible, occluded
 or outside the screen. Of the options only --seed and --triangles change it.
-Notes on standard error why a run isn't done.
+With --workers up to 4 and without --early each thread draws frames of its own, and bins and batches change nothing;
+otherwise threads share each frame.
+Tells on standard error why a run isn't done.
 
 Exit status:
   0  done: the summary was written
-  2  the words were refused, or help was asked for
+  2  the command line was refused, or help was printed
   5  the summary couldn't be written
-  7  memory was wanted",
+  7  out of memory",
     options: &[WORKERS, BINS_X, BINS_Y, BATCH, SEED, TRIANGLES, EARLY],
 };
 

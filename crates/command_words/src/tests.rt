@@ -1,4 +1,4 @@
-//! What some words ask for, and what is said where words are refused.
+//! What some command lines name, and what is said of those that are refused.
 use crate::{Command, Refusal, Settings, VERSION, command_of};
 use std::alloc::Global;
 use std::process::Abort;
@@ -12,7 +12,7 @@ fn words(alloc: Global, given: &[&str]) -> Result<Vec<String>, Fail> {
     Ok(words)
 }
 
-// What some words ask for.
+// What a command line names.
 fn command_for(rt: &impl Abort, alloc: Global, given: &[&str]) -> Result<Command, Fail> {
     let words = words(alloc, given)?;
     Ok(
@@ -39,7 +39,7 @@ fn parts(command: Command) -> (Settings, &'static str, Option<(u32, u32)>) {
     }
 }
 
-// The workers, columns, rows and batch that some words ask for, the command, and the two numbers of its own.
+// The workers, columns, rows and batch that a command line names, the command, and the two numbers of its own.
 fn asked(
     rt: &impl Abort,
     alloc: Global,

@@ -1,4 +1,4 @@
-//! The command words, read by `clap`: what they ask for by the table, or why they were refused.
+//! The command line, read by `clap`: what it names by the table, or why it is refused.
 ghost use Rattle.std.specs.Prelude.{◌≡◌, ℕ, ◌⊎◌, IfOk, IfErr, IfSome, None, Some, [], is_some, map, string_bytes, false, option_map, unwrap_or};
 ghost use Rattle.clap.specs.Walk.{is_empty};
 ghost use Rattle.clap.specs.Words.{fault_of, found_of, kind_of, one_of, rows_of, subcommand_of, subcommand_rows_of};
@@ -18,16 +18,16 @@ use clap::error::ErrorKind;
 use clap::{ArgMatches, Error};
 use std::alloc::Global;
 
-/// Why nothing is asked for.
+/// Why a command line names no command.
 #[derive(Drop)]
 pub enum Refusal {
-    /// Memory was wanted.
+    /// Out of memory.
     Memory,
-    /// The words are refused, or help or the version was asked for: what there is to say, if there was memory for it.
+    /// The command line is refused, or names help or the version: what there is to say, if there was memory for it.
     Words(Option<String>),
 }
 
-// The matches of words that the program takes, or why it refuses them.
+// The matches of a command line that the program takes, or why it refuses it.
 fn parsed<'a>(alloc: Global, words: &'a [String]) -> Result<ArgMatches<'a>, Error>
     ensures fault { IfOk result (λ m. fault_of the_app (map string_bytes words.entry.now) ≡ []) }
     ensures matches { IfOk result (λ m.
@@ -38,7 +38,7 @@ fn parsed<'a>(alloc: Global, words: &'a [String]) -> Result<ArgMatches<'a>, Erro
     program(alloc)?.try_get_matches_from(words)
 }
 
-// What there is to say of words that are refused.
+// What there is to say of a command line that is refused.
 fn refused_with(alloc: Global, error: &Error) -> Refusal
     ensures { AreWords result → (kind_of error.now ≡ ErrorKind.OutOfMemory) → ⊥ }
 {
@@ -90,7 +90,7 @@ fn settings_of(matches: &ArgMatches<'_>) -> Settings
     }
 }
 
-// What a command asks for, where each of its options has its value.
+// A command with the values of its options, where each has one.
 fn asked_by(kind: CommandKind, matches: &ArgMatches<'_>) -> Command
     requires { HaveValues (row_by kind).options (rows_of (found_of matches.now)) }
     ensures value { result ≡ asked_by kind (value_in (rows_of (found_of matches.now))) }
@@ -125,7 +125,7 @@ fn kind_named(rows: &[ACommand], name: &str) -> Option<CommandKind>
     None
 }
 
-// What the command of this name asks for; none where no command has the name.
+// The command of this name, with its values; none where no command has the name.
 fn asked_in(name: &str, matches: &ArgMatches<'_>) -> Option<Command>
     requires { IsEntered name.now (rows_of (found_of matches.now)) }
     ensures value { result ≡ asked_in name.now (rows_of (found_of matches.now)) }
@@ -137,7 +137,8 @@ fn asked_in(name: &str, matches: &ArgMatches<'_>) -> Option<Command>
     }
 }
 
-/// What the words ask for, the program's name first. `clap`'s own text tells what is wrong with words that it refuses.
+/// What the command line names: its words, the program's name first. Where `clap` refuses it, its own text tells what is
+/// wrong.
 pub fn command_of(alloc: Global, words: &[String]) -> Result<Command, Refusal>
     ensures some { IfOk result (λ c. command_of (map string_bytes words.now) ≡ Some c) }
     ensures limits { IfOk result IsWithinLimits }

@@ -168,7 +168,7 @@ fn help_tells_options_and_statuses(rt: HostRuntime) -> Result<(), Fail> {
         (&all, "demo"),
         (&all, "--version"),
         (&all, "6  the notes couldn't be written"),
-        (&all, "7  memory was wanted"),
+        (&all, "7  out of memory"),
         (&cull, "--workers <workers>"),
         (&cull, "[default: 64]"),
         (&cull, "--early"),
@@ -181,7 +181,7 @@ fn help_tells_options_and_statuses(rt: HostRuntime) -> Result<(), Fail> {
         (&demo, "--triangles <triangles>"),
         (&demo, "[default: 20000]"),
         (&demo, "--early"),
-        (&demo, "2  the words were refused, or help was asked for"),
+        (&demo, "2  the command line was refused, or help was printed"),
     ] {
         let text = str::from_utf8(page).ok().expect(&rt, "the page is text");
         assert!(rt; text.contains(wanted), "no {wanted}");
