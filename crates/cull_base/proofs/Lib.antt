@@ -13,5 +13,3 @@ pub mod Reciprocals
 pub mod Pixels
 pub mod HiddenObjects
 pub mod Nearer
-pub mod EightLanes
-pub mod Lists

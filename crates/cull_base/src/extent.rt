@@ -11,7 +11,6 @@ pub struct Extent {
 }
 
 impl Extent {
-    /// The extent of one coordinate.
     #[inline(always)]
     pub fn of(value: i32) -> Extent
         ensures { result ≡ record { least = value; greatest = value } }
@@ -22,7 +21,7 @@ impl Extent {
         }
     }
 
-    /// The extent of the same coordinates and one more.
+    /// Reaching to one more coordinate.
     #[inline(always)]
     pub fn with(self, value: i32) -> Extent
         ensures least { result.least ≡ int_min self.least value }

@@ -1,6 +1,6 @@
-//! Errors: out of memory, and sources and sinks that fail.
+//! What a call answers where memory or the outside world gave out.
 
-/// Out of memory.
+/// Want of memory.
 #[derive(Clone, Copy, Debug, PartialEq, Eq)]
 pub struct Memory;
 
@@ -8,11 +8,11 @@ pub struct Memory;
 #[derive(Clone, Copy, Debug, PartialEq, Eq)]
 pub struct Failed;
 
-/// Why a sink took nothing of a piece.
+/// Why a sink took nothing.
 #[derive(Clone, Copy, Debug, PartialEq, Eq)]
 pub enum SinkError {
-    /// It failed: its count of faults rose.
+    /// Its count of faults rose.
     Failed,
-    /// Out of memory: its count of refused growths rose.
+    /// Its count of refused growths rose.
     Memory,
 }

@@ -13,7 +13,7 @@ pub enum Object {
     Mesh { first: u32, count: u32 },
 }
 
-/// The result of an object's test.
+/// What is answered of an object.
 #[derive(Clone, Copy, Debug, PartialEq, Eq)]
 pub enum Verdict {
     Visible,

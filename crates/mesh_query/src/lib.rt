@@ -1,8 +1,7 @@
-//! Meshes, tested against the tiles: whether each sample that a piece touches is hidden.
+//! Meshes, asked of the tiles: whether each sample that a piece touches is hidden.
 #![tactic(auto)]
 
 mod area;
-mod edged_tile;
 mod mesh;
 mod piece;
 #[cfg(test)]

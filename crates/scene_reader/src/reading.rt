@@ -71,7 +71,7 @@ fn read_parts<S: Source>(alloc: Global, source: &mut S, header: Header) -> Resul
     })
 }
 
-/// Reads one byte more, to see that there is none.
+/// Asks for one byte more, to see that there is none.
 fn read_end<S: Source>(source: &mut S) -> Result<(), SceneError>
     ensures ended { OnOk result (TakesEnd (S.says source.old) (S.says source.new)) }
     ensures trailing { IfErr result (λ e. IsRefusal e → IsTrailing (S.says source.old) (S.says source.new) e) }
@@ -102,8 +102,8 @@ fn read_whole<S: Source>(alloc: Global, source: &mut S) -> Result<Scene, SceneEr
     }
 }
 
-/// Reads a scene to the source's end. Err: the first fault of the bytes, Read only where the source failed, or Memory at
-/// any time. No byte behind a header that is refused is read.
+/// Reads a scene to the source's end. A refusal is the first fault of the bytes; of a header that is refused no byte
+/// behind it is read. Read comes only where the source failed, and Memory at any time.
 pub fn read_scene<S: Source>(alloc: Global, source: &mut S) -> Result<Scene, SceneError>
     ensures ok { IfOk result (λ s. IsScene s) }
     ensures layout { IfOk result (λ s. TakesLayout (S.says source.old) (S.says source.new) s) }

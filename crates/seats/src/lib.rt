@@ -1,4 +1,4 @@
-//! Tasks that wait under a lock until a worker takes one, and that are all there again once the workers have ended.
+//! Tasks that wait under a lock until a worker takes one, and that are all there again behind the workers.
 #![tactic(auto)]
 
 mod hands;

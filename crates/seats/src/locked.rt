@@ -6,8 +6,7 @@ use crate::seats::{Loan, Seating, Seats};
 use std::sync::ledger::Share;
 use std::sync::{Mutex, Wait};
 
-/// Takes the task of the seat that `choose` picks from the slots as they are then. None where it isn't there. Conditions:
-/// `choose` can always be called, and the worker's share is one part, without a task.
+/// Takes the task of the seat that is chosen from the slots as they are then. None where it isn't there.
 pub fn take_from<P: Seating<T>, T: Drop, R: Wait, C: Fn(&[Option<Loan<T>>]) -> usize>(
     rt: &R,
     seats: &Mutex<Seats<P, T>>,
@@ -26,8 +25,7 @@ pub fn take_from<P: Seating<T>, T: Drop, R: Wait, C: Fn(&[Option<Loan<T>>]) -> u
     seats.take(mine, seat)
 }
 
-/// Puts a task back into its seat. Conditions: the worker's share is one part, with one task, and the task is one of its
-/// seat's.
+/// Puts a task back into its seat.
 pub fn give_back<P: Seating<T>, T: Drop, R: Wait>(
     rt: &R,
     seats: &Mutex<Seats<P, T>>,
