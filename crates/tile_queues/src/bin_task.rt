@@ -35,12 +35,12 @@ impl Model for BinTask {
 }
 
 // Draws what is in the queue of a bin.
-fn drain_in<'x, R: Wait, G: Gate>(
+fn drain_in<'a, R: Wait, G: Gate>(
     task: &mut Task<CellBin>,
-    queues: &'x PartQueues,
-    frame: Batched<'x>,
-    beside: &'x InCells<'x, R>,
-    gate: &'x G,
+    queues: &'a PartQueues,
+    frame: Batched<'a>,
+    beside: &'a InCells<'a, R>,
+    gate: &'a G,
 ) -> Drained
     requires { let cells = beside.now.cells.now in
         IsTaskIn StandsInCells cells queues.now (over frame cells) task.old }

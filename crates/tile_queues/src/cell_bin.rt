@@ -64,10 +64,10 @@ fn store_in_row<R: Wait>(
     requires part { IsPartOf window span }
     requires met { HasMet member.now.list.now.list.size window span member.now.piece.now }
     requires row { (span.first_row ≤ row) × (row < span.end_row) }
-    requires stored { let m = member.now in
-        HasStored (is_passed span row span.first_column) m.cells.now m.list.now.list window m.index writers.old }
-    ensures { let m = member.now in
-        HasStored (is_passed span row span.end_column) m.cells.now m.list.now.list window m.index writers.new }
+    requires stored { let m = member.now in HasStored (is_passed span row span.first_column)
+        m.cells.now m.list.now.list window m.index writers.old }
+    ensures { let m = member.now in HasStored (is_passed span row span.end_column)
+        m.cells.now m.list.now.list window m.index writers.new }
 {
     let start = window.row_start(row);
     for column in span.first_column..span.end_column {

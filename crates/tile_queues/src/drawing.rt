@@ -201,12 +201,12 @@ pub(crate) fn draw_all<R: Threads + Wait + Sync, B: Sync, K: Keeper<B> + Send, G
     requires sender { IsSubmitterOf drawing.now.queues.now sender.old }
     requires frame { sender.old.frame ≡ over drawing.now.frame (K.cells drawing.now.beside.now) }
     requires none { sender.old.batches ≡ 0 }
-    requires shares { let d = drawing.now in
-        AreShares K.stands d.beside.now d.queues.now (over d.frame (K.cells d.beside.now)) workers shares.old }
+    requires shares { let d = drawing.now in let frame = over d.frame (K.cells d.beside.now) in
+        AreShares K.stands d.beside.now d.queues.now frame workers shares.old }
     ensures submitted { OnOk result
         (sender.new ≡ record sender.old { batches = batches_in sender.old.frame }) }
-    ensures drawn { let d = drawing.now in OnOk result
-        (AreDrained K.stands d.beside.now d.queues.now (over d.frame (K.cells d.beside.now)) workers shares.new) }
+    ensures drawn { let d = drawing.now in let frame = over d.frame (K.cells d.beside.now) in
+        OnOk result (AreDrained K.stands d.beside.now d.queues.now frame workers shares.new) }
 {
     submit_and_drain(drawing, alloc, sender, shares, workers)?;
     tell_all(drawing, sender, shares);

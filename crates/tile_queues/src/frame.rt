@@ -111,8 +111,8 @@ fn draw_and_read<R: Threads + Wait + Sync, G: Gate, C: Caller>(
                 AreShares StandsInCells cells d.queues.now (over d.frame cells) workers shares.now }
             ensures submitted { OnOk result
                 (sender.exit.now ≡ record sender.entry.now { batches = batches_in sender.entry.now.frame }) }
-            ensures drawn { let d = drawing.entry.now in let cells = d.beside.now.cells.now in
-                OnOk result (AreDrained StandsInCells cells d.queues.now (over d.frame cells) workers shares.exit.now) }
+            ensures drawn { let d = drawing.entry.now in let cells = d.beside.now.cells.now in OnOk result
+                (AreDrained StandsInCells cells d.queues.now (over d.frame cells) workers shares.exit.now) }
         { draw_cells(drawing, alloc, sender, shares, workers) },
     );
     drawn

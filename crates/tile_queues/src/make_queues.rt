@@ -40,8 +40,8 @@ fn deal(
     writers: Vec<TileWriter>,
 ) -> Result<(Vec<Option<TileWriter>>, Vec<TileWriter>, Vec<BinTask>), Memory>
     requires writers { AreFirst list.now.list writers.items }
-    requires first { (frame : BatchedFrame) × (frame.list ≡ list.now.list) × (frame.cells ≡ cells_of writers.items)
-        × AreFirstOf frame intakes.items }
+    requires first { (frame : BatchedFrame) × (frame.list ≡ list.now.list)
+        × (frame.cells ≡ cells_of writers.items) × AreFirstOf frame intakes.items }
     ensures slots { IfOk result (λ r. length r.0.items ≡ tile_count_of list.now.list.size) }
     ensures room { IfOk result (λ r. (r.1.items ≡ []) × (length r.0.items ≤ vec_capacity r.1)) }
     ensures tasks { IfOk result (λ r. r.2.items ≡ intakes.items) }

@@ -1,5 +1,5 @@
-use Rattle.std.proofs.Common.{◌≡◌, ℕ, ◌<◌, ◌*◌, ◌+◌, min, length, arith, ap, sym, subst, ◌∙◌}
-use Rattle.bin_queues.specs.QueueParts.{BatchedFrame, batches_in}
+use Rattle.std.proofs.Common.{◌≡◌, ◌<◌, ◌*◌, ◌+◌, min, length, arith, ap, sym, ◌∙◌}
+use Rattle.bin_queues.specs.QueueParts.{batches_in}
 use Rattle.binning.proofs.Laws.{batch_begins}
 use Rattle.binning.specs.Parts.{batch_count_of, parts_of}
 use Rattle.tile_queues.proofs.queue_tests.submit_parts.Goals as goal
