@@ -169,10 +169,10 @@ bool draw_by_pool(frame &f, pool &threads) {
     return is_drawn;
 }
 
-// The least of some rounds.
+// The least of a few rounds.
 template <class Work> double milliseconds(const Work &work) {
     double least = 1e300;
-    for (int round = 0; round < 40; round++) {
+    for (int round = 0; round < 5; round++) {
         const auto begin = std::chrono::steady_clock::now();
         work();
         const std::chrono::duration<double, std::milli> taken = std::chrono::steady_clock::now() - begin;
@@ -196,8 +196,11 @@ int main(int count, char **words) {
     const bool are_same = is_drawn && std::memcmp(by_one.tiles.data(), by_pool.tiles.data(), bytes) == 0;
     std::printf("tiles of the pool and of one thread: %s\n", are_same ? "the same" : "not the same");
     if (count > 1) {
-        const double one = milliseconds([&] { draw_by_one(by_one); });
-        const double all = milliseconds([&] { draw_by_pool(by_pool, threads); });
+        double one = 1e300, all = 1e300;
+        for (int turn = 0; turn < 10; turn++) { // in turn, since other programs come and go
+            one = std::min(one, milliseconds([&] { draw_by_one(by_one); }));
+            all = std::min(all, milliseconds([&] { draw_by_pool(by_pool, threads); }));
+        }
         std::printf("1 thread %.3f ms, %d threads %.3f ms: %.2f of it\n", one, thread_count, all, all / one);
     }
     return are_same ? 0 : 1;
