@@ -169,10 +169,10 @@ bool draw_by_pool(frame &f, pool &threads) {
     return is_drawn;
 }
 
-// The least of a few rounds.
+// The least of some rounds.
 template <class Work> double milliseconds(const Work &work) {
     double least = 1e300;
-    for (int round = 0; round < 5; round++) {
+    for (int round = 0; round < 30; round++) {
         const auto begin = std::chrono::steady_clock::now();
         work();
         const std::chrono::duration<double, std::milli> taken = std::chrono::steady_clock::now() - begin;
@@ -197,7 +197,7 @@ int main(int count, char **words) {
     std::printf("tiles of the pool and of one thread: %s\n", are_same ? "the same" : "not the same");
     if (count > 1) {
         double one = 1e300, all = 1e300;
-        for (int turn = 0; turn < 10; turn++) { // in turn, since other programs come and go
+        for (int turn = 0; turn < 4; turn++) { // in turn, since other programs come and go
             one = std::min(one, milliseconds([&] { draw_by_one(by_one); }));
             all = std::min(all, milliseconds([&] { draw_by_pool(by_pool, threads); }));
         }
