@@ -1,5 +1,6 @@
 //! A frame that is held up until its tiles were read: its caller runs while it is drawn.
-ghost use Rattle.std.specs.Prelude.{◌≡◌, ◌≤◌};
+ghost use Rattle.std.specs.Prelude.{◌≡◌, ◌≤◌, length};
+ghost use Rattle.binning.specs.Parts.{batch_count_of};
 ghost use Rattle.cull_base.specs.Screen.{screen_of};
 ghost use Rattle.masked_update.specs.Views.{HoldsMet};
 ghost use Rattle.tile_cells.specs.Snapshots.{is_held};
@@ -108,14 +109,16 @@ fn drawn_in_cells<R: Threads + Wait + Sync, G: Gate, C: Caller>(
     list: &FrameList,
     cut: &Cut,
     workers: u32,
+    batch: u32,
     gate: &G,
     caller: &mut C,
 ) -> Result<Vec<TileState>, Memory>
     requires some { 1 ≤ workers }
     requires workers { workers ≤ 64 }
+    requires batch { 1 ≤ batch }
+    requires few { batch_count_of (length list.now.list.members) batch ≤ 2048 }
     requires ready { C.ready caller.old list.now.list }
 {
-    let batch = batch_size(list.len(), 1);
     let (cells, writers, mut readers) = TileCells::make(rt, alloc, list, 1)?;
     let reader = &mut readers[0];
     let writers = draw_frame(
@@ -159,7 +162,8 @@ fn assert_held<R: Threads + Wait + Sync + Abort>(
     let list = first_list(rt, alloc)?;
     assert_eq!(rt; list.len(), 2);
     let cut = Cut::new(bins, 1).ok_or("a cut")?;
-    assert_eq!(rt; batch_size(list.len(), 1), 1);
+    let batch = batch_size(list.len(), 1);
+    assert_eq!(rt; batch, 1);
     let gate = HoldingGate {
         seen: AtomicBool::new(false),
         freed: AtomicBool::new(false),
@@ -169,7 +173,7 @@ fn assert_held<R: Threads + Wait + Sync + Abort>(
         snapshot: Snapshot::with_room(alloc, list.size())?,
         visible: false,
     };
-    let held = drawn_in_cells(rt, alloc, &list, &cut, workers, &gate, &mut watcher)?;
+    let held = drawn_in_cells(rt, alloc, &list, &cut, workers, batch, &gate, &mut watcher)?;
     let states = draw_plain(alloc, &list)?;
     assert!(rt; gate.freed.load(Ordering::SeqCst));
     assert!(rt; watcher.visible);
