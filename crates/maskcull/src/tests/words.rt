@@ -181,7 +181,10 @@ fn help_tells_options_and_statuses(rt: HostRuntime) -> Result<(), Fail> {
         (&demo, "--triangles <triangles>"),
         (&demo, "[default: 20000]"),
         (&demo, "--early"),
-        (&demo, "2  the command line was refused, or help was printed"),
+        (
+            &demo,
+            "2  the command line was refused, or help was printed",
+        ),
     ] {
         let text = str::from_utf8(page).ok().expect(&rt, "the page is text");
         assert!(rt; text.contains(wanted), "no {wanted}");
