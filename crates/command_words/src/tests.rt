@@ -145,7 +145,7 @@ fn ranges_and_defaults_stand_on_the_help_page(rt: HostRuntime) -> Result<(), Fai
     let alloc = rt.alloc();
     let page = said(&rt, alloc, &["maskcull", "demo", "--help"])?;
     for wanted in [
-        "How many pieces a batch has at least, 1 to 4096 [default: 64]",
+        "How many pieces a batch has at least, for a frame that threads share, 1 to 4096 [default: 64]",
         "How many triangles the scene has, 0 to 65536 [default: 20000]",
         "The number that makes the scene, 0 to 4294967295 [default: 1]",
     ] {
