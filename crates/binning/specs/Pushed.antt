@@ -7,6 +7,7 @@ use Rattle.cull_base.specs.declared.rect.Rect.{Rect}
 use Rattle.binning.specs.Cut.{CutOf}
 use Rattle.binning.specs.Bins.{bin_span_of, bin_rect_of, has_tiles}
 use Rattle.binning.specs.Grid.{CutScreen}
+use Rattle.binning.specs.declared.grid.Reach.{Reach}
 use Rattle.binning.specs.Parts.{PartOf, part, indices_in}
 
 abbrev pub with_indices : List ℕ → PartOf → PartOf
@@ -45,3 +46,8 @@ is_bin_in_row screen row first end bin =
 abbrev pub is_bin_in_rows : CutScreen → ℕ → ℕ → ℕ → ℕ → ℕ → Bool
 is_bin_in_rows screen first_row end_row first end bin =
     is_between first_row end_row (bin / screen.cut.columns) && is_bin_in_columns screen first end bin
+
+-- and it stands in the rows and columns that are reached
+abbrev pub is_reached : CutScreen → Reach → ℕ → Bool
+is_reached screen reach bin =
+    is_bin_in_rows screen reach.rows.first reach.rows.end reach.columns.first reach.columns.end bin

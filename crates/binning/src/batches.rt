@@ -5,8 +5,8 @@ ghost use Rattle.binning.specs.Parts.{batch_size_of, batch_count_of};
 /// The most batches of a frame.
 const MOST_BATCHES: u32 = 2048;
 
-/// The size of a batch: what was asked for, or more where that would make above 2048 batches. Conditions: at least 1 is
-/// asked for, and the length is at most 131,072.
+/// The size of a batch: as given, or greater where that would make more than 2048 batches. Conditions: the given size is
+/// at least 1, and the length at most 131,072.
 pub fn batch_size(len: u32, asked: u32) -> u32
     requires asked { 1 ≤ asked }
     requires len { len ≤ 131072 }

@@ -4,7 +4,7 @@ ghost use Rattle.cull_base.specs.Piece.{box_of};
 ghost use Rattle.binning.specs.Axis.{IsRangeWithin};
 ghost use Rattle.binning.specs.Bins.{bin_span_of, has_tiles};
 ghost use Rattle.binning.specs.Cut.{bin_count_of};
-ghost use Rattle.binning.specs.Pushed.{PushedWhere, GotIndices, is_met, is_bin_in_row, is_bin_in_rows};
+ghost use Rattle.binning.specs.Pushed.{PushedWhere, GotIndices, is_met, is_bin_in_row, is_reached};
 
 use crate::axis::BinRange;
 use crate::grid::{Grid, Reach};
@@ -41,9 +41,7 @@ fn push_in_rows(parts: &mut [BinPart], grid: &Grid, reach: Reach, index: u32) ->
     requires parts { length parts.old ≡ bin_count_of grid.now.cut }
     requires columns { IsRangeWithin grid.now.cut.columns reach.columns.first reach.columns.end }
     requires rows { IsRangeWithin grid.now.cut.rows reach.rows.first reach.rows.end }
-    ensures { let rows = reach.rows in let columns = reach.columns in
-        let reached = is_bin_in_rows grid.now rows.first rows.end columns.first columns.end in
-        OnOk result (PushedWhere reached index parts.old parts.new) }
+    ensures { OnOk result (PushedWhere (is_reached grid.now reach) index parts.old parts.new) }
 {
     for row in reach.rows.first..reach.rows.end {
         push_in_row(parts, grid, reach.columns, row, index)?;
@@ -61,9 +59,7 @@ fn push_in_one(parts: &mut [BinPart], grid: &Grid, reach: Reach, index: u32) -> 
     requires one_row { reach.rows.end ≡ reach.rows.first + 1 }
     requires has_tiles { has_tiles (bin_span_of grid.now.size grid.now.cut
         (reach.rows.first * grid.now.cut.columns + reach.columns.first)) ≡ true }
-    ensures { let rows = reach.rows in let columns = reach.columns in
-        let reached = is_bin_in_rows grid.now rows.first rows.end columns.first columns.end in
-        OnOk result (PushedWhere reached index parts.old parts.new) }
+    ensures { OnOk result (PushedWhere (is_reached grid.now reach) index parts.old parts.new) }
 {
     parts[grid.bin_at(reach.columns.first, reach.rows.first) as usize].push(index)
 }

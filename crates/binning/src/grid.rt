@@ -4,7 +4,7 @@ ghost use Rattle.cull_base.specs.Piece.{box_of};
 ghost use Rattle.binning.specs.Axis.{IsRangeWithin};
 ghost use Rattle.binning.specs.Bins.{bin_span_of, has_tiles};
 ghost use Rattle.binning.specs.Cut.{IsCut, bin_count_of};
-ghost use Rattle.binning.specs.Pushed.{is_bin_in_rows, is_met};
+ghost use Rattle.binning.specs.Pushed.{is_met, is_reached};
 
 use crate::axis::{Axis, BinRange};
 use crate::cut::Cut;
@@ -110,9 +110,10 @@ impl Grid {
     #[inline(always)]
     pub(crate) fn reached(&self, tri: &ScreenTri) -> Reach
         ensures valid { IsCut self.now.cut.columns self.now.cut.rows }
-        ensures bins { let rows = result.rows in let columns = result.columns in (b : ℕ) → b < bin_count_of self.now.cut
-            → is_bin_in_rows self.now rows.first rows.end columns.first columns.end b ≡ is_met self.now (box_of tri.now) b }
-        ensures first { result.columns.first < result.columns.end → has_tiles (bin_span_of self.now.size self.now.cut
+        ensures bins { (b : ℕ) → b < bin_count_of self.now.cut
+            → is_reached self.now result b ≡ is_met self.now (box_of tri.now) b }
+        ensures first { result.columns.first < result.columns.end
+            → has_tiles (bin_span_of self.now.size self.now.cut
             (result.rows.first * self.now.cut.columns + result.columns.first)) ≡ true }
         ensures column_range { IsRangeWithin self.now.cut.columns result.columns.first result.columns.end }
         ensures row_range { IsRangeWithin self.now.cut.rows result.rows.first result.rows.end }

@@ -43,7 +43,7 @@ impl BinPart {
         }
     }
 
-    /// Appends an index. Err where memory gave out.
+    /// Appends an index. Err if out of memory.
     #[inline(always)]
     pub(crate) fn push(&mut self, index: u32) -> Result<(), Memory>
         ensures { OnOk result (self.new ≡ with_index index self.old) }

@@ -25,7 +25,7 @@ fn empty_parts(alloc: Global, batch: u32, bins: u32) -> Result<Vec<BinPart>, Mem
 }
 
 /// One part for each bin, in order, empty ones too: the indices from one to before another whose piece's box meets the
-/// bin's rectangle, rising. Condition: from is at most to, and to at most the length. Err where memory gave out.
+/// bin's rectangle, rising. Condition: from is at most to, and to at most the length. Err if out of memory.
 pub fn bin_batch(
     alloc: Global,
     list: &FrameList,

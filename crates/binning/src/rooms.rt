@@ -27,7 +27,7 @@ impl Model for BinRoom {
 }
 
 impl BinRoom {
-    /// A bin's room, empty, with memory for so many indices. Err where memory gave out. Condition: the bin is below the
+    /// A bin's room, empty, with memory for so many indices. Err if out of memory. Condition: the bin is below the
     /// bins.
     pub fn of(alloc: Global, size: Size, cut: &Cut, bin: u32, most: u32) -> Result<BinRoom, Memory>
         requires { bin < bin_count_of cut.now }
@@ -108,7 +108,7 @@ fn offer_near(rooms: &mut [BinRoom], around: &Rect, boxed: &Rect, index: u32) ->
 
 /// Puts into each room its bin's part of a batch in place of what it had: the indices from one to before another whose
 /// piece's box meets the bin's rectangle, rising. Conditions: from is at most to, and to at most the length; a box that
-/// meets a bin meets the rectangle around them. Err where memory gave out, which it doesn't where the rooms have memory
+/// meets a bin meets the rectangle around them. Err if out of memory, which it isn't where the rooms have memory
 /// for the batch.
 pub fn bin_into(
     rooms: &mut [BinRoom],

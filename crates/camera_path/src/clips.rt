@@ -10,11 +10,11 @@ use std::alloc::Global;
 use std::sync::Wait;
 use std::thread::{Threads, available_parallelism};
 
-/// A thread is worth its start for so many vertices.
+/// So many vertices are worth a thread's start.
 const SHARE: usize = 8192;
 
-// One for each share of the work, and no more than there are processors. The system is asked for these only where there
-// is work for two.
+// One for each share of the work, and no more than there are processors. These are looked up only where there is work
+// for two.
 fn thread_count<R: Threads>(rt: &R, vertices: usize) -> usize {
     let shares = vertices / SHARE;
     if shares < 2 {
@@ -26,8 +26,9 @@ fn thread_count<R: Threads>(rt: &R, vertices: usize) -> usize {
     }
 }
 
-/// Puts each vertex in its place, as a camera sees it, by threads where there are many. Conditions: there are as many
-/// places as vertices, and the camera's numbers and the vertices' are at most 2^24 away from 0.
+/// Writes where each vertex lies as a camera sees it, in order, by several threads where there are many vertices.
+/// Conditions: there are as many places as vertices, and the camera's numbers and the vertices' are at most 2^24 away
+/// from 0.
 pub fn clip_into<R: Threads + Wait + Sync>(
     rt: &R,
     camera: &Camera,
@@ -53,7 +54,7 @@ pub fn clip_into<R: Threads + Wait + Sync>(
     );
 }
 
-/// Each vertex as a camera sees it, in order. Err where memory gave out. Condition: the camera's numbers and the
+/// Where each vertex lies as a camera sees it, in order. Err: out of memory. Condition: the camera's numbers and the
 /// vertices' are at most 2^24 away from 0.
 pub fn clip_all<R: Threads + Wait + Sync>(
     rt: &R,

@@ -1,20 +1,18 @@
 //! The near distance and the guard: between which limits a clip vertex may lie.
-ghost use Rattle.std.specs.Prelude.{◌≡◌, pos, ◌≤◌, ◌*◌};
+ghost use Rattle.std.specs.Prelude.{◌≡◌, ◌≤◌};
 ghost use Rattle.cull_base.specs.Guard.{is_beyond, is_past_guard};
 ghost use Rattle.cull_base.specs.NearPlane.{is_behind};
 
 use cull_base::ClipVertex;
 
 /// The guard in near distances.
-const GUARD: i64 = 16384;
+const GUARD: u64 = 16384;
 
 #[inline(always)]
-fn is_beyond(limit: i64, v: i64, near: u16) -> bool
-    requires near { near ≤ 1024 }
-    requires limit { limit ≡ pos (16384 * near) }
-    ensures { result ≡ is_beyond (16384 * near) v }
+fn is_beyond(limit: u64, v: i64) -> bool
+    ensures { result ≡ is_beyond limit v }
 {
-    v.unsigned_abs() > limit as u64
+    v.unsigned_abs() > limit
 }
 
 /// Whether a clip vertex lies before the near distance.
@@ -33,6 +31,6 @@ pub fn past_guard(v: &ClipVertex, near: u16) -> bool
     requires near_most { near ≤ 1024 }
     ensures { result ≡ is_past_guard v.now near }
 {
-    let limit = i64::from(near) * GUARD;
-    is_beyond(limit, v.x, near) | is_beyond(limit, v.y, near) | is_beyond(limit, v.w, near)
+    let limit = GUARD * u64::from(near);
+    is_beyond(limit, v.x) | is_beyond(limit, v.y) | is_beyond(limit, v.w)
 }

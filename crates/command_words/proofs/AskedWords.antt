@@ -24,7 +24,7 @@ use Rattle.command_words.specs.declared.table.OptionRow.{OptionRow}
 use Rattle.command_words.specs.declared.words.Refusal.{Refusal}
 use Rattle.command_words.specs.declared.words.Refusal.TheVariants as refusals
 use Rattle.command_words.proofs.OptionRules.{IsOf}
-use Rattle.command_words.proofs.PlainWords.{taken}
+use Rattle.command_words.proofs.PlainWords.{at, taken}
 use Rattle.command_words.proofs.TakenWords.{entered_values}
 
 pub asked : (words : List Text) (sub : Option (Text × List Row)) → fault_of the_app words ≡ [] → subcommand_of the_app words ≡ sub
@@ -80,11 +80,6 @@ are_own = (
   record { kind = refl; named = refl; asks = cull_same },
   (record { kind = refl; named = refl; asks = live_same }, (record { kind = refl; named = refl; asks = demo_same }, tt)),
 )
-
-at : (P : ACommand → Type 0) (rows : List ACommand) (row : ACommand) (k : ℕ) → AllByRecursion P rows → k < length rows → slice_index_or rows k row ≡ row → P row
-at P [] row k all lt is = absurd (omega arith)
-at P (x ∷ rest) row zero all lt is = subst P is all.0
-at P (x ∷ rest) row (suc k) all lt is = at P rest row k all.1 (omega arith) is
 
 is_own : (row : ACommand) → Contains commands row → IsOwn row
 is_own row c = at IsOwn commands row c.0 are_own c.1 c.2

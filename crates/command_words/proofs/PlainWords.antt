@@ -186,7 +186,8 @@ are_commands = (
   ),
 )
 
-at : (P : ACommand → Type 0) (rows : List ACommand) (row : ACommand) (k : ℕ) → AllByRecursion P rows → k < length rows → slice_index_or rows k row ≡ row → P row
+-- what holds of each row, at one of them
+pub at : (P : ACommand → Type 0) (rows : List ACommand) (row : ACommand) (k : ℕ) → AllByRecursion P rows → k < length rows → slice_index_or rows k row ≡ row → P row
 at P [] row k all lt is = absurd (omega arith)
 at P (x ∷ rest) row zero all lt is = subst P is all.0
 at P (x ∷ rest) row (suc k) all lt is = at P rest row k all.1 (omega arith) is

@@ -1,5 +1,5 @@
 //! The command line, read by `clap`: what it names by the table, or why it is refused.
-ghost use Rattle.std.specs.Prelude.{◌≡◌, ℕ, ◌⊎◌, IfOk, IfErr, IfSome, None, Some, [], is_some, map, string_bytes, false, option_map, unwrap_or};
+ghost use Rattle.std.specs.Prelude.{◌≡◌, ℕ, ◌≤◌, ◌⊎◌, IfOk, IfErr, IfSome, None, Some, [], is_some, map, string_bytes, false, option_map, unwrap_or};
 ghost use Rattle.clap.specs.Walk.{is_empty};
 ghost use Rattle.clap.specs.Words.{fault_of, found_of, kind_of, one_of, rows_of, subcommand_of, subcommand_rows_of};
 ghost use Rattle.command_words.specs.App.{the_app};
@@ -66,6 +66,17 @@ fn number(matches: &ArgMatches<'_>, option: &AnOption) -> u32
     number_of(matches, option).unwrap()
 }
 
+// The number of columns or rows of bins, 1 to 8.
+fn side(matches: &ArgMatches<'_>, option: &AnOption) -> u8
+    requires { IsNumbered (rows_of (found_of matches.now)) option.now.name.now 1 8 }
+    ensures value { result
+        ≡ unwrap_or (number_said (one_of option.now.name.now (rows_of (found_of matches.now)))) 0 }
+    ensures some { 1 ≤ result }
+    ensures few { result ≤ 8 }
+{
+    number(matches, option) as u8
+}
+
 // Whether a flag is given.
 fn is_given(matches: &ArgMatches<'_>, option: &AnOption) -> bool
     requires { IsFlag option.now.name.now (rows_of (found_of matches.now)) }
@@ -80,8 +91,8 @@ fn settings_of(matches: &ArgMatches<'_>) -> Settings
     ensures value { result ≡ settings_by (value_in (rows_of (found_of matches.now))) }
     ensures range { AreInRange result }
 {
-    let columns = number(matches, &BINS_X) as u8;
-    let rows = number(matches, &BINS_Y) as u8;
+    let columns = side(matches, &BINS_X);
+    let rows = side(matches, &BINS_Y);
     Settings {
         workers: number(matches, &WORKERS),
         cut: Cut::new(columns, rows).unwrap(),

@@ -13,3 +13,5 @@ pub mod Reciprocals
 pub mod Pixels
 pub mod HiddenObjects
 pub mod Nearer
+pub mod EightLanes
+pub mod Lists

@@ -1,5 +1,6 @@
 -- Pieces: triangles on the screen, which samples they cover or touch, and which pixels they reach.
-use Rattle.std.specs.Prelude.{ℕ, ℤ, pos, neg_ℤ, ◌≡◌, ◌+◌, ◌*◌, ◌/◌, ◌%◌, ◌^◌, ◌≤◌, ◌+ℤ◌, ◌-ℤ◌, ◌*ℤ◌, ◌<ℤ◌, List, [], ◌∷◌, map, length, Bool, int_lt, int_le, ◌&&◌, ◌||◌, slice_index, slice_index_or}
+use Rattle.std.specs.Prelude.{ℕ, ℤ, pos, neg_ℤ, ◌≡◌, ◌+◌, ◌*◌, ◌/◌, ◌%◌, ◌^◌, ◌≤◌, ◌+ℤ◌, ◌-ℤ◌, ◌*ℤ◌, ◌<ℤ◌}
+use Rattle.std.specs.Prelude.{List, [], ◌∷◌, map, length, Bool, int_lt, int_le, ◌&&◌, ◌||◌, slice_index, slice_index_or}
 use Rattle.std.specs.List.{fold, range_with_len, All}
 use Rattle.std.specs.Int.{int_min, int_max, int_div_euclid}
 use Rattle.std.specs.Ordering.{int_eq}
@@ -71,7 +72,9 @@ unfoldable pub covers : Piece → Point → Bool
 covers t p = edge_covers (vertex t 0) (vertex t 1) p && (edge_covers (vertex t 1) (vertex t 2) p && edge_covers (vertex t 2) (vertex t 0) p)
 
 unfoldable pub touches : Piece → Point → Bool
-touches t p = edge_touches (vertex t 0) (vertex t 1) p && (edge_touches (vertex t 1) (vertex t 2) p && edge_touches (vertex t 2) (vertex t 0) p)
+touches t p =
+    edge_touches (vertex t 0) (vertex t 1) p
+    && (edge_touches (vertex t 1) (vertex t 2) p && edge_touches (vertex t 2) (vertex t 0) p)
 
 -- f of each of the 32 samples of a subtile, in the order of their numbers
 unfoldable pub each_sample : {X : Type 0} → (ℕ → X) → List X
@@ -102,7 +105,13 @@ end_pixel v = int_div_euclid v (pos 16) +ℤ pos 1
 
 -- the pixels that points with these coordinates may reach, not cut to the screen
 abbrev pub box_around : List ℤ → List ℤ → Rect
-box_around xs ys = record { x0 = first_pixel (least_of xs); y0 = first_pixel (least_of ys); x1 = end_pixel (greatest_of xs); y1 = end_pixel (greatest_of ys) }
+box_around xs ys =
+    record {
+      x0 = first_pixel (least_of xs);
+      y0 = first_pixel (least_of ys);
+      x1 = end_pixel (greatest_of xs);
+      y1 = end_pixel (greatest_of ys);
+    }
 
 abbrev pub box_of : Piece → Rect
 box_of t = box_around t.xs t.ys

@@ -40,7 +40,12 @@ tile_place s t = record { column = t % tile_columns_of s; row = t / tile_columns
 abbrev pub tile_rect_of : Dimensions → ℕ → Rect
 tile_rect_of s t =
     let place = tile_place s t in
-    record { x0 = pos (32 * place.column); y0 = pos (8 * place.row); x1 = pos (min (32 * place.column + 32) s.width); y1 = pos (min (8 * place.row + 8) s.height) }
+    record {
+      x0 = pos (32 * place.column);
+      y0 = pos (8 * place.row);
+      x1 = pos (min (32 * place.column + 32) s.width);
+      y1 = pos (min (8 * place.row + 8) s.height);
+    }
 
 -- subtile j of a tile, of which it has four columns and two rows
 abbrev pub tile_sub : Dimensions → ℕ → ℕ → Sub

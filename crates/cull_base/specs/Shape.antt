@@ -36,7 +36,8 @@ abbrev pub near_at : Shape → ℕ → ℕ → Fraction
 near_at AlwaysOutside px py = whole_number (pos 0)
 near_at AlwaysVisible px py = whole_number (pos 0)
 near_at (Flat rect nearness) px py = whole_number (pos nearness)
-near_at (Pieces pieces hull) px py = greatest_fraction (map (λ t. depth_at t (middle px py)) (filter (λ t. touches t (middle px py)) pieces))
+near_at (Pieces pieces hull) px py =
+    greatest_fraction (map (λ t. depth_at t (middle px py)) (filter (λ t. touches t (middle px py)) pieces))
 
 -- the pixels of the screen that are looked at
 abbrev pub area_of : Dimensions → Shape → Rect

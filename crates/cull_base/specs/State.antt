@@ -1,5 +1,6 @@
 -- The state of a subtile, and one masked update of it.
-use Rattle.std.specs.Prelude.{ℕ, zero, suc, ◌+◌, ◌*◌, ◌/◌, ◌%◌, List, [], ◌∷◌, Bool, true, false, ◌&&◌, ◌||◌, not, cond, min, nat_lt, nat_le, nat_eq, slice_index_or}
+use Rattle.std.specs.Prelude.{ℕ, zero, suc, ◌+◌, ◌*◌, ◌/◌, ◌%◌, List, [], ◌∷◌, slice_index_or}
+use Rattle.std.specs.Prelude.{Bool, true, false, ◌&&◌, ◌||◌, not, cond, min, nat_lt, nat_le, nat_eq}
 use Rattle.std.specs.Simd.Lanes.{zip2}
 
 -- a set of samples of a subtile is a list of 32 tests, by the number of the sample
@@ -48,11 +49,15 @@ lowered_depth s t samples = cond (is_none samples) t (min s.working t)
 
 -- a working layer that has every sample becomes the reference
 abbrev pub raised_if_full : ℕ → ℕ → List Bool → State
-raised_if_full reference working samples = cond (is_all samples) (record { reference = working; working = 0; samples = no_samples }) (record { reference = reference; working = working; samples = samples })
+raised_if_full reference working samples =
+    cond (is_all samples) (record { reference = working; working = 0; samples = no_samples })
+    (record { reference = reference; working = working; samples = samples })
 
 -- a bound t merged at the samples c
 unfoldable pub step_with : State → ℕ → List Bool → State
-step_with s t c = cond (is_none c || nat_le t s.reference) s (raised_if_full s.reference (lowered_depth s t (samples_left s t)) (union (samples_left s t) c))
+step_with s t c =
+    cond (is_none c || nat_le t s.reference) s
+    (raised_if_full s.reference (lowered_depth s t (samples_left s t)) (union (samples_left s t) c))
 
 -- the bound at sample k: what is drawn there is at least so near, or nothing is known
 abbrev pub bound_at : State → ℕ → ℕ

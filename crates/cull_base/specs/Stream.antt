@@ -1,5 +1,6 @@
 -- What sources and sinks say of their bytes and their counts.
-use Rattle.std.specs.Prelude.{ℕ, ◌≡◌, ◌+◌, ◌-◌, ◌^◌, ◌<◌, ◌≤◌, ◌⊎◌, min, List, [], ◌++◌, length, take, drop, Option, option_map, IfSome, Result, OnOk, OnErr, IsErrOf}
+use Rattle.std.specs.Prelude.{ℕ, ◌≡◌, ◌+◌, ◌-◌, ◌^◌, ◌<◌, ◌≤◌, ◌⊎◌, min, List, [], ◌++◌, length, take, drop}
+use Rattle.std.specs.Prelude.{Option, option_map, IfSome, Result, OnOk, OnErr, IsErrOf}
 use Rattle.cull_base.specs.declared.memory.SinkError.{SinkError}
 use Rattle.cull_base.specs.declared.memory.SinkError.TheVariants.{Failed, Memory}
 
@@ -29,7 +30,8 @@ HasNoneLeft source = IfSome source.left (λ bytes. bytes ≡ [])
 
 -- n bytes were taken from the front of what was left, if that is told, and stand at the front of the buffer
 abbrev pub TakesFront : Option (List ℕ) → Option (List ℕ) → List ℕ → ℕ → Type 0
-TakesFront before after buffer n = (after ≡ option_map (drop n) before) × IfSome before (λ bytes. (n ≤ length bytes) × (take n buffer ≡ take n bytes))
+TakesFront before after buffer n =
+    (after ≡ option_map (drop n) before) × IfSome before (λ bytes. (n ≤ length bytes) × (take n buffer ≡ take n bytes))
 
 -- these bytes were appended, if the bytes are told
 abbrev pub Appends : SinkSays → SinkSays → List ℕ → Type 0
@@ -54,7 +56,9 @@ pub record Writes (before after : SinkSays) (result : Result (Unit {0}) SinkErro
 
 -- the text was appended, or a front of it where one of the sink's counts rose
 abbrev pub IsNoted : SinkSays → SinkSays → List ℕ → Type 0
-IsNoted before after text = Appends before after text ⊎ (AppendsPrefix before after text × (Rose before.faults after.faults ⊎ Rose before.refusals after.refusals))
+IsNoted before after text =
+    Appends before after text
+    ⊎ (AppendsPrefix before after text × (Rose before.faults after.faults ⊎ Rose before.refusals after.refusals))
 
 -- a source in memory
 pub record SourceBytes : Type 0 where

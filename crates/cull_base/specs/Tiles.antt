@@ -34,7 +34,8 @@ tile_list tile list = filter (λ t. meets (box_of t) (tile_rect_of list.size til
 
 -- the states of a tile's subtiles after some pieces: those that lie outside the screen stay empty
 abbrev pub tile_after : Dimensions → ℕ → List Piece → List State
-tile_after size tile pieces = map (λ j. let u = tile_sub size tile j in cond (is_on_screen size u) (after u pieces) empty_state) (range_with_len 0 8)
+tile_after size tile pieces =
+    map (λ j. let u = tile_sub size tile j in cond (is_on_screen size u) (after u pieces) empty_state) (range_with_len 0 8)
 
 -- the states of a tile's subtiles after the first k members of its list
 abbrev pub prefixed : ℕ → ℕ → PieceList → List State

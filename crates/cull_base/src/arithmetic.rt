@@ -3,7 +3,7 @@ ghost use Rattle.std.specs.Prelude.{◌≡◌, ℕ, ℤ, pos, ◌^◌, ◌*◌, 
 ghost use Rattle.cull_base.specs.Piece.{IsCoordinate, point, edge_value};
 ghost use Rattle.cull_base.specs.Bounds.{Bounded};
 
-/// A place that isn't before the first pixel, as a pixel.
+/// A pixel's number without its sign. Condition: it isn't below 0.
 #[inline(always)]
 pub fn pixel_of(place: i32) -> u32
     requires { pos 0 ≤ℤ place }
@@ -34,7 +34,7 @@ pub fn product(a: i64, b: i64) -> i64
     a * b
 }
 
-/// a - b, within twice what both are within.
+/// a - b. Its bound is twice that of both.
 #[inline(always)]
 pub fn minus(a: i64, b: i64) -> i64
     requires a_bounded { Bounded (2 ^ 60) a }

@@ -33,7 +33,7 @@ impl Model for Divisor {
 }
 
 impl Divisor {
-    /// The one division that is paid for. Condition: the number is positive.
+    /// Divides once, for the reciprocal. Condition: the number is positive.
     #[inline(always)]
     pub fn of(number: u64) -> Divisor
         requires { 0 < number }
@@ -88,7 +88,8 @@ impl Divisor {
         }
     }
 
-    /// The same of a wide number: most fit 64 bits all the same. It lies no further away from 0 than n.
+    /// The floor of n over the number, of an n of 128 bits; most of them fit 64 bits all the same. The result lies no
+    /// further away from 0 than n.
     #[inline(always)]
     pub fn wide_floor(&self, n: i128) -> i128
         ensures value { result ≡ floor_of n (pos self.now) }

@@ -11,6 +11,7 @@ pub struct Extent {
 }
 
 impl Extent {
+    /// The extent of one coordinate.
     #[inline(always)]
     pub fn of(value: i32) -> Extent
         ensures { result ≡ record { least = value; greatest = value } }
@@ -21,7 +22,7 @@ impl Extent {
         }
     }
 
-    /// Reaching to one more coordinate.
+    /// The extent of the same coordinates and one more.
     #[inline(always)]
     pub fn with(self, value: i32) -> Extent
         ensures least { result.least ≡ int_min self.least value }

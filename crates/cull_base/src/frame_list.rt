@@ -7,7 +7,7 @@ use crate::size::Size;
 use std::alloc::Global;
 use std::marker::Model;
 
-/// The pieces of a frame in submission order, with room for a number that was asked for.
+/// The pieces of a frame in submission order, with room for a given number of them.
 #[derive(Drop)]
 pub struct FrameList {
     size: Size,
@@ -23,13 +23,15 @@ impl Model for FrameList {
 
     ghost view = { λ f. record { list = record { size = f.size; members = f.pieces.items }; room = f.room } };
 
-    ghost invariant = { λ f. (length f.pieces.items ≤ f.room) × (f.room ≤ vec_capacity f.pieces) × (f.room ≤ 131072) × ArePieces f.pieces.items };
+    ghost invariant = { λ f. (length f.pieces.items ≤ f.room) × (f.room ≤ vec_capacity f.pieces)
+        × (f.room ≤ 131072) × ArePieces f.pieces.items };
 }
 
 impl FrameList {
     ghost use Rattle.cull_base.specs.Tiles.{ArePieces, with_member, with_members};
 
-    /// An empty list. Condition: room is at most 131,072. Memory is taken here and nowhere later.
+    /// An empty list with room for so many pieces. All memory is allocated here. Err: out of memory. Condition: `room` is
+    /// at most 131,072.
     pub fn with_room(alloc: Global, size: Size, room: u32) -> Result<FrameList, Memory>
         requires { room ≤ 131072 }
         ensures { IfOk result (λ f. f ≡ record { list = record { size = size; members = [] }; room = room }) }
@@ -40,7 +42,7 @@ impl FrameList {
         }
     }
 
-    /// Appends. Condition: the length is below the room.
+    /// Appends a piece. Condition: the length is below the room.
     pub fn push(&mut self, tri: ScreenTri)
         requires { length self.old.list.members < self.old.room }
         ensures { self.new ≡ with_member self.old tri }
@@ -60,6 +62,7 @@ impl FrameList {
         }
     }
 
+    /// How many pieces there are.
     pub fn len(&self) -> u32
         ensures value { result ≡ length self.now.list.members }
         ensures within { result ≤ self.now.room }
@@ -76,7 +79,7 @@ impl FrameList {
         self.size
     }
 
-    /// Condition: i is below the length.
+    /// Piece i. Condition: i is below the length.
     pub fn get(&self, i: u32) -> &ScreenTri
         requires { i < length self.now.list.members }
         ensures { result.now ≡ slice_index_or self.now.list.members i result.now }

@@ -1,6 +1,6 @@
-//! What a call answers where memory or the outside world gave out.
+//! Errors: out of memory, and sources and sinks that fail.
 
-/// Want of memory.
+/// Out of memory.
 #[derive(Clone, Copy, Debug, PartialEq, Eq)]
 pub struct Memory;
 
@@ -8,11 +8,11 @@ pub struct Memory;
 #[derive(Clone, Copy, Debug, PartialEq, Eq)]
 pub struct Failed;
 
-/// Why a sink took nothing.
+/// Why a sink took nothing of a piece.
 #[derive(Clone, Copy, Debug, PartialEq, Eq)]
 pub enum SinkError {
-    /// Its count of faults rose.
+    /// It failed: its count of faults rose.
     Failed,
-    /// Its count of refused growths rose.
+    /// Out of memory: its count of refused growths rose.
     Memory,
 }

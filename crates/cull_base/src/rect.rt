@@ -2,7 +2,7 @@
 ghost use Rattle.std.specs.Prelude.{◌≡◌, ℤ, IsTrue, ◌↔◌, false, int_lt};
 ghost use Rattle.std.specs.Int.{int_min, int_max};
 
-/// The pixels from (x0, y0) to before (x1, y1); none where a first is not below its second.
+/// The pixels from (x0, y0) to before (x1, y1); none where x0 isn't below x1, or y0 isn't below y1.
 #[derive(Clone, Copy, Debug, PartialEq, Eq)]
 pub struct Rect {
     pub x0: i32,

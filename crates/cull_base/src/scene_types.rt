@@ -13,7 +13,7 @@ pub enum Object {
     Mesh { first: u32, count: u32 },
 }
 
-/// What is answered of an object.
+/// The result of an object's test.
 #[derive(Clone, Copy, Debug, PartialEq, Eq)]
 pub enum Verdict {
     Visible,

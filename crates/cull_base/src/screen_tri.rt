@@ -1,5 +1,5 @@
 //! Pieces: triangles on the screen.
-ghost use Rattle.std.specs.Prelude.{◌≡◌, ℕ, ℤ, pos, ◌≤◌, ◌^◌, ◌-ℤ◌, ◌*ℤ◌, MatchOption, IsSome, IsTrue, ◌↔◌, length, slice_index_or, List, [], ◌∷◌, ◌<ℤ◌, ◌≤ℤ◌};
+ghost use Rattle.std.specs.Prelude.{◌≡◌, ◌≤◌, ◌↔◌, MatchOption, IsSome, IsTrue};
 ghost use Rattle.std.specs.List.{All};
 ghost use Rattle.std.specs.Int.{int_div_euclid};
 ghost use Rattle.cull_base.specs.Piece.{IsCoordinate, least_of, greatest_of};
@@ -54,8 +54,8 @@ impl ScreenTri {
     ghost use Rattle.cull_base.specs.Depth.{least_nearness, greatest_nearness};
     ghost use Rattle.cull_base.specs.Piece.{Piece, IsPiece, piece, box_of};
 
-    /// None exactly where the doubled area isn't positive, a coordinate isn't strictly between -2^29 and 2^29,
-    /// or a nearness is above the top that pieces hold.
+    /// A piece of these numbers. None exactly where the doubled area isn't positive, a coordinate isn't strictly between
+    /// -2^29 and 2^29, or a nearness is above the top that pieces hold.
     pub fn new(x: [i32; 3], y: [i32; 3], q: [u32; 3]) -> Option<ScreenTri>
         ensures value { MatchOption result (IsPiece (piece x y q) → ⊥) (λ t. t ≡ piece x y q) }
         ensures given { IsPiece (piece x y q) → IsSome result }
@@ -69,7 +69,7 @@ impl ScreenTri {
         Some(ScreenTri { x, y, q })
     }
 
-    /// The piece of numbers that are known to make one.
+    /// A piece of these numbers. Condition: they make one, as `new` tests.
     #[inline(always)]
     pub fn from_valid(x: [i32; 3], y: [i32; 3], q: [u32; 3]) -> ScreenTri
         requires { IsPiece (piece x y q) }
@@ -78,7 +78,7 @@ impl ScreenTri {
         ScreenTri { x, y, q }
     }
 
-    /// In sixteenths of a pixel, strictly between -2^29 and 2^29.
+    /// x of each vertex, in sixteenths of a pixel, strictly between -2^29 and 2^29.
     pub fn x(&self) -> [i32; 3]
         ensures value { result ≡ self.now.xs }
         ensures valid { IsPiece self.now }
@@ -86,7 +86,7 @@ impl ScreenTri {
         self.x
     }
 
-    /// In sixteenths of a pixel, strictly between -2^29 and 2^29.
+    /// y of each vertex, in sixteenths of a pixel, strictly between -2^29 and 2^29.
     pub fn y(&self) -> [i32; 3]
         ensures value { result ≡ self.now.ys }
         ensures valid { IsPiece self.now }
@@ -94,7 +94,7 @@ impl ScreenTri {
         self.y
     }
 
-    /// Nearness, from 0 to the top that pieces hold.
+    /// The nearness of each vertex, from 0 to the top that pieces hold.
     pub fn q(&self) -> [u32; 3]
         ensures value { result ≡ self.now.qs }
         ensures valid { IsPiece self.now }

@@ -1,5 +1,6 @@
 //! Where bytes go.
-ghost use Rattle.std.specs.Prelude.{◌≡◌, ℕ, List, [], ◌+◌, ◌++◌, ◌<◌, ◌≤◌, length, take, drop, min, IfOk, OnOk, OnErr, IsOk, IfSome, Option, Some, IsErr, IsErrOf, ◌↔◌, ◌^◌};
+ghost use Rattle.std.specs.Prelude.{◌≡◌, [], ◌++◌, ◌<◌, ◌≤◌, ◌↔◌, length, take, drop, min, Some};
+ghost use Rattle.std.specs.Prelude.{IfOk, OnOk, OnErr, IsErrOf};
 ghost use Rattle.std.specs.List.{Contains};
 ghost use Rattle.cull_base.specs.Stream.{SinkSays, Rose, Appends, Writes, next_count, CountsNone, CountsFault, CountsRefusal};
 
@@ -12,15 +13,18 @@ pub trait Sink {
     /// The bytes that it holds, where they are told, how often it has failed, and how often it could not grow.
     ghost says: { Self → SinkSays };
 
-    /// Appends a front of the piece, which is at least one byte of a piece that isn't empty. Failed comes only where
-    /// the count of faults rose, Memory only where that of refused growths did; then nothing was appended.
+    /// Appends the beginning of the piece and answers its length, which is at least 1 where the piece isn't empty. Err:
+    /// Failed only where the count of faults rose, Memory only where that of refused growths rose; then nothing was
+    /// appended.
     fn write(&mut self, piece: &[u8]) -> Result<usize, SinkError>
         ensures within { IfOk result (λ n. n ≤ length piece.now) }
         ensures some { IfOk result (λ n. 0 < length piece.now → 0 < n) }
         ensures appended { IfOk result (λ n. Appends (says self.old) (says self.new) (take n piece.now)) }
         ensures unchanged { OnErr result ((says self.new).holding ≡ (says self.old).holding) }
-        ensures failed { IsErrOf result SinkError.Failed → Rose (says self.old).faults (says self.new).faults }
-        ensures memory { IsErrOf result SinkError.Memory → Rose (says self.old).refusals (says self.new).refusals }
+        ensures failed { IsErrOf result SinkError.Failed
+            → Rose (says self.old).faults (says self.new).faults }
+        ensures memory { IsErrOf result SinkError.Memory
+            → Rose (says self.old).refusals (says self.new).refusals }
         ensures faults_stay { (says self.old).faults ≤ (says self.new).faults }
         ensures refusals_stay { (says self.old).refusals ≤ (says self.new).refusals };
 }
@@ -33,8 +37,8 @@ fn behind(piece: &[u8], n: usize) -> &[u8]
     &piece[n..]
 }
 
-/// Appends the whole piece, offered again from its first byte not taken. After an error a front of it that isn't the
-/// whole was appended.
+/// Appends the whole piece, in as many calls as the sink needs. After an error the beginning of the piece was appended,
+/// and not the whole.
 pub fn write_whole<W: Sink>(sink: &mut W, piece: &[u8]) -> Result<(), SinkError>
     ensures { Writes (W.says sink.old) (W.says sink.new) result piece.now }
 {
@@ -46,7 +50,7 @@ pub fn write_whole<W: Sink>(sink: &mut W, piece: &[u8]) -> Result<(), SinkError>
     Ok(())
 }
 
-/// Bytes held in memory, taken in pieces of at most a given size, with calls that fail by their number.
+/// A sink in memory that takes at most a given number of bytes a call, and fails in given calls.
 #[derive(Drop)]
 pub struct BytesSink {
     bytes: Vec<u8>,
@@ -76,11 +80,12 @@ impl Model for BytesSink {
 }
 
 impl BytesSink {
-    /// Takes per call the least of `most` and the piece's length. It fails in the calls whose numbers, counted from 1,
-    /// are in `fails`, and in no other. Condition: `most` is at least 1.
+    /// An empty sink that takes the least of `most` and the piece's length in a call. It fails in the calls whose numbers,
+    /// counted from 1, are in `fails`, and in no other. Condition: `most` is at least 1.
     pub fn new(alloc: Global, most: usize, fails: Vec<u64>) -> BytesSink
         requires { 1 ≤ most }
-        ensures { result ≡ record { held = []; most = most; fails = fails.items; calls = 0; faults = 0; refusals = 0 } }
+        ensures { result
+            ≡ record { held = []; most = most; fails = fails.items; calls = 0; faults = 0; refusals = 0 } }
     {
         BytesSink {
             bytes: Vec::new(alloc),
@@ -92,6 +97,7 @@ impl BytesSink {
         }
     }
 
+    /// The bytes that it holds.
     pub fn held(&self) -> &[u8]
         ensures { result.now ≡ self.now.held }
     {
@@ -134,7 +140,7 @@ impl Sink for BytesSink {
     }
 }
 
-/// Bytes held in memory, each piece taken whole. It never fails, but it may be refused memory.
+/// A sink in memory that takes each piece whole. It never fails, but may be out of memory.
 #[derive(Drop)]
 pub struct SureSink {
     bytes: Vec<u8>,
@@ -150,6 +156,7 @@ impl Model for SureSink {
 }
 
 impl SureSink {
+    /// An empty sink.
     pub fn new(alloc: Global) -> SureSink
         ensures { result ≡ record { held = []; refusals = 0 } }
     {
@@ -159,6 +166,7 @@ impl SureSink {
         }
     }
 
+    /// The bytes that it holds.
     pub fn held(&self) -> &[u8]
         ensures { result.now ≡ self.now.held }
     {

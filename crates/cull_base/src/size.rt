@@ -30,9 +30,12 @@ impl Model for Size {
 }
 
 impl Size {
-    ghost use Rattle.cull_base.specs.Screen.{IsSize, dimensions, screen_of, tile_columns_of, tile_rows_of, tile_count_of, tile_place, tile_rect_of, tile_sub, is_on_screen};
+    ghost use Rattle.cull_base.specs.Screen.{IsSize, dimensions, screen_of, is_on_screen};
+    ghost use Rattle.cull_base.specs.Screen.{tile_columns_of, tile_rows_of, tile_count_of};
+    ghost use Rattle.cull_base.specs.Screen.{tile_place, tile_rect_of, tile_sub};
 
-    /// None exactly where the width is no multiple of 8 from 8 to 2048 or the height none of 4 from 4 to 2048.
+    /// A screen of so many pixels. None exactly where the width is no multiple of 8 from 8 to 2048, or the height none of
+    /// 4 from 4 to 2048.
     pub fn new(width: u16, height: u16) -> Option<Size>
         ensures value { MatchOption result (IsSize width height → ⊥) (λ s. s ≡ dimensions width height) }
         ensures given { IsSize width height → IsSome result }
@@ -51,7 +54,7 @@ impl Size {
         }
     }
 
-    /// In pixels.
+    /// The width in pixels.
     pub fn width(&self) -> u16
         ensures value { result ≡ self.now.width }
         ensures valid { IsSize self.now.width self.now.height }
@@ -61,7 +64,7 @@ impl Size {
         self.width
     }
 
-    /// In pixels.
+    /// The height in pixels.
     pub fn height(&self) -> u16
         ensures value { result ≡ self.now.height }
         ensures valid { IsSize self.now.width self.now.height }
@@ -101,6 +104,7 @@ impl Size {
         u32::from(self.height.div_ceil(TILE_HEIGHT))
     }
 
+    /// How many tiles there are.
     pub fn tile_count(&self) -> u32
         ensures value { result ≡ tile_count_of self.now }
         ensures small { result ≤ 16384 }

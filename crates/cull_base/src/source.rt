@@ -1,5 +1,6 @@
 //! Where bytes come from.
-ghost use Rattle.std.specs.Prelude.{◌≡◌, ℕ, List, [], ◌+◌, ◌<◌, ◌≤◌, length, drop, take, min, IfOk, IsOk, OnOk, OnErr, IfSome, Option, Some, IsErr, ◌↔◌, ◌^◌};
+ghost use Rattle.std.specs.Prelude.{◌≡◌, [], ◌+◌, ◌<◌, ◌≤◌, ◌↔◌, length, take, min, Some};
+ghost use Rattle.std.specs.Prelude.{IfOk, IsOk, OnOk, OnErr, IsErr};
 ghost use Rattle.std.specs.List.{Contains};
 ghost use Rattle.cull_base.specs.Stream.{SourceSays, HasNoneLeft, Rose, TakesFront, next_count, SourceBytes};
 
@@ -12,8 +13,8 @@ pub trait Source {
     /// most.
     ghost says: { Self → SourceSays };
 
-    /// Takes bytes from the front of what is left into the front of the buffer. Ok(0) on a buffer that isn't
-    /// empty is the end. Failed comes only where the count of faults rose; it takes no byte.
+    /// Takes bytes from the beginning of what is left into the beginning of the buffer, and answers how many. Ok(0) for a
+    /// buffer that isn't empty is the end. Err: Failed only where the count of faults rose; then no byte was taken.
     fn read(&mut self, buf: &mut [u8]) -> Result<usize, Failed>
         ensures within { IfOk result (λ n. n ≤ length buf.old) }
         ensures taken { IfOk result (λ n. TakesFront (says self.old).left (says self.new).left buf.new n) }
@@ -24,7 +25,7 @@ pub trait Source {
         ensures turn { (says self.new).turns ≤ (says self.old).turns + 1 };
 }
 
-// Copies the front of the bytes to the front of the buffer, at most so many.
+// Copies the beginning of the bytes to the beginning of the buffer, at most so many.
 fn copy_front(bytes: &[u8], buf: &mut [u8], most: usize) -> usize
     ensures amount { result ≡ min most (min (length buf.old) (length bytes.now)) }
     ensures copied { take result buf.new ≡ take result bytes.now }
@@ -34,7 +35,7 @@ fn copy_front(bytes: &[u8], buf: &mut [u8], most: usize) -> usize
     n
 }
 
-/// Bytes in memory that come in pieces of at most a given size, with calls that fail by their number.
+/// A source in memory that gives at most a given number of bytes a call, and fails in given calls.
 #[derive(Drop)]
 pub struct BytesSource {
     bytes: Vec<u8>,
@@ -63,11 +64,12 @@ impl Model for BytesSource {
 }
 
 impl BytesSource {
-    /// Gives per call the least of `most`, the buffer's length and what is left. It fails in the calls whose
-    /// numbers, counted from 1, are in `fails`, and in no other. Condition: `most` is at least 1.
+    /// A source that gives the least of `most`, the buffer's length and what is left in a call. It fails in the calls
+    /// whose numbers, counted from 1, are in `fails`, and in no other. Condition: `most` is at least 1.
     pub fn new(bytes: Vec<u8>, most: usize, fails: Vec<u64>) -> BytesSource
         requires { 1 ≤ most }
-        ensures { result ≡ record { left = bytes.items; most = most; fails = fails.items; calls = 0; faults = 0 } }
+        ensures { result
+            ≡ record { left = bytes.items; most = most; fails = fails.items; calls = 0; faults = 0 } }
     {
         BytesSource {
             bytes,
@@ -94,7 +96,8 @@ impl Source for BytesSource {
 
         ensures numbered { IsErr result ↔ Contains self.old.fails self.new.calls }
         ensures call { self.new.calls ≡ next_count self.old.calls }
-        ensures amount { IfOk result (λ n. n ≡ min self.old.most (min (length buf.old) (length self.old.left))) }
+        ensures amount { IfOk result
+            (λ n. n ≡ min self.old.most (min (length buf.old) (length self.old.left))) }
         ensures counts_ok { OnOk result (self.new.faults ≡ self.old.faults) }
         ensures counts_failed { OnErr result (self.new.faults ≡ next_count self.old.faults) }
         ensures settings { (self.new.most ≡ self.old.most) × (self.new.fails ≡ self.old.fails) }
@@ -110,7 +113,7 @@ impl Source for BytesSource {
     }
 }
 
-/// Bytes in memory that come whole and never fail.
+/// A source in memory that gives all that the buffer has room for, and never fails.
 #[derive(Drop)]
 pub struct SureSource {
     bytes: Vec<u8>,
@@ -128,6 +131,7 @@ impl Model for SureSource {
 }
 
 impl SureSource {
+    /// A source that gives these bytes.
     pub fn new(bytes: Vec<u8>) -> SureSource
         ensures { result ≡ bytes.items }
     {

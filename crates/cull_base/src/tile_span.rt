@@ -3,6 +3,7 @@ ghost use Rattle.std.specs.Prelude.{◌≡◌, ◌≤◌, ◌&&◌};
 ghost use Rattle.cull_base.specs.Screen.{IsSize};
 
 use crate::arithmetic::pixel_of;
+use crate::place::Tile;
 use crate::rect::Rect;
 use crate::size;
 use crate::size::Size;
@@ -21,7 +22,8 @@ pub struct TileSpan {
 }
 
 impl TileSpan {
-    ghost use Rattle.cull_base.specs.Span.{IsSpan, IsPartOf, HasTilesOf, has_tile, whole_span, columns_in, rows_in, row_start_in};
+    ghost use Rattle.cull_base.specs.Span.{IsSpan, IsPartOf, HasTilesOf, has_tile, whole_span};
+    ghost use Rattle.cull_base.specs.Span.{columns_in, rows_in, row_start_in};
     ghost use Rattle.cull_base.specs.declared.place.Tile.{Tile};
 
     /// The tiles whose pixels on the screen meet a rectangle.
@@ -57,11 +59,12 @@ impl TileSpan {
         }
     }
 
-    /// The tiles in both. Condition: the other's firsts aren't past its ends.
+    /// The tiles in both. Condition: no first of the other is past its end.
     pub fn cut(&self, other: &TileSpan) -> TileSpan
         requires columns { other.now.first_column ≤ other.now.end_column }
         requires rows { other.now.first_row ≤ other.now.end_row }
-        ensures tiles { (place : Tile) → has_tile result place ≡ (has_tile self.now place && has_tile other.now place) }
+        ensures tiles { (place : Tile)
+            → has_tile result place ≡ (has_tile self.now place && has_tile other.now place) }
         ensures part { IsPartOf other.now result }
     {
         let first_column = self
@@ -74,6 +77,18 @@ impl TileSpan {
             first_row,
             end_row: self.end_row.clamp(first_row, other.end_row),
         }
+    }
+
+    /// Whether the tile at a place stands in the span.
+    pub fn has(&self, place: Tile) -> bool
+        ensures { result ≡ has_tile self.now place }
+    {
+        let column = u32::from(place.column);
+        let row = u32::from(place.row);
+        self.first_row <= row
+            && row < self.end_row
+            && self.first_column <= column
+            && column < self.end_column
     }
 
     /// How many tiles stand side by side.

@@ -8,7 +8,8 @@ pub enum Winding {
     DropCounter,
 }
 
-/// Whether a triangle hides or is asked for: nearness is rounded down for the one and up for the other.
+/// What a triangle is for: an occluder hides, and its nearness is rounded down; an object is tested, and its nearness is
+/// rounded up.
 #[derive(Clone, Copy, Debug, PartialEq, Eq)]
 pub enum Side {
     Occluder,

@@ -1,7 +1,8 @@
 //! Random numbers from a seed, and the triangles and boxes that are made of them.
 ghost use Rattle.std.specs.Prelude.{◌≡◌, ℕ, pos, ◌+◌, ◌*◌, ◌^◌, ◌≤◌, ◌+ℤ◌, ◌-ℤ◌};
 ghost use Rattle.cull_base.specs.Bounds.{Bounded};
-ghost use Rattle.demo_scene.specs.Demo.{state_after, draw, centre_x, centre_y, centre_z, half_side, IsNear, vertex_about, vertices_of, box_about, box_of};
+ghost use Rattle.demo_scene.specs.Demo.{state_after, draw, centre_x, centre_y, centre_z, half_side, IsNear};
+ghost use Rattle.demo_scene.specs.Demo.{vertex_about, vertices_of, box_about, box_of};
 
 use cull_base::Object;
 

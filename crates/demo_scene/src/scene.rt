@@ -99,8 +99,8 @@ fn demo_parts(alloc: Global, seed: u64, triangles: u32) -> Result<SceneParts, Al
     })
 }
 
-/// A scene of so many random triangles and 500 boxes, seen from four cameras; the same for the same seed. Condition: at
-/// most 65,536 triangles.
+/// A scene of so many random triangles and 500 boxes, seen from four cameras; the same for the same seed. Err: out of
+/// memory. Condition: there are at most 65,536 triangles.
 pub fn demo_scene(alloc: Global, seed: u64, triangles: u32) -> Result<Scene, Memory>
     requires { triangles ≤ 65536 }
     ensures { IfOk result (λ s. s ≡ demo_of seed triangles) }

@@ -2,7 +2,7 @@
 use Rattle.std.proofs.Common.{◌≡◌, ℕ, ℤ, pos, negsuc, ◌+◌, ◌*◌, ◌≤◌, ◌+ℤ◌, ◌*ℤ◌, ◌≤ℤ◌, ◌<ℤ◌, arith, true, List, length, slice_index_or}
 use Rattle.std.specs.Int.{int_min, int_max}
 use Rattle.std.proofs.lemmas.Int.{ints, clamps}
-use Rattle.cull_base.specs.Piece.{Piece, IsPiece, vertex, edge_value, doubled_area, covers, touches, middle, box_of, least_of, greatest_of, first_pixel, end_pixel}
+use Rattle.cull_base.specs.Piece.{Piece, Point, IsPiece, vertex, edge_value, doubled_area, covers, touches, middle, box_of, least_of, greatest_of, first_pixel, end_pixel}
 use Rattle.cull_base.proofs.Extents.{least_of_three, greatest_of_three}
 use Rattle.cull_base.specs.Rectangle.{HasPixel}
 use Rattle.depth_plane.proofs.Products.{mul_comm, le_from_times}
@@ -32,20 +32,25 @@ pixel_between low high px l h = (from low l, before high h)
     before (pos a) l = let k : 16 * px + 8 ≤ a = omega (arith, ints, l) in omega (arith, ints)
     before (negsuc a) l = absurd (omega (arith, ints, l))
 
--- three coordinates around that of a pixel's sample
-spanned : (vs : List ℤ) (pixel : ℕ) → length vs ≡ 3 → let a = slice_index_or vs 0 (pos 0) in let b = slice_index_or vs 1 (pos 0) in let c = slice_index_or vs 2 (pos 0) in
-    (int_min (int_min a b) c ≤ℤ pos (16 * pixel + 8)) × (pos (16 * pixel + 8) ≤ℤ int_max (int_max a b) c) → (first_pixel (least_of vs) ≤ℤ pos pixel) × (pos pixel <ℤ end_pixel (greatest_of vs))
-spanned vs pixel three (low, high) = pixel_between (least_of vs) (greatest_of vs) pixel (rw (← least_of_three vs three) low) (rw (← greatest_of_three vs three) high)
-
-pub touches-in_box : (t : Piece) (px py : ℕ) → IsPiece t → touches t (middle px py) ≡ true → HasPixel (box_of t) (pos px) (pos py)
-touches-in_box t px py h e =
-    let p = middle px py in
+-- the coordinates of three vertices around those of a point that the piece touches
+pub touches-between : (t : Piece) (p : Point) → IsPiece t → touches t p ≡ true
+    → ((least_of t.xs ≤ℤ p.x) × (p.x ≤ℤ greatest_of t.xs)) × ((least_of t.ys ≤ℤ p.y) × (p.y ≤ℤ greatest_of t.ys))
+touches-between t p h e =
     let w = weights_of t p e in
     let a = vertex t 0 in let b = vertex t 1 in let c = vertex t 2 in
     let x = between a.x b.x c.x (edge_value b c p) (edge_value c a p) (edge_value a b p) (doubled_area t) p.x h.positive_area w.first w.second w.third (total_of t p) (mean_x a.x a.y b.x b.y c.x c.y p.x p.y) in
     let y = between a.y b.y c.y (edge_value b c p) (edge_value c a p) (edge_value a b p) (doubled_area t) p.y h.positive_area w.first w.second w.third (total_of t p) (mean_y a.x a.y b.x b.y c.x c.y p.x p.y) in
-    let m = spanned t.xs px h.three_x x in
-    let n = spanned t.ys py h.three_y y in
+    (spanned t.xs p.x h.three_x x, spanned t.ys p.y h.three_y y)
+  where
+    spanned : (vs : List ℤ) (v : ℤ) → length vs ≡ 3 → let a = slice_index_or vs 0 (pos 0) in let b = slice_index_or vs 1 (pos 0) in let c = slice_index_or vs 2 (pos 0) in
+        (int_min (int_min a b) c ≤ℤ v) × (v ≤ℤ int_max (int_max a b) c) → (least_of vs ≤ℤ v) × (v ≤ℤ greatest_of vs)
+    spanned vs v three (low, high) = (rw (← least_of_three vs three) low, rw (← greatest_of_three vs three) high)
+
+pub touches-in_box : (t : Piece) (px py : ℕ) → IsPiece t → touches t (middle px py) ≡ true → HasPixel (box_of t) (pos px) (pos py)
+touches-in_box t px py h e =
+    let (x, y) = touches-between t (middle px py) h e in
+    let m = pixel_between (least_of t.xs) (greatest_of t.xs) px x.0 x.1 in
+    let n = pixel_between (least_of t.ys) (greatest_of t.ys) py y.0 y.1 in
     (m.0, m.1, n.0, n.1)
 
 pub covers-in_box : (t : Piece) (px py : ℕ) → IsPiece t → covers t (middle px py) ≡ true → HasPixel (box_of t) (pos px) (pos py)

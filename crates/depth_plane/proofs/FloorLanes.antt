@@ -5,24 +5,13 @@ use Rattle.std.proofs.lemmas.Int.{ints, by_lt_z}
 use Rattle.std.proofs.lemmas.Simd.{Each2-splat, Each1-from_get_or}
 use Rattle.std.proofs.lemmas.Bool.Decides.{nat_tests}
 use Rattle.cull_base.specs.declared.nearness.TheConstants.{HELD_TOP}
+use Rattle.cull_base.proofs.EightLanes.{each_of_eight}
 use Rattle.cull_base.proofs.Ring.{diff-mul, diff-sub, diff-add, diff-same, over3}
 use Rattle.cull_base.specs.Depth.{floor_of, cut_to_range}
 use Rattle.depth_plane.specs.Floors.{AreFloors, number_at}
 use Rattle.depth_plane.specs.declared.floor_lanes.Share.{Share}
 use Rattle.depth_plane.proofs.Products.{le_times, le_from_times}
 use Rattle.depth_plane.proofs.Floors.{floor_of-le, floor_of-lt}
-
--- what holds of eight numbers
-pub each_of_eight : (P : ℕ → Type 0) → P 0 → P 1 → P 2 → P 3 → P 4 → P 5 → P 6 → P 7 → (j : ℕ) → j < 8 → P j
-each_of_eight P a b c d e f g h zero lt = a
-each_of_eight P a b c d e f g h (suc zero) lt = b
-each_of_eight P a b c d e f g h (suc (suc zero)) lt = c
-each_of_eight P a b c d e f g h (suc (suc (suc zero))) lt = d
-each_of_eight P a b c d e f g h (suc (suc (suc (suc zero)))) lt = e
-each_of_eight P a b c d e f g h (suc (suc (suc (suc (suc zero))))) lt = f
-each_of_eight P a b c d e f g h (suc (suc (suc (suc (suc (suc zero)))))) lt = g
-each_of_eight P a b c d e f g h (suc (suc (suc (suc (suc (suc (suc zero))))))) lt = h
-each_of_eight P a b c d e f g h (suc (suc (suc (suc (suc (suc (suc (suc n)))))))) lt = absurd (omega arith)
 
 -- a product with a difference
 pub minus_times : (a b d : ℤ) → (a -ℤ b) *ℤ d ≡ (a *ℤ d) -ℤ (b *ℤ d)

@@ -115,7 +115,8 @@ impl Plane {
     fn floors_in_lanes(&self, tile: Tile) -> Option<[u32; 8]>
         requires column { tile.column < 64 }
         requires row { tile.row < 256 }
-        ensures { IfSome result (λ floors. (j : ℕ) → j < 8 → slice_index floors j ≡ low_from self.now 0 (sub_in tile j)) }
+        ensures { IfSome result (λ floors. (j : ℕ) → j < 8 → slice_index floors j
+            ≡ low_from self.now 0 (sub_in tile j)) }
     {
         let first = self.first?;
         let lanes = self.lanes.as_ref()?;

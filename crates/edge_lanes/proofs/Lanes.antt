@@ -71,21 +71,9 @@ mask_of_eight f g h =
     let i = h 4 (omega arith) in let j = h 5 (omega arith) in let k = h 6 (omega arith) in let l = h 7 (omega arith) in
     mask_l-mod (f 0 ∷ f 1 ∷ f 2 ∷ f 3 ∷ f 4 ∷ f 5 ∷ f 6 ∷ f 7 ∷ []) 64 (omega arith) ∙ cc
 
-pub each_of_eight : (P : ℕ → Type 0) → ((k : ℕ) → k < 8 → P k) → P 0 × (P 1 × (P 2 × (P 3 × (P 4 × (P 5 × (P 6 × (P 7 × Unit {0})))))))
-each_of_eight P h =
+pub all_of_eight : (P : ℕ → Type 0) → ((k : ℕ) → k < 8 → P k) → P 0 × (P 1 × (P 2 × (P 3 × (P 4 × (P 5 × (P 6 × (P 7 × Unit {0})))))))
+all_of_eight P h =
     (h 0 (omega arith), (h 1 (omega arith), (h 2 (omega arith), (h 3 (omega arith), (h 4 (omega arith), (h 5 (omega arith), (h 6 (omega arith), (h 7 (omega arith), tt))))))))
-
--- each of eight numbers
-pub any_of_eight : (P : ℕ → Type 0) → P 0 → P 1 → P 2 → P 3 → P 4 → P 5 → P 6 → P 7 → (k : ℕ) → k < 8 → P k
-any_of_eight P a b c d e f g h zero l = a
-any_of_eight P a b c d e f g h (suc zero) l = b
-any_of_eight P a b c d e f g h (suc (suc zero)) l = c
-any_of_eight P a b c d e f g h (suc (suc (suc zero))) l = d
-any_of_eight P a b c d e f g h (suc (suc (suc (suc zero)))) l = e
-any_of_eight P a b c d e f g h (suc (suc (suc (suc (suc zero))))) l = f
-any_of_eight P a b c d e f g h (suc (suc (suc (suc (suc (suc zero)))))) l = g
-any_of_eight P a b c d e f g h (suc (suc (suc (suc (suc (suc (suc zero))))))) l = h
-any_of_eight P a b c d e f g h (suc (suc (suc (suc (suc (suc (suc (suc k)))))))) l = absurd (omega arith)
 
 -- a sixteenth, rounded down, and moved by sixteenths of steps isn't negative exactly where the value isn't
 pub is_not_negative-sixteenth : (e k : ℤ) → is_not_negative (int_div_euclid e (pos 16) +ℤ k) ≡ is_not_negative (e +ℤ (pos 16 *ℤ k))

@@ -48,21 +48,22 @@ edge_of_occluder e a b h x y = h x y ∙ is_not_negative-biased (edge_value a b 
 edge_of_object : (e : Line) (a b : Point) → IsEdge e Object a b → (x y : ℕ) → counts_at e x y ≡ edge_touches a b (middle x y)
 edge_of_object e a b h x y = h x y ∙ is_not_negative-plain (edge_value a b (middle x y))
 
+-- a test of each edge, which is that of the edge's values, and the test of all three
+of_edges : (test : Point → Point → Point → Bool) (side : Side) → ((e : Line) (a b : Point) → IsEdge e side a b → (x y : ℕ) → counts_at e x y ≡ test a b (middle x y)) → (e : Lines) (t : Piece) → AreEdges e side t → (x y : ℕ)
+    → is_inside e x y ≡ (test (vertex t 0) (vertex t 1) (middle x y) && (test (vertex t 1) (vertex t 2) (middle x y) && test (vertex t 2) (vertex t 0) (middle x y)))
+of_edges test side edge e t h x y =
+    let a = edge e.first (vertex t 0) (vertex t 1) h.first x y in
+    let b = edge e.second (vertex t 1) (vertex t 2) h.second x y in
+    let c = edge e.third (vertex t 2) (vertex t 0) h.third x y in
+    rw (a, b, c) refl
+
 occluder_at : (e : Lines) (t : Piece) → AreEdges e Occluder t → (x y : ℕ) → is_inside e x y ≡ covers t (middle x y)
 unfolding covers
-occluder_at e t h x y =
-    let a = edge_of_occluder e.first (vertex t 0) (vertex t 1) h.first x y in
-    let b = edge_of_occluder e.second (vertex t 1) (vertex t 2) h.second x y in
-    let c = edge_of_occluder e.third (vertex t 2) (vertex t 0) h.third x y in
-    rw (a, b, c) refl
+occluder_at = of_edges edge_covers Occluder edge_of_occluder
 
 object_at : (e : Lines) (t : Piece) → AreEdges e Object t → (x y : ℕ) → is_inside e x y ≡ touches t (middle x y)
 unfolding touches
-object_at e t h x y =
-    let a = edge_of_object e.first (vertex t 0) (vertex t 1) h.first x y in
-    let b = edge_of_object e.second (vertex t 1) (vertex t 2) h.second x y in
-    let c = edge_of_object e.third (vertex t 2) (vertex t 0) h.third x y in
-    rw (a, b, c) refl
+object_at = of_edges edge_touches Object edge_of_object
 
 pub inside_lines-covered : (e : Lines) (side : Side) (t : Piece) → AreEdges e side t → side ≡ Occluder → (u : Sub) → inside_lines e u ≡ covered t u
 unfolding inside_lines covered

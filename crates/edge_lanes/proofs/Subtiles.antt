@@ -89,11 +89,15 @@ one_clear a b c j h = of_least (bit_at a j) (bit_at b j) (bit_at c j) (sym (bit_
     of_least (suc x) (suc y) zero h = inr (inr refl)
     of_least (suc x) (suc y) (suc z) h = absurd (omega arith)
 
-pub candidates_of_all-lt : (e : Lines) (s t u : ℤ) → candidates_of_all e s t u < 2 ^ 8
-candidates_of_all-lt e s t u =
-    let l = and_le_r (bit_and (candidates_of e.first s) (candidates_of e.second t)) (candidates_of e.third u) in
-    let byte : candidates_of e.third u < 2 ^ 8 = mask_l-lt (map (λ j. is_not_negative ((u +ℤ highest_of e.third.column e.third.row) +ℤ subtile_step e.third.column e.third.row j)) columns) in
+-- three masks of signs, joined
+signs-lt : (a b : ℕ) (column row v : ℤ) → bit_and (bit_and a b) (subtile_signs column row v) < 2 ^ 8
+signs-lt a b column row v =
+    let l = and_le_r (bit_and a b) (subtile_signs column row v) in
+    let byte : subtile_signs column row v < 2 ^ 8 = mask_l-lt (map (λ j. is_not_negative (v +ℤ subtile_step column row j)) columns) in
     omega arith
+
+pub candidates_of_all-lt : (e : Lines) (s t u : ℤ) → candidates_of_all e s t u < 2 ^ 8
+candidates_of_all-lt e s t u = signs-lt (candidates_of e.first s) (candidates_of e.second t) e.third.column e.third.row (u +ℤ highest_of e.third.column e.third.row)
 
 pub no_samples-clear : (e : Lines) (tile : Tile) (s t v : ℤ) → Begins e.first tile s → Begins e.second tile t → Begins e.third tile v →
     (j : ℕ) → j < 8 → bit_at (candidates_of_all e s t v) j ≡ 0 → inside_lines e (sub_of tile j) ≡ no_samples
@@ -146,7 +150,4 @@ whole-set e tile s t v f g h j lt z =
     ∙ accepted_by_all e (moved_to e.first s j) (moved_to e.second t j) (moved_to e.third v j) (accepts_set e.first s j lt each.0) (accepts_set e.second t j lt each.1.0) (accepts_set e.third v j lt each.1.1)
 
 pub whole_of_all-lt : (e : Lines) (s t u : ℤ) → whole_of_all e s t u < 2 ^ 8
-whole_of_all-lt e s t u =
-    let l = and_le_r (bit_and (whole_of e.first s) (whole_of e.second t)) (whole_of e.third u) in
-    let byte : whole_of e.third u < 2 ^ 8 = mask_l-lt (map (λ j. is_not_negative ((u +ℤ lowest_of e.third.column e.third.row) +ℤ subtile_step e.third.column e.third.row j)) columns) in
-    omega arith
+whole_of_all-lt e s t u = signs-lt (whole_of e.first s) (whole_of e.second t) e.third.column e.third.row (u +ℤ lowest_of e.third.column e.third.row)

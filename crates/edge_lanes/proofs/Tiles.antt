@@ -15,37 +15,41 @@ use Rattle.edge_lanes.specs.declared.tile_edges.TileEdges.{TileEdges}
 use Rattle.edge_lanes.proofs.Inside.{Begins, begins_clamped, begins_exact, samples_of-mask_l_inside}
 use Rattle.edge_lanes.proofs.Subtiles.{mask_of_all-begun, no_samples-clear, whole-set}
 
-begins_first : (k : Kind) (tile : Tile) (v : ℤ) → StartsAt k (lines_of_kind k).first tile v → Begins (lines_of_kind k).first tile v
-begins_first (Narrow e) tile v h = begins_clamped (narrow_line e.first) tile v e.first.column_bounded e.first.row_bounded h.0
-begins_first (Wide e) tile v h = begins_exact (wide_line e.first) tile v h.0
+-- the values that the edges over a tile hold are those at its first sample
+record AreBegun (t : TileEdges) : Type 0 where
+  first : Begins (lines_of_kind t.edges.now.kind).first t.tile t.first
+  second : Begins (lines_of_kind t.edges.now.kind).second t.tile t.second
+  third : Begins (lines_of_kind t.edges.now.kind).third t.tile t.third
 
-begins_second : (k : Kind) (tile : Tile) (v : ℤ) → StartsAt k (lines_of_kind k).second tile v → Begins (lines_of_kind k).second tile v
-begins_second (Narrow e) tile v h = begins_clamped (narrow_line e.second) tile v e.second.column_bounded e.second.row_bounded h.0
-begins_second (Wide e) tile v h = begins_exact (wide_line e.second) tile v h.0
+begun : (t : TileEdges) → AreBegun t
+begun t = record { first = begins_first k t.tile t.first t.first_starts; second = begins_second k t.tile t.second t.second_starts; third = begins_third k t.tile t.third t.third_starts }
+  where
+    k : Kind
+    k = t.edges.now.kind
 
-begins_third : (k : Kind) (tile : Tile) (v : ℤ) → StartsAt k (lines_of_kind k).third tile v → Begins (lines_of_kind k).third tile v
-begins_third (Narrow e) tile v h = begins_clamped (narrow_line e.third) tile v e.third.column_bounded e.third.row_bounded h.0
-begins_third (Wide e) tile v h = begins_exact (wide_line e.third) tile v h.0
+    begins_first : (k : Kind) (tile : Tile) (v : ℤ) → StartsAt k (lines_of_kind k).first tile v → Begins (lines_of_kind k).first tile v
+    begins_first (Narrow e) tile v h = begins_clamped (narrow_line e.first) tile v e.first.column_bounded e.first.row_bounded h.0
+    begins_first (Wide e) tile v h = begins_exact (wide_line e.first) tile v h.0
+
+    begins_second : (k : Kind) (tile : Tile) (v : ℤ) → StartsAt k (lines_of_kind k).second tile v → Begins (lines_of_kind k).second tile v
+    begins_second (Narrow e) tile v h = begins_clamped (narrow_line e.second) tile v e.second.column_bounded e.second.row_bounded h.0
+    begins_second (Wide e) tile v h = begins_exact (wide_line e.second) tile v h.0
+
+    begins_third : (k : Kind) (tile : Tile) (v : ℤ) → StartsAt k (lines_of_kind k).third tile v → Begins (lines_of_kind k).third tile v
+    begins_third (Narrow e) tile v h = begins_clamped (narrow_line e.third) tile v e.third.column_bounded e.third.row_bounded h.0
+    begins_third (Wide e) tile v h = begins_exact (wide_line e.third) tile v h.0
 
 pub candidates_of_all-clear : (t : TileEdges) (m : ℕ) → m ≡ candidates_of_all (lines_of_kind t.edges.now.kind) t.first t.second t.third → AreCandidates (inside_at t) m
 unfolding inside_at inside_of
-candidates_of_all-clear t m e j l z =
-    let k = t.edges.now.kind in
-    no_samples-clear (lines_of_kind k) t.tile t.first t.second t.third (begins_first k t.tile t.first t.first_starts) (begins_second k t.tile t.second t.second_starts) (begins_third k t.tile t.third t.third_starts)
-    j l (rw e at z)
+candidates_of_all-clear t m e j l z = let b = begun t in no_samples-clear (lines_of_kind t.edges.now.kind) t.tile t.first t.second t.third b.first b.second b.third j l (rw e at z)
 
 pub whole_of_all-set : (t : TileEdges) (m : ℕ) → m ≡ whole_of_all (lines_of_kind t.edges.now.kind) t.first t.second t.third → AreWhole (inside_at t) m
 unfolding inside_at inside_of
-whole_of_all-set t m e j l z =
-    let k = t.edges.now.kind in
-    whole-set (lines_of_kind k) t.tile t.first t.second t.third (begins_first k t.tile t.first t.first_starts) (begins_second k t.tile t.second t.second_starts) (begins_third k t.tile t.third t.third_starts)
-    j l (rw e at z)
+whole_of_all-set t m e j l z = let b = begun t in whole-set (lines_of_kind t.edges.now.kind) t.tile t.first t.second t.third b.first b.second b.third j l (rw e at z)
 
 pub mask_of_all-inside : (t : TileEdges) (j : ℕ) → j < 8 → mask_of_all (lines_of_kind t.edges.now.kind) t.first t.second t.third j ≡ mask_l (inside_at t j)
 unfolding inside_at inside_of
-mask_of_all-inside t j l =
-    let k = t.edges.now.kind in
-    mask_of_all-begun (lines_of_kind k) t.tile t.first t.second t.third j l (begins_first k t.tile t.first t.first_starts) (begins_second k t.tile t.second t.second_starts) (begins_third k t.tile t.third t.third_starts)
+mask_of_all-inside t j l = let b = begun t in mask_of_all-begun (lines_of_kind t.edges.now.kind) t.tile t.first t.second t.third j l b.first b.second b.third
 
 pub samples_of-mask_l_inside_at : (t : TileEdges) (j : ℕ) → samples_of (mask_l (inside_at t j)) ≡ inside_at t j
 unfolding inside_at inside_of

@@ -61,7 +61,8 @@ fn column_of(parts: i64) -> u32
 // Of eight.
 #[inline(always)]
 fn columns_of(parts: [i64; 8]) -> [u32; 8]
-    ensures { (r : ℕ) → r < 8 → pos (slice_index result r) ≡ int_max (int_div_euclid (slice_index_or parts r (pos 0)) (pos (2 ^ 32))) (pos 0) }
+    ensures { (r : ℕ) → r < 8 → pos (slice_index result r)
+        ≡ int_max (int_div_euclid (slice_index_or parts r (pos 0)) (pos (2 ^ 32))) (pos 0) }
 {
     let [a, b, c, d, e, f, g, h] = parts;
     [
@@ -84,7 +85,8 @@ impl Crossing {
     #[inline(always)]
     pub fn of(edge: &Turned) -> Crossing
         requires { IsNear edge.now }
-        ensures crossed { (y : ℕ) → y < 2 ^ 11 → crossed_at result y ≡ column_at edge.now.start edge.now.row edge.now.size y }
+        ensures crossed { (y : ℕ) → y < 2 ^ 11 → crossed_at result y
+            ≡ column_at edge.now.start edge.now.row edge.now.size y }
         ensures limit { result.limit ≡ edge.now.limit }
     {
         let size = Divisor::of(edge.size as u64);
@@ -120,7 +122,8 @@ impl Crossing {
     #[inline(always)]
     fn parts_by_row(&self, row: u32) -> [i64; 8]
         requires { row < 256 }
-        ensures { (r : ℕ) → r < 8 → slice_index_or result r (pos 0) ≡ self.now.start +ℤ (self.now.step *ℤ pos (8 * row + r)) }
+        ensures { (r : ℕ) → r < 8 → slice_index_or result r (pos 0)
+            ≡ self.now.start +ℤ (self.now.step *ℤ pos (8 * row + r)) }
     {
         i64x8::splat(self.first_parts(row))
             .strict_add(self.rows)
@@ -131,7 +134,8 @@ impl Crossing {
     #[inline(always)]
     fn columns(&self, row: u32) -> [u32; 8]
         requires { row < 256 }
-        ensures { (r : ℕ) → r < 8 → pos (slice_index result r) ≡ int_max (crossed_at self.now (8 * row + r)) (pos 0) }
+        ensures { (r : ℕ) → r < 8 → pos (slice_index result r)
+            ≡ int_max (crossed_at self.now (8 * row + r)) (pos 0) }
     {
         columns_of(self.parts_by_row(row))
     }

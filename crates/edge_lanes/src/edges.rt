@@ -93,7 +93,8 @@ impl Edges {
         requires column { tile.column < 64 }
         requires row { tile.row < 256 }
         ensures value { (j : ℕ) → j < 8 → slice_index result j ≡ mask_l (inside_of self.now (sub_of tile j)) }
-        ensures samples { (j : ℕ) → j < 8 → samples_of (slice_index result j) ≡ inside_of self.now (sub_of tile j) }
+        ensures samples { (j : ℕ) → j < 8 → samples_of (slice_index result j)
+            ≡ inside_of self.now (sub_of tile j) }
     {
         let edges = self.at_tile(tile);
         let candidates = edges.candidates();

@@ -163,7 +163,8 @@ impl NarrowEdge {
     #[inline(always)]
     pub fn slant(&self) -> Slant
         ensures { (x y : ℕ) → x < 2 ^ 11 → y < 2 ^ 11
-            → counts_at (line result.start result.column result.row) x y ≡ counts_at (narrow_line self.now) x y }
+            → counts_at (line result.start result.column result.row) x y
+            ≡ counts_at (narrow_line self.now) x y }
     {
         Slant::of(self.start, self.column, self.row)
     }

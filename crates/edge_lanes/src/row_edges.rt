@@ -1,4 +1,4 @@
-//! The edges of an occluder, asked one row of tiles after the other.
+//! The edges of an occluder, tested one row of tiles after the other.
 ghost use Rattle.std.specs.Prelude.{◌≡◌, ℕ, ◌<◌};
 ghost use Rattle.cull_base.specs.Piece.{covered};
 ghost use Rattle.cull_base.specs.declared.place.Sub.{Sub};

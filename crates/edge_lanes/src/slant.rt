@@ -27,7 +27,8 @@ const ROW: i32 = 2048;
 fn level(start: i64, row: i32) -> Slant
     requires start { Bounded (2 ^ 58) start }
     requires row { Bounded (2 ^ 20) row }
-    ensures { (x y : ℕ) → x < 2 ^ 11 → y < 2 ^ 11 → counts_at (line result.start result.column result.row) x y ≡ counts_at (line start (pos 0) row) x y }
+    ensures { (x y : ℕ) → x < 2 ^ 11 → y < 2 ^ 11
+        → counts_at (line result.start result.column result.row) x y ≡ counts_at (line start (pos 0) row) x y }
 {
     let size = i64::from(row).abs().max(1);
     let rows = start.div_euclid(size).clamp(-ROWS, ROWS);
@@ -45,7 +46,9 @@ impl Slant {
         requires start { Bounded (2 ^ 58) start }
         requires column { Bounded (2 ^ 20) column }
         requires row { Bounded (2 ^ 20) row }
-        ensures { (x y : ℕ) → x < 2 ^ 11 → y < 2 ^ 11 → counts_at (line result.start result.column result.row) x y ≡ counts_at (line start column row) x y }
+        ensures { (x y : ℕ) → x < 2 ^ 11 → y < 2 ^ 11
+            → counts_at (line result.start result.column result.row) x y
+            ≡ counts_at (line start column row) x y }
     {
         if column == 0 {
             level(start, row)

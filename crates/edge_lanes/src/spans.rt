@@ -1,8 +1,9 @@
 //! The columns of samples that are inside, row by row of a row of tiles, and the masks that they make.
-ghost use Rattle.std.specs.Prelude.{◌≡◌, ℕ, ◌+◌, ◌-◌, ◌*◌, ◌/◌, ◌%◌, ◌<◌, ◌≤◌, ◌^◌, ◌&&◌, cond, length, max, min, nat_le, nat_lt, slice_index, slice_index_or};
+ghost use Rattle.std.specs.Prelude.{◌≡◌, ℕ, ◌+◌, ◌-◌, ◌*◌, ◌/◌, ◌%◌, ◌<◌, ◌≤◌, ◌^◌, ◌&&◌, cond, length, min, nat_le, nat_lt, slice_index, slice_index_or};
 ghost use Rattle.std.specs.Int.{bit_at};
-ghost use Rattle.std.specs.Simd.Lanes.{mask_l, zip2};
+ghost use Rattle.std.specs.Simd.Lanes.{mask_l};
 
+use cull_base::eights::{greatest_of, least_of};
 use std::simd::prelude::*;
 
 /// The columns inside in each of eight rows, from a first to before an end.
@@ -100,66 +101,6 @@ fn from_ends(ends: u32x8, column: u32) -> u8x32
     bytes_from(in_bytes(columns_before(ends, 32 * column)))
 }
 
-// The lesser of the two numbers at each place.
-#[inline(always)]
-fn least_of_pairs(a: [u32; 4], b: [u32; 4]) -> [u32; 4]
-    ensures { result ≡ zip2 min a b }
-{
-    u32x4::from_array(a)
-        .simd_min(u32x4::from_array(b))
-        .to_array()
-}
-
-// The greater of the two numbers at each place.
-#[inline(always)]
-fn greatest_of_pairs(a: [u32; 4], b: [u32; 4]) -> [u32; 4]
-    ensures { result ≡ zip2 max a b }
-{
-    u32x4::from_array(a)
-        .simd_max(u32x4::from_array(b))
-        .to_array()
-}
-
-// The least of four numbers.
-#[inline(always)]
-fn least_of_four(numbers: [u32; 4]) -> u32
-    ensures { (r : ℕ) → r < 4 → result ≤ slice_index_or numbers r 0 }
-{
-    let [a, b, c, d] = numbers;
-    let [least, other, ..] = least_of_pairs([a, b, c, d], [c, d, a, b]);
-    least.min(other)
-}
-
-// The greatest of four numbers.
-#[inline(always)]
-fn greatest_of_four(numbers: [u32; 4]) -> u32
-    ensures { (r : ℕ) → r < 4 → slice_index_or numbers r 0 ≤ result }
-{
-    let [a, b, c, d] = numbers;
-    let [greatest, other, ..] = greatest_of_pairs([a, b, c, d], [c, d, a, b]);
-    greatest.max(other)
-}
-
-// The least of eight numbers.
-#[inline(always)]
-fn least_of(numbers: u32x8) -> u32
-    requires { length numbers ≡ 8 }
-    ensures { (r : ℕ) → r < 8 → result ≤ slice_index_or numbers r 0 }
-{
-    let [a, b, c, d, e, f, g, h] = numbers.to_array();
-    least_of_four(least_of_pairs([a, b, c, d], [e, f, g, h]))
-}
-
-// The greatest of eight numbers.
-#[inline(always)]
-fn greatest_of(numbers: u32x8) -> u32
-    requires { length numbers ≡ 8 }
-    ensures { (r : ℕ) → r < 8 → slice_index_or numbers r 0 ≤ result }
-{
-    let [a, b, c, d, e, f, g, h] = numbers.to_array();
-    greatest_of_four(greatest_of_pairs([a, b, c, d], [e, f, g, h]))
-}
-
 // The ones from a first bit to before an end, of eight bits.
 #[inline(always)]
 fn ones_between(first: u32, end: u32) -> u32
@@ -212,8 +153,8 @@ impl Spans {
         ensures met { AreMet self.now column result }
         ensures byte { result < 2 ^ 8 }
     {
-        let first = least_of(self.first) / 32;
-        let end = greatest_of(self.end).div_ceil(32);
+        let first = least_of(self.first.to_array()) / 32;
+        let end = greatest_of(self.end.to_array()).div_ceil(32);
         ones_between(first.saturating_sub(column), end.saturating_sub(column))
     }
 

@@ -1,4 +1,4 @@
-//! The edges of a piece over one tile, whose eight subtiles are asked at once.
+//! The edges of a piece over one tile, whose eight subtiles are tested at once.
 ghost use Rattle.std.specs.Prelude.{◌≡◌, ℕ, ℤ, ◌+◌, ◌*◌, ◌<◌, ◌^◌};
 ghost use Rattle.std.specs.Simd.Lanes.{mask_l};
 ghost use Rattle.cull_base.specs.State.{samples_of};
@@ -82,7 +82,7 @@ impl TileEdges<'_> {
         }
     }
 
-    /// As `mask`, where it is known of some subtiles that they are whole: of these no sample is asked.
+    /// As `mask`, where it is known of some subtiles that they are whole: none of their samples is tested.
     #[inline(always)]
     pub fn mask_beside(&self, whole: u32, j: u32) -> u32
         requires whole { AreWhole (inside_at self.now) whole }
@@ -97,7 +97,7 @@ impl TileEdges<'_> {
         }
     }
 
-    /// As `mask`, where it is known of some subtiles that they have no samples: of these none is asked.
+    /// As `mask`, where it is known of some subtiles that they have no samples: these are not tested.
     #[inline(always)]
     pub(crate) fn mask_among(&self, candidates: u32, j: u32) -> u32
         requires candidates { AreCandidates (inside_at self.now) candidates }

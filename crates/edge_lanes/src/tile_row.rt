@@ -1,4 +1,4 @@
-//! The edges of an occluder over one row of tiles, whose tiles are asked at once.
+//! The edges of an occluder over one row of tiles, whose tiles are tested at once.
 ghost use Rattle.std.specs.Prelude.{◌≡◌, ℕ, ◌<◌, ◌^◌, slice_index};
 ghost use Rattle.std.specs.Simd.Lanes.{mask_l};
 ghost use Rattle.cull_base.specs.State.{samples_of};

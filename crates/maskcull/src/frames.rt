@@ -8,7 +8,7 @@ ghost use Rattle.maskcull.specs.Frames.{lines_by};
 
 use crate::summary::write_summary;
 use camera_path::{Camera, clip_into};
-use cull_base::{ClipVertex, FrameList, Memory, Sink, SinkError};
+use cull_base::{ClipVertex, FrameList, Memory, Near, Sink, SinkError};
 use cull_report::{Asked, FrameVerdicts, verdicts_by_workers, verdicts_with_lines};
 use masked_update::TileView;
 use scene_reader::Scene;
@@ -100,7 +100,9 @@ pub fn pieces_of<R: Threads + Sync>(
     let occluders = Occluders {
         clips,
         tris: scene.occluders(),
-        near: scene.near(),
+        near: Near {
+            distance: scene.near(),
+        },
         size: scene.size(),
         winding: scene.winding(),
     };

@@ -17,7 +17,7 @@ use Rattle.depth_plane.proofs.Boxes.{covers-in_box}
 use Rattle.masked_update.proofs.Unchanged.{step_unless_covered}
 
 -- a sample of a subtile on the screen lies in the tile's rectangle
-in_tile : (size : Dimensions) (tile j k : ℕ) → IsSize size.width size.height → j < 8 → k < 32 → is_on_screen size (tile_sub size tile j) ≡ true
+pub in_tile : (size : Dimensions) (tile j k : ℕ) → IsSize size.width size.height → j < 8 → k < 32 → is_on_screen size (tile_sub size tile j) ≡ true
     → let u = tile_sub size tile j in HasPixel (tile_rect_of size tile) (pos (8 * u.column + k % 8)) (pos (4 * u.row + k / 8))
 in_tile size tile j k valid hj hk on =
     let place = tile_place size tile in

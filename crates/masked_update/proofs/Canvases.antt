@@ -55,15 +55,20 @@ counted_subs : (b : Bool) (s : TileOf) → (counted_where b s).subs ≡ s.subs
 counted_subs true s = refl
 counted_subs false s = refl
 
+-- what the next member changes of each tile is what it changes of the tile that takes its own list
+part_more : {T : Type 0} (part : TileOf → T) (change : Bool → ℕ → TileOf → TileOf) (list : PieceList) (k : ℕ) (x : Piece) (old new : CanvasOf) → k < length list.members → get_or list.members k x ≡ x → new.window ≡ old.window
+    → ((t : ℕ) → IsInWindow list.size old.window t → tile_in list.size new t ≡ change (meets (box_of x) (tile_rect_of list.size t)) t (tile_in list.size old t))
+    → ((b : Bool) (t : ℕ) (s own : TileOf) → part s ≡ part own → part (change b t s) ≡ part (taken_where b list.size t x own))
+    → ((t : ℕ) → IsInWindow list.size old.window t → part (tile_in list.size old t) ≡ part (own_tile (first_of k list) t))
+    → (t : ℕ) → IsInWindow list.size new.window t → part (tile_in list.size new t) ≡ part (own_tile (first_of (k + 1) list) t)
+part_more part change list k x old new lt is window tiles agree was t within =
+    let within_old = subst (λ (w : TileSpan). IsInWindow list.size w t) window within in
+    ap part (tiles t within_old) ∙ agree (meets (box_of x) (tile_rect_of list.size t)) t (tile_in list.size old t) (own_tile (first_of k list) t) (was t within_old) ∙ sym (ap part (list_more list t k x lt is))
+
 -- a canvas into which the next member is merged stands at one more
 pub stands_more : (list : PieceList) (k : ℕ) (x : Piece) (old new : CanvasOf) → k < length list.members → get_or list.members k x ≡ x → StandsAt list k old → MergedMet list.size x old new → StandsAt list (k + 1) new
-stands_more list k x old new lt is stands merged = record {
-  tiles = λ t within.
-      let within_old = subst (λ (w : TileSpan). IsInWindow list.size w t) merged.window within in
-      let b = meets (box_of x) (tile_rect_of list.size t) in
-      ap (λ (s : TileOf). s.subs) (merged.tiles t within_old) ∙ merged_subs b list.size t x (tile_in list.size old t) (own_tile (first_of k list) t) (stands.tiles t within_old)
-      ∙ sym (ap (λ (s : TileOf). s.subs) (list_more list t k x lt is));
-}
+stands_more list k x old new lt is stands merged =
+    record { tiles = part_more (λ (s : TileOf). s.subs) (λ b t s. merged_where b list.size t x s) list k x old new lt is merged.window merged.tiles (λ b t s own e. merged_subs b list.size t x s own e) stands.tiles }
 
 -- and counts what it counted
 pub counts_stay : (list : PieceList) (k : ℕ) (x : Piece) (old new : CanvasOf) → MergedMet list.size x old new → CountsAt list k old → CountsAt list k new
@@ -75,13 +80,8 @@ counts_stay list k x old new merged counts = record {
 
 -- a canvas that counted the next member counts one more
 pub counts_more : (list : PieceList) (k : ℕ) (x : Piece) (old new : CanvasOf) → k < length list.members → get_or list.members k x ≡ x → CountsAt list k old → CountedMet list.size x old new → CountsAt list (k + 1) new
-counts_more list k x old new lt is counts counted = record {
-  tiles = λ t within.
-      let within_old = subst (λ (w : TileSpan). IsInWindow list.size w t) counted.window within in
-      let b = meets (box_of x) (tile_rect_of list.size t) in
-      ap (λ (s : TileOf). s.count) (counted.tiles t within_old) ∙ counted_count b list.size t x (tile_in list.size old t) (own_tile (first_of k list) t) (counts.tiles t within_old)
-      ∙ sym (ap (λ (s : TileOf). s.count) (list_more list t k x lt is));
-}
+counts_more list k x old new lt is counts counted =
+    record { tiles = part_more (λ (s : TileOf). s.count) (λ b t s. counted_where b s) list k x old new lt is counted.window counted.tiles (λ b t s own e. counted_count b list.size t x s own e) counts.tiles }
 
 -- and stands where it stood
 pub stands_still : (list : PieceList) (k : ℕ) (x : Piece) (old new : CanvasOf) → CountedMet list.size x old new → StandsAt list k old → StandsAt list k new

@@ -30,18 +30,6 @@ behind_where_clear rs ws ms nearest j eight lt clear =
     let seen = ap (λ (s : State). s.reference) (state_at rs ws ms j lt) in
     omega (arith, le, seen)
 
--- what holds of eight numbers
-pub each_of_eight : (P : ℕ → Type 0) → P 0 → P 1 → P 2 → P 3 → P 4 → P 5 → P 6 → P 7 → (j : ℕ) → j < 8 → P j
-each_of_eight P a b c d e f g h zero lt = a
-each_of_eight P a b c d e f g h (suc zero) lt = b
-each_of_eight P a b c d e f g h (suc (suc zero)) lt = c
-each_of_eight P a b c d e f g h (suc (suc (suc zero))) lt = d
-each_of_eight P a b c d e f g h (suc (suc (suc (suc zero)))) lt = e
-each_of_eight P a b c d e f g h (suc (suc (suc (suc (suc zero))))) lt = f
-each_of_eight P a b c d e f g h (suc (suc (suc (suc (suc (suc zero)))))) lt = g
-each_of_eight P a b c d e f g h (suc (suc (suc (suc (suc (suc (suc zero))))))) lt = h
-each_of_eight P a b c d e f g h (suc (suc (suc (suc (suc (suc (suc (suc n)))))))) lt = absurd (omega arith)
-
 -- where lane j has other layers
 module _ (rs ws ms : List ℕ) (h : AreLayers rs ws ms) (j a b m : ℕ) (lt : j < 8) (is : Layers a b m) where
   pub layers_set : AreLayers (set rs j a) (set ws j b) (set ms j m)

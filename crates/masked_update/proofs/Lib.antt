@@ -20,6 +20,7 @@ pub mod Tiles
 pub mod Drawing
 pub mod TileLists
 pub mod Walks
+pub mod SampleBoxes
 pub mod Marks
 pub mod EightOf
 pub mod Canvases

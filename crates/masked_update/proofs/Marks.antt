@@ -11,6 +11,7 @@ use Rattle.cull_base.specs.Screen.{Dimensions}
 use Rattle.cull_base.specs.Span.{has_tile, is_between, number_in}
 use Rattle.cull_base.specs.declared.place.Tile.{Tile}
 use Rattle.cull_base.specs.declared.tile_span.TileSpan.{TileSpan}
+use Rattle.cull_base.proofs.EightLanes.{ones_at}
 use Rattle.masked_update.specs.TileOf.{tile_at}
 use Rattle.masked_update.specs.Taken.{merged_tile}
 use Rattle.masked_update.specs.Least.{NoneBelow}
@@ -18,7 +19,6 @@ use Rattle.masked_update.specs.Merged.{CoversNone}
 use Rattle.masked_update.specs.Canvas.{CanvasOf, IsCanvas, with_tile, tile_on}
 use Rattle.masked_update.specs.Walk.{ChangedWhere, MergedWhere, NoneBelowWhere, is_in_row, is_marked}
 use Rattle.masked_update.proofs.Merging.{merged_behind, merged_uncovered}
-use Rattle.masked_update.proofs.SubBits.{ones_at}
 use Rattle.masked_update.proofs.Tiles.{same_place, tile_with}
 use Rattle.masked_update.proofs.Walks.{columns_before, none_changed, one_more}
 

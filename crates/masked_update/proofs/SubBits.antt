@@ -2,18 +2,10 @@
 use Rattle.std.proofs.Common.{◌≡◌, ℕ, ◌+◌, ◌-◌, ◌*◌, ◌/◌, ◌%◌, ◌<◌, ◌≤◌, ◌^◌, ◌&&◌, Bool, true, false, cond, nat_le, nat_lt, arith, refl, ap, ◌∙◌, sym, bit_and, min}
 use Rattle.std.specs.Int.{bit_at}
 use Rattle.std.proofs.lemmas.Bool.Decides.{nat_tests}
-use Rattle.std.proofs.lemmas.Nat.Bits.{bit_at_and, bit_at_cat_low, bit_at_cat_high, bit_at_mask_inside, bit_at_mask_below, bit_at_mask_above}
+use Rattle.std.proofs.lemmas.Nat.Bits.{bit_at_and, bit_at_cat_low, bit_at_cat_high}
 use Rattle.cull_base.specs.Span.{is_between}
+use Rattle.cull_base.proofs.EightLanes.{ones_at}
 use Rattle.masked_update.specs.Grid.{is_in_rows}
-
--- the ones from a first bit to before an end
-pub ones_at : (first end i : ℕ) → bit_at (2 ^ end - 2 ^ first) i ≡ cond (is_between first end i) 1 0
-ones_at first end i = by (nat_le first i) refl (nat_lt i end) refl
-  where
-    by : (a : Bool) → nat_le first i ≡ a → (b : Bool) → nat_lt i end ≡ b → bit_at (2 ^ end - 2 ^ first) i ≡ cond (nat_le first i && nat_lt i end) 1 0
-    by true p true q = let le : first ≤ i = grind (arith, nat_tests) in let lt : i < end = grind (arith, nat_tests) in rw (p, q) (bit_at_mask_inside first end i le lt)
-    by true p false q = let le : end ≤ i = grind (arith, nat_tests) in rw (p, q) (bit_at_mask_above first end i le)
-    by false p b q = let lt : i < first = grind (arith, nat_tests) in rw p (bit_at_mask_below first end i lt)
 
 -- four bits, and the same four above them
 twice_at : (a j : ℕ) → a < 16 → j < 8 → bit_at (a * 17) j ≡ bit_at a (j % 4)

@@ -8,6 +8,7 @@ pub mod TileOf
 pub mod Views
 pub mod Grid
 pub mod Merged
+pub mod Samples
 pub mod Coverage
 pub mod Taken
 pub mod Least

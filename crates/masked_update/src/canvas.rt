@@ -43,7 +43,7 @@ impl Model for Canvas {
 }
 
 impl Canvas {
-    /// The tiles of the window, empty. Err where memory gave out.
+    /// The tiles of the window, empty. Err if out of memory.
     pub fn empty(alloc: Global, window: TileSpan) -> Result<Canvas, Memory>
         ensures value { IfOk result (λ c. c ≡ empty_canvas window) }
         ensures stands { IfOk result (λ c. (list : PieceList) → StandsAt list 0 c) }
@@ -67,6 +67,17 @@ impl Canvas {
         // what is held of both is known where both are read
         let _tiles = self.tiles.len();
         self.window
+    }
+
+    // How many tiles it has, of eight subtiles each.
+    #[inline(always)]
+    pub(crate) fn tile_count(&self) -> usize
+        ensures count { result ≡ length self.now.tiles }
+        ensures eight { (t : ℕ) → t < length self.now.tiles → length (tile_at self.now.tiles t).subs ≡ 8 }
+    {
+        // what is held of both is known where both are read
+        let _table = self.least.len();
+        self.tiles.len()
     }
 
     /// The tile at a place. Condition: the window has it.

@@ -28,7 +28,8 @@ fn no_less(numbers: [u32; 8], least: u32) -> [u32; 8]
 #[inline(always)]
 fn masks_among(masks: [u32; 8], bits: u32) -> [u32; 8]
     requires { bits < 2 ^ 8 }
-    ensures inside { (j : ℕ) → j < 8 → bit_at bits j ≡ 1 → slice_index_or result j 0 ≡ slice_index_or masks j 0 }
+    ensures inside { (j : ℕ) → j < 8 → bit_at bits j ≡ 1 → slice_index_or result j 0
+        ≡ slice_index_or masks j 0 }
     ensures others { (j : ℕ) → j < 8 → bit_at bits j ≡ 0 → slice_index_or result j 0 ≡ 0 }
 {
     if bits == 255 {

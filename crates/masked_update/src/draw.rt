@@ -43,7 +43,7 @@ impl Canvas {
 }
 
 /// Each tile of the screen after the whole list. A bound that isn't 0 at a sample is reached there by a member that
-/// covers the sample. A tile counts the pieces whose box reaches it. Err where memory gave out, which is taken before
+/// covers the sample. A tile counts the pieces whose box reaches it. Err if out of memory: all of it is taken before
 /// anything is drawn. After Ok the caller knows too that each member is a piece.
 pub fn draw_plain(alloc: Global, list: &FrameList) -> Result<Vec<TileState>, Memory>
     ensures tiles { IfOk result (λ v. length v.items ≡ tile_count_of list.now.list.size) }

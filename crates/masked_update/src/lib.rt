@@ -10,6 +10,9 @@ mod packing;
 #[cfg(test)]
 mod packing_tests;
 mod piece_setup;
+mod sample_box;
+#[cfg(test)]
+mod sample_box_tests;
 mod sub_span;
 mod sub_tile;
 #[cfg(test)]

@@ -9,5 +9,6 @@ ghost use Rattle.masked_update.specs.Taken.{standing_at, IsMember, MovesOn};
 /// stands at none.
 pub fn next_member()
     ensures none { (tile : ℕ) (list : PieceList) → standing_at tile 0 list ≡ empty_tile }
-    ensures next { (tile k : ℕ) (list : PieceList) (x : Piece) → IsMember tile k list x → MovesOn tile k list x }
+    ensures next { (tile k : ℕ) (list : PieceList) (x : Piece) → IsMember tile k list x
+        → MovesOn tile k list x }
 {}

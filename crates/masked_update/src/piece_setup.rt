@@ -1,4 +1,4 @@
-//! A piece set up for the tiles that take it: what each subtile asks of it is computed once.
+//! A piece set up for the tiles that take it: what each subtile needs of it is computed once.
 ghost use Rattle.std.specs.Prelude.{◌≡◌, ◌<◌, ◌^◌, false, length, List};
 ghost use Rattle.cull_base.specs.Piece.{IsPiece, box_of};
 ghost use Rattle.cull_base.specs.Depth.{greatest_nearness};
@@ -15,7 +15,7 @@ use depth_plane::Plane;
 use edge_lanes::{RowEdges, TileRow};
 use std::marker::Model;
 
-/// A piece with what each tile asks of it: its edges, its plane, its box, its greatest and its least nearness.
+/// A piece with what each tile needs of it: its edges, its plane, its box, its greatest and its least nearness.
 #[derive(Drop)]
 pub struct PieceSetup {
     tri: ScreenTri,

@@ -1,13 +1,13 @@
 //! The layers of a tile's eight subtiles, which take a step together.
-ghost use Rattle.std.specs.Prelude.{◌≡◌, ℕ, ◌<◌, ◌≤◌, ◌^◌, length, min, replicate, slice_index_or, slice_set};
+ghost use Rattle.std.specs.Prelude.{◌≡◌, ℕ, ◌<◌, ◌≤◌, ◌^◌, length, replicate, slice_index_or, slice_set};
 ghost use Rattle.std.specs.Int.{bit_at};
-ghost use Rattle.std.specs.Simd.Lanes.{zip2};
 ghost use Rattle.cull_base.specs.Fold.{IsLayered};
 ghost use Rattle.cull_base.specs.State.{State, empty_state};
 ghost use Rattle.masked_update.specs.Lanes.{AreSteps, IsMergeable};
 
 use crate::coverage::Coverage;
 use crate::sub_tile::{ALL_SAMPLES, SubTile};
+use cull_base::eights::least_of;
 use std::marker::Model;
 use std::simd::prelude::*;
 
@@ -41,25 +41,6 @@ impl Model for TileLayers {
     } };
 
     ghost inverse_ok = { λ s h. lanes_back s h };
-}
-
-// The lesser of the two numbers at each place.
-#[inline(always)]
-fn least_of_pairs(a: [u32; 4], b: [u32; 4]) -> [u32; 4]
-    ensures { result ≡ zip2 min a b }
-{
-    u32x4::from_array(a)
-        .simd_min(u32x4::from_array(b))
-        .to_array()
-}
-
-#[inline(always)]
-fn least_of_four(numbers: [u32; 4]) -> u32
-    ensures { (j : ℕ) → j < 4 → result ≤ slice_index_or numbers j 0 }
-{
-    let [a, b, c, d] = numbers;
-    let [least, other, ..] = least_of_pairs([a, b, c, d], [c, d, a, b]);
-    least.min(other)
 }
 
 impl TileLayers {
@@ -124,8 +105,7 @@ impl TileLayers {
         ensures least { (j : ℕ) → j < 8 → result ≤ (slice_index_or self.now j empty_state).reference }
         ensures layered { (j : ℕ) → j < 8 → IsLayered (slice_index_or self.now j empty_state) }
     {
-        let [a, b, c, d, e, f, g, h] = self.references;
-        least_of_four(least_of_pairs([a, b, c, d], [e, f, g, h]))
+        least_of(self.references)
     }
 
     /// Merges into each subtile its bound at its covered samples.

@@ -11,11 +11,12 @@ ghost use Rattle.masked_update.specs.Walk.{CountedWhere, MayCount, MergedWhere, 
 
 use crate::canvas::Canvas;
 use crate::piece_setup::PieceSetup;
+use crate::sample_box::sampled;
 use crate::sub_span::{SubBox, ones_between};
 use cull_base::{ScreenTri, Size, Tile, TileSpan};
 use edge_lanes::TileRow;
 
-/// So many tiles of a row are asked at once.
+/// So many tiles of a row are tested at once.
 const AT_ONCE: u32 = 8;
 
 // The tiles of a row that a piece may change, of so many from a column on: bit i is that of the tile in column + i.
@@ -98,7 +99,15 @@ fn count_in_span(canvas: &mut Canvas, span: TileSpan)
     }
 }
 
-// Merges a piece into the tiles of a row that are marked, from a column on.
+/// Tiles of a row that are marked: bit i is that of the tile in column + i.
+#[derive(Clone, Copy)]
+struct Marked {
+    row: u32,
+    column: u32,
+    bits: u32,
+}
+
+// Merges a piece into the tiles of a row that are marked.
 #[inline(always)]
 fn merge_marked(
     canvas: &mut Canvas,
@@ -106,34 +115,33 @@ fn merge_marked(
     reached: &SubBox,
     over: &TileRow,
     span: TileSpan,
-    row: u32,
-    column: u32,
-    bits: u32,
+    marked: Marked,
 )
     requires part { IsPartOf canvas.old.window span }
     requires reached { IsSubBox (box_of piece.now) reached.now }
     requires span { IsSpan reached.now.size span }
-    requires row { (span.first_row ≤ row) × (row < span.end_row) }
-    requires small { row < 256 }
-    requires over { AreRowOf over.now row piece.now }
-    requires column { span.first_column ≤ column }
-    requires within { (i : ℕ) → i < 8 → bit_at bits i ≡ 1 → column + i < span.end_column }
-    requires byte { bits < 2 ^ 8 }
-    ensures { MergedWhere (is_marked row column bits) reached.now.size piece.now canvas.old canvas.new }
+    requires row { (span.first_row ≤ marked.row) × (marked.row < span.end_row) }
+    requires small { marked.row < 256 }
+    requires over { AreRowOf over.now marked.row piece.now }
+    requires column { span.first_column ≤ marked.column }
+    requires within { (i : ℕ) → i < 8 → bit_at marked.bits i ≡ 1 → marked.column + i < span.end_column }
+    requires byte { marked.bits < 2 ^ 8 }
+    ensures { MergedWhere (is_marked marked.row marked.column marked.bits) reached.now.size piece.now
+        canvas.old canvas.new }
 {
     let window = canvas.window();
-    let start = window.row_start(row);
+    let start = window.row_start(marked.row);
     // an accessor tells how many columns there may be
     let _columns = reached.size.tile_columns();
-    let mut left = bits;
+    let mut left = marked.bits;
     while left != 0 {
         let j = left.trailing_zeros();
         let place = Tile {
-            column: (column + j) as u16,
-            row: row as u16,
+            column: (marked.column + j) as u16,
+            row: marked.row as u16,
         };
         canvas.merge(
-            start + (column + j - window.first_column) as usize,
+            start + (marked.column + j - window.first_column) as usize,
             piece,
             reached,
             over,
@@ -165,7 +173,14 @@ fn merge_in_row(canvas: &mut Canvas, piece: &PieceSetup, reached: &SubBox, span:
             // where the edges leave a tile nothing, it stays
             let over = piece.over_row(row);
             let bits = marked & over.ahead(column);
-            merge_marked(canvas, piece, reached, &over, span, row, column, bits);
+            merge_marked(
+                canvas,
+                piece,
+                reached,
+                &over,
+                span,
+                Marked { row, column, bits },
+            );
         }
         column += count;
     }
@@ -199,13 +214,15 @@ fn merge_piece(canvas: &mut Canvas, tri: &ScreenTri, size: Size, span: TileSpan)
     merge_in_span(canvas, &piece, &piece.reached_on(size), span);
 }
 
-/// Merges a piece into the tiles of the canvas that its box reaches, and counts it nowhere. One that stands behind all
-/// of them changes nothing and isn't set up. Condition: the window is of the screen.
+/// Merges a piece into the tiles of the canvas that its box reaches, and counts it nowhere. One that has no sample there,
+/// or stands behind all of them, changes nothing and isn't set up. Condition: the window is of the screen.
 pub fn draw_piece(canvas: &mut Canvas, tri: &ScreenTri, size: Size)
     requires window { IsSpan size canvas.old.window }
     ensures { MergedMet size tri.now canvas.old canvas.new }
 {
-    let span = TileSpan::of(&tri.boxed(), size).cut(&canvas.window());
+    // an accessor tells what is held of a canvas
+    let _count = canvas.tile_count();
+    let span = TileSpan::of(&sampled(tri), size).cut(&canvas.window());
     let first_row = first_row_ahead(canvas, span, tri.greatest_nearness());
     if first_row < span.end_row {
         merge_piece(canvas, tri, size, TileSpan { first_row, ..span });
@@ -216,7 +233,8 @@ pub fn draw_piece(canvas: &mut Canvas, tri: &ScreenTri, size: Size)
 /// the screen, and the counts are below 131,072.
 pub fn count_piece(canvas: &mut Canvas, tri: &ScreenTri, size: Size)
     requires window { IsSpan size canvas.old.window }
-    requires counts { (t : ℕ) → IsInWindow size canvas.old.window t → (tile_in size canvas.old t).count < 131072 }
+    requires counts { (t : ℕ) → IsInWindow size canvas.old.window t
+        → (tile_in size canvas.old t).count < 131072 }
     ensures { CountedMet size tri.now canvas.old canvas.new }
 {
     let span = TileSpan::of(&tri.boxed(), size).cut(&canvas.window());

@@ -6,10 +6,12 @@ ghost use Rattle.masked_update.specs.Canvas.{CanvasOf, AreDrawnIn, MissBetween, 
 
 /// A canvas that stands at the first a members stands at the first b, where the members between miss its window.
 pub fn missing_members()
-    ensures { (list : PieceList) (a b : ℕ) (c : CanvasOf) → MissBetween list c.window a b → StandsAt list a c → StandsAt list b c }
+    ensures { (list : PieceList) (a b : ℕ) (c : CanvasOf) → MissBetween list c.window a b
+        → StandsAt list a c → StandsAt list b c }
 {}
 
 /// The tiles of a canvas that stands at all members of a list are drawn.
 pub fn drawn_window()
-    ensures { (list : PieceList) (c : CanvasOf) → IsSize list.size.width list.size.height → ArePieces list.members → StandsAt list (length list.members) c → AreDrawnIn list c }
+    ensures { (list : PieceList) (c : CanvasOf) → IsSize list.size.width list.size.height
+        → ArePieces list.members → StandsAt list (length list.members) c → AreDrawnIn list c }
 {}

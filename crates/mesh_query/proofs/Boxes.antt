@@ -1,5 +1,5 @@
 -- Rectangles that meet the screen, and hulls of rectangles.
-use Rattle.std.proofs.Common.{◌≡◌, ℕ, ℤ, pos, zero, suc, ◌+◌, ◌*◌, ◌<◌, ◌≤◌, ◌≤ℤ◌, ◌<ℤ◌, ◌⊎◌, List, [], ◌∷◌, ◌++◌, map, min, true, arith, refl, ap, ◌∙◌, inl, inr}
+use Rattle.std.proofs.Common.{◌≡◌, ℕ, ℤ, pos, zero, suc, ◌+◌, ◌*◌, ◌<◌, ◌≤◌, ◌≤ℤ◌, ◌<ℤ◌, ◌⊎◌, List, [], ◌∷◌, ◌++◌, map, min, true, arith, refl, ap, ◌∙◌, inl, inr, subst}
 use Rattle.std.specs.Int.{int_min, int_max}
 use Rattle.std.specs.List.{fold, Contains}
 use Rattle.std.proofs.lemmas.Int.{ints, clamps}
@@ -60,36 +60,34 @@ tile_meets_cut size a r t within m =
     let (x, y, p, q) = (meets_pixel a (tile_rect_of size t)).0 m in
     (meets_pixel (cut_of r (screen_of size)) (tile_rect_of size t)).1 (x, y, (cut_pixels r (screen_of size) x y).1 (within_pixel a r x y within p, in_screen size t x y q), q)
 
+-- A choice of one of two numbers, made again and again, stands to each of the numbers as it stands to the two.
+module _ (f : ℤ → ℤ → ℤ) (R : ℤ → ℤ → Type 0) (same : (a : ℤ) → R a a) (along : (a b c : ℤ) → R a b → R b c → R a c)
+    (first : (a b : ℤ) → R (f a b) a) (second : (a b : ℤ) → R (f a b) b) where
+  chosen : (us : List ℤ) (a v : ℤ) → (a ≡ v) ⊎ Contains us v → R (fold f a us) v
+  chosen [] a v (inl is) = subst (R a) is (same a)
+  chosen [] a v (inr (k, lt, e)) = absurd (omega (arith, lt))
+  chosen (u ∷ us) a v h =
+      let both = chosen us (f a u) (f a u) (inl refl) in
+      elim h [
+        | inl is ↦ subst (R (fold f (f a u) us)) is (along (fold f (f a u) us) (f a u) a both (first a u))
+        | inr later ↦ elim (cases_of_list u v us later) [
+          | inl here ↦ subst (R (fold f (f a u) us)) here (along (fold f (f a u) us) (f a u) u both (second a u))
+          | inr more ↦ chosen us (f a u) v (inr more)
+        ]
+      ]
+
 -- the least and the greatest of some numbers bound each
 pub least_of-le : (vs : List ℤ) (v : ℤ) → Contains vs v → least_of vs ≤ℤ v
 least_of-le [] v (k, lt, is) = absurd (omega (arith, lt))
-least_of-le (u ∷ us) v m = bound us u v (cases_of_list u v us m)
-  where
-    bound : (us : List ℤ) (a v : ℤ) → (a ≡ v) ⊎ Contains us v → fold int_min a us ≤ℤ v
-    bound [] a v (inl is) = rw is (omega (arith, ints))
-    bound [] a v (inr (k, lt, e)) = absurd (omega (arith, lt))
-    bound (u ∷ us) a v h = elim h [
-      | inl is ↦ let first = bound us (int_min a u) (int_min a u) (inl refl) in omega (arith, ints, clamps, first, is)
-      | inr later ↦ elim (cases_of_list u v us later) [
-        | inl here ↦ let first = bound us (int_min a u) (int_min a u) (inl refl) in omega (arith, ints, clamps, first, here)
-        | inr more ↦ bound us (int_min a u) v (inr more)
-      ]
-    ]
+least_of-le (u ∷ us) v m =
+    chosen int_min (λ a b. a ≤ℤ b) (λ a. omega (arith, ints)) (λ a b c h k. omega (arith, ints, h, k)) (λ a b. omega (arith, ints, clamps)) (λ a b. omega (arith, ints, clamps))
+    us u v (cases_of_list u v us m)
 
 pub greatest_of-ge : (vs : List ℤ) (v : ℤ) → Contains vs v → v ≤ℤ greatest_of vs
 greatest_of-ge [] v (k, lt, is) = absurd (omega (arith, lt))
-greatest_of-ge (u ∷ us) v m = bound us u v (cases_of_list u v us m)
-  where
-    bound : (us : List ℤ) (a v : ℤ) → (a ≡ v) ⊎ Contains us v → v ≤ℤ fold int_max a us
-    bound [] a v (inl is) = rw is (omega (arith, ints))
-    bound [] a v (inr (k, lt, e)) = absurd (omega (arith, lt))
-    bound (u ∷ us) a v h = elim h [
-      | inl is ↦ let first = bound us (int_max a u) (int_max a u) (inl refl) in omega (arith, ints, clamps, first, is)
-      | inr later ↦ elim (cases_of_list u v us later) [
-        | inl here ↦ let first = bound us (int_max a u) (int_max a u) (inl refl) in omega (arith, ints, clamps, first, here)
-        | inr more ↦ bound us (int_max a u) v (inr more)
-      ]
-    ]
+greatest_of-ge (u ∷ us) v m =
+    chosen int_max (λ a b. b ≤ℤ a) (λ a. omega (arith, ints)) (λ a b c h k. omega (arith, ints, h, k)) (λ a b. omega (arith, ints, clamps)) (λ a b. omega (arith, ints, clamps))
+    us u v (cases_of_list u v us m)
 
 member_map : (f : Rect → ℤ) (rects : List Rect) (r : Rect) → Contains rects r → Contains (map f rects) (f r)
 member_map f [] r (k, lt, is) = absurd (omega (arith, lt))

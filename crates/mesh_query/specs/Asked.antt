@@ -57,13 +57,16 @@ abbrev pub Answers : (Sub → State) → (Piece → ℕ → ℕ → Type 0) → 
 Answers state_of samples before answer = MatchOption answer (SomeShows state_of samples) (λ now. Asked state_of samples before now)
 
 -- After some pieces and some boxes: whether one of the boxes meets the screen and whether a sample is touched are known too.
-pub record HasAsked (state_of : Sub → State) (size : Dimensions) (pieces : List Piece) (boxes : List Rect) (before now : Progress) : Type 0 where
+pub record HasAsked (state_of : Sub → State) (size : Dimensions) (pieces : List Piece) (boxes : List Rect)
+    (before now : Progress) : Type 0 where
   pub touched : Asked state_of (TouchedBy size pieces) before.touched now.touched
   pub met : now.met ≡ (before.met || is_one_on_screen size boxes)
 
 -- the answer to some pieces and boxes
 abbrev pub Tells : (Sub → State) → Dimensions → List Piece → List Rect → Progress → Option Progress → Type 0
-Tells state_of size pieces boxes before answer = MatchOption answer (SomeShows state_of (TouchedBy size pieces)) (λ now. HasAsked state_of size pieces boxes before now)
+Tells state_of size pieces boxes before answer =
+    MatchOption answer (SomeShows state_of (TouchedBy size pieces))
+    (λ now. HasAsked state_of size pieces boxes before now)
 
 -- nothing is known
 abbrev pub at_first : Progress

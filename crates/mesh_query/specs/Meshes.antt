@@ -67,4 +67,5 @@ mesh_shape top near size clips tris =
 -- what the vertices alone decide
 abbrev pub early_verdict_of : ℕ → List ClipVertex → List Tri → Option Verdict
 early_verdict_of near clips tris =
-    cond (at_each_vertex clips (is_behind near) tris) (Some Outside) (cond (at_some_vertex clips (λ v. is_past_guard v near) tris) (Some Visible) None)
+    cond (at_each_vertex clips (is_behind near) tris) (Some Outside)
+    (cond (at_some_vertex clips (λ v. is_past_guard v near) tris) (Some Visible) None)

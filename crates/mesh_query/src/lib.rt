@@ -1,7 +1,8 @@
-//! Meshes, asked of the tiles: whether each sample that a piece touches is hidden.
+//! Meshes, tested against the tiles: whether each sample that a piece touches is hidden.
 #![tactic(auto)]
 
 mod area;
+mod edged_tile;
 mod mesh;
 mod piece;
 #[cfg(test)]

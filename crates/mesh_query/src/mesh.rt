@@ -1,4 +1,4 @@
-//! A mesh, asked of the tiles triangle by triangle.
+//! A mesh, tested against the tiles triangle by triangle.
 ghost use Rattle.std.specs.Prelude.{◌≡◌, ◌≤◌, false, not, length, map, IfSome};
 ghost use Rattle.std.specs.Option.{option_to_list};
 ghost use Rattle.std.specs.List.{All, Contains, list_all};
@@ -12,12 +12,13 @@ ghost use Rattle.masked_update.specs.Views.{HoldsMet, state_in};
 ghost use Rattle.snap_setup.specs.Pieces.{HasClips};
 ghost use Rattle.snap_setup.specs.Triangles.{pieces_of_triangle, near_box_of_triangle};
 ghost use Rattle.mesh_query.specs.Asked.{Tells, at_first};
-ghost use Rattle.mesh_query.specs.Meshes.{near_box_at, near_boxes, object_pieces, is_one_on_screen, at_some_vertex, mesh_shape};
+ghost use Rattle.mesh_query.specs.Meshes.{near_box_at, near_boxes, object_pieces, mesh_shape};
+ghost use Rattle.mesh_query.specs.Meshes.{is_one_on_screen, at_some_vertex};
 
 use crate::piece::MeshPiece;
 use crate::vertices::early_verdict;
 use camera_path::is_behind;
-use cull_base::{ClipVertex, Side, Size, Tri, Verdict, Winding};
+use cull_base::{ClipVertex, Near, Side, Size, Tri, Verdict, Winding};
 use masked_update::TileView;
 use snap_setup::{Pieces, corners, near_box, set_up};
 
@@ -28,7 +29,7 @@ pub struct Progress {
     pub touched: bool,
 }
 
-// Asks the pieces of a triangle, of which each box that meets the screen tells that the near box does.
+// Tests the pieces of a triangle. Each box of a piece that meets the screen tells that the near box does.
 fn ask_pieces<V: TileView>(
     view: &V,
     size: Size,
@@ -37,7 +38,8 @@ fn ask_pieces<V: TileView>(
 ) -> Option<Progress>
     requires valid { All IsPiece pieces.now }
     requires holds { (t : Piece) → Contains pieces.now t → HoldsMet (V.held view.now) size (box_of t) }
-    ensures { Tells (state_in size (V.tile_of view.now)) size pieces.now (map box_of pieces.now) before result }
+    ensures { Tells (state_in size (V.tile_of view.now)) size
+        pieces.now (map box_of pieces.now) before result }
 {
     let screen = size.screen();
     let mut met = before.met;
@@ -60,21 +62,20 @@ fn is_all_in_front(vertices: &[ClipVertex; 3], near: u16) -> bool
 }
 
 // Whether the near box of a triangle meets the screen.
-fn is_box_on_screen(vertices: &[ClipVertex; 3], near: u16, size: Size) -> bool
-    requires least { 1 ≤ near }
-    requires most { near ≤ 1024 }
-    requires guarded { All (λ v. is_past_guard v near ≡ false) vertices.now }
-    ensures { result ≡ is_one_on_screen size (option_to_list (near_box_of_triangle vertices.now near size)) }
+fn is_box_on_screen(vertices: &[ClipVertex; 3], near: Near, size: Size) -> bool
+    requires guarded { All (λ v. is_past_guard v near.distance ≡ false) vertices.now }
+    ensures { result
+        ≡ is_one_on_screen size (option_to_list (near_box_of_triangle vertices.now near.distance size)) }
 {
-    match near_box(vertices, near, size) {
+    match near_box(vertices, near.distance, size) {
         Some(rect) => rect.meets(&size.screen()),
         None => false,
     }
 }
 
-/// Asks a triangle of a mesh: what is known with it, or None where a sample that it touches isn't hidden. Conditions: as
-/// for `mesh_test`, and no vertex is past the guard. Its near box is made only where no box of a piece tells whether it
-/// meets the screen.
+/// Tests a triangle of a mesh: what is known of the mesh with it, or None where a sample that it touches isn't hidden.
+/// The near box is made only where no box of a piece tells whether it meets the screen. Conditions: as for `mesh_test`,
+/// and no vertex is past the guard.
 pub fn ask_triangle<V: TileView>(
     view: &V,
     size: Size,
@@ -86,7 +87,8 @@ pub fn ask_triangle<V: TileView>(
     requires most { near ≤ 1024 }
     requires sized { IsSize size.width size.height }
     requires guarded { All (λ v. is_past_guard v near ≡ false) vertices.now }
-    requires holds { IfSome (near_box_of_triangle vertices.now near size) (λ r. HoldsMet (V.held view.now) size r) }
+    requires holds { IfSome (near_box_of_triangle vertices.now near size)
+        (λ r. HoldsMet (V.held view.now) size r) }
     ensures { Tells (state_in size (V.tile_of view.now)) size
         (pieces_of_triangle vertices.now GRADE_TOP near size Winding.Both Side.Object)
         (option_to_list (near_box_of_triangle vertices.now near size)) before result }
@@ -101,36 +103,34 @@ pub fn ask_triangle<V: TileView>(
         return Some(now);
     }
     Some(Progress {
-        met: is_box_on_screen(vertices, near, size),
+        met: is_box_on_screen(vertices, Near { distance: near }, size),
         touched: now.touched,
     })
 }
 
-// Asks the triangles of a mesh that has no vertex past the guard.
+// Tests the triangles of a mesh that has no vertex past the guard.
 fn ask_triangles<V: TileView>(
     view: &V,
     size: Size,
-    near: u16,
+    near: Near,
     clips: &[ClipVertex],
     tris: &[Tri],
 ) -> Option<Progress>
-    requires least { 1 ≤ near }
-    requires most { near ≤ 1024 }
     requires sized { IsSize size.width size.height }
     requires indices { All (HasClips (length clips.now)) tris.now }
-    requires guarded { at_some_vertex clips.now (λ v. is_past_guard v near) tris.now ≡ false }
-    requires holds { All (λ t. IfSome (near_box_at near size clips.now t)
+    requires guarded { at_some_vertex clips.now (λ v. is_past_guard v near.distance) tris.now ≡ false }
+    requires holds { All (λ t. IfSome (near_box_at near.distance size clips.now t)
         (λ r. HoldsMet (V.held view.now) size r)) tris.now }
     ensures { Tells (state_in size (V.tile_of view.now)) size
-        (object_pieces GRADE_TOP near size clips.now tris.now) (near_boxes near size clips.now tris.now)
-        at_first result }
+        (object_pieces GRADE_TOP near.distance size clips.now tris.now)
+        (near_boxes near.distance size clips.now tris.now) at_first result }
 {
     let mut now = Progress {
         met: false,
         touched: false,
     };
     for tri in tris {
-        now = ask_triangle(view, size, near, &corners(clips, tri), now)?;
+        now = ask_triangle(view, size, near.distance, &corners(clips, tri), now)?;
     }
     Some(now)
 }
@@ -157,6 +157,7 @@ pub fn mesh_test<V: TileView>(
 {
     // an accessor tells what is held of a size
     let _width = size.width();
+    let near = Near { distance: near };
     if let Some(verdict) = early_verdict(clips, tris, near) {
         return verdict;
     }

@@ -1,20 +1,21 @@
-//! A piece of a mesh, asked of the tiles that its box reaches.
+//! A piece of a mesh, tested against the tiles that its box reaches.
 ghost use Rattle.std.specs.Prelude.{◌≡◌, ℕ, true, ◌+◌, ◌*◌, ◌/◌, ◌%◌, ◌<◌, ◌≤◌};
 ghost use Rattle.cull_base.specs.Piece.{IsPiece, box_of, touched};
 ghost use Rattle.cull_base.specs.Screen.{IsSize, is_on_screen};
 ghost use Rattle.cull_base.specs.Span.{IsSpan, HasTilesOf};
 ghost use Rattle.edge_lanes.specs.Inside.{sub_of};
-ghost use Rattle.edge_lanes.specs.Tiles.{AreWhole, inside_at};
+ghost use Rattle.edge_lanes.specs.Tiles.{inside_at};
 ghost use Rattle.masked_update.specs.Views.{HoldsMet, state_in};
 ghost use Rattle.mesh_query.specs.Asked.{Answers, TouchedIn, InSub, InTile, InRow, states_of};
 
+use crate::edged_tile::EdgedTile;
 use cull_base::{Rect, ScreenTri, Side, Size, Sub, Tile, TileSpan};
 use depth_plane::Plane;
-use edge_lanes::{Edges, TileEdges};
+use edge_lanes::Edges;
 use masked_update::{SubTile, TileState, TileView};
 use std::marker::Model;
 
-/// A piece of a mesh with what each subtile asks of it: its edges, its plane and its greatest nearness.
+/// A piece of a mesh with what each subtile needs of it: its edges, its plane and its greatest nearness.
 #[derive(Drop)]
 pub struct MeshPiece {
     tri: ScreenTri,
@@ -49,41 +50,37 @@ impl MeshPiece {
         }
     }
 
-    // Asks subtile j of a tile. Once a sample is known to be touched, no mask is made where the reference alone hides
-    // the piece.
+    // Tests against subtile j of a tile. Once a sample is known to be touched, no mask is made where the reference alone
+    // hides the piece.
     #[inline(always)]
     fn ask_subtile(
         &self,
         sub_tile: &SubTile,
         size: Size,
-        edges: &TileEdges,
-        whole: u32,
-        place: Tile,
+        tile: &EdgedTile,
         j: u16,
         known: bool,
     ) -> Option<bool>
         requires sized { IsSize size.width size.height }
-        requires column { place.column < 64 }
-        requires row { place.row < 256 }
         requires j { j < 8 }
-        requires on_screen { is_on_screen size (sub_of place j) ≡ true }
-        requires whole { AreWhole (inside_at edges.now) whole }
-        requires edges { inside_at edges.now j ≡ touched self.now (sub_of place j) }
-        ensures { Answers (λ _. sub_tile.now) (TouchedIn size self.now (InSub (sub_of place j))) known result }
+        requires on_screen { is_on_screen size (sub_of tile.now.place j) ≡ true }
+        requires edges { inside_at tile.now.edges j ≡ touched self.now (sub_of tile.now.place j) }
+        ensures { Answers (λ _. sub_tile.now)
+            (TouchedIn size self.now (InSub (sub_of tile.now.place j))) known result }
     {
         let reference = sub_tile.reference();
         if known && self.nearest < reference {
             return Some(true);
         }
         let sub = Sub {
-            column: 4 * place.column + j % 4,
-            row: 2 * place.row + j / 4,
+            column: 4 * tile.place.column + j % 4,
+            row: 2 * tile.place.row + j / 4,
         };
         let high = self.plane.high(&self.tri, sub);
         if known && high < reference {
             return Some(true);
         }
-        let mask = edges.mask_beside(whole, u32::from(j));
+        let mask = tile.edges.mask_beside(tile.whole, u32::from(j));
         if mask == 0 {
             return Some(known);
         }
@@ -93,7 +90,7 @@ impl MeshPiece {
         None
     }
 
-    // Asks the subtiles of a tile. Those that an edge rejects whole, and those beside the screen, aren't asked.
+    // Tests against the subtiles of a tile, but for those that an edge rejects whole and those beside the screen.
     fn ask_subtiles(&self, state: &TileState, size: Size, place: Tile, known: bool) -> Option<bool>
         requires sized { IsSize size.width size.height }
         requires column { place.column < 64 }
@@ -103,6 +100,11 @@ impl MeshPiece {
         let edges = self.edges.at_tile(place);
         let candidates = edges.candidates();
         let whole = edges.whole();
+        let tile = EdgedTile {
+            place,
+            edges,
+            whole,
+        };
         let mut touched = known;
         for j in 0..8 {
             let sub = Sub {
@@ -111,13 +113,14 @@ impl MeshPiece {
             };
             if (candidates >> j) & 1 == 1 && size.on_screen(sub) {
                 let sub_tile = state.sub(j as u8);
-                touched = self.ask_subtile(&sub_tile, size, &edges, whole, place, j, touched)?;
+                touched = self.ask_subtile(&sub_tile, size, &tile, j, touched)?;
             }
         }
         Some(touched)
     }
 
-    // Asks a tile. Once a sample is known to be touched, no subtile is asked where each reference hides the piece.
+    // Tests against a tile. Once a sample is known to be touched, no subtile is looked at where each reference hides the
+    // piece.
     #[inline(always)]
     fn ask_tile<V: TileView>(
         &self,
@@ -131,7 +134,8 @@ impl MeshPiece {
         requires column { place.column < 64 }
         requires row { place.row < 256 }
         requires holds { V.held view.now tile ≡ true }
-        ensures { Answers (states_of (V.tile_of view.now tile)) (TouchedIn size self.now (InTile place)) known result }
+        ensures { Answers (states_of (V.tile_of view.now tile))
+            (TouchedIn size self.now (InTile place)) known result }
     {
         if known && self.nearest < view.least_reference(tile) {
             return Some(true);
@@ -139,7 +143,7 @@ impl MeshPiece {
         self.ask_subtiles(&view.state(tile), size, place, known)
     }
 
-    // Asks the tiles of a row, in the columns of a span.
+    // Tests against the tiles of a row, in the columns of a span.
     fn ask_row<V: TileView>(
         &self,
         view: &V,
@@ -155,7 +159,8 @@ impl MeshPiece {
         requires first { span.first_row ≤ row }
         requires end { row < span.end_row }
         requires holds { HoldsMet (V.held view.now) size (box_of self.now) }
-        ensures { Answers (state_in size (V.tile_of view.now)) (TouchedIn size self.now (InRow row)) known result }
+        ensures { Answers (state_in size (V.tile_of view.now))
+            (TouchedIn size self.now (InRow row)) known result }
     {
         let first = row * size.tile_columns();
         let mut touched = known;
@@ -169,8 +174,9 @@ impl MeshPiece {
         Some(touched)
     }
 
-    /// Asks the tiles that the piece's box reaches: None where a sample that it touches doesn't hide its high bound,
-    /// else whether a sample is known to be touched, by this piece or before. Conditions: the view holds these tiles.
+    /// Tests the piece against the tiles that its box reaches: None where a sample that it touches doesn't hide its high
+    /// bound, else whether a sample is known to be touched, by this piece or before. Conditions: `reached` is the piece's
+    /// box, and the view holds these tiles.
     pub fn ask<V: TileView>(
         &self,
         view: &V,

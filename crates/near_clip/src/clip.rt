@@ -9,7 +9,7 @@ ghost use Rattle.near_clip.specs.Reach.{IsInReach};
 use crate::hom_point::HomPoint;
 use crate::polygon::Polygon;
 use cull_base::ClipVertex;
-use cull_base::arithmetic::{minus, product};
+use cull_base::arithmetic::product;
 
 /// Whether a vertex lies in front of the near plane, or on it.
 #[inline(always)]
@@ -32,6 +32,17 @@ pub fn whole(v: &ClipVertex) -> HomPoint
     }
 }
 
+// a - b, of numbers that are as far from 0 as the guard lets them be.
+#[inline(always)]
+fn narrow_difference(a: i64, b: i64) -> i64
+    requires a { Bounded (2 ^ 24) a }
+    requires b { Bounded (2 ^ 24) b }
+    ensures value { result ≡ a -ℤ b }
+    ensures bounded { Bounded (2 ^ 25) result }
+{
+    a - b
+}
+
 // p * b + q * a
 #[inline(always)]
 fn weighted_sum(p: i64, b: i64, q: i64, a: i64) -> i64
@@ -52,13 +63,13 @@ fn cut(inside: &ClipVertex, outside: &ClipVertex, near: u16) -> HomPoint
     ensures { result ≡ cut_point inside.now outside.now near }
 {
     let distance = i64::from(near);
-    let p = minus(inside.w, distance);
-    let q = minus(distance, outside.w);
+    let p = narrow_difference(inside.w, distance);
+    let q = narrow_difference(distance, outside.w);
     HomPoint {
         x: weighted_sum(p, outside.x, q, inside.x),
         y: weighted_sum(p, outside.y, q, inside.y),
         w: weighted_sum(p, outside.w, q, inside.w),
-        scale: minus(inside.w, outside.w),
+        scale: narrow_difference(inside.w, outside.w),
     }
 }
 

@@ -56,7 +56,7 @@ impl Polygon {
         }
     }
 
-    /// 0, 3 or 4.
+    /// How many points: 0, 3 or 4.
     pub fn len(&self) -> u8
         ensures value { result ≡ length self.now }
         ensures most { result ≤ 4 }
@@ -66,7 +66,7 @@ impl Polygon {
         self.len
     }
 
-    /// Condition: i is below the length.
+    /// Point i. Condition: i is below the length.
     pub fn get(&self, i: u8) -> HomPoint
         requires { i < length self.now }
         ensures { result ≡ slice_index_or self.now i result }

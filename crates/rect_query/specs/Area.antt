@@ -44,14 +44,21 @@ SubHides s column row a q = (px py : ℕ) → IsIn a px py → px / 8 ≡ column
 
 -- the same for the subtiles of a tile in one row of subtiles, and for a tile
 abbrev pub SubRowHides : TileOf → ℕ → ℕ → Area → ℕ → Type 0
-SubRowHides t column row a q = (px py : ℕ) → IsIn a px py → px / 32 ≡ column → py / 4 ≡ row → hides (sub_at t (4 * (py / 4 % 2) + px / 8 % 4)) (sample_of_pixel px py) q ≡ true
+SubRowHides t column row a q =
+    (px py : ℕ) → IsIn a px py → px / 32 ≡ column → py / 4 ≡ row
+    → hides (sub_at t (4 * (py / 4 % 2) + px / 8 % 4)) (sample_of_pixel px py) q ≡ true
 
 abbrev pub TileHides : TileOf → ℕ → ℕ → Area → ℕ → Type 0
-TileHides t column row a q = (px py : ℕ) → IsIn a px py → px / 32 ≡ column → py / 8 ≡ row → hides (sub_at t (4 * (py / 4 % 2) + px / 8 % 4)) (sample_of_pixel px py) q ≡ true
+TileHides t column row a q =
+    (px py : ℕ) → IsIn a px py → px / 32 ≡ column → py / 8 ≡ row
+    → hides (sub_at t (4 * (py / 4 % 2) + px / 8 % 4)) (sample_of_pixel px py) q ≡ true
 
 -- the same for a row of tiles, and for all
 abbrev pub TileRowHides : Dimensions → (ℕ → TileOf) → ℕ → Area → ℕ → Type 0
-TileRowHides size tile_of row a q = (px py : ℕ) → IsIn a px py → py / 8 ≡ row → hides (state_in size tile_of (sub_of_pixel px py)) (sample_of_pixel px py) q ≡ true
+TileRowHides size tile_of row a q =
+    (px py : ℕ) → IsIn a px py → py / 8 ≡ row
+    → hides (state_in size tile_of (sub_of_pixel px py)) (sample_of_pixel px py) q ≡ true
 
 abbrev pub HidesArea : Dimensions → (ℕ → TileOf) → Area → ℕ → Type 0
-HidesArea size tile_of a q = (px py : ℕ) → IsIn a px py → hides (state_in size tile_of (sub_of_pixel px py)) (sample_of_pixel px py) q ≡ true
+HidesArea size tile_of a q =
+    (px py : ℕ) → IsIn a px py → hides (state_in size tile_of (sub_of_pixel px py)) (sample_of_pixel px py) q ≡ true

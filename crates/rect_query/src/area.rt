@@ -8,7 +8,8 @@ ghost use Rattle.cull_base.specs.Rectangle.{meets};
 ghost use Rattle.cull_base.specs.Span.{is_between};
 ghost use Rattle.cull_base.specs.State.{has, samples_of, hides};
 ghost use Rattle.masked_update.specs.TileOf.{sub_at};
-ghost use Rattle.rect_query.specs.Area.{IsIn, IsArea, IsAreaOf, HoldsArea, SubHides, SubRowHides, TileHides, TileRowHides, HidesArea, is_sample_in};
+ghost use Rattle.rect_query.specs.Area.{IsIn, IsArea, IsAreaOf, HoldsArea, is_sample_in};
+ghost use Rattle.rect_query.specs.Area.{SubHides, SubRowHides, TileHides, TileRowHides, HidesArea};
 
 use cull_base::arithmetic::pixel_of;
 use cull_base::{Rect, Size};
@@ -65,7 +66,7 @@ impl Area {
         }
     }
 
-    // The samples of the subtile in a column and a row that are in the area. Not inlined, since few subtiles ask.
+    // The samples of the subtile in a column and a row that are in the area. Not inlined, since few subtiles need them.
     #[inline(never)]
     fn samples_in(&self, column: u32, row: u32) -> u32
         requires area { self.now.x0 ≤ self.now.x1 }
@@ -81,8 +82,7 @@ impl Area {
     }
 }
 
-// Whether the area's samples in the subtile of a column and a row hide q. No mask is asked for where the reference
-// does.
+// Whether the area's samples in the subtile of a column and a row hide q. No mask is made where the reference does.
 #[inline(always)]
 fn is_subtile_hiding(sub: &SubTile, column: u32, row: u32, area: &Area, q: u32) -> bool
     requires area { area.now.x0 ≤ area.now.x1 }
@@ -129,7 +129,7 @@ fn are_subtiles_hiding(state: &TileState, column: u32, row: u32, area: &Area, q:
     true
 }
 
-// The same. No subtile is asked where each reference hides q.
+// The same. No subtile is looked at where each reference hides q.
 #[inline(always)]
 fn is_tile_hiding<V: TileView>(
     view: &V,

@@ -9,7 +9,7 @@ ghost use Rattle.rect_query.specs.Boxes.{box_answer, box_rect_of};
 
 use crate::rectangle::nearness;
 use camera_path::{is_behind, past_guard};
-use cull_base::{ClipVertex, Extent, Rect, Size};
+use cull_base::{ClipVertex, Extent, Near, Rect, Size};
 use near_clip::whole;
 use snap_setup::{place_of, rect_between};
 
@@ -29,21 +29,21 @@ fn are_all_behind(corners: &[ClipVertex; 8], near: u16) -> bool
 }
 
 // Whether a corner is past the guard or behind the near plane.
-fn is_one_astray(corners: &[ClipVertex; 8], near: u16) -> bool
-    requires least { 1 ≤ near }
-    requires most { near ≤ 1024 }
-    ensures { result ≡ list_any (λ v. is_past_guard v near || is_behind near v) corners.now }
+fn is_one_astray(corners: &[ClipVertex; 8], near: Near) -> bool
+    ensures { result
+        ≡ list_any (λ v. is_past_guard v near.distance || is_behind near.distance v) corners.now }
 {
-    corners.iter().any(|corner| past_guard(corner, near) || is_behind(corner, near))
+    corners.iter().any(|corner| {
+        past_guard(corner, near.distance) || is_behind(corner, near.distance)
+    })
 }
 
 // The least distance of some corners.
-fn least_w(corners: &[ClipVertex; 8], near: u16) -> i32
-    requires most { near ≤ 1024 }
-    requires guarded { All (λ v. is_past_guard v near ≡ false) corners.now }
-    requires front { All (λ v. is_behind near v ≡ false) corners.now }
+fn least_w(corners: &[ClipVertex; 8], near: Near) -> i32
+    requires guarded { All (λ v. is_past_guard v near.distance ≡ false) corners.now }
+    requires front { All (λ v. is_behind near.distance v ≡ false) corners.now }
     ensures value { result ≡ least_of (map (λ v. v.w) corners.now) }
-    ensures front { pos near ≤ℤ result }
+    ensures front { pos near.distance ≤ℤ result }
 {
     let rest = &corners[1..];
     let mut least = corners[0].w;
@@ -54,19 +54,17 @@ fn least_w(corners: &[ClipVertex; 8], near: u16) -> i32
 }
 
 // The pixels that the corners reach on the screen.
-fn rect_around(corners: &[ClipVertex; 8], near: u16, size: Size) -> Rect
-    requires least { 1 ≤ near }
-    requires most { near ≤ 1024 }
-    requires guarded { All (λ v. is_past_guard v near ≡ false) corners.now }
-    requires front { All (λ v. is_behind near v ≡ false) corners.now }
+fn rect_around(corners: &[ClipVertex; 8], near: Near, size: Size) -> Rect
+    requires guarded { All (λ v. is_past_guard v near.distance ≡ false) corners.now }
+    requires front { All (λ v. is_behind near.distance v ≡ false) corners.now }
     ensures { result ≡ box_rect_of size corners.now }
 {
     let rest = &corners[1..];
-    let first = place_of(&whole(&corners[0]), near, size);
+    let first = place_of(&whole(&corners[0]), near.distance, size);
     let mut across = Extent::of(first.x);
     let mut down = Extent::of(first.y);
     for corner in rest {
-        let place = place_of(&whole(corner), near, size);
+        let place = place_of(&whole(corner), near.distance, size);
         across = across.with(place.x);
         down = down.with(place.y);
     }
@@ -85,6 +83,7 @@ pub fn box_rect(corners: &[ClipVertex; 8], near: u16, size: Size) -> BoxAnswer
     if are_all_behind(corners, near) {
         return BoxAnswer::Outside;
     }
+    let near = Near { distance: near };
     if is_one_astray(corners, near) {
         return BoxAnswer::Straddles;
     }

@@ -1,4 +1,4 @@
-//! Rectangles and boxes, asked of the tiles: whether each of their samples in the screen is hidden.
+//! Rectangles and boxes, tested against the tiles: whether each of their samples in the screen is hidden.
 #![tactic(auto)]
 
 mod area;

@@ -6,34 +6,32 @@ ghost use Rattle.masked_update.specs.Views.{HoldsMet, state_in};
 ghost use Rattle.rect_query.specs.Rectangles.{nearness_at};
 
 use crate::area::{Area, is_area_hiding};
-use cull_base::{GRADE_TOP, Rect, Size, Verdict};
+use cull_base::{GRADE_TOP, Near, Rect, Size, Verdict};
 use masked_update::TileView;
 
-/// The nearness of what is asked for at distance w, rounded up. Condition: w isn't before the near distance, and `near`
-/// is 1 to 1024.
-pub(crate) fn nearness(w: i32, near: u16) -> u32
-    requires least { 1 ≤ near }
-    requires most { near ≤ 1024 }
-    requires front { pos near ≤ℤ w }
-    ensures value { result ≡ nearness_at GRADE_TOP near w }
+/// The nearness of an object at distance w, rounded up. Condition: w isn't before the near distance.
+pub(crate) fn nearness(w: i32, near: Near) -> u32
+    requires { pos near.distance ≤ℤ w }
+    ensures value { result ≡ nearness_at GRADE_TOP near.distance w }
     ensures within { result ≤ GRADE_TOP }
 {
-    let top = u64::from(GRADE_TOP) * u64::from(near);
+    let top = u64::from(GRADE_TOP) * u64::from(near.distance);
     top.div_ceil(w as u64) as u32
 }
 
-/// The nearness of what is asked for at distance w, rounded up. None exactly where w is before the near distance.
+/// The nearness of an object at distance w, rounded up. None exactly where w is before the near distance.
 /// Condition: `near` is 1 to 1024.
 pub fn rect_near(w: i32, near: u16) -> Option<u32>
     requires least { 1 ≤ near }
     requires most { near ≤ 1024 }
-    ensures value { MatchOption result (w <ℤ pos near) (λ q. (pos near ≤ℤ w) × (q ≡ nearness_at GRADE_TOP near w)) }
+    ensures value { MatchOption result (w <ℤ pos near)
+        (λ q. (pos near ≤ℤ w) × (q ≡ nearness_at GRADE_TOP near w)) }
     ensures within { IfSome result (λ q. q ≤ GRADE_TOP) }
 {
     if w < i32::from(near) {
         return None;
     }
-    Some(nearness(w, near))
+    Some(nearness(w, Near { distance: near }))
 }
 
 /// The verdict of a rectangle with nearness q: outside without a pixel in the screen, else occluded where the sample

@@ -165,7 +165,7 @@ fn a_box_that_straddles_the_near_plane_or_the_guard_has_no_rectangle(
     Ok(())
 }
 
-// README shows this test as the way in which another crate uses these layers.
+// docs/LIBRARY.md shows this test as the way in which another crate uses these layers.
 #[test]
 fn a_triangle_hides_what_lies_behind_it(rt: HostRuntime) -> Result<(), Fail> {
     let size = Size::new(64, 32).ok_or("a size")?;

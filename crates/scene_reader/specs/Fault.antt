@@ -1,5 +1,6 @@
 -- The first fault of bytes that aren't the layout of a scene. Each step is tested over the whole before the next step.
-use Rattle.std.specs.Prelude.{ℕ, zero, suc, ℤ, pos, ◌+◌, ◌*◌, ◌%◌, ◌^◌, ◌+ℤ◌, List, [], ◌∷◌, length, take, drop, map, slice_index, Bool, not, ◌||◌, ◌==◌, nat_lt, int_lt, if◌then◌else◌, Option, Some, None}
+use Rattle.std.specs.Prelude.{ℕ, zero, suc, ℤ, pos, ◌+◌, ◌*◌, ◌%◌, ◌^◌, ◌+ℤ◌, List, [], ◌∷◌, length, take, drop, map, slice_index}
+use Rattle.std.specs.Prelude.{Bool, not, ◌||◌, ◌==◌, nat_lt, int_lt, if◌then◌else◌, Option, Some, None}
 use Rattle.std.specs.List.{list_any, starts_with, range_with_len}
 use Rattle.std.specs.Option.{option_or}
 use Rattle.std.specs.Prelude.{nat_eq}
@@ -9,7 +10,9 @@ use Rattle.cull_base.specs.Guard.{is_beyond}
 use Rattle.cull_base.specs.declared.rect.Rect.{Rect}
 use Rattle.cull_base.specs.declared.scene_types.Tri.{Tri}
 use Rattle.scene_reader.specs.declared.error.SceneError.{SceneError}
-use Rattle.scene_reader.specs.declared.error.SceneError.TheVariants.{Truncated, BadMagic, BadVersion, BadSize, BadNear, BadWinding, BadReserved, BadCount, Trailing, BadVertex, BadIndex, BadKind, BadObject, BadCamera, Read, Memory}
+use Rattle.scene_reader.specs.declared.error.SceneError.TheVariants.{Truncated, BadMagic, BadVersion, BadSize, BadNear}
+use Rattle.scene_reader.specs.declared.error.SceneError.TheVariants.{BadWinding, BadReserved, BadCount, Trailing, BadVertex}
+use Rattle.scene_reader.specs.declared.error.SceneError.TheVariants.{BadIndex, BadKind, BadObject, BadCamera, Read, Memory}
 use Rattle.scene_reader.specs.declared.header.Counts.{Counts}
 use Rattle.scene_reader.specs.Layout.{magic, number_at}
 
@@ -169,7 +172,10 @@ rectangle_runs_back r = int_lt r.x1 r.x0 || int_lt r.y1 r.y0
 
 -- a box that runs back from its first corner to its second
 abbrev pub box_runs_back : List ℤ → List ℤ → Bool
-box_runs_back low high = int_lt (number_at high 0) (number_at low 0) || int_lt (number_at high 1) (number_at low 1) || int_lt (number_at high 2) (number_at low 2)
+box_runs_back low high =
+    int_lt (number_at high 0) (number_at low 0)
+    || int_lt (number_at high 1) (number_at low 1)
+    || int_lt (number_at high 2) (number_at low 2)
 
 abbrev pub is_bad_block : List ℤ → Bool
 is_bad_block n = int_lt (number_at n 3) (number_at n 0) || int_lt (number_at n 4) (number_at n 1) || int_lt (number_at n 5) (number_at n 2)

@@ -43,7 +43,10 @@ abbrev pub IsObject : ℕ → Object → Type 0
 IsObject object_tris (Area r w) =
     (r.x0 ≤ℤ r.x1) × (r.y0 ≤ℤ r.y1) × InLimits r.x0 × InLimits r.y0 × InLimits r.x1 × InLimits r.y1 × InLimits w
 IsObject object_tris (Block low high) =
-    IsRow 3 low × IsRow 3 high × (number_at low 0 ≤ℤ number_at high 0) × (number_at low 1 ≤ℤ number_at high 1) × (number_at low 2 ≤ℤ number_at high 2)
+    IsRow 3 low × IsRow 3 high
+    × (number_at low 0 ≤ℤ number_at high 0)
+    × (number_at low 1 ≤ℤ number_at high 1)
+    × (number_at low 2 ≤ℤ number_at high 2)
 IsObject object_tris (Mesh first count) = first + count ≤ object_tris
 
 -- the parts are a valid scene
@@ -84,7 +87,8 @@ kind_of (Mesh first count) = 2
 
 abbrev pub numbers_of : Object → List ℤ
 numbers_of (Area r w) = r.x0 ∷ r.y0 ∷ r.x1 ∷ r.y1 ∷ w ∷ pos 0 ∷ []
-numbers_of (Block low high) = number_at low 0 ∷ number_at low 1 ∷ number_at low 2 ∷ number_at high 0 ∷ number_at high 1 ∷ number_at high 2 ∷ []
+numbers_of (Block low high) =
+    number_at low 0 ∷ number_at low 1 ∷ number_at low 2 ∷ number_at high 0 ∷ number_at high 1 ∷ number_at high 2 ∷ []
 numbers_of (Mesh first count) = pos first ∷ pos count ∷ pos 0 ∷ pos 0 ∷ pos 0 ∷ pos 0 ∷ []
 
 abbrev pub raw_object : Object → ℕ × List ℤ

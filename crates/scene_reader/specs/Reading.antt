@@ -1,5 +1,6 @@
 -- What reading takes from a source.
-use Rattle.std.specs.Prelude.{ℕ, ℤ, ◌≡◌, ◌+◌, ◌*◌, ◌<◌, ◌≤◌, List, [], ◌∷◌, ◌++◌, length, map, ◌-◌, drop, Option, None, Some, option_map, IfSome, Result, IfErr, IsErrOf}
+use Rattle.std.specs.Prelude.{ℕ, ℤ, ◌≡◌, ◌+◌, ◌-◌, ◌*◌, ◌<◌, ◌≤◌, List, [], ◌∷◌, ◌++◌, length, map, drop}
+use Rattle.std.specs.Prelude.{Option, None, Some, option_map, IfSome, Result, IfErr, IsErrOf}
 use Rattle.std.specs.List.{All}
 use Rattle.std.specs.Option.{option_or}
 use Rattle.cull_base.specs.Stream.{SourceSays, Rose}
@@ -8,7 +9,8 @@ use Rattle.scene_reader.specs.declared.header.Header.{Header}
 use Rattle.scene_reader.specs.declared.header.Counts.{Counts}
 use Rattle.scene_reader.specs.declared.objects.Objects.{Objects}
 use Rattle.scene_reader.specs.Layout.{Parts, IsScene, layout, IsObject, raw_object}
-use Rattle.scene_reader.specs.Fault.{IsRefusal, entries, raw_of, row_of, tri_of, first_among, object_fault, first_fault, header_fault, scene_length}
+use Rattle.scene_reader.specs.Fault.{IsRefusal, entries, raw_of, row_of, tri_of, scene_length}
+use Rattle.scene_reader.specs.Fault.{first_among, object_fault, first_fault, header_fault}
 use Rattle.scene_reader.specs.declared.error.SceneError.{SceneError}
 use Rattle.scene_reader.specs.declared.error.SceneError.TheVariants.{Truncated, Trailing, Read}
 

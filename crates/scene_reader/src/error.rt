@@ -1,4 +1,4 @@
-//! Why there is no scene: the first fault of the bytes, a source that failed, or want of memory.
+//! Why there is no scene: the first fault of the bytes, a source that failed, or out of memory.
 ghost use Rattle.std.specs.Prelude.{◌≡◌};
 ghost use Rattle.scene_reader.specs.declared.error.SceneError.TheVariants.{Memory};
 

@@ -6,10 +6,11 @@ ghost use Rattle.scene_reader.specs.Reading.{Takes, IsAtEnd, TakesInTurns, Fetch
 use crate::error::SceneError;
 use cull_base::{Failed, Source};
 
-/// Reads until the buffer is full or the source is at its end, and tells how many bytes came.
+/// Reads until the buffer is full or the source is at its end, and answers how many bytes came.
 pub fn fill<S: Source>(source: &mut S, buffer: &mut [u8]) -> Result<usize, Failed>
     ensures within { IfOk result (λ n. n ≤ length buffer.old) }
-    ensures taken { IfOk result (λ n. Takes (S.says source.old).left (S.says source.new).left (take n buffer.new)) }
+    ensures taken { IfOk result
+        (λ n. Takes (S.says source.old).left (S.says source.new).left (take n buffer.new)) }
     ensures ended { IfOk result (λ n. n < length buffer.old → IsAtEnd (S.says source.new).left) }
     ensures failed { OnErr result (Rose (S.says source.old).faults (S.says source.new).faults) }
     ensures faults_stay { (S.says source.old).faults ≤ (S.says source.new).faults }
@@ -27,8 +28,8 @@ pub fn fill<S: Source>(source: &mut S, buffer: &mut [u8]) -> Result<usize, Faile
     Ok(filled)
 }
 
-/// Reads so many bytes as the buffer has. Where the source ends before, the answer is Truncated, by the bytes that are
-/// needed in all and those that were taken before.
+/// Fills the buffer. Err: Read where the source failed, Truncated where it ended before, with the bytes that are needed
+/// in all and those that came in all, of which `taken` came before. Condition: these fit 32 bits with a full buffer.
 pub fn fetch<S: Source>(
     source: &mut S,
     buffer: &mut [u8],

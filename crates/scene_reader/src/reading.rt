@@ -4,7 +4,9 @@ ghost use Rattle.cull_base.specs.Stream.{Rose};
 ghost use Rattle.scene_reader.specs.Layout.{IsScene};
 ghost use Rattle.scene_reader.specs.Fault.{IsRefusal};
 ghost use Rattle.scene_reader.specs.Header.{AreCounts};
-ghost use Rattle.scene_reader.specs.Reading.{TakesEnd, TakesInTurns, Reads, FetchesTables, IsTrailing, TakesParts, Refuses, ReadsScene, TakesLayout, IsOnlyScene, IsNoScene, HasFirstFault, StopsAtHeader};
+ghost use Rattle.scene_reader.specs.Reading.{TakesEnd, TakesInTurns, TakesParts, TakesLayout, FetchesTables, Reads};
+ghost use Rattle.scene_reader.specs.Reading.{ReadsScene, IsOnlyScene, IsNoScene, IsTrailing, Refuses};
+ghost use Rattle.scene_reader.specs.Reading.{HasFirstFault, StopsAtHeader};
 
 use crate::checks::tables_fault;
 use crate::error::SceneError;
@@ -71,7 +73,7 @@ fn read_parts<S: Source>(alloc: Global, source: &mut S, header: Header) -> Resul
     })
 }
 
-/// Asks for one byte more, to see that there is none.
+/// Reads one byte more, to see that there is none.
 fn read_end<S: Source>(source: &mut S) -> Result<(), SceneError>
     ensures ended { OnOk result (TakesEnd (S.says source.old) (S.says source.new)) }
     ensures trailing { IfErr result (λ e. IsRefusal e → IsTrailing (S.says source.old) (S.says source.new) e) }
@@ -102,8 +104,8 @@ fn read_whole<S: Source>(alloc: Global, source: &mut S) -> Result<Scene, SceneEr
     }
 }
 
-/// Reads a scene to the source's end. A refusal is the first fault of the bytes; of a header that is refused no byte
-/// behind it is read. Read comes only where the source failed, and Memory at any time.
+/// Reads a scene to the source's end. Err: the first fault of the bytes, Read only where the source failed, or Memory at
+/// any time. No byte behind a header that is refused is read.
 pub fn read_scene<S: Source>(alloc: Global, source: &mut S) -> Result<Scene, SceneError>
     ensures ok { IfOk result (λ s. IsScene s) }
     ensures layout { IfOk result (λ s. TakesLayout (S.says source.old) (S.says source.new) s) }

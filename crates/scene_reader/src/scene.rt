@@ -27,8 +27,8 @@ impl Scene {
     ghost use Rattle.scene_reader.specs.Layout.{IsScene};
     ghost use Rattle.scene_reader.specs.PartsFault.{IsFaultless, IsFaulty};
 
-    /// A scene of these parts. It takes no memory; a refusal drops the parts. A count that is too large for 32 bits is
-    /// answered as 4294967295.
+    /// A scene of these parts. Err: their first fault, where a count that is too large for 32 bits is told as 4294967295.
+    /// Nothing is allocated, and where there is a fault the parts are dropped.
     pub fn new(parts: SceneParts) -> Result<Scene, SceneError>
         ensures value { MatchResult result (λ s. (s ≡ parts) × IsFaultless parts) (λ e. IsFaulty parts e) }
         ensures given { IsScene parts → IsOk result }
@@ -66,6 +66,7 @@ impl Scene {
         self.parts.near
     }
 
+    /// Which triangles are dropped by the sense in which they run.
     pub fn winding(&self) -> Winding
         ensures { result ≡ self.now.winding }
     {
@@ -79,6 +80,7 @@ impl Scene {
         &self.parts.vertices
     }
 
+    /// The triangles that hide.
     pub fn occluders(&self) -> &[Tri]
         ensures { result.now ≡ self.now.occluders }
     {
@@ -92,6 +94,7 @@ impl Scene {
         &self.parts.object_tris
     }
 
+    /// What is tested, in order.
     pub fn objects(&self) -> &[Object]
         ensures { result.now ≡ self.now.objects }
     {

@@ -2,7 +2,8 @@
 ghost use Rattle.std.specs.Prelude.{◌≡◌};
 ghost use Rattle.std.specs.List.{flat_map};
 ghost use Rattle.cull_base.specs.Stream.{Writes};
-ghost use Rattle.scene_reader.specs.Layout.{layout, header_bytes, word_bytes, row_bytes, tri_bytes, corner_bytes, object_bytes, winding_code};
+ghost use Rattle.scene_reader.specs.Layout.{layout, header_bytes, word_bytes, row_bytes, tri_bytes};
+ghost use Rattle.scene_reader.specs.Layout.{corner_bytes, object_bytes, winding_code};
 
 use crate::objects::{BOX, MESH, RECTANGLE};
 use crate::scene::Scene;
@@ -138,8 +139,8 @@ fn header_of(scene: &Scene) -> [u8; 32]
     ]
 }
 
-/// Appends the scene's layout, or after an error a front of it that isn't the whole. Failed comes only where the sink's
-/// count of faults rose, Memory only where that of refused growths did. Nothing is allocated here.
+/// Appends the scene's layout; after an error the beginning of it was appended, and not the whole. Err: Failed only where
+/// the sink's count of faults rose, Memory only where that of refused growths rose. Nothing is allocated here.
 pub fn write_scene<W: Sink>(scene: &Scene, sink: &mut W) -> Result<(), SinkError>
     ensures { Writes (W.says sink.old) (W.says sink.new) result (layout scene.now) }
 {

@@ -1,4 +1,4 @@
-//! Tasks that wait under a lock until a worker takes one, and that are all there again behind the workers.
+//! Tasks that wait under a lock until a worker takes one, and that are all there again once the workers have ended.
 #![tactic(auto)]
 
 mod hands;

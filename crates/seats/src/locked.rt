@@ -6,7 +6,8 @@ use crate::seats::{Loan, Seating, Seats};
 use std::sync::ledger::Share;
 use std::sync::{Mutex, Wait};
 
-/// Takes the task of the seat that is chosen from the slots as they are then. None where it isn't there.
+/// Takes the task of the seat that `choose` picks from the slots as they are then. None where it isn't there. Conditions:
+/// `choose` can always be called, and the worker's share is one part, without a task.
 pub fn take_from<P: Seating<T>, T: Drop, R: Wait, C: Fn(&[Option<Loan<T>>]) -> usize>(
     rt: &R,
     seats: &Mutex<Seats<P, T>>,
@@ -25,7 +26,8 @@ pub fn take_from<P: Seating<T>, T: Drop, R: Wait, C: Fn(&[Option<Loan<T>>]) -> u
     seats.take(mine, seat)
 }
 
-/// Puts a task back into its seat.
+/// Puts a task back into its seat. Conditions: the worker's share is one part, with one task, and the task is one of its
+/// seat's.
 pub fn give_back<P: Seating<T>, T: Drop, R: Wait>(
     rt: &R,
     seats: &Mutex<Seats<P, T>>,

@@ -1,4 +1,4 @@
-//! A seat for each task: the task is in it but while a worker has it, and who takes one brings it back.
+//! A seat for each task: the task is in its seat except while a worker has it, and whoever takes it brings it back.
 ghost use Rattle.std.specs.Prelude.{◌≡◌, ◌<◌, ◌+◌, None, Some, length, slice_index_or, slice_set, vec_len, IfOk, IfSome, MatchOption};
 ghost use Rattle.seats.specs.Seats.{ArePlaced, AreSeated, IsLoan, Known, gaps};
 
@@ -8,9 +8,9 @@ use std::alloc::{AllocError, Global};
 use std::marker::Brand;
 use std::sync::ledger::{Blank, Book, Ledger, Share};
 
-/// Of which seats tasks are, picked at the call: the names of the seats' seals, and what holds of the task of a seat
+/// Which seats tasks belong to, chosen by the caller: the names of the seats' seals, and what holds of the task of a seat
 /// while no worker has it, which has at most one proof. The ledger counts the tasks that workers have; it has a part for
-/// each worker, and one for who lends.
+/// each worker, and one for the lender.
 pub trait Seating<T>: Ledger {
     ghost use Rattle.std.specs.Prelude.{ℕ, List};
 
@@ -55,7 +55,7 @@ impl<T> Loan<T> {
     }
 }
 
-/// The seats of tasks, under a lock. A task is in its own but while a worker has it.
+/// The seats of tasks, for a lock. A task is in its own seat except while a worker has it.
 #[derive(Drop)]
 pub struct Seats<P: Seating<T>, T: Drop> {
     slots: Vec<Option<Loan<T>>>,
@@ -79,8 +79,7 @@ fn alone<T: Drop>(loan: Loan<T>, other: Option<Loan<T>>) -> Loan<T>
 }
 
 impl<P: Seating<T>, T: Drop> Seats<P, T> {
-    /// Seats that all have their tasks, a hand for each of so many workers, and one for who lends. Err where memory gave
-    /// out for the hands.
+    /// Seats that all have their tasks, a hand for each of so many workers, and one for the lender. Err: out of memory.
     pub fn open(
         alloc: Global,
         blank: Blank,
@@ -99,7 +98,7 @@ impl<P: Seating<T>, T: Drop> Seats<P, T> {
         Ok((Seats { slots, out }, hands, Hand { share }))
     }
 
-    /// The slots of the seats, in which the tasks are that wait.
+    /// The slots of the seats. A slot has its task while that waits.
     pub fn slots(&self) -> &[Option<Loan<T>>]
         ensures { result.now ≡ self.now.slots.items }
     {
@@ -141,7 +140,7 @@ impl<P: Seating<T>, T: Drop> Seats<P, T> {
         slots[seat] = Some(loan);
     }
 
-    /// The tasks, once all hands came back: each is in its seat.
+    /// The tasks, each in its seat. Condition: all hands are back.
     pub fn close(self, hands: Vec<Hand<P>>, own: Hand<P>) -> Vec<Option<Loan<T>>>
         requires { vec_len hands + 1 ≡ P.parts }
         ensures { AreSeated P.holds P.names result.items }

@@ -44,34 +44,32 @@ fn shares_from<R: Threads + Sync, T: Send, F: Fn(usize, &mut T) + Sync, G: FnMut
     if s.is_empty() {
         return own();
     }
-    let here = size.min(s.len());
-    let (share, rest) = s.split_at_mut(here);
-    share_and_rest(rt, f, size, base, share, base + here, rest, own)
+    let (share, rest) = s.split_at_mut(size.min(s.len()));
+    share_and_rest(rt, f, base, size, share, rest, own)
 }
 
-// A function of its own, so that what the closures require is what it is given.
+// A share and what follows it. A function of its own, so that what the closures require is what it is given.
 #[cycle(shares)]
 fn share_and_rest<R: Threads + Sync, T: Send, F: Fn(usize, &mut T) + Sync, G: FnMut() -> A, A>(
     rt: &R,
     f: &F,
-    size: usize,
     base: usize,
+    size: usize,
     share: &mut [T],
-    up: usize,
     rest: &mut [T],
     own: &mut G,
 ) -> A
     requires size { 0 < size }
     requires some { 0 < length share.old }
-    requires share_room { base + length share.old < 2 ^ 64 }
-    requires rest_room { up + length rest.old < 2 ^ 64 }
+    requires room { base + length share.old + length rest.old < 2 ^ 64 }
     requires share { EachFrom (AcceptsAt F.Fn f.now) base share.old }
-    requires rest { EachFrom (AcceptsAt F.Fn f.now) up rest.old }
+    requires rest { EachFrom (AcceptsAt F.Fn f.now) (base + length share.old) rest.old }
     requires own { G.pre own.old }
     ensures share { EachBothFrom (ChangesAt F.Fn f.now) base share.old share.new }
-    ensures rest { EachBothFrom (ChangesAt F.Fn f.now) up rest.old rest.new }
+    ensures rest { EachBothFrom (ChangesAt F.Fn f.now) (base + length share.old) rest.old rest.new }
     ensures own { G.step own.old result own.new }
 {
+    let up = base + share.len();
     let mut front = ||
         requires { IsSync F.row × IsSend T.row × (base + length share.now < 2 ^ 64)
             × EachFrom (AcceptsAt F.Fn f.now) base share.now }
@@ -87,9 +85,11 @@ fn share_and_rest<R: Threads + Sync, T: Send, F: Fn(usize, &mut T) + Sync, G: Fn
     done
 }
 
-/// Calls f(i, &mut s[i]) at each place, in at most so many threads of their own, which the caller itself starts, one
-/// after another; then it does its own work. A system may put the first of these threads on the caller's processor until
-/// the caller waits, and that comes soon. With no threads the caller calls f itself, behind its own work.
+/// Calls f(i, &mut s[i]) for each element of a slice, in at most `threads` threads, each of which takes a share of the
+/// elements. The caller starts these threads one after another, then calls `own`, and answers what that returned. A
+/// system may keep the first thread on the caller's processor until the caller waits, which it does as soon as `own`
+/// is done. Where `threads` is 0, the caller calls `own`, and then f itself. Conditions: f may be called with each place
+/// and its element, and `own` may be called.
 pub fn for_each_beside<R: Threads + Sync, T: Send, F: Fn(usize, &mut T) + Sync, G: FnMut() -> A, A>(
     rt: &R,
     s: &mut [T],
@@ -111,8 +111,9 @@ pub fn for_each_beside<R: Threads + Sync, T: Send, F: Fn(usize, &mut T) + Sync, 
     shares_from(rt, f, 0, size, s, own)
 }
 
-/// Calls f(i, &mut s[i]) at each place, in at most so many threads: as std's `for_each_mut`, but the caller itself
-/// starts all of them, one after another, and takes no share, as `for_each_beside`. One thread is the caller's.
+/// Calls f(i, &mut s[i]) for each element of a slice, in at most `threads` threads. The caller starts all of them, one
+/// after another, and takes no share itself, which sets this apart from std's `for_each_mut`. Where `threads` is 0 or 1,
+/// the caller calls f itself. Condition: f may be called with each place and its element.
 pub fn for_each_share<R: Threads + Sync, T: Send, F: Fn(usize, &mut T) + Sync>(
     rt: &R,
     s: &mut [T],

@@ -18,7 +18,7 @@ module _ (o : Occluders) (share : ℕ) where
   tris = o.tris.now
 
   abbrev pieces : List Tri → List Piece
-  pieces some = list_of_clips o.clips.now some GRADE_TOP o.near o.size o.winding
+  pieces some = list_of_clips o.clips.now some GRADE_TOP o.near.distance o.size o.winding
 
   both : (some others : List Tri) → pieces (some ++ others) ≡ pieces some ++ pieces others
   unfolding list_of_clips
@@ -43,12 +43,12 @@ module _ (o : Occluders) (share : ℕ) where
       ∙ sym (both (take (k * share) tris) (run_of tris share k))
       ∙ ap pieces (sym (take-add (k * share) share tris) ∙ ap (λ n. take n tris) (sym (suc-mul k share)))
 
-  all_runs : (rooms : List FrameListOf) → AreMade o share rooms → length tris ≤ length rooms * share → members_of rooms ≡ list_of_clips o.clips.now o.tris.now GRADE_TOP o.near o.size o.winding
+  all_runs : (rooms : List FrameListOf) → AreMade o share rooms → length tris ≤ length rooms * share → members_of rooms ≡ list_of_clips o.clips.now o.tris.now GRADE_TOP o.near.distance o.size o.winding
   all_runs rooms made whole = ap members_of (sym (take_all (length rooms) rooms (omega arith))) ∙ first_runs rooms made (length rooms) (omega arith) ∙ ap pieces (take_all (length rooms * share) tris whole)
 
   -- where the share is the triangles by the number of runs, rounded up
   shared_out : (rooms : List FrameListOf) → AreMade o share rooms → 0 < length rooms → share ≡ div_ceil (length tris) (length rooms)
-      → members_of rooms ≡ list_of_clips o.clips.now o.tris.now GRADE_TOP o.near o.size o.winding
+      → members_of rooms ≡ list_of_clips o.clips.now o.tris.now GRADE_TOP o.near.distance o.size o.winding
   shared_out rooms made some is = all_runs rooms made (rw (mul_comm (length rooms) share) (rw is (div_ceil_times (length tris) (length rooms) some).0))
 
 -- the first of some lists, and the others behind it
@@ -59,6 +59,6 @@ first_and_others (r ∷ rooms) d some = refl
 module _ (o : Occluders) (share : ℕ) where
   -- so the first list with the members of the others behind its own has all pieces
   pub joined : (rooms others : List FrameListOf) (first : FrameListOf) → AreMade o share rooms → 0 < length rooms → share ≡ div_ceil (length o.tris.now) (length rooms)
-      → first ≡ get_or rooms 0 first → others ≡ drop 1 rooms → first.list.members ++ members_of others ≡ list_of_clips o.clips.now o.tris.now GRADE_TOP o.near o.size o.winding
+      → first ≡ get_or rooms 0 first → others ≡ drop 1 rooms → first.list.members ++ members_of others ≡ list_of_clips o.clips.now o.tris.now GRADE_TOP o.near.distance o.size o.winding
   joined rooms others first made some is e f =
       (λ i. (e i).list.members ++ members_of (f i)) ∙ sym (first_and_others rooms first some) ∙ shared_out o share rooms made some is

@@ -122,13 +122,13 @@ module _ (t : Corners) (near : ℕ) (size : Dimensions) (winding : Winding) (c :
       (part_none t.v0.now t.v1.now t.v2.now GRADE_TOP near size winding Occluder [] (sym outside) refl)
 
 -- a vertex looked up among all of a frame's
-looked_up : (o : Occluders) (t : Tri) (k : ℕ) → slice_index t.0 k < length o.clips.now → vertex_at (screen_vertices o.clips.now o.near o.size) t k ≡ screen_vertex (clip_at o.clips.now t k) o.near o.size
-looked_up o t k lt = get_or-map (λ v. screen_vertex v o.near o.size) o.clips.now (slice_index t.0 k) (record { x = pos 0; y = pos 0; w = pos 0 }) (record { at = nowhere; placed = false; past = false }) lt
+looked_up : (o : Occluders) (t : Tri) (k : ℕ) → slice_index t.0 k < length o.clips.now → vertex_at (screen_vertices o.clips.now o.near.distance o.size) t k ≡ screen_vertex (clip_at o.clips.now t k) o.near.distance o.size
+looked_up o t k lt = get_or-map (λ v. screen_vertex v o.near.distance o.size) o.clips.now (slice_index t.0 k) (record { x = pos 0; y = pos 0; w = pos 0 }) (record { at = nowhere; placed = false; past = false }) lt
 
 -- the vertices that the code looked up are those of the corners that it looked up
-pub corners_of : (o : Occluders) (t : Tri) (vertices : List ScreenVertex) (r : Corners) (c : ScreenCorners) → vertices ≡ screen_vertices o.clips.now o.near o.size → length t.0 ≡ 3 → HasClips (length o.clips.now) t
+pub corners_of : (o : Occluders) (t : Tri) (vertices : List ScreenVertex) (r : Corners) (c : ScreenCorners) → vertices ≡ screen_vertices o.clips.now o.near.distance o.size → length t.0 ≡ 3 → HasClips (length o.clips.now) t
     → r.v0.now ≡ clip_at o.clips.now t 0 → r.v1.now ≡ clip_at o.clips.now t 1 → r.v2.now ≡ clip_at o.clips.now t 2
-    → c.v0.now ≡ vertex_at vertices t 0 → c.v1.now ≡ vertex_at vertices t 1 → c.v2.now ≡ vertex_at vertices t 2 → AreCornersOf r o.near o.size c
+    → c.v0.now ≡ vertex_at vertices t 0 → c.v1.now ≡ vertex_at vertices t 1 → c.v2.now ≡ vertex_at vertices t 2 → AreCornersOf r o.near.distance o.size c
 corners_of o t vertices r c all three has e0 e1 e2 f0 f1 f2 =
     record {
       first = one 0 (omega (arith, three)) c.v0.now r.v0.now e0 f0;
@@ -136,5 +136,5 @@ corners_of o t vertices r c all three has e0 e1 e2 f0 f1 f2 =
       third = one 2 (omega (arith, three)) c.v2.now r.v2.now e2 f2;
     }
   where
-    one : (k : ℕ) → k < length t.0 → (s : ScreenVertex) (v : ClipVertex) → v ≡ clip_at o.clips.now t k → s ≡ vertex_at vertices t k → s ≡ screen_vertex v o.near o.size
-    one k lt s v e f = f ∙ ap (λ (vs : List ScreenVertex). vertex_at vs t k) all ∙ looked_up o t k (has k 0 lt) ∙ ap (λ (u : ClipVertex). screen_vertex u o.near o.size) (sym e)
+    one : (k : ℕ) → k < length t.0 → (s : ScreenVertex) (v : ClipVertex) → v ≡ clip_at o.clips.now t k → s ≡ vertex_at vertices t k → s ≡ screen_vertex v o.near.distance o.size
+    one k lt s v e f = f ∙ ap (λ (vs : List ScreenVertex). vertex_at vs t k) all ∙ looked_up o t k (has k 0 lt) ∙ ap (λ (u : ClipVertex). screen_vertex u o.near.distance o.size) (sym e)

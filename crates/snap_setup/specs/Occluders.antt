@@ -8,4 +8,4 @@ use Rattle.snap_setup.specs.Pieces.{list_of_clips}
 
 -- those of some of its triangles
 abbrev pub list_of_some : Occluders → List Tri → List Piece
-list_of_some o tris = list_of_clips o.clips.now tris GRADE_TOP o.near o.size o.winding
+list_of_some o tris = list_of_clips o.clips.now tris GRADE_TOP o.near.distance o.size o.winding

@@ -1,5 +1,6 @@
 -- The pieces of a triangle, of a list of triangles, and the box of what is in front of the near plane.
-use Rattle.std.specs.Prelude.{◌≡◌, ◌<◌, ℕ, ℤ, pos, ◌⊎◌, IsTrue, List, [], ◌∷◌, map, filter, Bool, true, false, not, cond, ◌&&◌, ◌||◌, int_lt, slice_index, Option, Some, None}
+use Rattle.std.specs.Prelude.{◌≡◌, ◌<◌, ℕ, ℤ, pos, ◌⊎◌, IsTrue, List, [], ◌∷◌, map, filter, slice_index}
+use Rattle.std.specs.Prelude.{Bool, true, false, not, cond, ◌&&◌, ◌||◌, int_lt, Option, Some, None}
 use Rattle.std.specs.List.{swap, flat_map, All}
 use Rattle.std.specs.Ordering.{int_eq}
 use Rattle.cull_base.specs.declared.clip.ClipVertex.{ClipVertex}

@@ -36,7 +36,7 @@ screen_vertices clips near size = map (λ v. screen_vertex v near size) clips
 
 -- all of a frame's vertices, or none
 abbrev pub AreShared : Occluders → List ScreenVertex → Type 0
-AreShared o vertices = (vertices ≡ []) ⊎ (vertices ≡ screen_vertices o.clips.now o.near o.size)
+AreShared o vertices = (vertices ≡ []) ⊎ (vertices ≡ screen_vertices o.clips.now o.near.distance o.size)
 
 -- corner k of a triangle, looked up among the vertices
 abbrev pub vertex_at : List ScreenVertex → Tri → ℕ → ScreenVertex

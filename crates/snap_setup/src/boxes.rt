@@ -11,7 +11,7 @@ use crate::snapping::place_of;
 use cull_base::{ClipVertex, Extent, Rect, Size};
 use near_clip::clip_near;
 
-/// The pixels that two extents reach, from the first to before the end of each.
+/// The rectangle that two extents reach: from the first pixel of each to before its end.
 pub fn rect_between(across: Extent, down: Extent) -> Rect
     ensures { result ≡ rect_between across down }
 {

@@ -11,7 +11,7 @@ ghost use Rattle.snap_setup.specs.Vertices.{screen_vertices, vertex_at, AreShare
 use crate::occluders::Occluders;
 use crate::triangle::{Corners, ScreenCorners, push_pieces, push_shared};
 use crate::vertices::{ScreenVertex, shared_vertices};
-use cull_base::{ClipVertex, FrameList, Memory, Size, Tri, Winding};
+use cull_base::{ClipVertex, FrameList, Memory, Near, Size, Tri, Winding};
 use std::alloc::Global;
 
 // As `push_all`, each corner snapped by itself.
@@ -39,7 +39,7 @@ fn push_by_vertices(
     tris: &[Tri],
     list: &mut FrameList,
 )
-    requires vertices { let o = occluders.now in vertices.now ≡ screen_vertices o.clips.now o.near o.size }
+    requires vertices { let o = occluders.now in vertices.now ≡ screen_vertices o.clips.now o.near.distance o.size }
     requires indices { All (HasClips (length occluders.now.clips.now)) tris.now }
     requires room { length list.old.list.members + 2 * length tris.now ≤ list.old.room }
     ensures { list.new ≡ with_members list.old (list_of_some occluders.now tris.now) }
@@ -85,8 +85,8 @@ pub(crate) fn push_all(
     }
 }
 
-/// The occluder pieces of the triangles, one triangle after another. All memory is taken first. Condition: `near`
-/// is 1 to 1024, there are at most 65,536 triangles, and each index is below the number of clips.
+/// The occluder pieces of the triangles, one triangle after another. All memory is allocated first. Err: out of memory.
+/// Conditions: `near` is 1 to 1024, there are at most 65,536 triangles, and each index is below the number of clips.
 pub fn frame_list(
     alloc: Global,
     clips: &[ClipVertex],
@@ -99,13 +99,14 @@ pub fn frame_list(
     requires near_most { near ≤ 1024 }
     requires triangles { length tris.now ≤ 65536 }
     requires indices { All (HasClips (length clips.now)) tris.now }
-    ensures members { IfOk result (λ f. f.list.members ≡ list_of_clips clips.now tris.now GRADE_TOP near size winding) }
+    ensures members { IfOk result
+        (λ f. f.list.members ≡ list_of_clips clips.now tris.now GRADE_TOP near size winding) }
     ensures size { IfOk result (λ f. f.list.size ≡ size) }
 {
     let occluders = Occluders {
         clips,
         tris,
-        near,
+        near: Near { distance: near },
         size,
         winding,
     };
@@ -156,7 +157,7 @@ fn vertex_references<'a>(vertices: &'a [ScreenVertex], tri: &Tri) -> ScreenCorne
     }
 }
 
-/// The vertices of a triangle among some clip vertices. Condition: each index is below their number.
+/// The three vertices of a triangle, by its indices among clip vertices. Condition: each index is below their number.
 #[inline(always)]
 pub fn corners(clips: &[ClipVertex], tri: &Tri) -> [ClipVertex; 3]
     requires { HasClips (length clips.now) tri.now }

@@ -51,7 +51,7 @@ impl Pieces {
         Pieces { members }
     }
 
-    /// 0 to 2.
+    /// How many pieces: 0 to 2.
     pub fn len(&self) -> u8
         ensures value { result ≡ length self.now }
         ensures most { result ≤ 2 }
@@ -63,7 +63,7 @@ impl Pieces {
         }
     }
 
-    /// Condition: i is below the length.
+    /// Piece i. Condition: i is below the length.
     pub fn get(&self, i: u8) -> ScreenTri
         requires { i < length self.now }
         ensures { result ≡ slice_index_or self.now i result }

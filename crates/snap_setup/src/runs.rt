@@ -1,4 +1,4 @@
-//! The pieces of a frame, made by workers side by side: each makes those of runs of triangles, and the runs are joined
+//! The pieces of a frame, made by threads side by side: each makes those of a run of triangles, and the runs are joined
 //! in submission order.
 ghost use Rattle.std.specs.Prelude.{◌≡◌, ◌<◌, ◌≤◌, ◌*◌, ◌+◌, length, IfOk};
 ghost use Rattle.std.specs.List.{All};
@@ -7,7 +7,8 @@ ghost use Rattle.cull_base.specs.Tiles.{with_members};
 ghost use Rattle.cull_base.specs.declared.nearness.TheConstants.{GRADE_TOP};
 ghost use Rattle.snap_setup.specs.Occluders.{list_of_some};
 ghost use Rattle.snap_setup.specs.Pieces.{list_of_clips, HasClips};
-ghost use Rattle.snap_setup.specs.Runs.{members_of, run_of, run_pieces, AreFilled, AreMade, IsFirstFor, IsRoom};
+ghost use Rattle.snap_setup.specs.Runs.{members_of, run_of, run_pieces};
+ghost use Rattle.snap_setup.specs.Runs.{AreFilled, AreMade, IsFirstFor, IsRoom};
 ghost use Rattle.snap_setup.specs.Vertices.{AreShared};
 
 use crate::frame::{list_in_turn, push_all};
@@ -19,7 +20,7 @@ use std::alloc::Global;
 use std::mem;
 use std::thread::Threads;
 
-/// A thread is worth its start for so many triangles.
+/// So many triangles are worth a thread's start.
 const SHARE: usize = 1024;
 
 // Empty lists for the pieces of so many runs. The first has room for those of all runs.
@@ -135,7 +136,8 @@ fn make_runs<R: Threads + Sync>(
     requires runs { 0 < runs }
     requires few { runs ≤ 65536 }
     ensures made { IfOk result (λ v. AreMade occluders.now share v.items) }
-    ensures first { IfOk result (λ v. IsFirstFor occluders.now.size (2 * length occluders.now.tris.now) v.items) }
+    ensures first { IfOk result
+        (λ v. IsFirstFor occluders.now.size (2 * length occluders.now.tris.now) v.items) }
     ensures runs { IfOk result (λ v. length v.items ≡ runs) }
 {
     let mut rooms = rooms_for(alloc, occluders.size, occluders.tris.len(), share, runs)?;
@@ -153,8 +155,8 @@ fn join_all(list: &mut FrameList, rooms: &[FrameList])
     }
 }
 
-/// The pieces of the triangles as `frame_list` gives them, made by so many workers side by side where there are many
-/// triangles.
+/// The pieces that `frame_list` gives. One thread for each 1,024 triangles makes them, and at most `workers` threads;
+/// where these would be fewer than two, the caller makes them. Err: out of memory.
 pub fn frame_list_by_workers<R: Threads + Sync>(
     rt: &R,
     alloc: Global,
@@ -162,7 +164,7 @@ pub fn frame_list_by_workers<R: Threads + Sync>(
     workers: u32,
 ) -> Result<FrameList, Memory>
     ensures members { let o = occluders.now in IfOk result (λ f. f.list.members
-        ≡ list_of_clips o.clips.now o.tris.now GRADE_TOP o.near o.size o.winding) }
+        ≡ list_of_clips o.clips.now o.tris.now GRADE_TOP o.near.distance o.size o.winding) }
     ensures size { IfOk result (λ f. f.list.size ≡ occluders.now.size) }
 {
     let runs = (occluders.tris.len() / SHARE).min(workers as usize);

@@ -5,9 +5,10 @@ ghost use Rattle.cull_base.specs.Depth.{floor_of};
 ghost use Rattle.cull_base.specs.Piece.{IsCoordinate};
 ghost use Rattle.cull_base.specs.declared.nearness.TheConstants.{GRADE_TOP};
 ghost use Rattle.near_clip.specs.Reach.{IsInReach};
-ghost use Rattle.snap_setup.specs.Snapping.{round_half, screen_x, screen_y, nearness_of, addend_of, snapped, place_of, IsInSight, IsOnScale, IsSnapped};
+ghost use Rattle.snap_setup.specs.Snapping.{round_half, screen_x, screen_y, nearness_of, addend_of, snapped, place_of};
+ghost use Rattle.snap_setup.specs.Snapping.{IsInSight, IsOnScale, IsSnapped};
 
-use cull_base::{Divisor, GRADE_TOP, Side, Size};
+use cull_base::{Divisor, GRADE_TOP, Near, Side, Size};
 use near_clip::HomPoint;
 
 /// A point on the screen: coordinates in sixteenths of a pixel, y downwards, and nearness from 0 to the top of
@@ -103,13 +104,12 @@ fn place_y(point: &HomPoint, size: Size, doubled: &Divisor) -> i32
 }
 
 #[inline(always)]
-fn nearness_numerator(near: u16, scale: u64) -> u64
-    requires near { near ≤ 1024 }
-    requires scale { scale ≤ 2 ^ 25 }
-    ensures value { result ≡ GRADE_TOP * near * scale }
+fn nearness_numerator(near: Near, scale: u64) -> u64
+    requires { scale ≤ 2 ^ 25 }
+    ensures value { result ≡ GRADE_TOP * near.distance * scale }
     ensures bounded { result ≤ GRADE_TOP * 2 ^ 35 }
 {
-    u64::from(GRADE_TOP) * u64::from(near) * scale
+    u64::from(GRADE_TOP) * u64::from(near.distance) * scale
 }
 
 #[inline(always)]
@@ -126,13 +126,11 @@ fn addend(side: Side, w: u64) -> u64
 }
 
 #[inline(always)]
-fn nearness(point: &HomPoint, near: u16, side: Side, doubled: &Divisor) -> u32
-    requires near_least { 1 ≤ near }
-    requires near_most { near ≤ 1024 }
-    requires reach { IsInReach near point.now }
+fn nearness(point: &HomPoint, near: Near, side: Side, doubled: &Divisor) -> u32
+    requires reach { IsInReach near.distance point.now }
     requires sight { IsInSight point.now }
     requires doubled { pos doubled.now ≡ pos 2 *ℤ point.now.w }
-    ensures value { result ≡ nearness_of point.now GRADE_TOP near side }
+    ensures value { result ≡ nearness_of point.now GRADE_TOP near.distance side }
     ensures within { result ≤ GRADE_TOP }
 {
     let numerator = 2 * nearness_numerator(near, point.scale.unsigned_abs());
@@ -191,13 +189,11 @@ fn short_place(pixels: u16, offset: i64, w: i64, doubled: u64) -> Option<i32>
 }
 
 #[inline(always)]
-fn short_nearness(point: &HomPoint, near: u16, side: Side, doubled: u64) -> Option<u32>
-    requires near_least { 1 ≤ near }
-    requires near_most { near ≤ 1024 }
-    requires reach { IsInReach near point.now }
+fn short_nearness(point: &HomPoint, near: Near, side: Side, doubled: u64) -> Option<u32>
+    requires reach { IsInReach near.distance point.now }
     requires sight { IsInSight point.now }
     requires doubled { pos doubled ≡ pos 2 *ℤ point.now.w }
-    ensures { IfSome result (λ q. (q ≡ nearness_of point.now GRADE_TOP near side) × (q ≤ GRADE_TOP)) }
+    ensures { IfSome result (λ q. (q ≡ nearness_of point.now GRADE_TOP near.distance side) × (q ≤ GRADE_TOP)) }
 {
     let numerator = 2 * nearness_numerator(near, point.scale.unsigned_abs());
     match short_quotient(numerator + addend(side, point.w.unsigned_abs()), doubled) {
@@ -235,10 +231,8 @@ pub struct Place {
 
 // The place of a point whose two quotients are of numbers that fit 32 bits.
 #[inline(always)]
-fn short_place_of(point: &HomPoint, near: u16, size: Size) -> Option<Place>
-    requires near_least { 1 ≤ near }
-    requires near_most { near ≤ 1024 }
-    requires reach { IsInReach near point.now }
+fn short_place_of(point: &HomPoint, size: Size) -> Option<Place>
+    requires sight { IsInSight point.now }
     requires narrow { point.now.w ≤ℤ pos (2 ^ 32) }
     ensures { IfSome result (λ p. (p ≡ place_of point.now size) × IsCoordinate p.x × IsCoordinate p.y) }
 {
@@ -254,10 +248,8 @@ fn short_place_of(point: &HomPoint, near: u16, size: Size) -> Option<Place>
 
 // The place of any point, by one reciprocal.
 #[inline(never)]
-fn long_place_of(point: &HomPoint, near: u16, size: Size) -> Place
-    requires near_least { 1 ≤ near }
-    requires near_most { near ≤ 1024 }
-    requires reach { IsInReach near point.now }
+fn long_place_of(point: &HomPoint, size: Size) -> Place
+    requires sight { IsInSight point.now }
     ensures value { result ≡ place_of point.now size }
     ensures x_within { IsCoordinate result.x }
     ensures y_within { IsCoordinate result.y }
@@ -269,7 +261,7 @@ fn long_place_of(point: &HomPoint, near: u16, size: Size) -> Place
     }
 }
 
-/// The place of a point that is in reach. Conditions as for `snap`.
+/// Where a point stands on the screen, each coordinate rounded to the nearest whole number. Conditions as for `snap`.
 #[inline(always)]
 pub fn place_of(point: &HomPoint, near: u16, size: Size) -> Place
     requires near_least { 1 ≤ near }
@@ -280,22 +272,20 @@ pub fn place_of(point: &HomPoint, near: u16, size: Size) -> Place
     ensures y_within { IsCoordinate result.y }
 {
     if point.w <= NARROW_W {
-        if let Some(place) = short_place_of(point, near, size) {
+        if let Some(place) = short_place_of(point, size) {
             return place;
         }
     }
-    long_place_of(point, near, size)
+    long_place_of(point, size)
 }
 
 // A point whose three quotients are of numbers that fit 32 bits, as those of most points are.
 #[inline(always)]
-fn short_snap(point: &HomPoint, near: u16, size: Size, side: Side) -> Option<Snapped>
-    requires near_least { 1 ≤ near }
-    requires near_most { near ≤ 1024 }
-    requires reach { IsInReach near point.now }
+fn short_snap(point: &HomPoint, near: Near, size: Size, side: Side) -> Option<Snapped>
+    requires reach { IsInReach near.distance point.now }
     requires sight { IsInSight point.now }
     requires narrow { point.now.w ≤ℤ pos (2 ^ 32) }
-    ensures { IfSome result (λ s. (s ≡ snapped point.now GRADE_TOP near size side) × IsSnapped s) }
+    ensures { IfSome result (λ s. (s ≡ snapped point.now GRADE_TOP near.distance size side) × IsSnapped s) }
 {
     let doubled = 2 * point.w.unsigned_abs();
     let Some(x) = short_x(point, size, doubled) else {
@@ -312,11 +302,10 @@ fn short_snap(point: &HomPoint, near: u16, size: Size, side: Side) -> Option<Sna
 
 // Any point, by one reciprocal.
 #[inline(never)]
-fn long_snap(point: &HomPoint, near: u16, size: Size, side: Side) -> Snapped
-    requires near_least { 1 ≤ near }
-    requires near_most { near ≤ 1024 }
-    requires reach { IsInReach near point.now }
-    ensures value { result ≡ snapped point.now GRADE_TOP near size side }
+fn long_snap(point: &HomPoint, near: Near, size: Size, side: Side) -> Snapped
+    requires reach { IsInReach near.distance point.now }
+    requires sight { IsInSight point.now }
+    ensures value { result ≡ snapped point.now GRADE_TOP near.distance size side }
     ensures within { IsSnapped result }
 {
     let doubled = doubled_w(point);
@@ -327,9 +316,9 @@ fn long_snap(point: &HomPoint, near: u16, size: Size, side: Side) -> Snapped
     }
 }
 
-/// The point on the screen, its coordinates rounded to the nearest whole number and its nearness down for an
-/// occluder, up for an object. Condition: `near` is 1 to 1024; the scale is 1 to 2^25, w is `near` to 16384 `near`
-/// times the scale, x and y are at most 16384 `near` times the scale away from 0.
+/// A point on the screen: its coordinates are rounded to the nearest whole number, and its nearness down for an
+/// occluder, up for an object. Conditions: `near` is 1 to 1024; the scale is 1 to 2^25, w is `near` to 16384 `near`
+/// times the scale, and x and y are at most 16384 `near` times the scale away from 0.
 #[inline(always)]
 pub fn snap(point: &HomPoint, near: u16, size: Size, side: Side) -> Snapped
     requires near_least { 1 ≤ near }
@@ -338,6 +327,7 @@ pub fn snap(point: &HomPoint, near: u16, size: Size, side: Side) -> Snapped
     ensures value { result ≡ snapped point.now GRADE_TOP near size side }
     ensures within { IsSnapped result }
 {
+    let near = Near { distance: near };
     if point.w <= NARROW_W {
         if let Some(snapped) = short_snap(point, near, size, side) {
             return snapped;

@@ -15,7 +15,7 @@ use crate::snapping::{Snapped, snap};
 use crate::vertices::ScreenVertex;
 use camera_path::past_guard;
 use cull_base::arithmetic::edge_value;
-use cull_base::{ClipVertex, FrameList, ScreenTri, Side, Size, Winding};
+use cull_base::{ClipVertex, FrameList, Near, ScreenTri, Side, Size, Winding};
 use near_clip::{clip_near, is_in_front, whole};
 
 // Positive where the points run clockwise on the screen.
@@ -68,7 +68,7 @@ fn piece(a: &Snapped, b: &Snapped, c: &Snapped, winding: Winding) -> Option<Scre
     }
 }
 
-/// The vertices of a triangle, where they stand.
+/// The vertices of a triangle.
 #[derive(Clone, Copy)]
 pub(crate) struct Corners<'a> {
     pub(crate) v0: &'a ClipVertex,
@@ -77,62 +77,60 @@ pub(crate) struct Corners<'a> {
 }
 
 #[inline(always)]
-fn is_any_past_guard(tri: &Corners, near: u16) -> bool
-    requires near_least { 1 ≤ near }
-    requires near_most { near ≤ 1024 }
-    ensures { result ≡ is_any_past_guard tri.now.v0.now tri.now.v1.now tri.now.v2.now near }
+fn is_any_past_guard(tri: &Corners, near: Near) -> bool
+    ensures { result ≡ is_any_past_guard tri.now.v0.now tri.now.v1.now tri.now.v2.now near.distance }
 {
-    past_guard(tri.v0, near) | past_guard(tri.v1, near) | past_guard(tri.v2, near)
+    past_guard(tri.v0, near.distance)
+        | past_guard(tri.v1, near.distance)
+        | past_guard(tri.v2, near.distance)
 }
 
 #[inline(always)]
-fn is_all_in_front(tri: &Corners, near: u16) -> bool
-    ensures { result ≡ is_all_in_front tri.now.v0.now tri.now.v1.now tri.now.v2.now near }
+fn is_all_in_front(tri: &Corners, near: Near) -> bool
+    ensures { result ≡ is_all_in_front tri.now.v0.now tri.now.v1.now tri.now.v2.now near.distance }
 {
-    is_in_front(tri.v0, near) & is_in_front(tri.v1, near) & is_in_front(tri.v2, near)
+    is_in_front(tri.v0, near.distance)
+        & is_in_front(tri.v1, near.distance)
+        & is_in_front(tri.v2, near.distance)
 }
 
 // The piece of a triangle that no plane cuts: it is its own polygon.
 #[inline(always)]
 fn whole_piece(
     tri: &Corners,
-    near: u16,
+    near: Near,
     size: Size,
     winding: Winding,
     side: Side,
 ) -> Option<ScreenTri>
-    requires near_least { 1 ≤ near }
-    requires near_most { near ≤ 1024 }
-    requires guarded { is_any_past_guard tri.now.v0.now tri.now.v1.now tri.now.v2.now near ≡ false }
-    requires front { is_all_in_front tri.now.v0.now tri.now.v1.now tri.now.v2.now near ≡ true }
-    ensures { option_to_list result ≡ kept_of (part_of tri.now near size side) winding }
+    requires guarded { is_any_past_guard tri.now.v0.now tri.now.v1.now tri.now.v2.now near.distance ≡ false }
+    requires front { is_all_in_front tri.now.v0.now tri.now.v1.now tri.now.v2.now near.distance ≡ true }
+    ensures { option_to_list result ≡ kept_of (part_of tri.now near.distance size side) winding }
 {
-    let p0 = snap(&whole(tri.v0), near, size, side);
-    let p1 = snap(&whole(tri.v1), near, size, side);
-    let p2 = snap(&whole(tri.v2), near, size, side);
+    let p0 = snap(&whole(tri.v0), near.distance, size, side);
+    let p1 = snap(&whole(tri.v1), near.distance, size, side);
+    let p2 = snap(&whole(tri.v2), near.distance, size, side);
     piece(&p0, &p1, &p2, winding)
 }
 
 // The pieces of a triangle that the near plane cuts, or that lies behind it.
 #[inline(never)]
-fn clipped_pieces(tri: &Corners, near: u16, size: Size, winding: Winding, side: Side) -> Pieces
-    requires near_least { 1 ≤ near }
-    requires near_most { near ≤ 1024 }
-    requires guarded { is_any_past_guard tri.now.v0.now tri.now.v1.now tri.now.v2.now near ≡ false }
-    ensures { result ≡ kept_of (part_of tri.now near size side) winding }
+fn clipped_pieces(tri: &Corners, near: Near, size: Size, winding: Winding, side: Side) -> Pieces
+    requires guarded { is_any_past_guard tri.now.v0.now tri.now.v1.now tri.now.v2.now near.distance ≡ false }
+    ensures { result ≡ kept_of (part_of tri.now near.distance size side) winding }
 {
-    let polygon = clip_near(&[*tri.v0, *tri.v1, *tri.v2], near);
+    let polygon = clip_near(&[*tri.v0, *tri.v1, *tri.v2], near.distance);
     if polygon.len() == 0 {
         return Pieces::none();
     }
-    let p0 = snap(&polygon.get(0), near, size, side);
-    let p1 = snap(&polygon.get(1), near, size, side);
-    let p2 = snap(&polygon.get(2), near, size, side);
+    let p0 = snap(&polygon.get(0), near.distance, size, side);
+    let p1 = snap(&polygon.get(1), near.distance, size, side);
+    let p2 = snap(&polygon.get(2), near.distance, size, side);
     let first = piece(&p0, &p1, &p2, winding);
     if polygon.len() == 3 {
         return Pieces::of(first, None);
     }
-    let p3 = snap(&polygon.get(3), near, size, side);
+    let p3 = snap(&polygon.get(3), near.distance, size, side);
     let second = piece(&p0, &p2, &p3, winding);
     Pieces::of(first, second)
 }
@@ -150,6 +148,7 @@ pub fn set_up(tri: &[ClipVertex; 3], near: u16, size: Size, winding: Winding, si
 {
     let [v0, v1, v2] = tri;
     let tri = &Corners { v0, v1, v2 };
+    let near = Near { distance: near };
     if is_any_past_guard(tri, near) {
         Pieces::none()
     } else if is_all_in_front(tri, near) {
@@ -171,32 +170,28 @@ fn push_if(piece: Option<ScreenTri>, list: &mut FrameList)
 
 // Out of line, so that no pieces are held where none are clipped.
 #[inline(never)]
-fn push_clipped(tri: &Corners, near: u16, size: Size, winding: Winding, list: &mut FrameList)
-    requires near_least { 1 ≤ near }
-    requires near_most { near ≤ 1024 }
-    requires guarded { is_any_past_guard tri.now.v0.now tri.now.v1.now tri.now.v2.now near ≡ false }
+fn push_clipped(tri: &Corners, near: Near, size: Size, winding: Winding, list: &mut FrameList)
+    requires guarded { is_any_past_guard tri.now.v0.now tri.now.v1.now tri.now.v2.now near.distance ≡ false }
     requires room { length list.old.list.members + 2 ≤ list.old.room }
-    ensures value { list.new ≡ with_members list.old (kept_of (part_of tri.now near size Occluder) winding) }
-    ensures most { length (kept_of (part_of tri.now near size Occluder) winding) ≤ 2 }
+    ensures value { list.new ≡ with_members list.old (kept_of (part_of tri.now near.distance size Occluder) winding) }
+    ensures most { length (kept_of (part_of tri.now near.distance size Occluder) winding) ≤ 2 }
 {
     clipped_pieces(tri, near, size, winding, Side::Occluder).push_onto(list);
 }
 
 /// Appends the pieces of an occluder's triangle to a list, as `set_up` makes them. Most have one, which goes straight
-/// to its place. Condition: `near` is 1 to 1024, and there is room for two.
+/// to its place. Condition: there is room for two.
 #[inline(always)]
 pub(crate) fn push_pieces(
     tri: &Corners,
-    near: u16,
+    near: Near,
     size: Size,
     winding: Winding,
     list: &mut FrameList,
 )
-    requires near_least { 1 ≤ near }
-    requires near_most { near ≤ 1024 }
-    requires room { length list.old.list.members + 2 ≤ list.old.room }
-    ensures value { list.new ≡ with_members list.old (pieces_of_corners tri.now near size winding) }
-    ensures most { length (pieces_of_corners tri.now near size winding) ≤ 2 }
+    requires { length list.old.list.members + 2 ≤ list.old.room }
+    ensures value { list.new ≡ with_members list.old (pieces_of_corners tri.now near.distance size winding) }
+    ensures most { length (pieces_of_corners tri.now near.distance size winding) ≤ 2 }
 {
     if is_any_past_guard(tri, near) {
         return;
@@ -208,7 +203,7 @@ pub(crate) fn push_pieces(
     }
 }
 
-/// The vertices of a triangle as they come to the screen, where they stand.
+/// The vertices of a triangle as they come to the screen.
 #[derive(Clone, Copy)]
 pub(crate) struct ScreenCorners<'a> {
     pub(crate) v0: &'a ScreenVertex,
@@ -245,17 +240,15 @@ impl<'a> ScreenCorners<'a> {
 pub(crate) fn push_shared(
     tri: &Corners,
     corners: &ScreenCorners,
-    near: u16,
+    near: Near,
     size: Size,
     winding: Winding,
     list: &mut FrameList,
 )
-    requires near_least { 1 ≤ near }
-    requires near_most { near ≤ 1024 }
-    requires corners { AreCornersOf tri.now near size corners.now }
+    requires corners { AreCornersOf tri.now near.distance size corners.now }
     requires room { length list.old.list.members + 2 ≤ list.old.room }
-    ensures value { list.new ≡ with_members list.old (pieces_of_corners tri.now near size winding) }
-    ensures most { length (pieces_of_corners tri.now near size winding) ≤ 2 }
+    ensures value { list.new ≡ with_members list.old (pieces_of_corners tri.now near.distance size winding) }
+    ensures most { length (pieces_of_corners tri.now near.distance size winding) ≤ 2 }
 {
     // an accessor tells what is held of a size
     let _width = size.width();

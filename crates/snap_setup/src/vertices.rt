@@ -6,13 +6,13 @@ ghost use Rattle.snap_setup.specs.Vertices.{screen_vertex, screen_vertices, AreS
 use crate::occluders::Occluders;
 use crate::snapping::{Snapped, snap};
 use camera_path::past_guard;
-use cull_base::{ClipVertex, Memory, Side, Size};
+use cull_base::{ClipVertex, Memory, Near, Side, Size};
 use near_clip::{is_in_front, whole};
 use side_by_side::for_each_share;
 use std::alloc::Global;
 use std::thread::Threads;
 
-/// A thread is worth its start for so many vertices.
+/// So many vertices are worth a thread's start.
 const SHARE: usize = 4096;
 
 /// A clip vertex as a corner of occluders. It has a place on the screen where it is in front of the near plane and not
@@ -25,15 +25,13 @@ pub(crate) struct ScreenVertex {
 }
 
 #[inline(always)]
-fn screen_vertex(v: &ClipVertex, near: u16, size: Size) -> ScreenVertex
-    requires near_least { 1 ≤ near }
-    requires near_most { near ≤ 1024 }
-    ensures { result ≡ screen_vertex v.now near size }
+fn screen_vertex(v: &ClipVertex, near: Near, size: Size) -> ScreenVertex
+    ensures { result ≡ screen_vertex v.now near.distance size }
 {
-    let past = past_guard(v, near);
-    let placed = is_in_front(v, near) & !past;
+    let past = past_guard(v, near.distance);
+    let placed = is_in_front(v, near.distance) & !past;
     let at = if placed {
-        snap(&whole(v), near, size, Side::Occluder)
+        snap(&whole(v), near.distance, size, Side::Occluder)
     } else {
         Snapped { x: 0, y: 0, q: 0 }
     };
@@ -52,7 +50,7 @@ fn shared_clips<'a>(occluders: &Occluders<'a>) -> &'a [ClipVertex]
 }
 
 /// A frame's vertices on the screen, or none where its triangles have fewer corners: these are then snapped one by one.
-/// Err where memory gave out.
+/// Err: out of memory.
 pub(crate) fn shared_vertices(
     alloc: Global,
     occluders: &Occluders,
@@ -76,7 +74,7 @@ fn put_all<R: Threads + Sync>(
     workers: u32,
 )
     requires { length vertices.old ≡ length clips.now }
-    ensures { vertices.new ≡ screen_vertices clips.now occluders.now.near occluders.now.size }
+    ensures { vertices.new ≡ screen_vertices clips.now occluders.now.near.distance occluders.now.size }
 {
     let threads = (vertices.len() / SHARE).min(workers as usize).max(1);
     for_each_share(
@@ -86,12 +84,12 @@ fn put_all<R: Threads + Sync>(
         &|i: usize, vertex: &mut ScreenVertex|
             requires { i < length clips.now }
             ensures { vertex.new
-                ≡ screen_vertex (corner clips.entry.now i) occluders.entry.now.near occluders.entry.now.size }
+                ≡ screen_vertex (corner clips.entry.now i) occluders.entry.now.near.distance occluders.entry.now.size }
         { *vertex = screen_vertex(&clips[i], occluders.near, occluders.size) },
     );
 }
 
-/// As `shared_vertices`, by so many workers side by side where there are many vertices.
+/// As `shared_vertices`, by at most so many threads, and by several only where there are many vertices.
 pub(crate) fn shared_vertices_by_workers<R: Threads + Sync>(
     rt: &R,
     alloc: Global,

@@ -7,11 +7,12 @@ use Rattle.std.proofs.lemmas.Option.{slice_get-get_or, same_Some}
 use Rattle.std.proofs.lemmas.Bool.{cases_eq}
 use Rattle.atomic_table.specs.Seated.{TableId}
 use Rattle.cull_base.specs.Tiles.{PieceList}
+use Rattle.cull_base.proofs.Lists.{turn, pushed_at, set_each}
 use Rattle.masked_update.specs.TileOf.{TileOf, tile_at, no_tile}
 use Rattle.masked_update.specs.Taken.{standing_at}
 use Rattle.tile_cells.specs.Cells.{Writing, Reading, IsAt, AreWriters, IsReaderOf, CoversSeen}
 use Rattle.tile_cells.specs.Passes.{AreChecked, HearWithin, Token, Reads, AreReading, names_of, number_at, reading, Hears, HearsOne, HeardBelow}
-use Rattle.tile_cells.proofs.Lists.{turn, pushed_at, set_each, same_at}
+use Rattle.tile_cells.proofs.Lists.{same_at}
 
 -- the writer in place t, after some ends
 pub stands_on : (cells : List TableId) (r : Reading) (old now : List Writing) (t : ℕ) (d : Writing) → AreWriters cells old → IsReaderOf cells old r → Hears old now → t < length cells

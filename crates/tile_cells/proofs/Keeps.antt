@@ -6,6 +6,7 @@ use lib.ListN.{get_elem?}
 use Rattle.crossbeam_utils.specs.Register.{Turns, Forks, Merges}
 use Rattle.atomic_table.proofs.Lists.{at_set, at_snoc}
 use Rattle.cull_base.specs.Tiles.{PieceList}
+use Rattle.cull_base.proofs.Lists.{only_one}
 use Rattle.tile_cells.specs.declared.rule.Role.{Role}
 use Rattle.tile_cells.specs.declared.rule.Role.TheVariants.{Unnamed, Writes, Reads, Spent}
 use Rattle.tile_cells.specs.declared.rule.View.{View}
@@ -19,19 +20,11 @@ IsUnnamed Writes = ⊥
 IsUnnamed Reads = ⊥
 IsUnnamed Spent = ⊥
 
--- the one view of a new cell
-only : (views : List View) (by : ℕ) (v : View) → views ≡ nameless ∷ [] → get_elem? views by ≡ some v → nameless ≡ v
-only views by v is at = go by (subst (λ (l : List View). get_elem? l by ≡ some v) is at)
-  where
-    go : (by : ℕ) → get_elem? (nameless ∷ []) by ≡ some v → nameless ≡ v
-    go zero e = some-injective _ _ e
-    go (suc by) e = absurd (some-ne-none v (sym e))
-
 -- a cell of which a view knows its name
 named : {X : Type 0} (words : List ℕ) (views : List View) (by : ℕ) (v : View) → (IsUnnamed v.role → ⊥) → get_elem? views by ≡ some v → CellRule words views
     → ((seat : ℕ) (L : PieceList) (t k : ℕ) → Running words views seat L t k → X) → X
 named words views by v not at kept then =
-    ⊎_elim (λ (n : (words ≡ no_words) × (views ≡ nameless ∷ [])). absurd (not (subst (λ (u : View). IsUnnamed u.role) (only views by v n.1 at) tt)))
+    ⊎_elim (λ (n : (words ≡ no_words) × (views ≡ nameless ∷ [])). absurd (not (subst (λ (u : View). IsUnnamed u.role) (only_one nameless views by v n.1 at) tt)))
     (λ (r : (seat : ℕ) × (L : PieceList) × (t : ℕ) × (k : ℕ) × Running words views seat L t k). then r.0 r.1 r.2 r.3 r.4) kept
 
 -- others do not mind a greater count

@@ -8,11 +8,12 @@ use Rattle.atomic_table.specs.Seated.{TableId}
 use Rattle.crossbeam_utils.specs.Seq.{cell_view}
 use Rattle.cull_base.specs.Screen.{Dimensions, tile_columns_of, tile_rows_of, tile_count_of}
 use Rattle.cull_base.specs.Tiles.{PieceList}
+use Rattle.cull_base.proofs.Lists.{pushed_at, get_pushed, get_last, turn}
 use Rattle.tile_cells.specs.declared.rule.View.{View}
 use Rattle.tile_cells.specs.Rule.{writer, reader}
 use Rattle.tile_cells.specs.Cells.{Writing, Reading, IsAt, AreFresh, IsNew}
 use Rattle.tile_cells.specs.Passes.{Token, AreOpened, AreReading, names_of, list_of, number_at, loads_at, seen_of, reading}
-use Rattle.tile_cells.proofs.Lists.{pushed_at, get_pushed, get_last, turn, same_lists}
+use Rattle.tile_cells.proofs.Lists.{same_lists}
 
 opened_more : (L : PieceList) (n : ℕ) (ids : List TableId) (ps : List Token) (id : TableId) (p : Token) → AreOpened L n ids ps → p.table_id ≡ id → cell_view p ≡ writer L n 0 0 → AreOpened L (n + 1) (ids ++ id ∷ []) (ps ++ p ∷ [])
 opened_more L n ids ps id p o is new = record {

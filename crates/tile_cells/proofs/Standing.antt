@@ -4,9 +4,9 @@ use Rattle.std.specs.Prelude.{slice_index_or}
 use Rattle.std.proofs.lemmas.List.{get_or-set_other}
 use Rattle.atomic_table.specs.Seated.{TableId}
 use Rattle.cull_base.specs.Tiles.{PieceList, tile_list}
+use Rattle.cull_base.proofs.Lists.{set_each}
 use Rattle.tile_cells.specs.Cells.{Writing, Reading, AreFresh, AreWriters, IsNew, IsReaderOf}
 use Rattle.tile_cells.specs.Standing.{AreStanding, IsReading, StandsAt}
-use Rattle.tile_cells.proofs.Lists.{set_each}
 
 -- the writers of the tiles before n stand at one place, and the others at another
 pub record AreStandingTo (cells : List TableId) (list : PieceList) (from to n : ℕ) (ws : List Writing) : Type 0 where

@@ -8,6 +8,7 @@ use Rattle.std.proofs.Math.Seq.{map-set_same}
 use Rattle.atomic_table.specs.Seated.{TableId}
 use Rattle.crossbeam_utils.specs.Seq.{cell_view}
 use Rattle.cull_base.specs.Tiles.{PieceList, tile_list}
+use Rattle.cull_base.proofs.Lists.{set_each}
 use Rattle.tile_cells.specs.declared.rule.View.{View}
 use Rattle.tile_cells.specs.Rule.{reader}
 use Rattle.tile_cells.specs.Cells.{Reading}
@@ -16,7 +17,7 @@ use Rattle.tile_cells.specs.Words.{HoldsAt, IsTile, words_of}
 use Rattle.cull_base.specs.Screen.{tile_count_of}
 use Rattle.masked_update.specs.TileOf.{TileOf}
 use Rattle.masked_update.specs.Taken.{standing_at}
-use Rattle.tile_cells.proofs.Lists.{set_each, same_at}
+use Rattle.tile_cells.proofs.Lists.{same_at}
 
 -- a pass and a cell in one place have one name
 pub own_at : {X : Type 0} (f : X → TableId) (cs : List X) (ps : List Token) (t : ℕ) (c : X) (p : Token) → names_of ps ≡ map f cs → c ≡ slice_index_or cs t c → p ≡ slice_index_or ps t p → t < length ps → p.table_id ≡ f c

@@ -61,8 +61,9 @@ fn check_all<R: Wait>(
 }
 
 impl TileCells {
-    /// Each tile after its writer's count, read from its cell. No reader had seen more of it. Conditions: these are the
-    /// writers of these cells, in tile order, and readers of the cells, of the writers' list.
+    /// Each tile after the members that its writer counted, read from its cell. Each reader had seen no more members of a
+    /// tile than the tile's writer counted. Conditions: these are the writers of these cells, in tile order, and readers
+    /// of the cells, of the writers' list.
     pub fn close<R: Wait>(
         self,
         rt: &R,

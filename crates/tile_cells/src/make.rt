@@ -98,7 +98,7 @@ fn read_many(
 
 impl TileCells {
     /// The cells of a list, each tile empty: with a writer for each tile, in tile order, and so many readers that have
-    /// seen nothing. Err where memory gave out. All memory is taken here, also that which `close` needs.
+    /// seen nothing. Err if out of memory. All memory is taken here, also that which `close` needs.
     pub fn make<R: Wait>(
         _rt: &R,
         alloc: Global,
@@ -107,7 +107,8 @@ impl TileCells {
     ) -> Result<(TileCells, Vec<TileWriter>, Vec<TileReader>), Memory>
         ensures cells { IfOk result (λ r. length r.0 ≡ tile_count_of list.now.list.size) }
         ensures writers { IfOk result (λ r. AreFresh r.0 list.now.list (length r.0) r.1.items) }
-        ensures readers { IfOk result (λ r. (length r.2.items ≡ readers) × All (IsNew r.0 list.now.list) r.2.items) }
+        ensures readers { IfOk result (λ r. (length r.2.items ≡ readers)
+            × All (IsNew r.0 list.now.list) r.2.items) }
     {
         let (cells, passes) = open_all(alloc, list)?;
         let room = Vec::with_capacity(alloc, cells.len()).map_err(|_| Memory)?;

@@ -40,19 +40,8 @@ impl Model for Snapshot {
     ghost invariant = { λ s. (length s.tiles.items ≡ tile_count_of s.size) × IsSpan s.size s.span };
 }
 
-fn is_in(span: &TileSpan, place: Tile) -> bool
-    ensures { result ≡ has_tile span.now place }
-{
-    let column = u32::from(place.column);
-    let row = u32::from(place.row);
-    span.first_row <= row
-        && row < span.end_row
-        && span.first_column <= column
-        && column < span.end_column
-}
-
 impl Snapshot {
-    /// A snapshot of a screen of this size, which holds no tile. Err where memory gave out, which is taken here and
+    /// A snapshot of a screen of this size, which holds no tile. Err if out of memory, which is taken here and
     /// nowhere later.
     pub fn with_room(alloc: Global, size: Size) -> Result<Snapshot, Memory>
         ensures size { IfOk result (λ s. s.size ≡ size) }
@@ -119,7 +108,7 @@ impl TileView for Snapshot {
     ghost tile_of = { λ s t. tile_at s.tiles t };
 
     fn holds(&self, tile: u32) -> bool {
-        tile < self.size.tile_count() && is_in(&self.span, self.size.tile_at(tile))
+        tile < self.size.tile_count() && self.span.has(self.size.tile_at(tile))
     }
 
     fn state(&self, tile: u32) -> TileState {

@@ -235,7 +235,9 @@ fn draw_and_look<R: Threads + Wait + Sync>(
     join_mut(
         rt,
         &mut ||
-            requires { (length cells.now ≡ tile_count_of list.now.list.size) × (to ≤ length list.now.list.members) × AreStanding cells.now list.now.list 0 writers.now.items }
+            requires { (length cells.now ≡ tile_count_of list.now.list.size)
+                × (to ≤ length list.now.list.members)
+                × AreStanding cells.now list.now.list 0 writers.now.items }
             ensures { AreStanding cells.entry.now list.entry.now.list to writers.exit.now.items }
         { draw(rt, cells, writers, list, 0, to) },
         &mut ||

@@ -2,27 +2,17 @@ use Rattle.std.proofs.Common.{◌≤◌, arith}
 use Rattle.command_words.proofs.OptionNumbers.{read_within, wider}
 use Rattle.command_words.proofs.words.settings_of.Goals as goal
 
-pub number-columns-requires : goal.number-columns-requires
-number-columns-requires c = wider _ _ _ _ _ c.requires.1.0 (omega arith)
+pub side-columns-requires : goal.side-columns-requires
+side-columns-requires c = c.requires.1.0
 
-pub overflow_cast-columns : goal.overflow_cast-columns
-overflow_cast-columns c =
-    let within : (1 ≤ c.number-columns.result) × (c.number-columns.result ≤ 8) = read_within _ _ _ _ _ c.number-columns.ensures c.requires.1.0 in
-    omega arith
-
-pub number-rows-requires : goal.number-rows-requires
-number-rows-requires c = wider _ _ _ _ _ c.requires.1.1.0 (omega arith)
-
-pub overflow_cast-rows : goal.overflow_cast-rows
-overflow_cast-rows c =
-    let within : (1 ≤ c.number-rows.result) × (c.number-rows.result ≤ 8) = read_within _ _ _ _ _ c.number-rows.ensures c.requires.1.1.0 in
-    omega arith
+pub side-rows-requires : goal.side-rows-requires
+side-rows-requires c = c.requires.1.1.0
 
 pub unwrap-requires : goal.unwrap-requires
 unwrap-requires c =
-    let columns : (1 ≤ c.number-columns.result) × (c.number-columns.result ≤ 8) = read_within _ _ _ _ _ c.number-columns.ensures c.requires.1.0 in
-    let rows : (1 ≤ c.number-rows.result) × (c.number-rows.result ≤ 8) = read_within _ _ _ _ _ c.number-rows.ensures c.requires.1.1.0 in
-    c.new.ensures.given (record { some_columns = columns.0; few_columns = columns.1; some_rows = rows.0; few_rows = rows.1 })
+    let columns = c.side-columns.ensures in
+    let rows = c.side-rows.ensures in
+    c.new.ensures.given (record { some_columns = columns.some; few_columns = columns.few; some_rows = rows.some; few_rows = rows.few })
 
 pub number-requires : goal.number-requires
 number-requires c = wider _ _ _ _ _ c.requires.0 (omega arith)

@@ -1,18 +1,16 @@
-use Rattle.std.proofs.Common.{◌≡◌, pos, ◌^◌, ◌∷◌, [], slice_index, slice_index_or, FitsSigned, w64, rules}
+use Rattle.std.proofs.Common.{◌≡◌, ℕ, ℤ, pos, ◌^◌, ◌∷◌, [], slice_index, slice_index_or, to_z, of_z, FitsSigned, w64, rules}
 use Rattle.std.specs.Int.{int_div_euclid, int_max}
 use Rattle.std.proofs.lemmas.Int.{to_z-of_z}
-use Rattle.edge_lanes.proofs.Lanes.{any_of_eight}
+use Rattle.cull_base.proofs.EightLanes.{each_of_eight}
 use Rattle.edge_lanes.proofs.crossing.columns_of.Goals as goal
+
+-- the column of parts that fit 64 bits
+column : (n : ℕ) (parts : ℤ) → FitsSigned w64 parts → pos n ≡ int_max (int_div_euclid (to_z w64 (of_z w64 parts)) (pos (2 ^ 32))) (pos 0) → pos n ≡ int_max (int_div_euclid parts (pos (2 ^ 32))) (pos 0)
+column n parts fits is = simp to_z-of_z at is
 
 pub returns : goal.returns
 returns c =
-    let f0 : FitsSigned w64 (slice_index_or c.args.parts 0 (pos 0)) = search rules in
-    let f1 : FitsSigned w64 (slice_index_or c.args.parts 1 (pos 0)) = search rules in
-    let f2 : FitsSigned w64 (slice_index_or c.args.parts 2 (pos 0)) = search rules in
-    let f3 : FitsSigned w64 (slice_index_or c.args.parts 3 (pos 0)) = search rules in
-    let f4 : FitsSigned w64 (slice_index_or c.args.parts 4 (pos 0)) = search rules in
-    let f5 : FitsSigned w64 (slice_index_or c.args.parts 5 (pos 0)) = search rules in
-    let f6 : FitsSigned w64 (slice_index_or c.args.parts 6 (pos 0)) = search rules in
-    let f7 : FitsSigned w64 (slice_index_or c.args.parts 7 (pos 0)) = search rules in
-    any_of_eight (λ r. pos (slice_index (c.column_of.result ∷ c.column_of-2.result ∷ c.column_of-3.result ∷ c.column_of-4.result ∷ c.column_of-5.result ∷ c.column_of-6.result ∷ c.column_of-7.result ∷ c.column_of-8.result ∷ []) r) ≡ int_max (int_div_euclid (slice_index_or c.args.parts r (pos 0)) (pos (2 ^ 32))) (pos 0))
-    (simp to_z-of_z at c.column_of.ensures) (simp to_z-of_z at c.column_of-2.ensures) (simp to_z-of_z at c.column_of-3.ensures) (simp to_z-of_z at c.column_of-4.ensures) (simp to_z-of_z at c.column_of-5.ensures) (simp to_z-of_z at c.column_of-6.ensures) (simp to_z-of_z at c.column_of-7.ensures) (simp to_z-of_z at c.column_of-8.ensures)
+    let at : (r : ℕ) → ℤ = λ r. slice_index_or c.args.parts r (pos 0) in
+    each_of_eight (λ r. pos (slice_index (c.column_of.result ∷ c.column_of-2.result ∷ c.column_of-3.result ∷ c.column_of-4.result ∷ c.column_of-5.result ∷ c.column_of-6.result ∷ c.column_of-7.result ∷ c.column_of-8.result ∷ []) r) ≡ int_max (int_div_euclid (slice_index_or c.args.parts r (pos 0)) (pos (2 ^ 32))) (pos 0))
+    (column _ (at 0) (search rules) c.column_of.ensures) (column _ (at 1) (search rules) c.column_of-2.ensures) (column _ (at 2) (search rules) c.column_of-3.ensures) (column _ (at 3) (search rules) c.column_of-4.ensures)
+    (column _ (at 4) (search rules) c.column_of-5.ensures) (column _ (at 5) (search rules) c.column_of-6.ensures) (column _ (at 6) (search rules) c.column_of-7.ensures) (column _ (at 7) (search rules) c.column_of-8.ensures)

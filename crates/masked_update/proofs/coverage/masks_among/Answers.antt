@@ -5,7 +5,7 @@ use Rattle.std.proofs.Math.Nat.{one-le-pow}
 use Rattle.std.proofs.lemmas.Bool.Decides.{nat_tests}
 use Rattle.std.proofs.lemmas.Nat.Bits.{and_pow}
 use Rattle.std.proofs.lemmas.Simd.{get_or-sel_l}
-use Rattle.masked_update.proofs.Lanes.{each_of_eight}
+use Rattle.cull_base.proofs.EightLanes.{each_of_eight}
 use Rattle.masked_update.proofs.LaneMerge.{told_is}
 use Rattle.masked_update.proofs.coverage.masks_among.Goals as goal
 

@@ -25,13 +25,13 @@ no_triangle = record { 0 = [] }
 pub near_box-requires-clause-guarded : goal.near_box-requires-clause-guarded
 unfolding no_triangle
 near_box-requires-clause-guarded c =
-    let here = none_there (λ t. list_any (λ v. is_past_guard v c.args.near) (vertices_of c.args.clips.now t)) c.args.tris.now c.loop-tri.tri-index no_triangle c.requires.guarded c.loop-tri-test.true in
-    subst (All (λ v. is_past_guard v c.args.near ≡ false)) (sym c.corners.ensures.whole) (none_holds (λ v. is_past_guard v c.args.near) (vertices_of c.args.clips.now (get_or c.args.tris.now c.loop-tri.tri-index no_triangle)) here)
+    let here = none_there (λ t. list_any (λ v. is_past_guard v c.args.near.distance) (vertices_of c.args.clips.now t)) c.args.tris.now c.loop-tri.tri-index no_triangle c.requires.guarded c.loop-tri-test.true in
+    subst (All (λ v. is_past_guard v c.args.near.distance ≡ false)) (sym c.corners.ensures.whole) (none_holds (λ v. is_past_guard v c.args.near.distance) (vertices_of c.args.clips.now (get_or c.args.tris.now c.loop-tri.tri-index no_triangle)) here)
 
 pub loop-tri-preserved : goal.loop-tri-preserved
 unfolding no_triangle
 loop-tri-preserved c =
-    let size = c.args.size in let near = c.args.near in let clips = c.args.clips.now in let tris = c.args.tris.now in
+    let size = c.args.size in let near = c.args.near.distance in let clips = c.args.clips.now in let tris = c.args.tris.now in
     let i = c.loop-tri.tri-index in
     let t = get_or tris i no_triangle in
     let boxes = near_boxes near size clips (take i tris) in

@@ -5,6 +5,6 @@ use Rattle.mesh_query.proofs.area.hull.Given as goal
 
 abbrev pub invariant-loop-tri : goal.invariant-loop-tri
 invariant-loop-tri l = record {
-  met : l.met ≡ is_one_on_screen l.size (near_boxes l.near l.size l.clips (take l.tri-index l.tris));
-  hull : IsHull l.hull (near_boxes l.near l.size l.clips (take l.tri-index l.tris));
+  met : l.met ≡ is_one_on_screen l.size (near_boxes l.near.distance l.size l.clips (take l.tri-index l.tris));
+  hull : IsHull l.hull (near_boxes l.near.distance l.size l.clips (take l.tri-index l.tris));
 }

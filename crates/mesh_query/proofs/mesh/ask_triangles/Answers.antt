@@ -24,14 +24,14 @@ no_triangle = record { 0 = [] }
 pub ask_triangle-requires-clause-guarded : goal.ask_triangle-requires-clause-guarded
 unfolding no_triangle
 ask_triangle-requires-clause-guarded g c =
-    let test : ClipVertex → _ = λ v. is_past_guard v c.args.near in
+    let test : ClipVertex → _ = λ v. is_past_guard v c.args.near.distance in
     let here = none_there (λ t. list_any test (vertices_of c.args.clips.now t)) c.args.tris.now c.loop-tri.tri-index no_triangle c.requires.guarded c.loop-tri-test.true in
-    subst (All (λ v. is_past_guard v c.args.near ≡ false)) (sym c.corners.ensures.whole) (none_holds test (vertices_of c.args.clips.now (get_or c.args.tris.now c.loop-tri.tri-index no_triangle)) here)
+    subst (All (λ v. is_past_guard v c.args.near.distance ≡ false)) (sym c.corners.ensures.whole) (none_holds test (vertices_of c.args.clips.now (get_or c.args.tris.now c.loop-tri.tri-index no_triangle)) here)
 
 pub returns-in_err-now : goal.returns-in_err-now
 unfolding no_triangle
 returns-in_err-now g c =
-    let f = state_in c.args.size (g.V.TileView.tile_of c.args.view.now) in let size = c.args.size in let near = c.args.near in let clips = c.args.clips.now in let tris = c.args.tris.now in
+    let f = state_in c.args.size (g.V.TileView.tile_of c.args.view.now) in let size = c.args.size in let near = c.args.near.distance in let clips = c.args.clips.now in let tris = c.args.tris.now in
     let i = c.loop-tri.tri-index in
     let t = get_or tris i no_triangle in
     let shows = subst (λ (vs : List ClipVertex). SomeShows f (TouchedBy size (pieces_of_triangle vs GRADE_TOP near size Both Object))) c.corners.ensures.whole c.in_err-now.ensures in
@@ -42,7 +42,7 @@ returns-in_err-now g c =
 pub loop-tri-preserved : goal.loop-tri-preserved
 unfolding no_triangle
 loop-tri-preserved g c =
-    let f = state_in c.args.size (g.V.TileView.tile_of c.args.view.now) in let size = c.args.size in let near = c.args.near in let clips = c.args.clips.now in let tris = c.args.tris.now in
+    let f = state_in c.args.size (g.V.TileView.tile_of c.args.view.now) in let size = c.args.size in let near = c.args.near.distance in let clips = c.args.clips.now in let tris = c.args.tris.now in
     let i = c.loop-tri.tri-index in
     let t = get_or tris i no_triangle in
     let now = c.in_ok-now.now in

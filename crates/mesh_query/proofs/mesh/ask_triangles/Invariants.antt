@@ -7,4 +7,4 @@ use Rattle.mesh_query.proofs.mesh.ask_triangles.Given as goal
 
 abbrev pub invariant-loop-tri : goal.invariant-loop-tri
 invariant-loop-tri g l = let tris = take l.tri-index l.tris in
-    HasAsked (state_in l.size (g.V.TileView.tile_of l.view)) l.size (object_pieces GRADE_TOP l.near l.size l.clips tris) (near_boxes l.near l.size l.clips tris) at_first l.now
+    HasAsked (state_in l.size (g.V.TileView.tile_of l.view)) l.size (object_pieces GRADE_TOP l.near.distance l.size l.clips tris) (near_boxes l.near.distance l.size l.clips tris) at_first l.now

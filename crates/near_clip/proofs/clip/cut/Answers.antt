@@ -15,17 +15,23 @@ w_within v near h g = narrowed near _ h (guarded v near g).w_within
 distance_within : (near : ℕ) (n : ℤ) → near ≤ 1024 → n ≡ pos near → Bounded (2 ^ 24) n
 distance_within near n h e = (omega (arith, ints, h, e), omega (arith, ints, h, e))
 
-widened : (v : ℤ) → Bounded (2 ^ 24) v → Bounded (2 ^ 60) v
-widened v h = (omega (arith, ints, h), omega (arith, ints, h))
+pub narrow_difference-p-requires-clause-a : goal.narrow_difference-p-requires-clause-a
+narrow_difference-p-requires-clause-a c = let f : FitsSigned w64 c.args.inside.now.w = search rules in simp to_z-of_z (w_within c.args.inside.now c.args.near c.requires.near c.requires.inside)
 
-pub minus-q-requires-clause-b_bounded : goal.minus-q-requires-clause-b_bounded
-minus-q-requires-clause-b_bounded c = let f : FitsSigned w64 c.args.outside.now.w = search rules in simp to_z-of_z (widened _ (w_within c.args.outside.now c.args.near c.requires.near c.requires.outside))
+pub narrow_difference-p-requires-clause-b : goal.narrow_difference-p-requires-clause-b
+narrow_difference-p-requires-clause-b c = let f : FitsSigned w64 c.from-distance.result = search rules in simp to_z-of_z (distance_within c.args.near _ c.requires.near c.from-distance.ensures)
 
-pub minus-requires-clause-a_bounded : goal.minus-requires-clause-a_bounded
-minus-requires-clause-a_bounded c = let f : FitsSigned w64 c.args.inside.now.w = search rules in simp to_z-of_z (widened _ (w_within c.args.inside.now c.args.near c.requires.near c.requires.inside))
+pub narrow_difference-q-requires-clause-a : goal.narrow_difference-q-requires-clause-a
+narrow_difference-q-requires-clause-a c = let f : FitsSigned w64 c.from-distance.result = search rules in simp to_z-of_z (distance_within c.args.near _ c.requires.near c.from-distance.ensures)
 
-pub minus-requires-clause-b_bounded : goal.minus-requires-clause-b_bounded
-minus-requires-clause-b_bounded c = let f : FitsSigned w64 c.args.outside.now.w = search rules in simp to_z-of_z (widened _ (w_within c.args.outside.now c.args.near c.requires.near c.requires.outside))
+pub narrow_difference-q-requires-clause-b : goal.narrow_difference-q-requires-clause-b
+narrow_difference-q-requires-clause-b c = let f : FitsSigned w64 c.args.outside.now.w = search rules in simp to_z-of_z (w_within c.args.outside.now c.args.near c.requires.near c.requires.outside)
+
+pub narrow_difference-requires-clause-a : goal.narrow_difference-requires-clause-a
+narrow_difference-requires-clause-a c = let f : FitsSigned w64 c.args.inside.now.w = search rules in simp to_z-of_z (w_within c.args.inside.now c.args.near c.requires.near c.requires.inside)
+
+pub narrow_difference-requires-clause-b : goal.narrow_difference-requires-clause-b
+narrow_difference-requires-clause-b c = let f : FitsSigned w64 c.args.outside.now.w = search rules in simp to_z-of_z (w_within c.args.outside.now c.args.near c.requires.near c.requires.outside)
 
 pub weighted_sum-requires-clause-b : goal.weighted_sum-requires-clause-b
 weighted_sum-requires-clause-b c = let f : FitsSigned w64 c.args.outside.now.x = search rules in simp to_z-of_z (narrowed c.args.near _ c.requires.near (guarded c.args.outside.now c.args.near c.requires.outside).x_within)
@@ -45,42 +51,6 @@ weighted_sum-requires-3-clause-b c = let f : FitsSigned w64 c.args.outside.now.w
 pub weighted_sum-requires-3-clause-a : goal.weighted_sum-requires-3-clause-a
 weighted_sum-requires-3-clause-a c = let f : FitsSigned w64 c.args.inside.now.w = search rules in simp to_z-of_z (narrowed c.args.near _ c.requires.near (guarded c.args.inside.now c.args.near c.requires.inside).w_within)
 
-pub weighted_sum-requires-clause-p : goal.weighted_sum-requires-clause-p
-weighted_sum-requires-clause-p c =
-    let f : FitsSigned w64 c.args.inside.now.w = search rules in let fd : FitsSigned w64 c.from-distance.result = search rules in let fp : FitsSigned w64 c.minus-p.result = search rules in
-    let within = simp to_z-of_z at (c.minus-p.ensures.bounded (2 ^ 24)) in
-    simp to_z-of_z (within (w_within c.args.inside.now c.args.near c.requires.near c.requires.inside) (distance_within c.args.near _ c.requires.near c.from-distance.ensures))
-
-pub weighted_sum-requires-clause-q : goal.weighted_sum-requires-clause-q
-weighted_sum-requires-clause-q c =
-    let f : FitsSigned w64 c.args.outside.now.w = search rules in let fd : FitsSigned w64 c.from-distance.result = search rules in let fq : FitsSigned w64 c.minus-q.result = search rules in
-    let within = simp to_z-of_z at (c.minus-q.ensures.bounded (2 ^ 24)) in
-    simp to_z-of_z (within (distance_within c.args.near _ c.requires.near c.from-distance.ensures) (w_within c.args.outside.now c.args.near c.requires.near c.requires.outside))
-
-pub weighted_sum-requires-2-clause-p : goal.weighted_sum-requires-2-clause-p
-weighted_sum-requires-2-clause-p c =
-    let f : FitsSigned w64 c.args.inside.now.w = search rules in let fd : FitsSigned w64 c.from-distance.result = search rules in let fp : FitsSigned w64 c.minus-p.result = search rules in
-    let within = simp to_z-of_z at (c.minus-p.ensures.bounded (2 ^ 24)) in
-    simp to_z-of_z (within (w_within c.args.inside.now c.args.near c.requires.near c.requires.inside) (distance_within c.args.near _ c.requires.near c.from-distance.ensures))
-
-pub weighted_sum-requires-2-clause-q : goal.weighted_sum-requires-2-clause-q
-weighted_sum-requires-2-clause-q c =
-    let f : FitsSigned w64 c.args.outside.now.w = search rules in let fd : FitsSigned w64 c.from-distance.result = search rules in let fq : FitsSigned w64 c.minus-q.result = search rules in
-    let within = simp to_z-of_z at (c.minus-q.ensures.bounded (2 ^ 24)) in
-    simp to_z-of_z (within (distance_within c.args.near _ c.requires.near c.from-distance.ensures) (w_within c.args.outside.now c.args.near c.requires.near c.requires.outside))
-
-pub weighted_sum-requires-3-clause-p : goal.weighted_sum-requires-3-clause-p
-weighted_sum-requires-3-clause-p c =
-    let f : FitsSigned w64 c.args.inside.now.w = search rules in let fd : FitsSigned w64 c.from-distance.result = search rules in let fp : FitsSigned w64 c.minus-p.result = search rules in
-    let within = simp to_z-of_z at (c.minus-p.ensures.bounded (2 ^ 24)) in
-    simp to_z-of_z (within (w_within c.args.inside.now c.args.near c.requires.near c.requires.inside) (distance_within c.args.near _ c.requires.near c.from-distance.ensures))
-
-pub weighted_sum-requires-3-clause-q : goal.weighted_sum-requires-3-clause-q
-weighted_sum-requires-3-clause-q c =
-    let f : FitsSigned w64 c.args.outside.now.w = search rules in let fd : FitsSigned w64 c.from-distance.result = search rules in let fq : FitsSigned w64 c.minus-q.result = search rules in
-    let within = simp to_z-of_z at (c.minus-q.ensures.bounded (2 ^ 24)) in
-    simp to_z-of_z (within (distance_within c.args.near _ c.requires.near c.from-distance.ensures) (w_within c.args.outside.now c.args.near c.requires.near c.requires.outside))
-
 cut_is : (a b : ClipVertex) (near : ℕ) (n p q x y w s : ℤ) → n ≡ pos near → p ≡ a.w -ℤ n → q ≡ n -ℤ b.w →
     x ≡ (p *ℤ b.x) +ℤ (q *ℤ a.x) → y ≡ (p *ℤ b.y) +ℤ (q *ℤ a.y) → w ≡ (p *ℤ b.w) +ℤ (q *ℤ a.w) → s ≡ a.w -ℤ b.w →
     let r : HomPoint = record { x = x; y = y; w = w; scale = s } in r ≡ cut_point a b near
@@ -91,11 +61,11 @@ returns c =
     let a = c.args.inside.now in let b = c.args.outside.now in
     let ax : FitsSigned w64 a.x = search rules in let ay : FitsSigned w64 a.y = search rules in let aw : FitsSigned w64 a.w = search rules in
     let bx : FitsSigned w64 b.x = search rules in let by : FitsSigned w64 b.y = search rules in let bw : FitsSigned w64 b.w = search rules in
-    let fp : FitsSigned w64 c.minus-p.result = search rules in let fq : FitsSigned w64 c.minus-q.result = search rules in
+    let fp : FitsSigned w64 c.narrow_difference-p.result = search rules in let fq : FitsSigned w64 c.narrow_difference-q.result = search rules in
     let fx : FitsSigned w64 c.weighted_sum.result = search rules in let fy : FitsSigned w64 c.weighted_sum-2.result = search rules in
-    let fw : FitsSigned w64 c.weighted_sum-3.result = search rules in let fs : FitsSigned w64 c.minus.result = search rules in
+    let fw : FitsSigned w64 c.weighted_sum-3.result = search rules in let fs : FitsSigned w64 c.narrow_difference.result = search rules in
     let fd : FitsSigned w64 c.from-distance.result = search rules in
     let near : c.from-distance.result ≡ pos c.args.near = omega (arith, ints, c.from-distance.ensures) in
-    simp to_z-of_z (cut_is a b c.args.near c.from-distance.result c.minus-p.result c.minus-q.result c.weighted_sum.result c.weighted_sum-2.result c.weighted_sum-3.result c.minus.result
-    near (simp to_z-of_z at c.minus-p.ensures.value) (simp to_z-of_z at c.minus-q.ensures.value)
-    (simp to_z-of_z at c.weighted_sum.ensures) (simp to_z-of_z at c.weighted_sum-2.ensures) (simp to_z-of_z at c.weighted_sum-3.ensures) (simp to_z-of_z at c.minus.ensures.value))
+    simp to_z-of_z (cut_is a b c.args.near c.from-distance.result c.narrow_difference-p.result c.narrow_difference-q.result c.weighted_sum.result c.weighted_sum-2.result c.weighted_sum-3.result c.narrow_difference.result
+    near (simp to_z-of_z at c.narrow_difference-p.ensures.value) (simp to_z-of_z at c.narrow_difference-q.ensures.value)
+    (simp to_z-of_z at c.weighted_sum.ensures) (simp to_z-of_z at c.weighted_sum-2.ensures) (simp to_z-of_z at c.weighted_sum-3.ensures) (simp to_z-of_z at c.narrow_difference.ensures.value))

@@ -14,9 +14,9 @@ pub place_of-place-requires-clause-reach : goal.place_of-place-requires-clause-r
 place_of-place-requires-clause-reach c =
     let rest = take 7 (drop 1 c.args.corners.now) in
     let i = c.loop-corner.corner-index in
-    let guarded = rest_guarded c.args.corners.now c.args.near i c.requires.guarded c.loop-corner-test.true in
-    let front = rest_front c.args.corners.now c.args.near i c.requires.front c.loop-corner-test.true in
-    whole_in_reach c.args.near (get_or rest i no_vertex) c.whole-in-loop-corner.result c.whole-in-loop-corner.ensures guarded (in_front (get_or rest i no_vertex) c.args.near front)
+    let guarded = rest_guarded c.args.corners.now c.args.near.distance i c.requires.guarded c.loop-corner-test.true in
+    let front = rest_front c.args.corners.now c.args.near.distance i c.requires.front c.loop-corner-test.true in
+    whole_in_reach c.args.near.distance (get_or rest i no_vertex) c.whole-in-loop-corner.result c.whole-in-loop-corner.ensures guarded (in_front (get_or rest i no_vertex) c.args.near.distance front)
 
 pub loop-corner-preserved : goal.loop-corner-preserved
 loop-corner-preserved c =

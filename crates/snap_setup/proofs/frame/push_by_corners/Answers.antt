@@ -4,10 +4,10 @@ use Rattle.snap_setup.proofs.FrameLists.{list_none, with_none, room_for_two, one
 use Rattle.snap_setup.proofs.frame.push_by_corners.Goals as goal
 
 pub loop-tri-init : goal.loop-tri-init
-loop-tri-init c = let o = c.args.occluders.now in with_none c.args.list.now _ (list_none o.clips.now GRADE_TOP o.near o.size o.winding)
+loop-tri-init c = let o = c.args.occluders.now in with_none c.args.list.now _ (list_none o.clips.now GRADE_TOP o.near.distance o.size o.winding)
 
-pub push_pieces-requires-clause-room : goal.push_pieces-requires-clause-room
-push_pieces-requires-clause-room c =
+pub push_pieces-requires : goal.push_pieces-requires
+push_pieces-requires c =
     room_for_two c.args.occluders.now c.args.tris.now c.loop-tri.tri-index c.args.list.now c.loop-tri.list c.loop-tri-test.true c.loop-tri.invariant c.requires.room
 
 pub loop-tri-preserved : goal.loop-tri-preserved

@@ -5,7 +5,7 @@ use Rattle.snap_setup.proofs.SharedVertices.{corners_of}
 use Rattle.snap_setup.proofs.frame.push_by_vertices.Goals as goal
 
 pub loop-tri-init : goal.loop-tri-init
-loop-tri-init c = let o = c.args.occluders.now in with_none c.args.list.now _ (list_none o.clips.now GRADE_TOP o.near o.size o.winding)
+loop-tri-init c = let o = c.args.occluders.now in with_none c.args.list.now _ (list_none o.clips.now GRADE_TOP o.near.distance o.size o.winding)
 
 pub push_shared-requires-clause-room : goal.push_shared-requires-clause-room
 push_shared-requires-clause-room c =

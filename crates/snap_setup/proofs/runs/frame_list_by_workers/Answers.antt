@@ -13,7 +13,7 @@ join_all-requires g c =
     let first = c.remove-list.result in
     let parts = joined o c.div_ceil-share.result c.in_ok-rooms.rooms.items c.as_slice-2.result.now first e.made (omega (arith, e.runs, c.if-runs-le1.false))
     (rw e.runs c.div_ceil-share.ensures) c.remove-list.ensures.value (c.as_slice-2.ensures.value ∙ c.remove-list.ensures.by_index.2) in
-    let most = list_most o.clips.now o.tris.now GRADE_TOP o.near o.size o.winding in
+    let most = list_most o.clips.now o.tris.now GRADE_TOP o.near.distance o.size o.winding in
     let room = ap (λ (f : FrameListOf). f.room) c.remove-list.ensures.value in
     let enough = (e.first first).1 in
     omega (arith, ap length parts, most, room, enough, length-append first.list.members (members_of c.as_slice-2.result.now))

@@ -1,16 +1,6 @@
 use Rattle.std.proofs.Common.{FitsSigned, w32, rules, refl}
 use Rattle.std.proofs.lemmas.Int.{to_z-of_z}
-use Rattle.snap_setup.proofs.Reached.{in_sight}
 use Rattle.snap_setup.proofs.snapping.long_place_of.Goals as goal
-
-pub doubled_w-doubled-requires : goal.doubled_w-doubled-requires
-doubled_w-doubled-requires c = in_sight c.args.near c.args.point.now c.requires.near_least c.requires.near_most c.requires.reach
-
-pub place_y-requires-clause-sight : goal.place_y-requires-clause-sight
-place_y-requires-clause-sight c = in_sight c.args.near c.args.point.now c.requires.near_least c.requires.near_most c.requires.reach
-
-pub place_x-requires-clause-sight : goal.place_x-requires-clause-sight
-place_x-requires-clause-sight c = in_sight c.args.near c.args.point.now c.requires.near_least c.requires.near_most c.requires.reach
 
 pub returns-clause-value : goal.returns-clause-value
 returns-clause-value c =

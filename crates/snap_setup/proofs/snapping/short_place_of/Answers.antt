@@ -1,13 +1,6 @@
 use Rattle.std.proofs.Common.{FitsSigned, w32, rules, refl}
 use Rattle.std.proofs.lemmas.Int.{to_z-of_z}
-use Rattle.snap_setup.proofs.Reached.{in_sight}
 use Rattle.snap_setup.proofs.snapping.short_place_of.Goals as goal
-
-pub short_x-requires-clause-sight : goal.short_x-requires-clause-sight
-short_x-requires-clause-sight c = in_sight c.args.near c.args.point.now c.requires.near_least c.requires.near_most c.requires.reach
-
-pub short_y-requires-clause-sight : goal.short_y-requires-clause-sight
-short_y-requires-clause-sight c = in_sight c.args.near c.args.point.now c.requires.near_least c.requires.near_most c.requires.reach
 
 pub returns : goal.returns
 returns c =

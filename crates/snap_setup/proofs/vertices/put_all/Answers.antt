@@ -13,7 +13,7 @@ returns g c =
     let clips = c.args.clips.now in
     let vs = c.for_each_share.new.s in
     let size : length vs ≡ length clips = search rules in
-    ext_get_or unset vs (screen_vertices clips o.near o.size) (size ∙ sym (length-map clips (λ v. screen_vertex v o.near o.size)))
+    ext_get_or unset vs (screen_vertices clips o.near.distance o.size) (size ∙ sym (length-map clips (λ v. screen_vertex v o.near.distance o.size)))
     (λ i lt. let h = c.for_each_share.ensures i unset (omega (arith, lt, size, c.requires)) in
     let k = h.1 in
-    sym k.left ∙ k.call ∙ sym (get_or-map (λ v. screen_vertex v o.near o.size) clips i (record { x = pos 0; y = pos 0; w = pos 0 }) unset (omega (arith, lt, size))))
+    sym k.left ∙ k.call ∙ sym (get_or-map (λ v. screen_vertex v o.near.distance o.size) clips i (record { x = pos 0; y = pos 0; w = pos 0 }) unset (omega (arith, lt, size))))

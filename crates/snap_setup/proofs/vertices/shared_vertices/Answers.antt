@@ -17,6 +17,6 @@ loop-v-preserved c =
     let o = c.args.occluders.now in
     let d : ClipVertex = record { x = pos 0; y = pos 0; w = pos 0 } in
     record {
-      made = pushed c.shared_clips-shared.result.now o.near o.size c.loop-v.v-index _ _ _ d c.loop-v.invariant.made c.loop-v-test.true c.screen_vertex.ensures c.push_reserved.ensures.items;
+      made = pushed c.shared_clips-shared.result.now o.near.distance o.size c.loop-v.v-index _ _ _ d c.loop-v.invariant.made c.loop-v-test.true c.screen_vertex.ensures c.push_reserved.ensures.items;
       room = omega (arith, c.loop-v.invariant.room, c.push_reserved.ensures.capacity);
     }

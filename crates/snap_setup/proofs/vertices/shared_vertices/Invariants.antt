@@ -4,6 +4,6 @@ use Rattle.snap_setup.proofs.vertices.shared_vertices.Given as goal
 
 abbrev pub invariant-loop-v : goal.invariant-loop-v
 invariant-loop-v l = record {
-  made : l.vertices.items ≡ screen_vertices (take l.v-index l.shared) l.fn.occluders.near l.fn.occluders.size;
+  made : l.vertices.items ≡ screen_vertices (take l.v-index l.shared) l.fn.occluders.near.distance l.fn.occluders.size;
   room : length l.shared ≤ vec_capacity l.vertices;
 }

@@ -1,6 +1,6 @@
 use Rattle.std.proofs.Common.{arith, rules, sym, ◌∙◌}
 use Rattle.std.specs.Prelude.{slice_index_or}
-use Rattle.tile_cells.proofs.Lists.{turn}
+use Rattle.cull_base.proofs.Lists.{turn}
 use Rattle.tile_cells.proofs.Closing.{end_more, in_turn}
 use Rattle.tile_cells.proofs.close.end_reader.Goals as goal
 

@@ -1,5 +1,5 @@
 use Rattle.std.proofs.Common.{sym, ◌∙◌, arith}
-use Rattle.tile_cells.proofs.Lists.{turn}
+use Rattle.cull_base.proofs.Lists.{turn}
 use Rattle.tile_cells.proofs.Closing.{readers_more, all_readers}
 use Rattle.tile_cells.proofs.close.end_readers.Goals as goal
 

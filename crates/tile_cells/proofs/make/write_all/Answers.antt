@@ -1,6 +1,6 @@
 use Rattle.std.proofs.Common.{◌≡◌, Some, sym, ap, ◌∙◌, arith}
+use Rattle.cull_base.proofs.Lists.{turn}
 use Rattle.tile_cells.specs.Cells.{Writing}
-use Rattle.tile_cells.proofs.Lists.{turn}
 use Rattle.tile_cells.proofs.Making.{opened_at, fresh_more}
 use Rattle.tile_cells.proofs.make.write_all.Goals as goal
 

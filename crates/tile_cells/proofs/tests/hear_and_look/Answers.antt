@@ -1,8 +1,8 @@
 use Rattle.std.proofs.Common.{◌≡◌, ◌<◌, length, length-set, ap, sym, ◌∙◌, subst, arith}
 use Rattle.std.specs.Prelude.{slice_index_or}
+use Rattle.cull_base.proofs.Lists.{set_each}
 use Rattle.tile_cells.specs.Cells.{Noted, Reading, IsAt}
 use Rattle.tile_cells.specs.Standing.{IsReading}
-use Rattle.tile_cells.proofs.Lists.{set_each}
 use Rattle.tile_cells.proofs.Making.{some_tiles}
 use Rattle.tile_cells.proofs.tests.hear_and_look.Goals as goal
 

@@ -1,6 +1,6 @@
 use Rattle.std.proofs.Common.{◌≡◌, ◌+◌, ◌*◌, ◌<◌, ℕ, List, [], ◌∷◌, refl, length, rules, slice_index_or}
 use Rattle.edge_lanes.specs.Crossings.{crossed_at}
-use Rattle.edge_lanes.proofs.Lanes.{any_of_eight}
+use Rattle.cull_base.proofs.EightLanes.{each_of_eight}
 use Rattle.edge_lanes.proofs.Lesser.{between_lanes, length-selected}
 use Rattle.edge_lanes.proofs.crossing.Crossing.spans.Goals as goal
 
@@ -9,7 +9,7 @@ abbrev eight : ℕ → List ℕ
 eight n = n ∷ n ∷ n ∷ n ∷ n ∷ n ∷ n ∷ n ∷ []
 
 eight_at : (n r : ℕ) → r < 8 → slice_index_or (eight n) r 0 ≡ n
-eight_at n r l = any_of_eight (λ r. slice_index_or (eight n) r 0 ≡ n) refl refl refl refl refl refl refl refl r l
+eight_at n r l = each_of_eight (λ r. slice_index_or (eight n) r 0 ≡ n) refl refl refl refl refl refl refl refl r l
 
 pub invariant_of-result : goal.invariant_of-result
 invariant_of-result c =

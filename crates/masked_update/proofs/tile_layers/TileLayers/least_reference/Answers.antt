@@ -1,19 +1,15 @@
-use Rattle.std.proofs.Common.{◌≤◌, List, ℕ, sym, arith, subst, slice_index_or}
+use Rattle.std.proofs.Common.{◌≤◌, List, sym, subst, slice_index_or}
 use Rattle.cull_base.specs.Fold.{IsLayered}
 use Rattle.cull_base.specs.State.{State, empty_state}
-use Rattle.masked_update.proofs.Lanes.{state_at, each_of_eight}
+use Rattle.masked_update.proofs.Lanes.{state_at}
 use Rattle.masked_update.proofs.Steps.{layered_of}
 use Rattle.masked_update.proofs.tile_layers.TileLayers.least_reference.Goals as goal
 
 pub returns-clause-least : goal.returns-clause-least
 returns-clause-least c j lt =
     let s = c.self.inside in
-    let least = c.least_of_four.result in
-    let f0 = subst (λ (v : List ℕ). least ≤ slice_index_or v 0 0) c.least_of_pairs.ensures (c.least_of_four.ensures 0 (omega arith)) in
-    let f1 = subst (λ (v : List ℕ). least ≤ slice_index_or v 1 0) c.least_of_pairs.ensures (c.least_of_four.ensures 1 (omega arith)) in
-    let f2 = subst (λ (v : List ℕ). least ≤ slice_index_or v 2 0) c.least_of_pairs.ensures (c.least_of_four.ensures 2 (omega arith)) in
-    let f3 = subst (λ (v : List ℕ). least ≤ slice_index_or v 3 0) c.least_of_pairs.ensures (c.least_of_four.ensures 3 (omega arith)) in
-    let le = each_of_eight (λ k. least ≤ slice_index_or s.references k 0) (omega arith) (omega arith) (omega arith) (omega arith) (omega arith) (omega arith) (omega arith) (omega arith) j lt in
+    let least = c.least_of.result in
+    let le = c.least_of.ensures j lt in
     subst (λ (v : List State). least ≤ (slice_index_or v j empty_state).reference) c.self.view_is
     (subst (λ (t : State). least ≤ t.reference) (sym (state_at s.references s.workings s.masks j lt)) le)
 

@@ -1,6 +1,6 @@
 use Rattle.std.proofs.Common.{◌≤◌, List, ℕ, arith, subst, slice_index_or}
-use Rattle.edge_lanes.proofs.SpanEnds.{at_each_of_eight}
-use Rattle.edge_lanes.proofs.spans.greatest_of.Goals as goal
+use Rattle.cull_base.proofs.EightLanes.{each_of_eight}
+use Rattle.cull_base.proofs.eights.greatest_of.Goals as goal
 
 pub returns : goal.returns
 returns c =
@@ -10,4 +10,4 @@ returns c =
     let f1 = subst (λ (v : List ℕ). slice_index_or v 1 0 ≤ greatest) c.greatest_of_pairs.ensures (c.greatest_of_four.ensures 1 (omega arith)) in
     let f2 = subst (λ (v : List ℕ). slice_index_or v 2 0 ≤ greatest) c.greatest_of_pairs.ensures (c.greatest_of_four.ensures 2 (omega arith)) in
     let f3 = subst (λ (v : List ℕ). slice_index_or v 3 0 ≤ greatest) c.greatest_of_pairs.ensures (c.greatest_of_four.ensures 3 (omega arith)) in
-    at_each_of_eight (λ k. slice_index_or numbers k 0 ≤ greatest) (omega arith) (omega arith) (omega arith) (omega arith) (omega arith) (omega arith) (omega arith) (omega arith)
+    each_of_eight (λ k. slice_index_or numbers k 0 ≤ greatest) (omega arith) (omega arith) (omega arith) (omega arith) (omega arith) (omega arith) (omega arith) (omega arith)
