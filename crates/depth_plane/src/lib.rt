@@ -5,8 +5,10 @@ mod corner;
 mod floor_lanes;
 mod plane;
 mod quotient;
+mod small_plane;
 #[cfg(test)]
 mod tests;
 mod vertices;
 
 pub use plane::Plane;
+pub use small_plane::SmallPlane;

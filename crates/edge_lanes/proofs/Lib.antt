@@ -6,6 +6,7 @@ pub mod Inside
 pub mod Extremes
 pub mod Sharing
 pub mod Subtiles
+pub mod SubStarts
 pub mod Tiles
 pub mod SpanLanes
 pub mod SpanBytes

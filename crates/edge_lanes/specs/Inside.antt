@@ -11,6 +11,7 @@ use Rattle.edge_lanes.specs.declared.wide_edges.WideEdges.{WideEdges}
 use Rattle.edge_lanes.specs.declared.edges.Kind.{Kind}
 use Rattle.edge_lanes.specs.declared.edges.Kind.TheVariants.{Narrow, Wide}
 use Rattle.edge_lanes.specs.declared.edges.Edges.{Edges}
+use Rattle.edge_lanes.specs.declared.small_edges.SmallEdges.{SmallEdges}
 
 abbrev pub narrow_line : NarrowEdge → Line
 narrow_line e = line e.start e.column e.row
@@ -31,6 +32,9 @@ lines_of_kind (Wide e) = wide_lines e
 -- which samples of a subtile lie inside all three edges
 unfoldable pub inside_of : Edges → Sub → List Bool
 inside_of e u = inside_lines (lines_of_kind e.kind) u
+
+unfoldable pub inside_small : SmallEdges → Sub → List Bool
+inside_small e u = inside_lines (narrow_lines e.edges) u
 
 -- subtile j of a tile, of which it has four columns and two rows
 abbrev pub sub_of : Tile → ℕ → Sub

@@ -73,6 +73,10 @@ inside_all e s t u k = inside_from e.first s k && (inside_from e.second t k && i
 abbrev pub tile_value : Line → Tile → ℤ
 tile_value e tile = value_at e (8 * (4 * tile.column)) (4 * (2 * tile.row))
 
+-- at the first sample of a subtile
+abbrev pub sub_value : Line → Sub → ℤ
+sub_value e u = value_at e (8 * u.column) (4 * u.row)
+
 -- at the first sample of subtile j, in a tile that begins with this value
 abbrev pub moved_to : Line → ℤ → ℕ → ℤ
 moved_to e start j = start +ℤ subtile_step e.column e.row j

@@ -11,6 +11,7 @@ mod narrow_edges;
 mod row_edges;
 mod shared;
 mod slant;
+mod small_edges;
 mod spans;
 #[cfg(test)]
 mod tests;
@@ -23,5 +24,6 @@ mod wide_edges;
 pub use edges::Edges;
 pub use row_edges::RowEdges;
 pub use shared::shared_edge;
+pub use small_edges::SmallEdges;
 pub use tile_edges::TileEdges;
 pub use tile_row::TileRow;

@@ -94,8 +94,9 @@ impl NarrowEdges {
         (first & second & third) as u32
     }
 
+    /// The mask of a subtile that begins with these values.
     #[inline(always)]
-    fn rows(&self, first: i32, second: i32, third: i32) -> u32
+    pub fn rows(&self, first: i32, second: i32, third: i32) -> u32
         requires first { Bounded (2 ^ 30 + 2 ^ 25) first }
         requires second { Bounded (2 ^ 30 + 2 ^ 25) second }
         requires third { Bounded (2 ^ 30 + 2 ^ 25) third }

@@ -14,6 +14,7 @@ pub mod Lanes
 pub mod LaneMerge
 pub mod Covering
 pub mod Wanting
+pub mod SampledSubs
 pub mod Merging
 pub mod OwnList
 pub mod Tiles
@@ -22,5 +23,6 @@ pub mod TileLists
 pub mod Walks
 pub mod SampleBoxes
 pub mod Marks
+pub mod SmallSteps
 pub mod EightOf
 pub mod Canvases

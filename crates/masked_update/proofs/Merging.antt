@@ -36,7 +36,7 @@ unfolding merged_by
 eight_merged size place x subs = length-map-range_with_len (merged_at size place x subs) 0 8
 
 -- a subtile that isn't wanted stays
-left_out : (size : Dimensions) (place : Tile) (x : Piece) (old : List State) (bits j : ℕ) → j < 8 → AreWanted size place x old bits → bit_at bits j ≡ 0 → slice_index_or old j empty_state ≡ merged_at size place x old j
+pub left_out : (size : Dimensions) (place : Tile) (x : Piece) (old : List State) (bits j : ℕ) → j < 8 → AreWanted size place x old bits → bit_at bits j ≡ 0 → slice_index_or old j empty_state ≡ merged_at size place x old j
 left_out size place x old bits j h wanted clear = by (is_on_screen size (sub_of place j)) refl
   where
     by : (b : Bool) → is_on_screen size (sub_of place j) ≡ b → slice_index_or old j empty_state ≡ cond (is_on_screen size (sub_of place j)) (step (sub_of place j) (slice_index_or old j empty_state) x) (slice_index_or old j empty_state)

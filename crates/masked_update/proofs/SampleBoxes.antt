@@ -62,6 +62,19 @@ holds_covered x r piece e0 f0 e1 f1 px py c =
     let (across, down) = touches-between x (middle px py) piece (touches_covered x (middle px py) c) in
     rw (e0, f0, e1, f1) (from_first (least_of x.xs) px across.0, before_end (greatest_of x.xs) px across.1, from_first (least_of x.ys) py down.0, before_end (greatest_of x.ys) py down.1)
 
+-- its first corner isn't past the second
+pub samples_ordered : (vs : List ℤ) (a b : ℤ) → length vs ≡ 3 → a ≡ first_pixel (least_of vs +ℤ pos 7) → b ≡ first_pixel (greatest_of vs +ℤ pos 8) → a ≤ℤ b
+samples_ordered vs a b three ea eb = rw (ea, eb) (pixels (least_of vs +ℤ pos 7) (greatest_of vs +ℤ pos 8) (let le = ordered in omega (arith, ints, le)))
+  where
+    ordered : least_of vs ≤ℤ greatest_of vs
+    ordered = rw (← least_of_three vs three, ← greatest_of_three vs three) (omega (arith, ints, clamps))
+
+    pixels : (low high : ℤ) → low ≤ℤ high → first_pixel low ≤ℤ first_pixel high
+    pixels (pos m) (pos n) le = omega (arith, ints, le)
+    pixels (negsuc m) (pos n) le = omega (arith, ints)
+    pixels (negsuc m) (negsuc n) le = omega (arith, ints, le)
+    pixels (pos m) (negsuc n) le = absurd (omega (arith, ints, le))
+
 -- a piece isn't merged anywhere in a tile that has no pixel of such a rectangle
 pub merged_apart : (size : Dimensions) (n : ℕ) (x : Piece) (r : Rect) (t : TileOf) → IsSize size.width size.height → HoldsCovered x r → meets r (tile_rect_of size n) ≡ false → length t.subs ≡ 8
     → merged_tile size (tile_place size n) x t ≡ t

@@ -18,11 +18,11 @@ use Rattle.masked_update.proofs.Unchanged.{step_behind}
 abbrev bit_of : Bool → ℕ
 bit_of b = cond b 1 0
 
-held : (b : Bool) → bit_of b ≡ 1 → b ≡ true
+pub held : (b : Bool) → bit_of b ≡ 1 → b ≡ true
 held true e = refl
 held false e = absurd (omega (arith, e))
 
-not_held : (b : Bool) → bit_of b ≡ 0 → b ≡ false
+pub not_held : (b : Bool) → bit_of b ≡ 0 → b ≡ false
 not_held true e = absurd (omega (arith, e))
 not_held false e = refl
 

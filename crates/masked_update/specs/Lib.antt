@@ -9,6 +9,7 @@ pub mod Views
 pub mod Grid
 pub mod Merged
 pub mod Samples
+pub mod Small
 pub mod Coverage
 pub mod Taken
 pub mod Least

@@ -8,10 +8,12 @@ ghost use Rattle.cull_base.specs.Tiles.{PieceList};
 ghost use Rattle.masked_update.specs.Canvas.{CountsAt, IsCanvas, StandsAt, empty_canvas, with_tile, tile_on};
 ghost use Rattle.masked_update.specs.Least.{NoneBelow};
 ghost use Rattle.masked_update.specs.Merged.{AreRowOf, IsSubBox};
+ghost use Rattle.masked_update.specs.Samples.{HoldsSampled};
 ghost use Rattle.masked_update.specs.Taken.{counted_tile, merged_tile};
 ghost use Rattle.masked_update.specs.TileOf.{tile_at};
 
 use crate::piece_setup::PieceSetup;
+use crate::small_piece::SmallPiece;
 use crate::sub_span::SubBox;
 use crate::tile_state::TileState;
 use cull_base::{Memory, Tile, TileSpan};
@@ -138,6 +140,27 @@ impl Canvas {
             (merged_tile reached.now.size place piece.now (tile_at self.old.tiles number)) }
     {
         self.tiles[number].merge_over(piece, reached, over, place);
+        self.least[number] = self.tiles[number].least_reference();
+    }
+
+    /// Merges a small piece into the tile of a number, and counts nothing. Conditions: there is such a tile, the column
+    /// and the row are below the screen's, and what is reached on it has each sample that the piece covers.
+    #[inline(always)]
+    pub(crate) fn merge_small(
+        &mut self,
+        number: usize,
+        piece: &SmallPiece,
+        reached: &SubBox,
+        place: Tile,
+    )
+        requires reached { HoldsSampled piece.now reached.now }
+        requires tile { number < length self.old.tiles }
+        requires column { place.column < tile_columns_of reached.now.size }
+        requires row { place.row < tile_rows_of reached.now.size }
+        ensures { self.new ≡ with_tile self.old number
+            (merged_tile reached.now.size place piece.now (tile_at self.old.tiles number)) }
+    {
+        self.tiles[number].merge_small(piece, reached, place);
         self.least[number] = self.tiles[number].least_reference();
     }
 

@@ -13,6 +13,10 @@ mod piece_setup;
 mod sample_box;
 #[cfg(test)]
 mod sample_box_tests;
+mod small_piece;
+#[cfg(test)]
+mod small_piece_tests;
+mod small_walk;
 mod sub_span;
 mod sub_tile;
 #[cfg(test)]

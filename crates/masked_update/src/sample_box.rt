@@ -1,5 +1,5 @@
 //! The pixels whose samples a piece may cover, by the least and the greatest of its coordinates.
-ghost use Rattle.std.specs.Prelude.{◌≡◌, pos, ◌+ℤ◌, length};
+ghost use Rattle.std.specs.Prelude.{◌≡◌, pos, ◌+ℤ◌, ◌≤ℤ◌, length};
 ghost use Rattle.std.specs.List.{All};
 ghost use Rattle.cull_base.specs.Piece.{IsCoordinate, first_pixel, least_of, greatest_of};
 ghost use Rattle.masked_update.specs.Samples.{HoldsCovered};
@@ -30,7 +30,9 @@ fn end_sample(values: &[i32; 3]) -> i32
 /// the box's edge. Of a piece of a few sixteenths there may be none.
 #[inline(always)]
 pub fn sampled(tri: &ScreenTri) -> Rect
-    ensures { HoldsCovered tri.now result }
+    ensures holds { HoldsCovered tri.now result }
+    ensures across { result.x0 ≤ℤ result.x1 }
+    ensures down { result.y0 ≤ℤ result.y1 }
 {
     let across = tri.x();
     let down = tri.y();

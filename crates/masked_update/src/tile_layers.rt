@@ -55,8 +55,9 @@ impl TileLayers {
         }
     }
 
-    // Subtile j is now this one.
-    fn put(&mut self, j: usize, sub: SubTile)
+    /// Subtile j is now this one. Condition: j is below 8.
+    #[inline(always)]
+    pub(crate) fn put(&mut self, j: usize, sub: SubTile)
         requires { j < 8 }
         ensures value { self.new ≡ slice_set self.old j sub }
         ensures eight { length self.old ≡ 8 }

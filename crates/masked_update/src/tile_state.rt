@@ -5,6 +5,7 @@ ghost use Rattle.cull_base.specs.Piece.{IsPiece, box_of};
 ghost use Rattle.cull_base.specs.Screen.{IsSize, tile_columns_of, tile_rows_of, tile_count_of};
 
 use crate::piece_setup::PieceSetup;
+use crate::small_piece::SmallPiece;
 use crate::sub_span::SubBox;
 use crate::sub_tile::SubTile;
 use crate::tile_layers::TileLayers;
@@ -34,6 +35,7 @@ impl Model for TileState {
 impl TileState {
     ghost use Rattle.masked_update.specs.TileOf.{sub_at, empty_tile};
     ghost use Rattle.masked_update.specs.Merged.{AreRowOf, IsSubBox};
+    ghost use Rattle.masked_update.specs.Samples.{HoldsSampled};
     ghost use Rattle.masked_update.specs.Taken.{taken_by, taken_at, merged_tile, counted_tile};
 
     /// Eight empty subtiles, and no piece taken.
@@ -138,6 +140,19 @@ impl TileState {
         ensures eight { length self.new.subs ≡ 8 }
     {
         piece.merge_over(&mut self.layers, reached, over, place);
+    }
+
+    /// Merges a small piece, and doesn't count it. Conditions: the column and the row are below the screen's, and what is
+    /// reached on it has each sample that the piece covers.
+    #[inline(always)]
+    pub(crate) fn merge_small(&mut self, piece: &SmallPiece, reached: &SubBox, place: Tile)
+        requires reached { HoldsSampled piece.now reached.now }
+        requires column { place.column < tile_columns_of reached.now.size }
+        requires row { place.row < tile_rows_of reached.now.size }
+        ensures merged { self.new ≡ merged_tile reached.now.size place piece.now self.old }
+        ensures eight { length self.new.subs ≡ 8 }
+    {
+        piece.merge_into(&mut self.layers, reached, place);
     }
 
     /// Counts a piece, and doesn't merge it.

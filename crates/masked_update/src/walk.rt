@@ -7,11 +7,14 @@ ghost use Rattle.cull_base.specs.Span.{IsPartOf, IsSpan, has_tile};
 ghost use Rattle.masked_update.specs.Canvas.{CountedMet, IsInWindow, MergedMet, tile_in, tile_on};
 ghost use Rattle.masked_update.specs.Least.{NoneBelow};
 ghost use Rattle.masked_update.specs.Merged.{AreRowOf, IsSubBox};
+ghost use Rattle.masked_update.specs.Samples.{HoldsSampled};
 ghost use Rattle.masked_update.specs.Walk.{CountedWhere, MayCount, MergedWhere, NoneBelowWhere, is_in_row, is_marked, rows_before};
 
 use crate::canvas::Canvas;
 use crate::piece_setup::PieceSetup;
 use crate::sample_box::sampled;
+use crate::small_piece::SmallPiece;
+use crate::small_walk::merge_small_in_span;
 use crate::sub_span::{SubBox, ones_between};
 use cull_base::{ScreenTri, Size, Tile, TileSpan};
 use edge_lanes::TileRow;
@@ -204,7 +207,7 @@ fn merge_in_span(canvas: &mut Canvas, piece: &PieceSetup, reached: &SubBox, span
 
 // Sets a piece up, and merges it into the tiles of a span.
 #[inline(never)]
-fn merge_piece(canvas: &mut Canvas, tri: &ScreenTri, size: Size, span: TileSpan)
+fn merge_set_up(canvas: &mut Canvas, tri: &ScreenTri, size: Size, span: TileSpan)
     requires part { IsPartOf canvas.old.window span }
     requires span { IsSpan size span }
     requires sized { IsSize size.width size.height }
@@ -212,6 +215,21 @@ fn merge_piece(canvas: &mut Canvas, tri: &ScreenTri, size: Size, span: TileSpan)
 {
     let piece = PieceSetup::of(tri);
     merge_in_span(canvas, &piece, &piece.reached_on(size), span);
+}
+
+// Merges a piece into the tiles of a span, a small one subtile by subtile.
+#[inline(never)]
+fn merge_piece(canvas: &mut Canvas, tri: &ScreenTri, reached: &SubBox, span: TileSpan)
+    requires part { IsPartOf canvas.old.window span }
+    requires reached { HoldsSampled tri.now reached.now }
+    requires span { IsSpan reached.now.size span }
+    requires sized { IsSize reached.now.size.width reached.now.size.height }
+    ensures { MergedWhere (has_tile span) reached.now.size tri.now canvas.old canvas.new }
+{
+    match SmallPiece::of(tri, reached) {
+        Some(piece) => merge_small_in_span(canvas, &piece, reached, span),
+        None => merge_set_up(canvas, tri, reached.size, span),
+    }
 }
 
 /// Merges a piece into the tiles of the canvas that its box reaches, and counts it nowhere. One that has no sample there,
@@ -222,10 +240,12 @@ pub fn draw_piece(canvas: &mut Canvas, tri: &ScreenTri, size: Size)
 {
     // an accessor tells what is held of a canvas
     let _count = canvas.tile_count();
-    let span = TileSpan::of(&sampled(tri), size).cut(&canvas.window());
+    let sampled = sampled(tri);
+    let span = TileSpan::of(&sampled, size).cut(&canvas.window());
     let first_row = first_row_ahead(canvas, span, tri.greatest_nearness());
     if first_row < span.end_row {
-        merge_piece(canvas, tri, size, TileSpan { first_row, ..span });
+        let reached = SubBox::of(&sampled, size);
+        merge_piece(canvas, tri, &reached, TileSpan { first_row, ..span });
     }
 }
 
