@@ -4,12 +4,9 @@ use cull_base::{ClipVertex, FrameList, Rect, ScreenTri, Size, Verdict};
 use masked_update::{PlainView, SubTile, TileState, draw_plain};
 use std::test::Fail;
 
-const FIRST_FOUR: Rect = Rect {
-    x0: 0,
-    y0: 0,
-    x1: 4,
-    y1: 4,
-};
+fn rect(x0: i32, y0: i32, x1: i32, y1: i32) -> Rect {
+    Rect { x0, y0, x1, y1 }
+}
 
 // The corners of a box as the identity camera sees them.
 fn corners(low: [i64; 3], high: [i64; 3]) -> [ClipVertex; 8] {
@@ -32,96 +29,62 @@ fn answer(low: [i64; 3], high: [i64; 3]) -> Result<BoxAnswer, &'static str> {
     Ok(box_rect(&corners(low, high), 1, size))
 }
 
-// A tile of which the first subtile is drawn.
-fn tile_with(sub: SubTile) -> TileState {
+// The verdict of a rectangle over a tile of which the first subtile is drawn, and whether it is settled.
+fn asked(sub: SubTile, rect: Rect, q: u32) -> Result<(Verdict, bool), &'static str> {
+    let size = Size::new(32, 8).ok_or("size")?;
     let mut subs = [SubTile::empty(); 8];
     subs[0] = sub;
-    TileState::of(subs, 1)
+    let states = [TileState::of(subs, 1)];
+    let view = PlainView::new(&states);
+    Ok((
+        rect_test(&view, size, rect, q),
+        settled_test(&view, size, rect, q),
+    ))
 }
 
-// The verdict of a rectangle over such a tile.
-fn verdict(sub: SubTile, rect: Rect, q: u32) -> Result<Verdict, &'static str> {
-    let size = Size::new(32, 8).ok_or("size")?;
-    let states = [tile_with(sub)];
-    Ok(rect_test(&PlainView::new(&states), size, rect, q))
-}
+const OCCLUDED: (Verdict, bool) = (Verdict::Occluded, false);
+
+const VISIBLE: (Verdict, bool) = (Verdict::Visible, false);
 
 #[test]
 fn a_rectangle_is_hidden_by_a_working_layer_until_it_is_dropped(
     rt: HostRuntime,
 ) -> Result<(), Fail> {
+    let four = rect(0, 0, 4, 4);
     let mut sub = SubTile::empty();
     sub.merge(100, 0x0F0F_0F0F);
-    assert_eq!(rt; verdict(sub, FIRST_FOUR, 50)?, Verdict::Occluded);
-    assert_eq!(rt; verdict(sub, FIRST_FOUR, 99)?, Verdict::Occluded);
-    assert_eq!(rt; verdict(sub, FIRST_FOUR, 100)?, Verdict::Visible);
-    assert_eq!(rt;
-        verdict(
-            sub,
-            Rect {
-                x1: 5,
-                ..FIRST_FOUR
-            },
-            50
-        )?,
-        Verdict::Visible
-    );
+    for (rect, q, wanted) in [
+        (four, 50, OCCLUDED),
+        (four, 99, OCCLUDED),
+        (four, 100, VISIBLE),
+        (rect(0, 0, 5, 4), 50, VISIBLE),
+    ] {
+        assert_eq!(rt; asked(sub, rect, q)?, wanted);
+    }
     sub.merge(201, 0x10);
-    assert_eq!(rt; verdict(sub, FIRST_FOUR, 50)?, Verdict::Visible);
+    assert_eq!(rt; asked(sub, four, 50)?, VISIBLE);
     Ok(())
 }
 
-// Whether a rectangle is settled over such a tile.
-fn is_settled(sub: SubTile, rect: Rect, q: u32) -> Result<bool, &'static str> {
-    let size = Size::new(32, 8).ok_or("size")?;
-    let states = [tile_with(sub)];
-    Ok(settled_test(&PlainView::new(&states), size, rect, q))
-}
-
 #[test]
-fn a_rectangle_is_settled_by_a_reference_and_by_no_working_layer(
-    rt: HostRuntime,
-) -> Result<(), Fail> {
-    let mut sub = SubTile::empty();
-    sub.merge(100, 0x0F0F_0F0F);
-    assert!(rt; !is_settled(sub, FIRST_FOUR, 50)?);
-    sub.merge(201, 0x10);
-    assert!(rt; !is_settled(sub, FIRST_FOUR, 50)?);
+fn a_rectangle_is_settled_by_a_reference(rt: HostRuntime) -> Result<(), Fail> {
     let mut whole = SubTile::empty();
     whole.merge(100, 0xFFFF_FFFF);
-    assert!(rt; is_settled(whole, FIRST_FOUR, 99)?);
-    assert!(rt; !is_settled(whole, FIRST_FOUR, 100)?);
-    let beside = Rect {
-        x0: 32,
-        x1: 40,
-        ..FIRST_FOUR
-    };
-    assert!(rt; !is_settled(whole, beside, 50)?);
+    assert_eq!(rt;
+        asked(whole, rect(0, 0, 4, 4), 99)?,
+        (Verdict::Occluded, true)
+    );
+    assert_eq!(rt; asked(whole, rect(0, 0, 4, 4), 100)?, VISIBLE);
     references_never_fall();
     Ok(())
 }
 
 #[test]
-fn a_rectangle_beside_the_screen_is_outside(rt: HostRuntime) -> Result<(), Fail> {
-    let empty = SubTile::empty();
-    for rect in [
-        Rect {
-            x0: 5,
-            x1: 5,
-            ..FIRST_FOUR
-        },
-        Rect {
-            x0: 32,
-            x1: 40,
-            ..FIRST_FOUR
-        },
-        Rect {
-            y0: -4,
-            y1: 0,
-            ..FIRST_FOUR
-        },
-    ] {
-        assert_eq!(rt; verdict(empty, rect, 50)?, Verdict::Outside);
+fn a_rectangle_beside_the_screen_is_outside_and_not_settled(rt: HostRuntime) -> Result<(), Fail> {
+    let mut whole = SubTile::empty();
+    whole.merge(100, 0xFFFF_FFFF);
+    for rect in [rect(5, 0, 5, 4), rect(32, 0, 40, 4), rect(0, -4, 4, 0)] {
+        assert_eq!(rt; asked(whole, rect, 50)?, (Verdict::Outside, false));
     }
     Ok(())
 }
@@ -140,16 +103,9 @@ fn nearness_is_rounded_up(rt: HostRuntime) {
 fn a_box_before_the_viewer_has_a_rectangle_and_the_nearness_of_its_least_distance(
     rt: HostRuntime,
 ) -> Result<(), Fail> {
-    let rect = Rect {
-        x0: 10,
-        y0: 2,
-        x1: 22,
-        y1: 6,
-    };
-    assert_eq!(rt;
-        answer([-1, -1, 3], [1, 1, 6])?,
-        BoxAnswer::At { rect, q: 21845 }
-    );
+    let rect = rect(10, 2, 22, 6);
+    let wanted = BoxAnswer::At { rect, q: 21845 };
+    assert_eq!(rt; answer([-1, -1, 3], [1, 1, 6])?, wanted);
     Ok(())
 }
 
