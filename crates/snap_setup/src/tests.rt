@@ -1,17 +1,19 @@
 //! Points, triangles and frames worked by hand.
-ghost use Rattle.std.specs.Prelude.{◌≡◌, false};
+ghost use Rattle.std.specs.Prelude.{◌≡◌, ◌≤◌, false, length};
 ghost use Rattle.cull_base.specs.Guard.{is_past_guard};
 ghost use Rattle.near_clip.specs.Reach.{IsInReach};
+ghost use Rattle.snap_setup.specs.Pieces.{HasClips};
+ghost use Rattle.std.specs.List.{All};
 
 use super::*;
 use camera_path::past_guard;
-use cull_base::{ClipVertex, FrameList, Memory, Rect, Side, Size, Tri, Winding};
+use cull_base::{ClipVertex, FrameList, Rect, Side, Size, Tri, Winding};
 use near_clip::HomPoint;
 use std::alloc::Global;
 use std::process::Abort;
 use std::test::Fail;
 
-fn vertex(x: i64, y: i64, w: i64) -> ClipVertex {
+fn at(x: i64, y: i64, w: i64) -> ClipVertex {
     ClipVertex { x, y, w }
 }
 
@@ -79,207 +81,154 @@ fn cut_points_are_snapped_by_their_scale(rt: HostRuntime) -> Result<(), Fail> {
 }
 
 // Snapped for an object on the greatest screen, from the greatest near distance.
-fn farthest(rt: &impl Abort, point: &HomPoint) -> (i32, i32, u32)
-    requires { IsInReach 1024 point.now }
+fn farthest(rt: &impl Abort, x: i64, y: i64, w: i64, scale: i64) -> (i32, i32, u32)
+    requires { IsInReach 1024 (record { x = x; y = y; w = w; scale = scale }) }
 {
     let size = Size::new(2048, 2048).expect(rt, "size");
-    let snapped = snap(point, 1024, size, Side::Object);
+    let snapped = snap(&HomPoint { x, y, w, scale }, 1024, size, Side::Object);
     (snapped.x, snapped.y, snapped.q)
 }
 
+// Where a triangle is cut, and at vertices, which are snapped by 64 bits, they have the same places.
 #[test]
-fn the_farthest_cut_points_are_exact(rt: HostRuntime) {
-    let right_below = HomPoint {
-        x: 0x2_0000_0000_0000,
-        y: -0x2_0000_0000_0000,
-        w: 0x8_0000_0000,
-        scale: 0x200_0000,
-    };
-    assert_eq!(rt; farthest(&rt, &right_below), (268451840, 268451840, 65535));
-    let left_above = HomPoint {
-        x: -right_below.x,
-        y: -right_below.y,
-        ..right_below
-    };
-    assert_eq!(rt; farthest(&rt, &left_above), (-268419072, -268419072, 65535));
+fn the_farthest_points_are_exact(rt: HostRuntime) {
+    let (right_below, left_above) = (
+        (268451840, 268451840, 65535),
+        (-268419072, -268419072, 65535),
+    );
+    let (far, w, scale) = (0x2_0000_0000_0000, 0x8_0000_0000, 0x200_0000);
+    assert_eq!(rt; farthest(&rt, far, -far, w, scale), right_below);
+    assert_eq!(rt; farthest(&rt, -far, far, w, scale), left_above);
+    assert_eq!(rt;
+        farthest(&rt, 0x100_0000, -0x100_0000, 0x400, 1),
+        right_below
+    );
+    assert_eq!(rt;
+        farthest(&rt, -0x100_0000, 0x100_0000, 0x400, 1),
+        left_above
+    );
 }
 
-// They have the same places, by 64 bits.
-#[test]
-fn the_farthest_vertices_are_exact(rt: HostRuntime) {
-    let right_below = HomPoint {
-        x: 0x100_0000,
-        y: -0x100_0000,
-        w: 0x400,
-        scale: 1,
-    };
-    assert_eq!(rt; farthest(&rt, &right_below), (268451840, 268451840, 65535));
-    let left_above = HomPoint {
-        x: -right_below.x,
-        y: -right_below.y,
-        ..right_below
-    };
-    assert_eq!(rt; farthest(&rt, &left_above), (-268419072, -268419072, 65535));
+// The pieces of an occluder on a screen of 32 by 8.
+fn occluder(tri: &[ClipVertex; 3], near: u16, winding: Winding) -> Result<Pieces, &'static str>
+    requires least { 1 ≤ near }
+    requires most { near ≤ 1024 }
+{
+    let size = Size::new(32, 8).ok_or("size")?;
+    Ok(set_up(tri, near, size, winding, Side::Occluder))
 }
 
 #[test]
 fn a_cut_triangle_has_two_pieces(rt: HostRuntime) -> Result<(), Fail> {
-    let size = Size::new(32, 8).ok_or("size")?;
-    let tri = [vertex(0, 0, 6), vertex(0, 4, 6), vertex(4, 0, 0)];
-    assert_eq!(rt;
-        set_up(&tri, 2, size, Winding::Both, Side::Occluder).len(),
-        2
-    );
-    assert_eq!(rt;
-        set_up(&tri, 2, size, Winding::DropClockwise, Side::Occluder).len(),
-        0
-    );
-    assert_eq!(rt;
-        set_up(&tri, 2, size, Winding::DropCounter, Side::Occluder).len(),
-        2
-    );
-    Ok(())
-}
-
-#[test]
-fn triangles_are_drawn_up_to_the_guard(rt: HostRuntime) -> Result<(), Fail> {
-    let size = Size::new(32, 8).ok_or("size")?;
-    let tri = [vertex(-2, 2, 2), vertex(16384, 2, 2), vertex(-2, -16384, 2)];
-    let pieces = set_up(&tri, 1, size, Winding::Both, Side::Occluder);
-    assert_eq!(rt; pieces.len(), 1);
-    assert_eq!(rt; pieces.get(0).x(), [0, 2097408, 0]);
-    assert_eq!(rt; pieces.get(0).y(), [0, 0, 524352]);
-    let past = [vertex(-2, 2, 2), vertex(16385, 2, 2), vertex(-2, -16384, 2)];
-    assert_eq!(rt;
-        set_up(&past, 1, size, Winding::Both, Side::Occluder).len(),
-        0
-    );
+    let tri = [at(0, 0, 6), at(0, 4, 6), at(4, 0, 0)];
+    assert_eq!(rt; occluder(&tri, 2, Winding::Both)?.len(), 2);
+    assert_eq!(rt; occluder(&tri, 2, Winding::DropClockwise)?.len(), 0);
+    assert_eq!(rt; occluder(&tri, 2, Winding::DropCounter)?.len(), 2);
     Ok(())
 }
 
 #[test]
 fn near_boxes_hold_what_has_no_area(rt: HostRuntime) -> Result<(), Fail> {
     let size = Size::new(32, 8).ok_or("size")?;
-    let small = [
-        vertex(-246, 216, 256),
-        vertex(-242, 216, 256),
-        vertex(-242, 200, 256),
-    ];
+    let (x0, y0) = (0, 0);
+    let small = [at(-246, 216, 256), at(-242, 216, 256), at(-242, 200, 256)];
     let pixel = Rect {
-        x0: 0,
-        y0: 0,
+        x0,
+        y0,
         x1: 1,
         y1: 1,
     };
     assert_eq!(rt; box_of_triangle(&rt, small, size), Some(pixel));
-    let line = [vertex(-2, 2, 2), vertex(-2, 2, 2), vertex(2, 2, 2)];
-    let row = Rect {
-        x0: 0,
-        y0: 0,
-        x1: 33,
-        y1: 1,
-    };
+    let line = [at(-2, 2, 2), at(-2, 2, 2), at(2, 2, 2)];
+    let row = Rect { x1: 33, ..pixel };
     assert_eq!(rt; box_of_triangle(&rt, line, size), Some(row));
-    let behind = [vertex(0, 0, 0), vertex(1, 1, 0), vertex(1, 0, -3)];
+    let behind = [at(0, 0, 0), at(1, 1, 0), at(1, 0, -3)];
     assert_eq!(rt; box_of_triangle(&rt, behind, size), None);
     Ok(())
 }
 
-fn clockwise_quad(alloc: Global, size: Size, winding: Winding) -> Result<FrameList, Memory> {
-    let clips = [
-        vertex(-2, 2, 2),
-        vertex(2, 2, 2),
-        vertex(2, -2, 2),
-        vertex(-2, -2, 2),
-    ];
-    let tris = [Tri([0, 1, 2]), Tri([0, 2, 3])];
-    frame_list(alloc, &clips, &tris, 1, size, winding)
+// The list of some triangles on a screen of 32 by 8.
+fn listed(alloc: Global, clips: &[ClipVertex], tris: &[Tri], near: u16) -> Result<FrameList, Fail>
+    requires near { (1 ≤ near) × (near ≤ 1024) }
+    requires triangles { length tris.now ≤ 65536 }
+    requires indices { All (HasClips (length clips.now)) tris.now }
+{
+    let size = Size::new(32, 8).ok_or("size")?;
+    Ok(frame_list(alloc, clips, tris, near, size, Winding::Both)?)
 }
 
-fn counter_quad(alloc: Global, size: Size, winding: Winding) -> Result<FrameList, Memory> {
-    let clips = [
-        vertex(-2, 2, 2),
-        vertex(2, 2, 2),
-        vertex(2, -2, 2),
-        vertex(-2, -2, 2),
-    ];
-    let tris = [Tri([0, 2, 1]), Tri([0, 3, 2])];
-    frame_list(alloc, &clips, &tris, 1, size, winding)
+// The two triangles of a quad over the screen.
+fn quad(alloc: Global, tris: &[Tri; 2], winding: Winding) -> Result<FrameList, Fail>
+    requires { All (HasClips 4) tris.now }
+{
+    let size = Size::new(32, 8).ok_or("size")?;
+    let clips = [at(-2, 2, 2), at(2, 2, 2), at(2, -2, 2), at(-2, -2, 2)];
+    Ok(frame_list(alloc, &clips, tris, 1, size, winding)?)
+}
+
+const CLOCKWISE: [Tri; 2] = [Tri([0, 1, 2]), Tri([0, 2, 3])];
+
+const COUNTER: [Tri; 2] = [Tri([0, 2, 1]), Tri([0, 3, 2])];
+
+// The coordinates and the nearness of a member.
+fn numbers(list: &FrameList, index: u32) -> Result<([i32; 3], [i32; 3], [u32; 3]), &'static str> {
+    if index >= list.len() {
+        return Err("a piece");
+    }
+    let piece = list.get(index);
+    Ok((piece.x(), piece.y(), piece.q()))
 }
 
 #[test]
 fn a_winding_drops_one_side(rt: HostRuntime) -> Result<(), Fail> {
-    let size = Size::new(32, 8).ok_or("size")?;
     for (winding, clockwise, counter) in [
         (Winding::Both, 2, 2),
         (Winding::DropClockwise, 0, 2),
         (Winding::DropCounter, 2, 0),
     ] {
-        assert_eq!(rt; clockwise_quad(rt.alloc(), size, winding)?.len(), clockwise);
-        assert_eq!(rt; counter_quad(rt.alloc(), size, winding)?.len(), counter);
+        assert_eq!(rt; quad(rt.alloc(), &CLOCKWISE, winding)?.len(), clockwise);
+        assert_eq!(rt; quad(rt.alloc(), &COUNTER, winding)?.len(), counter);
     }
     Ok(())
 }
 
 #[test]
 fn pieces_run_clockwise_in_submission_order(rt: HostRuntime) -> Result<(), Fail> {
-    let size = Size::new(32, 8).ok_or("size")?;
-    let list = counter_quad(rt.alloc(), size, Winding::Both)?;
+    let list = quad(rt.alloc(), &COUNTER, Winding::Both)?;
+    let upper = ([0, 512, 512], [0, 0, 128], [32767; 3]);
+    let lower = ([0, 512, 0], [0, 128, 128], [32767; 3]);
     assert_eq!(rt; list.len(), 2);
-    let first = list.get(0);
-    assert_eq!(rt;
-        (first.x(), first.y(), first.q()),
-        ([0, 512, 512], [0, 0, 128], [32767; 3])
-    );
-    let second = list.get(1);
-    assert_eq!(rt;
-        (second.x(), second.y(), second.q()),
-        ([0, 512, 0], [0, 128, 128], [32767; 3])
-    );
+    assert_eq!(rt; numbers(&list, 0)?, upper);
+    assert_eq!(rt; numbers(&list, 1)?, lower);
     Ok(())
 }
 
 #[test]
 fn a_cut_and_an_uncut_triangle_share_vertices(rt: HostRuntime) -> Result<(), Fail> {
-    let size = Size::new(32, 8).ok_or("size")?;
-    let clips = [
-        vertex(0, 0, 6),
-        vertex(0, 4, 6),
-        vertex(4, 0, 0),
-        vertex(4, 0, 2),
-    ];
+    let clips = [at(0, 0, 6), at(0, 4, 6), at(4, 0, 0), at(4, 0, 2)];
     let tris = [Tri([0, 1, 2]), Tri([0, 1, 3])];
-    let list = frame_list(rt.alloc(), &clips, &tris, 2, size, Winding::Both)?;
-    assert_eq!(rt; list.len(), 3);
-    let cut = list.get(1);
-    assert_eq!(rt;
-        (cut.x(), cut.y(), cut.q()),
-        ([256, 597, 597], [64, 21, 64], [21845, 65535, 65535])
-    );
-    let on_the_plane = list.get(2);
-    assert_eq!(rt;
-        (on_the_plane.x(), on_the_plane.y(), on_the_plane.q()),
-        ([256, 256, 768], [64, 21, 64], [21845, 21845, 65535])
-    );
+    let list = listed(rt.alloc(), &clips, &tris, 2)?;
+    let cut = ([256, 597, 597], [64, 21, 64], [21845, 65535, 65535]);
+    let on_the_plane = ([256, 256, 768], [64, 21, 64], [21845, 21845, 65535]);
+    assert_eq!(rt; (list.len(), numbers(&list, 1)?), (3, cut));
+    assert_eq!(rt; numbers(&list, 2)?, on_the_plane);
     Ok(())
 }
 
+// By itself, and where vertices are shared.
 #[test]
-fn shared_vertices_are_drawn_up_to_the_guard(rt: HostRuntime) -> Result<(), Fail> {
-    let size = Size::new(32, 8).ok_or("size")?;
-    let clips = [
-        vertex(-2, 2, 2),
-        vertex(16384, 2, 2),
-        vertex(-2, -16384, 2),
-        vertex(16385, 2, 2),
-        vertex(0, 0, 0),
-    ];
+fn triangles_are_drawn_up_to_the_guard(rt: HostRuntime) -> Result<(), Fail> {
+    let tri = [at(-2, 2, 2), at(16384, 2, 2), at(-2, -16384, 2)];
+    assert_eq!(rt; occluder(&tri, 1, Winding::Both)?.len(), 1);
+    let past = [at(-2, 2, 2), at(16385, 2, 2), at(-2, -16384, 2)];
+    assert_eq!(rt; occluder(&past, 1, Winding::Both)?.len(), 0);
+    let [first, second, third] = tri;
+    let clips = [first, second, third, at(16385, 2, 2), at(0, 0, 0)];
     let tris = [Tri([0, 3, 2]), Tri([4, 4, 4]), Tri([0, 1, 2])];
-    let list = frame_list(rt.alloc(), &clips, &tris, 1, size, Winding::Both)?;
+    let list = listed(rt.alloc(), &clips, &tris, 1)?;
     assert_eq!(rt; list.len(), 1);
-    let piece = list.get(0);
     assert_eq!(rt;
-        (piece.x(), piece.y(), piece.q()),
+        numbers(&list, 0)?,
         ([0, 2097408, 0], [0, 0, 524352], [32767; 3])
     );
     Ok(())
@@ -287,25 +236,10 @@ fn shared_vertices_are_drawn_up_to_the_guard(rt: HostRuntime) -> Result<(), Fail
 
 #[test]
 fn there_may_be_more_vertices_than_corners(rt: HostRuntime) -> Result<(), Fail> {
-    let size = Size::new(32, 8).ok_or("size")?;
-    let clips = [
-        vertex(0, 0, 0),
-        vertex(-2, 2, 2),
-        vertex(2, 2, 2),
-        vertex(2, -2, 2),
-    ];
-    let list = frame_list(
-        rt.alloc(),
-        &clips,
-        &[Tri([1, 2, 3])],
-        1,
-        size,
-        Winding::Both,
-    )?;
-    assert_eq!(rt; list.len(), 1);
-    let piece = list.get(0);
+    let clips = [at(0, 0, 0), at(-2, 2, 2), at(2, 2, 2), at(2, -2, 2)];
+    let list = listed(rt.alloc(), &clips, &[Tri([1, 2, 3])], 1)?;
     assert_eq!(rt;
-        (piece.x(), piece.y(), piece.q()),
+        numbers(&list, 0)?,
         ([0, 512, 512], [0, 0, 128], [32767; 3])
     );
     Ok(())
