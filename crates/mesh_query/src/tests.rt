@@ -1,5 +1,5 @@
 //! Meshes behind and beside a quad, on a screen of 32 by 8 with the near distance 1.
-ghost use Rattle.std.specs.Prelude.{◌≡◌, ◌≤◌, length, IfOk};
+ghost use Rattle.std.specs.Prelude.{◌≡◌, length, IfOk};
 ghost use Rattle.std.specs.List.{All};
 ghost use Rattle.cull_base.specs.Screen.{tile_count_of};
 ghost use Rattle.snap_setup.specs.Pieces.{HasClips};
@@ -35,104 +35,82 @@ fn after(alloc: Global, size: Size, quad: &[ClipVertex; 4]) -> Result<Vec<TileSt
     draw_plain(alloc, &list)
 }
 
-// The tiles after a quad that covers the screen at a distance of 2.
-fn behind_two(alloc: Global, size: Size) -> Result<Vec<TileState>, Memory>
-    ensures { IfOk result (λ v. length v.items ≡ tile_count_of size) }
+// The verdict of a mesh over the tiles after a quad, and its area.
+fn told(
+    alloc: Global,
+    quad: &[ClipVertex; 4],
+    clips: &[ClipVertex],
+    tris: &[Tri],
+) -> Result<(Verdict, Rect), Fail>
+    requires { All (HasClips (length clips.now)) tris.now }
 {
-    let quad = [at(-2, 2, 2), at(2, 2, 2), at(2, -2, 2), at(-2, -2, 2)];
-    after(alloc, size, &quad)
+    let size = Size::new(32, 8).ok_or("size")?;
+    let tiles = after(alloc, size, quad)?;
+    let verdict = mesh_test(&PlainView::new(tiles.as_slice()), size, 1, clips, tris);
+    Ok((verdict, mesh_area(size, 1, clips, tris)))
 }
 
-// The verdict of a mesh over some tiles, at least as many as the screen has.
-fn verdict(states: &[TileState], size: Size, clips: &[ClipVertex], tris: &[Tri]) -> Verdict
-    requires tiles { tile_count_of size ≤ length states.now }
-    requires indices { All (HasClips (length clips.now)) tris.now }
+// The same over a quad that covers the screen at a distance of 2.
+fn behind_two(alloc: Global, clips: &[ClipVertex], tris: &[Tri]) -> Result<(Verdict, Rect), Fail>
+    requires { All (HasClips (length clips.now)) tris.now }
 {
-    mesh_test(&PlainView::new(states), size, 1, clips, tris)
+    let quad = [at(-2, 2, 2), at(2, 2, 2), at(2, -2, 2), at(-2, -2, 2)];
+    told(alloc, &quad, clips, tris)
 }
 
 #[test]
 fn a_mesh_behind_a_quad_is_occluded(rt: HostRuntime) -> Result<(), Fail> {
-    let size = Size::new(32, 8).ok_or("size")?;
-    let mesh = [at(-3, 3, 3), at(3, 3, 3), at(3, -3, 3)];
-    let two = behind_two(rt.alloc(), size)?;
-    assert_eq!(rt; verdict(&two, size, &mesh, &ONE), Verdict::Occluded);
-    let quad = [at(-3, 3, 3), at(3, 3, 3), at(3, -3, 3), at(-3, -3, 3)];
-    let three = after(rt.alloc(), size, &quad)?;
-    assert_eq!(rt; verdict(&three, size, &mesh, &ONE), Verdict::Visible);
-    assert_eq!(rt; mesh_area(size, 1, &mesh, &ONE), rect(0, 0, 32, 8));
-    Ok(())
-}
-
-#[test]
-fn each_piece_of_a_mesh_is_asked(rt: HostRuntime) -> Result<(), Fail> {
-    let size = Size::new(32, 8).ok_or("size")?;
-    let two = behind_two(rt.alloc(), size)?;
+    let (alloc, screen) = (rt.alloc(), rect(0, 0, 32, 8));
     let mesh = [at(-3, 3, 3), at(3, 3, 3), at(3, -3, 3), at(-1, -1, 1)];
-    assert_eq!(rt; verdict(&two, size, &mesh, &ONE), Verdict::Occluded);
-    assert_eq!(rt; verdict(&two, size, &mesh, &TWO), Verdict::Visible);
+    assert_eq!(rt;
+        behind_two(alloc, &mesh, &ONE)?,
+        (Verdict::Occluded, screen)
+    );
+    // its second triangle comes up to the near plane
+    assert_eq!(rt; behind_two(alloc, &mesh, &TWO)?, (Verdict::Visible, screen));
+    let at_it = [at(-3, 3, 3), at(3, 3, 3), at(3, -3, 3), at(-3, -3, 3)];
+    assert_eq!(rt;
+        told(alloc, &at_it, &mesh, &ONE)?,
+        (Verdict::Visible, screen)
+    );
     Ok(())
 }
 
 #[test]
 fn a_mesh_past_the_guard_is_visible(rt: HostRuntime) -> Result<(), Fail> {
-    let size = Size::new(32, 8).ok_or("size")?;
+    let (alloc, visible) = (rt.alloc(), (Verdict::Visible, rect(0, 0, 0, 0)));
     let before = [at(-1, 1, 1), at(16385, 1, 1), at(-1, -16384, 1)];
+    assert_eq!(rt; behind_two(alloc, &before, &ONE)?, visible);
     let mesh = [at(-2, 2, 2), at(16385, 2, 2), at(-2, -16384, 2)];
+    assert_eq!(rt; behind_two(alloc, &mesh, &ONE)?, visible);
     let behind = [at(-3, 3, 3), at(16385, 3, 3), at(-3, -16384, 3)];
-    let two = behind_two(rt.alloc(), size)?;
-    assert_eq!(rt; verdict(&two, size, &before, &ONE), Verdict::Visible);
-    assert_eq!(rt; verdict(&two, size, &mesh, &ONE), Verdict::Visible);
-    assert_eq!(rt; verdict(&two, size, &behind, &ONE), Verdict::Visible);
-    assert_eq!(rt; mesh_area(size, 1, &mesh, &ONE), rect(0, 0, 0, 0));
+    assert_eq!(rt; behind_two(alloc, &behind, &ONE)?, visible);
     let unseen = [at(16385, 2, 0), at(-2, 2, -2), at(2, 2, -2)];
-    assert_eq!(rt; verdict(&two, size, &unseen, &ONE), Verdict::Outside);
-    Ok(())
-}
-
-// It stands at (10, 10), (14, 10), (14, 14) in sixteenths of a pixel.
-#[test]
-fn a_mesh_between_all_samples_is_visible(rt: HostRuntime) -> Result<(), Fail> {
-    let size = Size::new(32, 8).ok_or("size")?;
-    let mesh = [at(-246, 216, 256), at(-242, 216, 256), at(-242, 200, 256)];
-    let two = behind_two(rt.alloc(), size)?;
-    assert_eq!(rt; verdict(&two, size, &mesh, &ONE), Verdict::Visible);
-    assert_eq!(rt; mesh_area(size, 1, &mesh, &ONE), rect(0, 0, 1, 1));
+    assert_eq!(rt; behind_two(alloc, &unseen, &ONE)?.0, Verdict::Outside);
     Ok(())
 }
 
 #[test]
 fn a_mesh_beside_the_screen_is_outside(rt: HostRuntime) -> Result<(), Fail> {
-    let size = Size::new(32, 8).ok_or("size")?;
-    let right = [at(300, 216, 256), at(304, 216, 256), at(304, 200, 256)];
-    let two = behind_two(rt.alloc(), size)?;
-    assert_eq!(rt; verdict(&two, size, &right, &ONE), Verdict::Outside);
-    assert_eq!(rt; verdict(&two, size, &right, &[]), Verdict::Outside);
-    assert_eq!(rt; mesh_area(size, 1, &right, &ONE), rect(0, 0, 0, 0));
+    let (alloc, outside) = (rt.alloc(), (Verdict::Outside, rect(0, 0, 0, 0)));
     let on_both_sides = [
-        at(-600, 216, 256),
-        at(-596, 216, 256),
-        at(-596, 200, 256),
         at(300, 216, 256),
         at(304, 216, 256),
         at(304, 200, 256),
+        at(-600, 216, 256),
+        at(-596, 216, 256),
+        at(-596, 200, 256),
     ];
-    assert_eq!(rt;
-        verdict(&two, size, &on_both_sides, &APART),
-        Verdict::Outside
-    );
-    assert_eq!(rt;
-        mesh_area(size, 1, &on_both_sides, &APART),
-        rect(0, 0, 0, 0)
-    );
+    assert_eq!(rt; behind_two(alloc, &on_both_sides, &[])?, outside);
+    assert_eq!(rt; behind_two(alloc, &on_both_sides, &ONE)?, outside);
+    assert_eq!(rt; behind_two(alloc, &on_both_sides, &APART)?, outside);
     Ok(())
 }
 
-// The first triangle stands between all samples, the second beside the screen at X 556 to 560, and the third has no
-// area: it lies from X 256 to 512 at Y 64.
+// The first triangle stands between all samples, at (10, 10), (14, 10), (14, 14) in sixteenths of a pixel, the second
+// beside the screen at X 556 to 560, and the third has no area: it lies from X 256 to 512 at Y 64.
 #[test]
-fn the_area_of_a_mesh_reaches_around_all_its_boxes(rt: HostRuntime) -> Result<(), Fail> {
-    let size = Size::new(32, 8).ok_or("size")?;
+fn a_mesh_between_all_samples_is_visible_and_has_an_area(rt: HostRuntime) -> Result<(), Fail> {
     let mesh = [
         at(-246, 216, 256),
         at(-242, 216, 256),
@@ -144,10 +122,18 @@ fn the_area_of_a_mesh_reaches_around_all_its_boxes(rt: HostRuntime) -> Result<()
         at(1, 0, 2),
         at(2, 0, 2),
     ];
-    assert_eq!(rt; mesh_area(size, 1, &mesh, &ONE), rect(0, 0, 1, 1));
-    assert_eq!(rt; mesh_area(size, 1, &mesh, &APART), rect(0, 0, 32, 1));
-    assert_eq!(rt; mesh_area(size, 1, &mesh, &THREE), rect(0, 0, 32, 5));
-    let two = behind_two(rt.alloc(), size)?;
-    assert_eq!(rt; verdict(&two, size, &mesh, &THREE), Verdict::Visible);
+    let (first, second, third) = (rect(0, 0, 1, 1), rect(0, 0, 32, 1), rect(0, 0, 32, 5));
+    assert_eq!(rt;
+        behind_two(rt.alloc(), &mesh, &ONE)?,
+        (Verdict::Visible, first)
+    );
+    assert_eq!(rt;
+        behind_two(rt.alloc(), &mesh, &APART)?,
+        (Verdict::Visible, second)
+    );
+    assert_eq!(rt;
+        behind_two(rt.alloc(), &mesh, &THREE)?,
+        (Verdict::Visible, third)
+    );
     Ok(())
 }
