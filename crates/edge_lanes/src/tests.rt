@@ -87,23 +87,21 @@ fn edges_at(rt: &impl Abort, x: [i32; 3], y: [i32; 3], side: Side) -> Edges {
     Edges::of(&ScreenTri::new(x, y, [0; 3]).expect(rt, "a piece"), side)
 }
 
+// A diagonal: a sample on it belongs to one occluder's piece, and an object's pieces both touch it.
 #[test]
 fn a_sample_on_a_shared_diagonal_belongs_to_one_piece(rt: HostRuntime) {
-    let first = edges_at(&rt, [0, 32, 32], [0, 0, 32], Side::Occluder);
-    let second = edges_at(&rt, [0, 32, 0], [0, 32, 32], Side::Occluder);
     let sub = Sub { column: 0, row: 0 };
-    assert_eq!(rt; first.mask(sub), 0x203);
-    assert_eq!(rt; second.mask(sub), 0x100);
+    for (side, upper, lower) in [(Side::Occluder, 0x203, 0x100), (Side::Object, 0x203, 0x301)] {
+        assert_eq!(rt;
+            edges_at(&rt, [0, 32, 32], [0, 0, 32], side).mask(sub),
+            upper
+        );
+        assert_eq!(rt;
+            edges_at(&rt, [0, 32, 0], [0, 32, 32], side).mask(sub),
+            lower
+        );
+    }
     shared_edge();
-}
-
-#[test]
-fn an_object_touches_both_sides_of_a_diagonal(rt: HostRuntime) {
-    let first = edges_at(&rt, [0, 32, 32], [0, 0, 32], Side::Object);
-    let second = edges_at(&rt, [0, 32, 0], [0, 32, 32], Side::Object);
-    let sub = Sub { column: 0, row: 0 };
-    assert_eq!(rt; first.mask(sub), 0x203);
-    assert_eq!(rt; second.mask(sub), 0x301);
 }
 
 #[test]
@@ -140,12 +138,7 @@ fn a_tile_has_the_subtiles_that_no_edge_rejects(rt: HostRuntime) {
     assert_eq!(rt; upper.mask(5), 0x0F0F_0F0F);
     let beside = edges.at_tile(Tile { column: 1, row: 0 });
     assert_eq!(rt; beside.candidates(), 0);
-}
-
-// Below the diagonal's end and right of the right edge no edge rejects a subtile whole, but no sample is inside.
-#[test]
-fn a_candidate_may_be_empty(rt: HostRuntime) {
-    let edges = edges_at(&rt, [0, 192, 192], [0, 0, 192], Side::Occluder);
+    // below the diagonal's end and right of the right edge no edge rejects a subtile whole, but no sample is inside
     let lower = edges.at_tile(Tile { column: 0, row: 1 });
     assert_eq!(rt; lower.candidates(), 0x22);
     assert_eq!(rt; lower.mask(1), 0x080C_0E0F);
