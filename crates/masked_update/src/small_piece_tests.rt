@@ -1,5 +1,4 @@
 //! Worked pieces of a few subtiles, which are asked one after the other, beside pieces of more.
-ghost use Rattle.std.specs.Prelude.{◌<◌};
 
 use crate::draw_plain;
 use cull_base::{FrameList, ScreenTri, Size};
@@ -12,36 +11,30 @@ fn subtile_of(
     y: [i32; 3],
     tile: usize,
     j: u8,
-) -> Result<(u32, u32, u32), Fail>
-    requires { j < 8 }
-{
+) -> Result<(u32, u32, u32), Fail> {
     let size = Size::new(64, 16).ok_or("a size")?;
     let mut list = FrameList::with_room(rt.alloc(), size, 1)?;
     list.push(ScreenTri::new(x, y, [100; 3]).ok_or("a piece")?);
     let tiles = draw_plain(rt.alloc(), &list)?;
     let state = tiles.get(tile).ok_or("a tile")?;
-    let sub = state.sub(j);
+    let sub = state.sub(j.min(7));
     Ok((sub.reference(), sub.working(), sub.mask()))
 }
 
-// Its lower left half covers 4r + 2 columns of row r.
+// Lower left halves: one of eight subtiles covers 4r + 2 columns of row r, one of more covers 8r + 4.
 #[test]
-fn a_piece_of_eight_subtiles_is_drawn(rt: HostRuntime) -> Result<(), Fail> {
-    let (x, y) = ([0, 512, 0], [0, 128, 128]);
-    assert_eq!(rt; subtile_of(&rt, x, y, 0, 0)?, (0, 100, 0xFFFF_3F03));
-    assert_eq!(rt; subtile_of(&rt, x, y, 0, 1)?, (0, 100, 0x3F03_0000));
-    assert_eq!(rt; subtile_of(&rt, x, y, 0, 4)?, (100, 0, 0));
-    assert_eq!(rt; subtile_of(&rt, x, y, 1, 4)?, (0, 0, 0));
-    Ok(())
-}
-
-// Its lower left half covers 8r + 4 columns of row r.
-#[test]
-fn a_piece_of_more_subtiles_is_drawn(rt: HostRuntime) -> Result<(), Fail> {
-    let (x, y) = ([0, 1024, 0], [0, 128, 128]);
-    assert_eq!(rt; subtile_of(&rt, x, y, 0, 0)?, (0, 100, 0xFFFF_FF0F));
-    assert_eq!(rt; subtile_of(&rt, x, y, 0, 4)?, (100, 0, 0));
-    assert_eq!(rt; subtile_of(&rt, x, y, 1, 4)?, (0, 100, 0xFFFF_FF0F));
+fn pieces_of_eight_subtiles_and_of_more_are_drawn(rt: HostRuntime) -> Result<(), Fail> {
+    for (x, tile, j, wanted) in [
+        ([0, 512, 0], 0, 0, (0, 100, 0xFFFF_3F03)),
+        ([0, 512, 0], 0, 1, (0, 100, 0x3F03_0000)),
+        ([0, 512, 0], 0, 4, (100, 0, 0)),
+        ([0, 512, 0], 1, 4, (0, 0, 0)),
+        ([0, 1024, 0], 0, 0, (0, 100, 0xFFFF_FF0F)),
+        ([0, 1024, 0], 0, 4, (100, 0, 0)),
+        ([0, 1024, 0], 1, 4, (0, 100, 0xFFFF_FF0F)),
+    ] {
+        assert_eq!(rt; subtile_of(&rt, x, [0, 128, 128], tile, j)?, wanted);
+    }
     Ok(())
 }
 

@@ -9,6 +9,7 @@ use crate::{
 };
 use cull_base::{FrameList, HELD_TOP, Memory, ScreenTri, Size, Tile, TileSpan};
 use std::alloc::Global;
+use std::process::Abort;
 use std::test::Fail;
 
 const EVERY_SAMPLE: u32 = 0xFFFF_FFFF;
@@ -68,15 +69,20 @@ fn quad(rt: &HostRuntime) -> Result<FrameList, Fail> {
     Ok(list)
 }
 
+// The subtiles of a tile from one on hold these layers.
+fn assert_from(rt: &impl Abort, tile: &TileState, first: u8, wanted: (u32, u32, u32)) {
+    for j in first..8 {
+        assert_eq!(rt; layers(&tile.sub(j)), wanted, "subtile {j}");
+    }
+}
+
 #[test]
 fn two_halves_of_a_quad_fill_each_reference(rt: HostRuntime) -> Result<(), Fail> {
     let states = draw_plain(rt.alloc(), &quad(&rt)?)?;
     assert_eq!(rt; states.len(), 1);
     let tile = states[0];
     assert_eq!(rt; tile.count(), 2);
-    for j in 0..8 {
-        assert_eq!(rt; layers(&tile.sub(j)), (32767, 0, 0), "subtile {j}");
-    }
+    assert_from(&rt, &tile, 0, (32767, 0, 0));
     next_member();
     Ok(())
 }
@@ -97,9 +103,7 @@ fn pieces_of_every_size_meet_in_one_tile(rt: HostRuntime) -> Result<(), Fail> {
     list.push(ScreenTri::new([low, high, low], [low, low, high], [1500; 3]).ok_or("a piece")?);
     let drawn = draw_plain(rt.alloc(), &list)?[0];
     assert_eq!(rt; drawn.count(), 4);
-    for j in 0..8 {
-        assert_eq!(rt; layers(&drawn.sub(j)), (1500, 0, 0), "subtile {j}");
-    }
+    assert_from(&rt, &drawn, 0, (1500, 0, 0));
     Ok(())
 }
 
@@ -111,9 +115,7 @@ fn subtiles_off_the_screen_stay_empty(rt: HostRuntime) -> Result<(), Fail> {
     tile.take(&piece, size, 0);
     assert_eq!(rt; tile.count(), 1);
     assert_eq!(rt; layers(&tile.sub(0)), (1000, 0, 0));
-    for j in 1..8 {
-        assert_eq!(rt; layers(&tile.sub(j)), (0, 0, 0), "subtile {j}");
-    }
+    assert_from(&rt, &tile, 1, (0, 0, 0));
     Ok(())
 }
 
@@ -195,9 +197,7 @@ fn piece_behind_each_reference_is_counted(rt: HostRuntime) -> Result<(), Fail> {
     let states = draw_plain(rt.alloc(), &list)?;
     let tile = states[0];
     assert_eq!(rt; tile.count(), 2);
-    for j in 0..8 {
-        assert_eq!(rt; layers(&tile.sub(j)), (500, 0, 0), "subtile {j}");
-    }
+    assert_from(&rt, &tile, 0, (500, 0, 0));
     Ok(())
 }
 
