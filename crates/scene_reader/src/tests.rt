@@ -14,11 +14,7 @@ const FIRST_SCENE: [u8; 177] = [
     0, 0, 1, 0, 0, 0, 0, 0,
 ];
 
-/// Where the first vertex, the last index of the second triangle, the object and the camera begin.
-const LAST_VERTEX: usize = 68;
-
-const LAST_INDEX: usize = 100;
-
+/// Where the object and the camera begin; the last vertex begins at 68, the last index of the second triangle at 100.
 const OBJECT: usize = 104;
 
 const CAMERA: usize = 129;
@@ -103,55 +99,20 @@ fn each_step_holds_from_its_edge_on(rt: HostRuntime) -> Result<(), Fail> {
         (&[(24, 1), (26, 4)], count(3, 262145)),
         (&[(28, 0), (30, 1)], short(1638552)),
         (&[(28, 1), (30, 1)], count(4, 65537)),
+        (&[(68, 0), (69, 0), (70, 0), (71, 1)], None),
         (
-            &[
-                (LAST_VERTEX, 0),
-                (LAST_VERTEX + 1, 0),
-                (LAST_VERTEX + 2, 0),
-                (LAST_VERTEX + 3, 1),
-            ],
-            None,
-        ),
-        (
-            &[
-                (LAST_VERTEX, 1),
-                (LAST_VERTEX + 1, 0),
-                (LAST_VERTEX + 2, 0),
-                (LAST_VERTEX + 3, 1),
-            ],
+            &[(68, 1), (69, 0), (70, 0), (71, 1)],
             Some(SceneError::BadVertex(3)),
         ),
+        (&[(68, 0), (69, 0), (70, 0), (71, 0xff)], None),
         (
-            &[
-                (LAST_VERTEX, 0),
-                (LAST_VERTEX + 1, 0),
-                (LAST_VERTEX + 2, 0),
-                (LAST_VERTEX + 3, 0xff),
-            ],
-            None,
-        ),
-        (
-            &[
-                (LAST_VERTEX, 0xff),
-                (LAST_VERTEX + 1, 0xff),
-                (LAST_VERTEX + 2, 0xff),
-                (LAST_VERTEX + 3, 0xfe),
-            ],
+            &[(68, 0xff), (69, 0xff), (70, 0xff), (71, 0xfe)],
             Some(SceneError::BadVertex(3)),
         ),
-        (
-            &[(LAST_INDEX, 4)],
-            Some(SceneError::BadIndex { table: 0, i: 1 }),
-        ),
+        (&[(100, 4)], Some(SceneError::BadIndex { table: 0, i: 1 })),
         (&[(OBJECT, 3)], Some(SceneError::BadKind(0))),
         (
-            &[
-                (OBJECT, 3),
-                (LAST_VERTEX, 1),
-                (LAST_VERTEX + 1, 0),
-                (LAST_VERTEX + 2, 0),
-                (LAST_VERTEX + 3, 1),
-            ],
+            &[(OBJECT, 3), (68, 1), (69, 0), (70, 0), (71, 1)],
             Some(SceneError::BadVertex(3)),
         ),
         (&[(OBJECT + 1, 32)], None),
