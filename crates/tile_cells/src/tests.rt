@@ -175,20 +175,14 @@ fn look_beside<R: Threads + Wait + Sync>(
 }
 
 fn are_alike(one: &TileState, other: &TileState) -> bool {
-    (0..8).all(|j| {
-        let (a, b) = (one.sub(j), other.sub(j));
-        a.reference() == b.reference() && a.working() == b.working() && a.mask() == b.mask()
-    }) && one.count() == other.count()
+    one.count() == other.count() && (0..8).all(|j| one.sub(j).pack() == other.sub(j).pack())
 }
+
+type Cells = (TileCells, Vec<TileWriter>, Vec<TileReader>);
 
 // Cells of a list with their writers and so many readers.
 #[tactic(auto, using(crate::proofs::Standing::new_reads))]
-fn opened<R: Wait>(
-    rt: &R,
-    alloc: Global,
-    list: &FrameList,
-    readers: u32,
-) -> Result<(TileCells, Vec<TileWriter>, Vec<TileReader>), Memory>
+fn opened<R: Wait>(rt: &R, alloc: Global, list: &FrameList, readers: u32) -> Result<Cells, Memory>
     ensures cells { IfOk result (λ r. length r.0 ≡ tile_count_of list.now.list.size) }
     ensures writers { IfOk result (λ r. AreStanding r.0 list.now.list 0 r.1.items) }
     ensures count { IfOk result (λ r. length r.2.items ≡ readers) }
