@@ -1,11 +1,12 @@
 //! Worked values of bins, batches and parts, from outside.
-ghost use Rattle.std.specs.Prelude.{◌≡◌, length, IfOk};
+ghost use Rattle.std.specs.Prelude.{◌≤◌};
 
 use crate::{
-    BinPart, Cut, batch_count, batch_size, bin_batch, bin_of_tile, bin_rect, bin_span,
-    parts_make_tile_lists,
+    Cut, batch_count, batch_size, bin_batch, bin_of_tile, bin_rect, bin_span, parts_make_tile_lists,
 };
 use cull_base::{FrameList, Rect, ScreenTri, Size};
+use std::alloc::Global;
+use std::process::Abort;
 use std::test::Fail;
 
 #[test]
@@ -80,70 +81,76 @@ fn bins_of_a_large_screen_share_its_tiles(rt: HostRuntime) -> Result<(), Fail> {
     Ok(())
 }
 
-// Boxes in x from 0 to 10, from 20 to 40 and from 33 to 50.
-fn three(rt: &HostRuntime) -> Result<FrameList, Fail>
-    ensures { IfOk result (λ f. length f.list.members ≡ 3) }
-{
-    let size = Size::new(64, 8).ok_or("a size")?;
-    let mut list = FrameList::with_room(rt.alloc(), size, 3)?;
-    list.push(ScreenTri::new([0, 159, 159], [0, 0, 127], [9; 3]).ok_or("a piece")?);
-    list.push(ScreenTri::new([320, 639, 639], [0, 0, 127], [9; 3]).ok_or("a piece")?);
-    list.push(ScreenTri::new([528, 799, 799], [0, 0, 127], [9; 3]).ok_or("a piece")?);
+// Pieces with these corners, five at most.
+fn listed(
+    rt: &HostRuntime,
+    size: (u16, u16),
+    pieces: &[([i32; 3], [i32; 3])],
+) -> Result<FrameList, Fail> {
+    let size = Size::new(size.0, size.1).ok_or("a size")?;
+    let mut list = FrameList::with_room(rt.alloc(), size, 5)?;
+    for (x, y) in pieces {
+        let piece = ScreenTri::new(*x, *y, [9; 3]).ok_or("a piece")?;
+        if list.len() < 5 {
+            list.push(piece);
+        }
+    }
     Ok(list)
 }
 
-fn is_part(part: &BinPart, bin: u32, batch: u32, indices: &[u32]) -> bool {
-    part.bin() == bin && part.batch() == batch && part.indices() == indices
-}
-
-#[test]
-fn piece_over_both_bins_is_in_both_parts(rt: HostRuntime) -> Result<(), Fail> {
-    let list = three(&rt)?;
+// The members of a batch, from one number to before another, are in the parts of two bins side by side.
+fn assert_parts(
+    rt: &impl Abort,
+    alloc: Global,
+    list: &FrameList,
+    batch: u32,
+    numbers: (u32, u32),
+    wanted: [&[u32]; 2],
+) -> Result<(), Fail>
+    requires { numbers.0 ≤ numbers.1 }
+{
+    if list.len() < numbers.1 {
+        return Err(Fail::new("so many members"));
+    }
     let cut = Cut::new(2, 1).ok_or("a cut")?;
-    let parts = bin_batch(rt.alloc(), &list, 0, 0, 3, &cut)?;
+    let parts = bin_batch(alloc, list, batch, numbers.0, numbers.1, &cut)?;
     assert_eq!(rt; parts.len(), 2);
-    assert!(rt; is_part(&parts[0], 0, 0, &[0, 1]));
-    assert!(rt; is_part(&parts[1], 1, 0, &[1, 2]));
-    parts_make_tile_lists();
+    for bin in 0..2u32 {
+        let part = &parts[bin as usize];
+        assert_eq!(rt; (part.bin(), part.batch()), (bin, batch));
+        assert_eq!(rt; part.indices(), wanted[bin as usize]);
+    }
     Ok(())
 }
 
+// With boxes in x from 0 to 10, from 20 to 40 and from 33 to 50: the second lies over both bins. The last batch has none.
 #[test]
-fn second_batch_of_two_has_the_third_piece(rt: HostRuntime) -> Result<(), Fail> {
-    let list = three(&rt)?;
-    let cut = Cut::new(2, 1).ok_or("a cut")?;
-    let parts = bin_batch(rt.alloc(), &list, 1, 2, 3, &cut)?;
-    assert_eq!(rt; parts.len(), 2);
-    assert!(rt; is_part(&parts[0], 0, 1, &[]));
-    assert!(rt; is_part(&parts[1], 1, 1, &[2]));
-    let none = bin_batch(rt.alloc(), &list, 0, 0, 0, &cut)?;
-    assert_eq!(rt; none.len(), 2);
-    assert!(rt; none[0].indices().is_empty() && none[1].indices().is_empty());
+fn each_part_has_the_pieces_that_meet_its_bin(rt: HostRuntime) -> Result<(), Fail> {
+    let y = [0, 0, 127];
+    let pieces = [
+        ([0, 159, 159], y),
+        ([320, 639, 639], y),
+        ([528, 799, 799], y),
+    ];
+    let list = listed(&rt, (64, 8), &pieces)?;
+    assert_parts(&rt, rt.alloc(), &list, 0, (0, 3), [&[0, 1], &[1, 2]])?;
+    assert_parts(&rt, rt.alloc(), &list, 1, (2, 3), [&[], &[2]])?;
+    assert_parts(&rt, rt.alloc(), &list, 0, (0, 0), [&[], &[]])?;
+    parts_make_tile_lists();
     Ok(())
 }
 
 // Of a screen that cuts its last tiles to 8 by 4 pixels: three pieces a pixel off to the right, to the left and below,
 // one that ends on the first pixel, and one that begins on the last.
-fn five_at_the_edges(rt: &HostRuntime) -> Result<FrameList, Fail>
-    ensures { IfOk result (λ f. length f.list.members ≡ 5) }
-{
-    let size = Size::new(40, 4).ok_or("a size")?;
-    let mut list = FrameList::with_room(rt.alloc(), size, 5)?;
-    list.push(ScreenTri::new([640, 799, 799], [0, 0, 63], [9; 3]).ok_or("a piece")?);
-    list.push(ScreenTri::new([-160, -1, -1], [0, 0, 63], [9; 3]).ok_or("a piece")?);
-    list.push(ScreenTri::new([0, 639, 639], [64, 64, 127], [9; 3]).ok_or("a piece")?);
-    list.push(ScreenTri::new([-160, 0, 0], [-63, -63, 0], [9; 3]).ok_or("a piece")?);
-    list.push(ScreenTri::new([639, 799, 799], [63, 63, 127], [9; 3]).ok_or("a piece")?);
-    Ok(list)
-}
-
 #[test]
 fn pieces_a_pixel_off_the_screen_are_in_no_part(rt: HostRuntime) -> Result<(), Fail> {
-    let list = five_at_the_edges(&rt)?;
-    let cut = Cut::new(2, 1).ok_or("a cut")?;
-    let parts = bin_batch(rt.alloc(), &list, 0, 0, 5, &cut)?;
-    assert_eq!(rt; parts.len(), 2);
-    assert!(rt; is_part(&parts[0], 0, 0, &[3]));
-    assert!(rt; is_part(&parts[1], 1, 0, &[4]));
-    Ok(())
+    let pieces = [
+        ([640, 799, 799], [0, 0, 63]),
+        ([-160, -1, -1], [0, 0, 63]),
+        ([0, 639, 639], [64, 64, 127]),
+        ([-160, 0, 0], [-63, -63, 0]),
+        ([639, 799, 799], [63, 63, 127]),
+    ];
+    let list = listed(&rt, (40, 4), &pieces)?;
+    assert_parts(&rt, rt.alloc(), &list, 0, (0, 5), [&[3], &[4]])
 }
