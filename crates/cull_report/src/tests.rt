@@ -61,23 +61,6 @@ fn offer<R: Wait>(rt: &R, cells: &TileCells, writer: &mut TileWriter, list: &Fra
     }
 }
 
-// Draws the first member into a tile.
-fn draw<R: Wait>(
-    rt: &R,
-    cells: &TileCells,
-    writers: &mut Vec<TileWriter>,
-    list: &FrameList,
-    tile: u32,
-)
-    requires whole { length cells.now ≡ tile_count_of list.now.list.size }
-    requires some { 0 < length list.now.list.members }
-    requires stand { AreStanding cells.now list.now.list 0 writers.old.items }
-{
-    if tile < list.size().tile_count() {
-        offer(rt, cells, &mut writers[tile as usize], list, tile);
-    }
-}
-
 // What the first reader sees of an area.
 fn look<R: Wait>(
     rt: &R,
@@ -106,7 +89,9 @@ fn seen<R: Wait>(
     requires { 0 < length list.now.list.members }
 {
     let (cells, mut writers, mut readers) = opened(rt, alloc, list)?;
-    draw(rt, &cells, &mut writers, list, tile);
+    if tile < list.size().tile_count() {
+        offer(rt, &cells, &mut writers[tile as usize], list, tile);
+    }
     look(rt, alloc, &cells, &mut readers, list, area)
 }
 
@@ -141,51 +126,36 @@ fn one_tile_after_one_piece(rt: HostRuntime) -> Result<(), Fail> {
     let list = one_piece(rt.alloc(), 32, 8, [0, 512, 512], [0, 0, 128])?;
     let view = seen(&rt, rt.alloc(), &list, 0, pixels(0, 0, 32, 8))?;
     let line = line_of(rt.alloc(), 0, 1, 0, Verdict::Visible, &view)?;
-    assert_eq!(rt; line.round(), 1);
-    assert_eq!(rt; line.len(), 1);
+    assert_eq!(rt; (line.round(), line.len()), (1, 1));
     let text = written(rt.alloc(), &line)?;
     assert_eq!(rt; text.held(), b"live 0 1 0 visible 0:1\n".as_slice());
-    Ok(())
-}
-
-#[test]
-fn tiles_of_the_area_in_order(rt: HostRuntime) -> Result<(), Fail> {
-    // two columns and two rows of tiles, and a piece in the last of them
-    let list = one_piece(rt.alloc(), 40, 12, [512, 640, 640], [128, 128, 192])?;
-    let whole = seen(&rt, rt.alloc(), &list, 3, pixels(0, 0, 40, 12))?;
-    let line = line_of(rt.alloc(), 12, 0, 5, Verdict::Occluded, &whole)?;
-    let text = written(rt.alloc(), &line)?;
-    assert_eq!(rt;
-        text.held(),
-        b"live 12 0 5 occluded 0:0 1:0 2:0 3:1\n".as_slice()
-    );
-    let corner = seen(&rt, rt.alloc(), &list, 3, pixels(32, 8, 64, 64))?;
-    let line = line_of(rt.alloc(), 0, 0, 1, Verdict::Occluded, &corner)?;
-    let text = written(rt.alloc(), &line)?;
-    assert_eq!(rt; text.held(), b"live 0 0 1 occluded 3:1\n".as_slice());
-    Ok(())
-}
-
-#[test]
-fn line_without_tiles_ends_after_its_verdict(rt: HostRuntime) -> Result<(), Fail> {
-    let list = one_piece(rt.alloc(), 40, 12, [512, 640, 640], [128, 128, 192])?;
-    let view = seen(&rt, rt.alloc(), &list, 3, NO_PIXELS)?;
-    let line = line_of(rt.alloc(), 0, 0, 2, Verdict::Outside, &view)?;
-    assert_eq!(rt; line.len(), 0);
-    let text = written(rt.alloc(), &line)?;
-    assert_eq!(rt; text.held(), b"live 0 0 2 outside\n".as_slice());
-    Ok(())
-}
-
-#[test]
-fn failed_write_leaves_a_front(rt: HostRuntime) -> Result<(), Fail> {
-    let list = one_piece(rt.alloc(), 32, 8, [0, 512, 512], [0, 0, 128])?;
-    let view = seen(&rt, rt.alloc(), &list, 0, pixels(0, 0, 32, 8))?;
-    let line = line_of(rt.alloc(), 0, 1, 0, Verdict::Visible, &view)?;
-    let second = Vec::from_slice(rt.alloc(), &[2u64])?;
-    let mut sink = BytesSink::new(rt.alloc(), 7, second);
+    // a write that fails leaves a front
+    let mut sink = BytesSink::new(rt.alloc(), 7, Vec::from_slice(rt.alloc(), &[2u64])?);
     assert_eq!(rt; write_live(&mut sink, &line), Err(SinkError::Failed));
     assert_eq!(rt; sink.held(), b"live 0 ".as_slice());
+    Ok(())
+}
+
+// Two columns and two rows of tiles, and a piece in the last of them; without tiles a line ends after its verdict.
+#[test]
+fn tiles_of_the_area_in_order(rt: HostRuntime) -> Result<(), Fail> {
+    let list = one_piece(rt.alloc(), 40, 12, [512, 640, 640], [128, 128, 192])?;
+    let (whole, corner) = (pixels(0, 0, 40, 12), pixels(32, 8, 64, 64));
+    for (frame, object, verdict, area, wanted) in [
+        (
+            12,
+            5,
+            Verdict::Occluded,
+            whole,
+            "live 12 0 5 occluded 0:0 1:0 2:0 3:1\n",
+        ),
+        (0, 1, Verdict::Occluded, corner, "live 0 0 1 occluded 3:1\n"),
+        (0, 2, Verdict::Outside, NO_PIXELS, "live 0 0 2 outside\n"),
+    ] {
+        let view = seen(&rt, rt.alloc(), &list, 3, area)?;
+        let line = line_of(rt.alloc(), frame, 0, object, verdict, &view)?;
+        assert_eq!(rt; written(rt.alloc(), &line)?.held(), wanted.as_bytes());
+    }
     Ok(())
 }
 
