@@ -2,12 +2,12 @@
 //! once for each batch.
 ghost use Rattle.std.specs.Prelude.{◌≡◌, ◌*◌, ◌<◌, ◌≤◌, length, IfOk};
 ghost use Rattle.binning.specs.Cut.{bin_count_of};
-ghost use Rattle.binning.specs.Parts.{batch_count_of};
 ghost use Rattle.bin_tiles.specs.Bins.{AreBinsAt};
 ghost use Rattle.tile_queues.specs.Callers.{Follows};
 ghost use Rattle.bin_tiles.specs.Plain.{StandsPlain};
 
 use crate::{BinTable, BinView, Caller, Gate, OpenGate, draw_frame, draw_plain_frame};
+use bin_queues::Batched;
 use binning::{Cut, batch_count, batch_size, bin_rect};
 use cull_base::{FrameList, Memory, ScreenTri, Size};
 use masked_update::{Canvas, TileState, TileView, draw_plain};
@@ -18,17 +18,21 @@ use std::test::Fail;
 use std::thread::{Threads, yield_now};
 use tile_cells::{Snapshot, TileCells, TileReader};
 
-// So many times three pieces with boxes in x from 0 to 10, from 20 to 40 and from 33 to 50, each time nearer.
-fn threes(rt: &HostRuntime, times: u32) -> Result<FrameList, Fail>
+// So many times pieces with boxes of these columns, in sixteenths of a pixel, each time nearer.
+fn columns(
+    rt: &HostRuntime,
+    width: u16,
+    columns: &[[i32; 3]],
+    times: u32,
+) -> Result<FrameList, Fail>
     requires { times ≤ 1000 }
 {
-    let size = Size::new(64, 8).ok_or("a size")?;
-    let mut list = FrameList::with_room(rt.alloc(), size, 3 * times)?;
+    let size = Size::new(width, 8).ok_or("a size")?;
+    let mut list = FrameList::with_room(rt.alloc(), size, 4 * times)?;
     for time in 0..times {
-        let near = [9 + time; 3];
-        for x in [[0, 159, 159], [320, 639, 639], [528, 799, 799]] {
-            let piece = ScreenTri::new(x, [0, 0, 127], near).ok_or("a piece")?;
-            if list.len() < 3 * times {
+        for x in columns {
+            let piece = ScreenTri::new(*x, [0, 0, 127], [9 + time; 3]).ok_or("a piece")?;
+            if list.len() < 4 * times {
                 list.push(piece);
             }
         }
@@ -36,11 +40,11 @@ fn threes(rt: &HostRuntime, times: u32) -> Result<FrameList, Fail>
     Ok(list)
 }
 
+// Three pieces with boxes in x from 0 to 10, from 20 to 40 and from 33 to 50.
+const THREE: [[i32; 3]; 3] = [[0, 159, 159], [320, 639, 639], [528, 799, 799]];
+
 fn have_same_states(one: &TileState, other: &TileState) -> bool {
-    (0..8).all(|j| {
-        let (a, b) = (one.sub(j), other.sub(j));
-        a.reference() == b.reference() && a.working() == b.working() && a.mask() == b.mask()
-    })
+    (0..8).all(|j| one.sub(j).pack() == other.sub(j).pack())
 }
 
 fn are_alike(tiles: &[TileState], others: &[TileState]) -> bool {
@@ -120,37 +124,24 @@ impl Caller for Looker {
 fn drawn_in_cells<R: Threads + Wait + Sync, G: Gate>(
     rt: &R,
     alloc: Global,
-    list: &FrameList,
-    cut: &Cut,
+    frame: &Batched,
     workers: u32,
-    batch: u32,
     gate: &G,
 ) -> Result<(Vec<TileState>, Option<u32>), Memory>
     requires some { 1 ≤ workers }
     requires most { workers ≤ 64 }
-    requires batch { 1 ≤ batch }
-    requires few { batch_count_of (length list.now.list.members) batch ≤ 2048 }
 {
-    let mut looker = Looker {
+    let (list, cut, batch) = (frame.list, frame.cut, frame.size);
+    let caller = &mut Looker {
         snapshot: Snapshot::with_room(alloc, list.size())?,
         count: None,
     };
     let (cells, writers, mut readers) = TileCells::make(rt, alloc, list, 1)?;
     let reader = &mut readers[0];
     let writers = draw_frame(
-        rt,
-        alloc,
-        list,
-        &cells,
-        writers,
-        reader,
-        cut,
-        workers,
-        batch,
-        gate,
-        &mut looker,
+        rt, alloc, list, &cells, writers, reader, cut, workers, batch, gate, caller,
     )?;
-    Ok((cells.close(rt, writers, readers), looker.count))
+    Ok((cells.close(rt, writers, readers), caller.count))
 }
 
 // How often a gate was asked before each member of each bin, for so many members of a bin at most, and before how many
@@ -226,9 +217,7 @@ fn met_by(list: &FrameList, cut: &Cut, bin: u32) -> u32
     let rect = bin_rect(list.size(), cut, bin);
     let mut met = 0u32;
     for index in 0..list.len() {
-        if list.get(index).boxed().meets(&rect) {
-            met = met.saturating_add(1);
-        }
+        met = met.saturating_add(u32::from(list.get(index).boxed().meets(&rect)));
     }
     met
 }
@@ -240,23 +229,27 @@ fn both_are_alike<R: Threads + Wait + Sync>(
     alloc: Global,
     list: &FrameList,
     workers: u32,
-    columns: u8,
-    rows: u8,
+    cut: (u8, u8),
     asked: u32,
 ) -> Result<bool, Fail>
     requires some { 1 ≤ workers }
     requires most { workers ≤ 64 }
     requires asked { 1 ≤ asked }
 {
-    let cut = Cut::new(columns, rows).ok_or("a cut")?;
+    let cut = Cut::new(cut.0, cut.1).ok_or("a cut")?;
     let batch = batch_size(list.len(), asked);
-    let batches = batch_count(list.len(), batch);
+    let frame = Batched {
+        list,
+        cut: &cut,
+        size: batch,
+    };
+    let batches = frame.batches();
     let states = draw_plain(alloc, list)?;
     let plain = Questions::with_room(alloc, cut.bins(), list.len())?;
     let bins = draw_plain_frame(rt, alloc, list, &cut, workers, batch, &plain)?;
     let shown = bins_show(alloc, bins.as_slice(), list, &cut, states.as_slice())?;
     let in_cells = Questions::with_room(alloc, cut.bins(), list.len())?;
-    let (held, seen) = drawn_in_cells(rt, alloc, list, &cut, workers, batch, &in_cells)?;
+    let (held, seen) = drawn_in_cells(rt, alloc, &frame, workers, &in_cells)?;
     Ok(
         shown
             && are_alike(held.as_slice(), states.as_slice())
@@ -268,7 +261,7 @@ fn both_are_alike<R: Threads + Wait + Sync>(
 
 #[test]
 fn two_workers_draw_what_one_draws(rt: HostRuntime) -> Result<(), Fail> {
-    let list = threes(&rt, 1)?;
+    let list = columns(&rt, 64, &THREE, 1)?;
     let cut = Cut::new(2, 1).ok_or("a cut")?;
     let states = draw_plain(rt.alloc(), &list)?;
     let batch = batch_size(list.len(), 2);
@@ -277,7 +270,12 @@ fn two_workers_draw_what_one_draws(rt: HostRuntime) -> Result<(), Fail> {
     let bins = draw_plain_frame(&rt, rt.alloc(), &list, &cut, 2, batch, &OpenGate)?;
     assert_eq!(rt; bins.len(), 2);
     assert!(rt; bins_show(rt.alloc(), bins.as_slice(), &list, &cut, states.as_slice())?);
-    let (held, seen) = drawn_in_cells(&rt, rt.alloc(), &list, &cut, 2, batch, &OpenGate)?;
+    let frame = Batched {
+        list: &list,
+        cut: &cut,
+        size: batch,
+    };
+    let (held, seen) = drawn_in_cells(&rt, rt.alloc(), &frame, 2, &OpenGate)?;
     assert_eq!(rt; held.len(), 2);
     assert!(rt; are_alike(held.as_slice(), states.as_slice()));
     assert_eq!(rt; held[0].count(), 2);
@@ -289,9 +287,9 @@ fn two_workers_draw_what_one_draws(rt: HostRuntime) -> Result<(), Fail> {
 // So many pieces are worth a second thread.
 #[test]
 fn threads_draw_what_one_draws(rt: HostRuntime) -> Result<(), Fail> {
-    let list = threes(&rt, 500)?;
-    assert!(rt; both_are_alike(&rt, rt.alloc(), &list, 64, 8, 8, 7)?);
-    assert!(rt; both_are_alike(&rt, rt.alloc(), &list, 7, 2, 1, 1)?);
+    let list = columns(&rt, 64, &THREE, 500)?;
+    assert!(rt; both_are_alike(&rt, rt.alloc(), &list, 64, (8, 8), 7)?);
+    assert!(rt; both_are_alike(&rt, rt.alloc(), &list, 7, (2, 1), 1)?);
     Ok(())
 }
 
@@ -321,33 +319,11 @@ fn few(rt: &HostRuntime) -> Result<FrameList, Fail> {
 fn each_cut_is_drawn_and_asks_once_for_each_member(rt: HostRuntime) -> Result<(), Fail> {
     let list = few(&rt)?;
     assert_eq!(rt; list.len(), 6);
-    assert!(rt; both_are_alike(&rt, rt.alloc(), &list, 1, 1, 1, 1)?);
-    assert!(rt; both_are_alike(&rt, rt.alloc(), &list, 7, 1, 1, 1)?);
-    assert!(rt; both_are_alike(&rt, rt.alloc(), &list, 64, 1, 1, 1)?);
-    assert!(rt; both_are_alike(&rt, rt.alloc(), &list, 1, 8, 8, 1)?);
-    assert!(rt; both_are_alike(&rt, rt.alloc(), &list, 7, 8, 8, 1)?);
-    assert!(rt; both_are_alike(&rt, rt.alloc(), &list, 64, 8, 8, 1)?);
-    Ok(())
-}
-
-// Eight times a piece in each of four columns of 32 pixels, each time nearer.
-fn fours(rt: &HostRuntime) -> Result<FrameList, Fail> {
-    let size = Size::new(128, 8).ok_or("a size")?;
-    let mut list = FrameList::with_room(rt.alloc(), size, 32)?;
-    for near in 9..17 {
-        for x in [
-            [0, 400, 400],
-            [512, 912, 912],
-            [1024, 1424, 1424],
-            [1536, 1936, 1936],
-        ] {
-            let piece = ScreenTri::new(x, [0, 0, 127], [near; 3]).ok_or("a piece")?;
-            if list.len() < 32 {
-                list.push(piece);
-            }
-        }
+    for workers in [1, 7, 64] {
+        assert!(rt; both_are_alike(&rt, rt.alloc(), &list, workers, (1, 1), 1)?);
+        assert!(rt; both_are_alike(&rt, rt.alloc(), &list, workers, (8, 8), 1)?);
     }
-    Ok(list)
+    Ok(())
 }
 
 // Holds the first piece of bin 0 until three other bins drew one, or it looked very often.
@@ -377,7 +353,9 @@ impl Gate for Holding {
 // While one of two workers is held in a bin, the other comes to each of the other three.
 #[test]
 fn no_bin_is_tied_to_a_worker(rt: HostRuntime) -> Result<(), Fail> {
-    let list = fours(&rt)?;
+    let (left, right) = ([0, 400, 400], [1024, 1424, 1424]);
+    let four = [left, [512, 912, 912], right, [1536, 1936, 1936]];
+    let list = columns(&rt, 128, &four, 8)?;
     let cut = Cut::new(4, 1).ok_or("a cut")?;
     let states = draw_plain(rt.alloc(), &list)?;
     let gate = Holding {
