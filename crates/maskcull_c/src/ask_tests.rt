@@ -1,16 +1,10 @@
 //! What stands behind, at and before a piece that fills a screen of 32 by 8 at three times the near distance 1. Its
 //! nearness is 65535 / 3 = 21845; at w = 4 an object has 16384, at w = 2 it has 32768.
 use super::*;
+use crate::tests::{SETUP, area, setup};
 use cull_base::{ScreenTri, Size};
 use masked_update::TileState;
 use std::test::Fail;
-
-const SETUP: Setup = Setup {
-    width: 32,
-    height: 8,
-    near: 1,
-    winding: 0,
-};
 
 fn tiles() -> Result<[TileState; 1], &'static str> {
     let size = Size::new(32, 8).ok_or("a size")?;
@@ -22,28 +16,27 @@ fn tiles() -> Result<[TileState; 1], &'static str> {
 
 // The answer to a rectangle.
 fn rectangle(x0: i32, y0: i32, x1: i32, y1: i32, w: i32) -> Result<u32, &'static str> {
-    Ok(maskcull_test(&SETUP, &tiles()?, &Area { x0, y0, x1, y1 }, w))
+    Ok(maskcull_test(&SETUP, &tiles()?, &area(x0, y0, x1, y1), w))
 }
 
 fn at(x: i32, y: i32, w: i32) -> Vertex {
     Vertex { x, y, w }
 }
 
-// The answer to a box between two corners, as the identity camera sees it.
+// The answer to a box between two corners, as the identity camera sees it; the corners come in no order.
 fn block(low: [i32; 3], high: [i32; 3]) -> Result<u32, &'static str> {
-    let corners = Corners {
-        corners: [
-            at(high[0], high[1], high[2]),
-            at(high[0], low[1], low[2]),
-            at(low[0], high[1], low[2]),
-            at(high[0], high[1], low[2]),
-            at(low[0], low[1], high[2]),
-            at(high[0], low[1], high[2]),
-            at(low[0], high[1], high[2]),
-            at(low[0], low[1], low[2]),
-        ],
-    };
-    Ok(maskcull_test_box(&SETUP, &tiles()?, &corners))
+    let (near, far) = (low[2], high[2]);
+    let corners = [
+        at(high[0], high[1], far),
+        at(high[0], low[1], near),
+        at(low[0], high[1], near),
+        at(high[0], high[1], near),
+        at(low[0], low[1], far),
+        at(high[0], low[1], far),
+        at(low[0], high[1], far),
+        at(low[0], low[1], near),
+    ];
+    Ok(maskcull_test_box(&SETUP, &tiles()?, &Corners { corners }))
 }
 
 const ONE: Triangle = Triangle { a: 0, b: 1, c: 2 };
@@ -107,37 +100,21 @@ fn a_mesh_that_nothing_shows_is_outside(rt: HostRuntime) -> Result<(), Fail> {
 
 #[test]
 fn what_is_asked_wrongly_is_refused(rt: HostRuntime) -> Result<(), Fail> {
-    let area = Area {
-        x0: 0,
-        y0: 0,
-        x1: 32,
-        y1: 8,
-    };
-    let narrow = Setup { width: 20, ..SETUP };
-    let tall = Setup {
-        height: 16,
-        ..SETUP
-    };
-    assert_eq!(rt; maskcull_test(&narrow, &tiles()?, &area, 4), BAD_SETUP);
-    assert_eq!(rt;
-        maskcull_test(&Setup { near: 0, ..SETUP }, &tiles()?, &area, 4),
-        BAD_SETUP
-    );
-    assert_eq!(rt; maskcull_test(&tall, &tiles()?, &area, 4), BAD_TILES);
+    let (screen, tiles) = (area(0, 0, 32, 8), tiles()?);
     let corners = Corners {
         corners: [at(0, 0, 4); 8],
     };
-    assert_eq!(rt; maskcull_test_box(&narrow, &tiles()?, &corners), BAD_SETUP);
-    assert_eq!(rt; maskcull_test_box(&tall, &tiles()?, &corners), BAD_TILES);
     let three = [at(-4, 4, 4), at(4, 4, 4), at(4, -4, 4)];
-    assert_eq!(rt;
-        maskcull_test_mesh(&narrow, &tiles()?, &three, &[NEXT]),
-        BAD_SETUP
-    );
-    assert_eq!(rt;
-        maskcull_test_mesh(&tall, &tiles()?, &three, &[NEXT]),
-        BAD_TILES
-    );
+    for (width, height, near, status) in [
+        (20, 8, 1, BAD_SETUP),
+        (32, 8, 0, BAD_SETUP),
+        (32, 16, 1, BAD_TILES),
+    ] {
+        let wrong = setup(width, height, near, 0);
+        assert_eq!(rt; maskcull_test(&wrong, &tiles, &screen, 4), status);
+        assert_eq!(rt; maskcull_test_box(&wrong, &tiles, &corners), status);
+        assert_eq!(rt; maskcull_test_mesh(&wrong, &tiles, &three, &[NEXT]), status);
+    }
     assert_eq!(rt; mesh(&three, &[ONE, NEXT])?, BAD_INDEX);
     Ok(())
 }

@@ -1,25 +1,9 @@
 //! Triangles that are set up once and drawn piece by piece, room for pieces, and pictures of what tiles hold.
 use super::*;
+use crate::tests::{QUAD, SETUP, VERTICES, WIDE, assert_alike, held};
 use cull_base::ScreenTri;
 use masked_update::TileState;
 use std::test::Fail;
-
-const SETUP: Setup = Setup {
-    width: 32,
-    height: 8,
-    near: 1,
-    winding: 0,
-};
-
-// The corners of the screen at distance 2.
-const CORNERS: [Vertex; 4] = [
-    Vertex { x: -2, y: 2, w: 2 },
-    Vertex { x: 2, y: 2, w: 2 },
-    Vertex { x: 2, y: -2, w: 2 },
-    Vertex { x: -2, y: -2, w: 2 },
-];
-
-const QUAD: [Triangle; 2] = [Triangle { a: 0, b: 1, c: 2 }, Triangle { a: 0, b: 2, c: 3 }];
 
 // Room that nothing was written to.
 const UNWRITTEN: PieceRoom = PieceRoom {
@@ -37,7 +21,7 @@ fn a_quad_has_two_pieces_and_the_room_behind_them_is_left(rt: HostRuntime) -> Re
     let mut room = [UNWRITTEN; 5];
     let mut count = 99;
     assert_eq!(rt;
-        maskcull_set_up(&SETUP, &CORNERS, &QUAD, &mut room, &mut count),
+        maskcull_set_up(&SETUP, &VERTICES, &QUAD, &mut room, &mut count),
         DONE
     );
     assert_eq!(rt; count, 2);
@@ -57,15 +41,15 @@ fn a_refused_set_up_writes_nothing(rt: HostRuntime) -> Result<(), Fail> {
     let wrong = Setup { near: 0, ..SETUP };
     let beyond = [Triangle { a: 0, b: 1, c: 2 }, Triangle { a: 0, b: 4, c: 3 }];
     assert_eq!(rt;
-        maskcull_set_up(&wrong, &CORNERS, &QUAD, &mut room, &mut count),
+        maskcull_set_up(&wrong, &VERTICES, &QUAD, &mut room, &mut count),
         BAD_SETUP
     );
     assert_eq!(rt;
-        maskcull_set_up(&SETUP, &CORNERS, &QUAD, &mut room[..3], &mut count),
+        maskcull_set_up(&SETUP, &VERTICES, &QUAD, &mut room[..3], &mut count),
         BAD_ROOM
     );
     assert_eq!(rt;
-        maskcull_set_up(&SETUP, &CORNERS, &beyond, &mut room, &mut count),
+        maskcull_set_up(&SETUP, &VERTICES, &beyond, &mut room, &mut count),
         BAD_INDEX
     );
     assert_eq!(rt; count, 99);
@@ -74,14 +58,6 @@ fn a_refused_set_up_writes_nothing(rt: HostRuntime) -> Result<(), Fail> {
     }
     Ok(())
 }
-
-// Two tiles side by side, in two rows.
-const WIDE: Setup = Setup {
-    width: 64,
-    height: 16,
-    near: 1,
-    winding: 0,
-};
 
 // A middle and eight points around it, the last of which is behind the near plane.
 const POINTS: [Vertex; 9] = [
@@ -139,11 +115,6 @@ fn draw_in_slices(tiles: &mut [TileState], most: usize) -> Result<usize, &'stati
     Ok(pieces)
 }
 
-fn held(tiles: &[TileState], tile: usize, subtile: u32) -> (u32, u32, u32) {
-    let state = maskcull_subtile(tiles, tile, subtile);
-    (state.reference, state.working, state.mask)
-}
-
 #[test]
 fn slices_drawn_piece_by_piece_are_one_draw(rt: HostRuntime) -> Result<(), Fail> {
     let mut whole = [TileState::empty(); 4];
@@ -153,15 +124,7 @@ fn slices_drawn_piece_by_piece_are_one_draw(rt: HostRuntime) -> Result<(), Fail>
         let mut tiles = [TileState::empty(); 4];
         // the near plane cuts the last two triangles, which have two pieces each
         assert_eq!(rt; draw_in_slices(&mut tiles, most)?, 10);
-        for tile in 0..4 {
-            for subtile in 0..8 {
-                assert_eq!(rt;
-                    held(&tiles, tile, subtile),
-                    held(&whole, tile, subtile),
-                    "tile {tile}, subtile {subtile}, slices of {most}"
-                );
-            }
-        }
+        assert_alike(&rt, &tiles, &whole);
     }
     Ok(())
 }
@@ -172,7 +135,7 @@ fn pieces_are_drawn_onto_rows_of_the_screen(rt: HostRuntime) -> Result<(), Fail>
     let mut count = 0;
     let mut tiles = [TileState::empty(); 2];
     assert_eq!(rt;
-        maskcull_set_up(&WIDE, &CORNERS, &QUAD, &mut room, &mut count),
+        maskcull_set_up(&WIDE, &VERTICES, &QUAD, &mut room, &mut count),
         DONE
     );
     for piece in &room[..2] {
@@ -195,7 +158,7 @@ fn a_picture_has_the_bound_at_each_pixel(rt: HostRuntime) -> Result<(), Fail> {
     let mut out = [9; 256];
     // the upper right half of the screen, and what it leaves
     assert_eq!(rt;
-        maskcull_draw(&SETUP, &mut tiles, &CORNERS, &QUAD[..1]),
+        maskcull_draw(&SETUP, &mut tiles, &VERTICES, &QUAD[..1]),
         DONE
     );
     assert_eq!(rt; maskcull_nearness(&SETUP, &tiles, &mut out, 32), DONE);
@@ -209,7 +172,7 @@ fn a_picture_has_the_bound_at_each_pixel(rt: HostRuntime) -> Result<(), Fail> {
     ] {
         assert_eq!(rt; out[place], shade, "element {place}");
     }
-    assert_eq!(rt; maskcull_draw(&SETUP, &mut tiles, &CORNERS, &QUAD), DONE);
+    assert_eq!(rt; maskcull_draw(&SETUP, &mut tiles, &VERTICES, &QUAD), DONE);
     assert_eq!(rt; maskcull_nearness(&SETUP, &tiles, &mut out, 32), DONE);
     for shade in &out {
         assert_eq!(rt; *shade, 32767);
@@ -221,7 +184,7 @@ fn a_picture_has_the_bound_at_each_pixel(rt: HostRuntime) -> Result<(), Fail> {
 fn rows_may_stand_farther_apart_than_the_screen_is_wide(rt: HostRuntime) -> Result<(), Fail> {
     let mut tiles = [TileState::empty(); 1];
     let mut out = [9; 320];
-    assert_eq!(rt; maskcull_draw(&SETUP, &mut tiles, &CORNERS, &QUAD), DONE);
+    assert_eq!(rt; maskcull_draw(&SETUP, &mut tiles, &VERTICES, &QUAD), DONE);
     assert_eq!(rt;
         maskcull_nearness(&SETUP, &tiles, &mut out[..311], 40),
         BAD_ROOM

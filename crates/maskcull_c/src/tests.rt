@@ -1,25 +1,27 @@
 //! A quad over the whole screen, refusals, rows of tiles drawn one after another or with lists of their own, counts.
 use super::*;
 use masked_update::{SubTile, TileState};
+use std::process::Abort;
 use std::test::Fail;
 
-const SETUP: Setup = Setup {
+/// One tile.
+pub const SETUP: Setup = Setup {
     width: 32,
     height: 8,
     near: 1,
     winding: 0,
 };
 
-// Two tiles side by side, in two rows.
-const WIDE: Setup = Setup {
+/// Two tiles side by side, in two rows.
+pub const WIDE: Setup = Setup {
     width: 64,
     height: 16,
     near: 1,
     winding: 0,
 };
 
-// The corners of the screen at distance 2, and a point farther off.
-const VERTICES: [Vertex; 5] = [
+/// The corners of the screen at distance 2, and a point farther off.
+pub const VERTICES: [Vertex; 5] = [
     Vertex { x: -2, y: 2, w: 2 },
     Vertex { x: 2, y: 2, w: 2 },
     Vertex { x: 2, y: -2, w: 2 },
@@ -27,7 +29,7 @@ const VERTICES: [Vertex; 5] = [
     Vertex { x: 1, y: -3, w: 4 },
 ];
 
-const QUAD: [Triangle; 2] = [Triangle { a: 0, b: 1, c: 2 }, Triangle { a: 0, b: 2, c: 3 }];
+pub const QUAD: [Triangle; 2] = [Triangle { a: 0, b: 1, c: 2 }, Triangle { a: 0, b: 2, c: 3 }];
 
 // The corners of the screen at distance 4.
 const FARTHER: [Vertex; 4] = [
@@ -39,9 +41,25 @@ const FARTHER: [Vertex; 4] = [
 
 const SLANTED: [Triangle; 2] = [Triangle { a: 0, b: 1, c: 4 }, Triangle { a: 0, b: 2, c: 3 }];
 
-fn held(tiles: &[TileState], tile: usize, subtile: u32) -> (u32, u32, u32) {
+/// The layers of a subtile.
+pub fn held(tiles: &[TileState], tile: usize, subtile: u32) -> (u32, u32, u32) {
     let state = maskcull_subtile(tiles, tile, subtile);
     (state.reference, state.working, state.mask)
+}
+
+/// A screen's four tiles hold the same as others.
+pub fn assert_alike(rt: &impl Abort, tiles: &[TileState], others: &[TileState]) {
+    for tile in 0..4 {
+        for subtile in 0..8 {
+            let (one, other) = (held(tiles, tile, subtile), held(others, tile, subtile));
+            assert_eq!(rt; one, other, "tile {tile}, subtile {subtile}");
+        }
+    }
+}
+
+/// A rectangle of pixels.
+pub fn area(x0: i32, y0: i32, x1: i32, y1: i32) -> Area {
+    Area { x0, y0, x1, y1 }
 }
 
 #[test]
@@ -51,19 +69,10 @@ fn a_quad_over_the_screen_hides_what_is_behind_it(rt: HostRuntime) -> Result<(),
     assert_eq!(rt; maskcull_draw(&SETUP, &mut tiles, &VERTICES, &QUAD), DONE);
     for subtile in 0..8 {
         // half of the greatest nearness, rounded down
-        assert_eq!(rt;
-            held(&tiles, 0, subtile),
-            (32767, 0, 0),
-            "subtile {subtile}"
-        );
+        assert_eq!(rt; held(&tiles, 0, subtile), (32767, 0, 0), "{subtile}");
     }
     assert_eq!(rt; held(&tiles, 1, 0), (0, 0, 0));
-    let screen = Area {
-        x0: 0,
-        y0: 0,
-        x1: 32,
-        y1: 8,
-    };
+    let screen = area(0, 0, 32, 8);
     assert_eq!(rt; maskcull_test(&SETUP, &tiles, &screen, 3), OCCLUDED);
     assert_eq!(rt; maskcull_test(&SETUP, &tiles, &screen, 2), VISIBLE);
     maskcull_clear(&mut tiles);
@@ -74,7 +83,8 @@ fn a_quad_over_the_screen_hides_what_is_behind_it(rt: HostRuntime) -> Result<(),
     Ok(())
 }
 
-fn setup(width: u32, height: u32, near: u32, winding: u32) -> Setup {
+/// A setup of these numbers.
+pub fn setup(width: u32, height: u32, near: u32, winding: u32) -> Setup {
     Setup {
         width,
         height,
@@ -135,31 +145,13 @@ fn rows_of_tiles_make_the_screen(rt: HostRuntime) -> Result<(), Fail> {
         DONE
     );
     bands_join();
-    for tile in 0..4 {
-        for subtile in 0..8 {
-            assert_eq!(rt;
-                held(&rows, tile, subtile),
-                held(&whole, tile, subtile),
-                "tile {tile}, subtile {subtile}"
-            );
-        }
-    }
+    assert_alike(&rt, &rows, &whole);
     Ok(())
 }
 
 #[test]
 fn each_row_hides_by_what_was_drawn_onto_it(rt: HostRuntime) -> Result<(), Fail> {
-    let upper = Area {
-        x0: 0,
-        y0: 0,
-        x1: 64,
-        y1: 8,
-    };
-    let lower = Area {
-        y0: 8,
-        y1: 16,
-        ..upper
-    };
+    let (upper, lower) = (area(0, 0, 64, 8), area(0, 8, 64, 16));
     let mut tiles = [TileState::empty(); 4];
     assert_eq!(rt; maskcull_draw(&WIDE, &mut tiles, &VERTICES, &QUAD), DONE);
     assert_eq!(rt; maskcull_test(&WIDE, &tiles, &lower, 3), OCCLUDED);
