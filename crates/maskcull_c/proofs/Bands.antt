@@ -1,5 +1,5 @@
 -- Rows of tiles as a window of the screen: a piece that is merged into it is merged into each of them.
-use Rattle.std.proofs.Common.{◌≡◌, ℕ, zero, suc, ◌+◌, ◌-◌, ◌*◌, ◌/◌, ◌%◌, ◌<◌, List, [], ◌∷◌, length, get_or, arith, ap, ◌∙◌, sym, subst}
+use Rattle.std.proofs.Common.{◌≡◌, ℕ, zero, suc, ◌+◌, ◌-◌, ◌*◌, ◌/◌, ◌%◌, ◌<◌, List, [], ◌∷◌, ◌++◌, length, take, get_or, arith, ap, ◌∙◌, sym, subst}
 use Rattle.std.proofs.Math.Nat.{mod-lt, mul_comm}
 use Rattle.std.proofs.lemmas.List.{get_or_default}
 use Rattle.std.proofs.lemmas.Nat.{div-add-mod'}
@@ -22,6 +22,7 @@ use Rattle.masked_update.proofs.Tiles.{has, place_of_number, tile_with}
 use Rattle.snap_setup.specs.Pieces.{list_of_clips}
 use Rattle.maskcull_c.specs.Bands.{AreMerged, IsBand, band_of, first_in}
 use Rattle.maskcull_c.specs.Tiles.{AreRows}
+use Rattle.maskcull_c.proofs.Merged.{merged_then}
 
 -- tile t of a band stands in its window, and has the number on the screen that is t after that of the first
 at_number : (size : Dimensions) (window : TileSpan) (tiles : List TileOf) (t : ℕ) → IsBand size window tiles → t < length tiles
@@ -95,6 +96,14 @@ band_more size window x old new piece band same met = record {
 -- a band that is as long is one too
 pub band_still : (size : Dimensions) (window : TileSpan) (old new : List TileOf) → length new ≡ length old → IsBand size window old → IsBand size window new
 band_still size window old new same band = record { span = band.span; from_left = band.from_left; to_right = band.to_right; whole = same ∙ band.whole }
+
+-- the first pieces of some are merged into a band, and then the next one
+pub merged_more : (size : Dimensions) (window : TileSpan) (all : List Piece) (k : ℕ) (x : Piece) (start old new : List TileOf) → take k all ++ x ∷ [] ≡ take (k + 1) all → IsPiece x → IsBand size window start
+    → AreMerged size (first_in size window) (take k all) start old → length new ≡ length old → MergedMet size x (band_of window old) (band_of window new)
+    → AreMerged size (first_in size window) (take (k + 1) all) start new
+merged_more size window all k x start old new more piece band merged same met =
+    subst (λ (ps : List Piece). AreMerged size (first_in size window) ps start new) more
+    (merged_then size (first_in size window) (take k all) (x ∷ []) start old new merged (band_more size window x old new piece (band_still size window start old merged.whole band) same met))
 
 -- a band into which the pieces of some triangles are merged, under other names of the screen, the first tile, the near distance and the winding
 pub merged_as : (size size' : Dimensions) (first first' near near' : ℕ) (winding winding' : Winding) (clips : List ClipVertex) (tris : List Tri) (old new : List TileOf) → size ≡ size' → first ≡ first' → near ≡ near' → winding ≡ winding'

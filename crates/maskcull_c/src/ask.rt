@@ -7,7 +7,7 @@ ghost use Rattle.rect_query.specs.Rectangles.{rectangle_shape};
 ghost use Rattle.maskcull_c.specs.Asked.{shape_of_area, shape_of_box, shape_of_mesh, verdict_over};
 ghost use Rattle.maskcull_c.specs.Given.{IsAmong, IsSetup, clip_of, size_of};
 ghost use Rattle.maskcull_c.specs.Tiles.{AreAll, Hides, IsAnswer, code_of};
-ghost use Rattle.maskcull_c.specs.declared.status.TheConstants.{BAD_SETUP, BAD_TILES, BAD_INDEX};
+ghost use Rattle.maskcull_c.specs.declared.status.TheConstants.{BAD_SETUP, BAD_TILES, BAD_INDEX, VISIBLE, OUTSIDE};
 
 use crate::given::{Area, Corners, Setup, Triangle, Vertex, are_among};
 use crate::mesh::mesh_verdict;
@@ -18,7 +18,9 @@ use rect_query::{BoxAnswer, box_rect, rect_near, rect_test};
 
 // The number of a verdict.
 fn code(verdict: Verdict) -> u32
-    ensures { result ≡ code_of verdict }
+    ensures value { result ≡ code_of verdict }
+    ensures least { VISIBLE ≤ result }
+    ensures most { result ≤ OUTSIDE }
 {
     match verdict {
         Verdict::Visible => VISIBLE,

@@ -1,4 +1,4 @@
-use Rattle.std.proofs.Common.{◌≡◌, ℕ, FitsSigned, w32, arith, ap, ◌∙◌, inr}
+use Rattle.std.proofs.Common.{◌≡◌, ℕ, FitsSigned, w32, ap, ◌∙◌}
 use Rattle.std.proofs.lemmas.Int.{to_z-of_z}
 use Rattle.cull_base.specs.declared.nearness.TheConstants.{GRADE_TOP}
 use Rattle.cull_base.specs.Screen.{Dimensions}
@@ -7,7 +7,6 @@ use Rattle.cull_report.proofs.Occluders.{rectangle_has_pieces}
 use Rattle.maskcull_c.specs.Asked.{shape_of_area, verdict_over}
 use Rattle.maskcull_c.specs.Given.{rect_of, size_of}
 use Rattle.maskcull_c.specs.Tiles.{code_of}
-use Rattle.maskcull_c.proofs.Codes.{code_between}
 use Rattle.maskcull_c.proofs.Hiding.{hides_by_verdict, told_at}
 use Rattle.maskcull_c.proofs.ask.maskcull_test.Goals as goal
 
@@ -17,7 +16,7 @@ returns-clause-value c setup all =
     let fits : FitsSigned w32 c.args.w = c.ranges.w in
     let P : Dimensions → ℕ → Type 0 = λ size near. c.rectangle_verdict.result ≡ verdict_over size c.args.tiles.now (rectangle_shape GRADE_TOP near size (rect_of c.args.area.now) c.args.w) in
     let told : P c.in-Some.checked.size c.in-Some.checked.near = rw c.rect.ensures at (simp to_z-of_z at c.rectangle_verdict.ensures) in
-    c.code.ensures ∙ ap code_of (told_at P c.in-Some.checked.size (size_of s) c.in-Some.checked.near s.near c.in-Some.ensures.size c.in-Some.ensures.near told)
+    c.code.ensures.value ∙ ap code_of (told_at P c.in-Some.checked.size (size_of s) c.in-Some.checked.near s.near c.in-Some.ensures.size c.in-Some.ensures.near told)
 
 pub returns-clause-hides : goal.returns-clause-hides
 returns-clause-hides c =
@@ -27,13 +26,4 @@ returns-clause-hides c =
     let told : P c.in-Some.checked.size c.in-Some.checked.near = rw c.rect.ensures at (simp to_z-of_z at c.rectangle_verdict.ensures) in
     hides_by_verdict (size_of s) c.args.tiles.now (shape_of_area s c.args.area.now c.args.w) c.rectangle_verdict.result c.code.result
     (rectangle_has_pieces GRADE_TOP s.near (size_of s) (rect_of c.args.area.now) c.args.w)
-    (told_at P c.in-Some.checked.size (size_of s) c.in-Some.checked.near s.near c.in-Some.ensures.size c.in-Some.ensures.near told) c.code.ensures
-
-pub returns-clause-bad_setup : goal.returns-clause-bad_setup
-returns-clause-bad_setup c e setup = let b = code_between c.rectangle_verdict.result in let is = c.code.ensures in omega (arith, b.0, is, e)
-
-pub returns-clause-bad_tiles : goal.returns-clause-bad_tiles
-returns-clause-bad_tiles c e all = let b = code_between c.rectangle_verdict.result in let is = c.code.ensures in omega (arith, b.0, is, e)
-
-pub returns-clause-known : goal.returns-clause-known
-returns-clause-known c = let b = code_between c.rectangle_verdict.result in let is = c.code.ensures in inr (omega (arith, b.0, is), omega (arith, b.1, is))
+    (told_at P c.in-Some.checked.size (size_of s) c.in-Some.checked.near s.near c.in-Some.ensures.size c.in-Some.ensures.near told) c.code.ensures.value

@@ -26,8 +26,7 @@ no_triangle = record { a = 0; b = 0; c = 0 }
 pub ask_triangle-requires-clause-guarded : goal.ask_triangle-requires-clause-guarded
 unfolding no_triangle
 ask_triangle-requires-clause-guarded c =
-    let n : length c.clips_of.result ≡ 3 = search rules in
-    let whole = vertices_told c.args.vertices.now (tri_of (get_or c.args.triangles.now c.loop-triangle.triangle-index no_triangle)) c.clips_of.result n c.clips_of.ensures.first c.clips_of.ensures.second c.clips_of.ensures.third in
+    let whole = vertices_told c.args.vertices.now (tri_of (get_or c.args.triangles.now c.loop-triangle.triangle-index no_triangle)) c.clips_of.result (search rules) c.clips_of.ensures.first c.clips_of.ensures.second c.clips_of.ensures.third in
     let test : ClipVertex → _ = λ v. is_past_guard v c.args.near in let clips = map clip_of c.args.vertices.now in let ts = c.args.triangles.now in
     let i = c.loop-triangle.triangle-index in let t = tri_of (get_or ts i no_triangle) in
     let none = none_there (λ u. list_any test (vertices_of clips u)) (map tri_of ts) i no_tri c.requires.guarded (tri_within ts i c.loop-triangle-test.true) in
@@ -41,8 +40,7 @@ ask_triangle-requires-clause-holds c =
 pub returns-in_err-now : goal.returns-in_err-now
 unfolding no_triangle
 returns-in_err-now c =
-    let n : length c.clips_of.result ≡ 3 = search rules in
-    let whole = vertices_told c.args.vertices.now (tri_of (get_or c.args.triangles.now c.loop-triangle.triangle-index no_triangle)) c.clips_of.result n c.clips_of.ensures.first c.clips_of.ensures.second c.clips_of.ensures.third in
+    let whole = vertices_told c.args.vertices.now (tri_of (get_or c.args.triangles.now c.loop-triangle.triangle-index no_triangle)) c.clips_of.result (search rules) c.clips_of.ensures.first c.clips_of.ensures.second c.clips_of.ensures.third in
     let size = c.args.size in let near = c.args.near in let clips = map clip_of c.args.vertices.now in let ts = c.args.triangles.now in
     let i = c.loop-triangle.triangle-index in let t = tri_of (get_or ts i no_triangle) in
     let f = state_in size (tile_at c.args.tiles.now) in
@@ -55,8 +53,7 @@ returns-in_err-now c =
 pub loop-triangle-preserved : goal.loop-triangle-preserved
 unfolding no_triangle
 loop-triangle-preserved c =
-    let n : length c.clips_of.result ≡ 3 = search rules in
-    let whole = vertices_told c.args.vertices.now (tri_of (get_or c.args.triangles.now c.loop-triangle.triangle-index no_triangle)) c.clips_of.result n c.clips_of.ensures.first c.clips_of.ensures.second c.clips_of.ensures.third in
+    let whole = vertices_told c.args.vertices.now (tri_of (get_or c.args.triangles.now c.loop-triangle.triangle-index no_triangle)) c.clips_of.result (search rules) c.clips_of.ensures.first c.clips_of.ensures.second c.clips_of.ensures.third in
     let size = c.args.size in let near = c.args.near in let clips = map clip_of c.args.vertices.now in let ts = c.args.triangles.now in
     let i = c.loop-triangle.triangle-index in let t = tri_of (get_or ts i no_triangle) in let tris = map tri_of ts in
     let f = state_in size (tile_at c.args.tiles.now) in let before = c.loop-triangle.now in let now = c.in_ok-now.now in

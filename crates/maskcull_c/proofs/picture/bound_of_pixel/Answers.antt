@@ -10,9 +10,7 @@ bounds-tiles-number c = number_within c.args.size c.args.x c.args.y c.tile_colum
 
 pub returns-clause-value : goal.returns-clause-value
 returns-clause-value c =
-    let x = c.args.x in
-    let y = c.args.y in
-    let tiles = c.args.tiles.now in
+    let x = c.args.x in let y = c.args.y in let tiles = c.args.tiles.now in
     let columns = c.tile_columns.result in
     let n = y / 4 / 2 * columns + x / 8 / 4 in
     let j = 4 * (y / 4 % 2) + x / 8 % 4 in

@@ -26,20 +26,12 @@ no_triangle = record { a = 0; b = 0; c = 0 }
 pub put_pieces-at-requires : goal.put_pieces-at-requires
 unfolding no_triangle
 put_pieces-at-requires c =
-    let near = c.args.near in
-    let size = c.args.size in
-    let winding = c.args.winding in
-    let triangles = c.args.triangles.now in
-    let clips = map clip_of c.args.vertices.now in
-    let i = c.loop-triangle.triangle-index in
-    let v = c.clips_of-clips.result in
-    let e = c.clips_of-clips.ensures in
-    let ps = c.set_up-pieces.result in
+    let near = c.args.near in let size = c.args.size in let winding = c.args.winding in let triangles = c.args.triangles.now in
+    let clips = map clip_of c.args.vertices.now in let v = c.clips_of-clips.result in let e = c.clips_of-clips.ensures in let i = c.loop-triangle.triangle-index in let ps = c.set_up-pieces.result in
     let below : i < length triangles = c.loop-triangle-test.true in
-    let now = list_of_clips clips (take i (map tri_of triangles)) GRADE_TOP near size winding in
+    let both = length-append (list_of_clips clips (take i (map tri_of triangles)) GRADE_TOP near size winding) ps in
     let more = ap length (more_pieces clips triangles near size winding i no_triangle v ps below e.first e.second e.third c.set_up-pieces.ensures.value) in
     let most = most_pieces clips triangles near size winding (i + 1) (omega (arith, below)) in
-    let both = length-append now ps in
     let count = c.loop-triangle.invariant.count in
     let whole = c.loop-triangle.invariant.listed.whole in
     let room : 2 * length triangles ≤ length c.args.rooms.now = c.requires.room in
@@ -48,15 +40,8 @@ put_pieces-at-requires c =
 pub loop-triangle-preserved : goal.loop-triangle-preserved
 unfolding no_triangle
 loop-triangle-preserved c =
-    let near = c.args.near in
-    let size = c.args.size in
-    let winding = c.args.winding in
-    let triangles = c.args.triangles.now in
-    let clips = map clip_of c.args.vertices.now in
-    let i = c.loop-triangle.triangle-index in
-    let v = c.clips_of-clips.result in
-    let e = c.clips_of-clips.ensures in
-    let ps = c.set_up-pieces.result in
+    let near = c.args.near in let size = c.args.size in let winding = c.args.winding in let triangles = c.args.triangles.now in
+    let clips = map clip_of c.args.vertices.now in let v = c.clips_of-clips.result in let e = c.clips_of-clips.ensures in let i = c.loop-triangle.triangle-index in let ps = c.set_up-pieces.result in
     let now = list_of_clips clips (take i (map tri_of triangles)) GRADE_TOP near size winding in
     let more = more_pieces clips triangles near size winding i no_triangle v ps c.loop-triangle-test.true e.first e.second e.third c.set_up-pieces.ensures.value in
     let count = c.loop-triangle.invariant.count in
