@@ -12,6 +12,7 @@ mod live_verdicts;
 mod masks;
 mod meeting_run;
 mod objects;
+mod runs;
 mod scenes;
 mod waiting;
 mod windows;

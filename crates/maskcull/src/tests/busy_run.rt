@@ -1,14 +1,11 @@
 //! Runs that a gate holds up until others have come as far: binning, workers and looks go on side by side.
 use crate::failure::Status;
-use crate::run::run;
-use crate::tests::scenes::{Ended, FIRST, changed, run_with, words};
+use crate::tests::runs::{CULL, assert_ended, run_gated, run_with};
+use crate::tests::scenes::{changed, first_scene};
 use crate::tests::waiting::wait_for;
-use cull_base::{BytesSource, SureSink};
 use std::alloc::{AllocError, Global};
-use std::sync::Wait;
 use std::sync::atomic::{AtomicBool, Ordering};
 use std::test::*;
-use std::thread::Threads;
 use tile_queues::Gate;
 
 // Whether something came to pass in each of two bins.
@@ -144,78 +141,29 @@ impl Gate for LookingGate {
 
 // The first scene on a screen of two tiles, with the rectangle of the whole screen.
 fn wide_scene(alloc: Global) -> Result<Vec<u8>, AllocError> {
-    changed(alloc, &[(6, 64), (113, 64)])
+    Ok(changed(first_scene(alloc)?, &[(6, 64), (113, 64)]))
 }
 
-// What comes of a command on that scene, by two workers in two bins with batches of one piece.
-fn run_held<R: Threads + Wait + Sync, G: Gate>(
-    rt: &R,
-    alloc: Global,
-    given: &[&str],
-    gate: &G,
-) -> Result<Ended, AllocError> {
-    let mut input = BytesSource::new(wide_scene(alloc)?, 7, Vec::new(alloc));
-    let mut report = SureSink::new(alloc);
-    let mut notes = SureSink::new(alloc);
-    let words = words(alloc, given)?;
-    let status = run(rt, alloc, &words, &mut input, &mut report, &mut notes, gate);
-    Ok(Ended {
-        status,
-        report: Vec::from_slice(alloc, report.held())?,
-        notes: Vec::from_slice(alloc, notes.held())?,
-    })
-}
-
-// The report by one worker.
-fn plain_report<R: Threads + Wait + Sync>(rt: &R, alloc: Global) -> Result<Vec<u8>, AllocError> {
-    let ended = run_with(rt, alloc, &["maskcull", "cull"], wide_scene(alloc)?)?;
-    Ok(ended.report)
-}
-
-const LIVE: [&str; 10] = [
-    "maskcull",
-    "live",
-    "--workers",
-    "2",
-    "--bins-x",
-    "2",
-    "--batch",
-    "1",
-    "--rounds",
-    "3",
-];
-
-const CULL: [&str; 8] = [
-    "maskcull",
-    "cull",
-    "--workers",
-    "2",
-    "--bins-x",
-    "2",
-    "--batch",
-    "1",
-];
-
+// Both commands run by two workers in two bins with batches of one piece.
 #[test]
 fn busy_run(rt: HostRuntime) -> Result<(), Fail> {
     let alloc = rt.alloc();
     let gate = LookingGate::new();
-    let ended = run_held(&rt, alloc, &LIVE, &gate)?;
+    let line = "maskcull live --workers 2 --bins-x 2 --batch 1 --rounds 3";
+    let ended = run_gated(&rt, alloc, line, wide_scene(alloc)?, &gate)?;
     assert!(rt; !gate.drawing.is_late());
-    assert_eq!(rt; ended.status, Status::Done);
-    let notes = str::from_utf8(ended.notes.as_slice()).map_err(|_| Fail::from("a text"))?;
+    let notes = ended.notes.as_str();
     assert_eq!(rt; notes.lines().nth(1), Some("live 0 1 0 visible 0:1 1:1"));
-    assert_eq!(rt;
-        ended.report.as_slice(),
-        plain_report(&rt, alloc)?.as_slice()
-    );
+    let plain = run_with(&rt, alloc, CULL, wide_scene(alloc)?)?;
+    assert_ended(&rt, &ended, Status::Done, plain.report.as_str(), notes);
     Ok(())
 }
 
 #[test]
 fn busy_run_without_looks(rt: HostRuntime) -> Result<(), Fail> {
-    let gate = DrawingGate::new();
-    let ended = run_held(&rt, rt.alloc(), &CULL, &gate)?;
+    let (gate, bytes) = (DrawingGate::new(), wide_scene(rt.alloc())?);
+    let line = "maskcull cull --workers 2 --bins-x 2 --batch 1";
+    let ended = run_gated(&rt, rt.alloc(), line, bytes, &gate)?;
     assert!(rt; gate.was_asked());
     assert!(rt; !gate.is_late());
     assert_eq!(rt; ended.status, Status::Done);

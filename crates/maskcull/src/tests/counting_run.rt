@@ -3,11 +3,9 @@ ghost use Rattle.std.specs.Prelude.{◌<◌, length};
 
 use crate::failure::Status;
 use crate::frames::pieces_of;
-use crate::run::run;
 use crate::tests::frame_tools::clips_of;
-use crate::tests::scenes::{run_with, words};
+use crate::tests::runs::{assert_ended, run_gated, run_with};
 use binning::{Cut, bin_batch};
-use cull_base::{BytesSource, SureSink};
 use demo_scene::demo_scene;
 use scene_reader::Scene;
 use std::alloc::{AllocError, Global};
@@ -128,82 +126,39 @@ fn are_counted(counts: &[AtomicU32], frames: &[Vec<usize>], bin: usize) -> bool 
     true
 }
 
-// The summary of the scene with the gate, by eight workers in sixteen bins.
-fn counted_summary<R: Threads + Wait + Sync>(
-    rt: &R,
-    alloc: Global,
-    given: &[&str],
-    gate: &CountingGate,
-) -> Result<(Status, Vec<u8>), AllocError> {
-    let mut input = BytesSource::new(Vec::new(alloc), 7, Vec::new(alloc));
-    let mut report = SureSink::new(alloc);
-    let mut notes = SureSink::new(alloc);
-    let words = words(alloc, given)?;
-    let status = run(rt, alloc, &words, &mut input, &mut report, &mut notes, gate);
-    Ok((status, Vec::from_slice(alloc, report.held())?))
-}
-
-const ONE: [&str; 6] = ["maskcull", "demo", "--seed", "1", "--triangles", "20000"];
-
-const MANY: [&str; 12] = [
-    "maskcull",
-    "demo",
-    "--seed",
-    "1",
-    "--triangles",
-    "20000",
-    "--workers",
-    "8",
-    "--bins-x",
-    "4",
-    "--bins-y",
-    "4",
-];
-
-// The same through cells.
-const EARLY: [&str; 13] = [
-    "maskcull",
-    "demo",
-    "--early",
-    "--seed",
-    "1",
-    "--triangles",
-    "20000",
-    "--workers",
-    "8",
-    "--bins-x",
-    "4",
-    "--bins-y",
-    "4",
-];
-
-// Each bin draws each piece that meets it, once in each frame, and the summary is that of one worker in one bin.
+// Each bin of a cut draws each piece that meets it, once in each frame, and the summary is that of one worker in one bin.
 fn assert_counted<R: Threads + Wait + Sync + Abort>(
     rt: &R,
     alloc: Global,
-    given: &[&str],
+    line: &str,
 ) -> Result<(), Fail> {
     let cut = Cut::new(4, 4).ok_or("a cut")?;
     let frames = numbers_of_frames(rt, alloc, &cut)?;
     let gate = gate_for(alloc, 16, most_of(&frames))?;
-    let (status, summary) = counted_summary(rt, alloc, given, &gate)?;
-    assert_eq!(rt; status, Status::Done);
+    let ended = run_gated(rt, alloc, line, Vec::new(alloc), &gate)?;
     assert_eq!(rt; frames.len(), 4);
     assert!(rt; !gate.beyond.load(Ordering::SeqCst));
     for bin in 0..gate.calls.len() {
         assert!(rt; are_counted(&gate.calls[bin], &frames, bin));
     }
-    let plain = run_with(rt, alloc, &ONE, Vec::new(alloc))?;
-    assert_eq!(rt; summary.as_slice(), plain.report.as_slice());
+    let plain = run_with(
+        rt,
+        alloc,
+        "maskcull demo --seed 1 --triangles 20000",
+        Vec::new(alloc),
+    )?;
+    assert_ended(rt, &ended, Status::Done, plain.report.as_str(), "");
     Ok(())
 }
 
 #[test]
 fn counting_run(rt: HostRuntime) -> Result<(), Fail> {
-    assert_counted(&rt, rt.alloc(), &MANY)
+    let line = "maskcull demo --seed 1 --triangles 20000 --workers 8 --bins-x 4 --bins-y 4";
+    assert_counted(&rt, rt.alloc(), line)
 }
 
 #[test]
 fn counting_run_through_cells(rt: HostRuntime) -> Result<(), Fail> {
-    assert_counted(&rt, rt.alloc(), &EARLY)
+    let line = "maskcull demo --early --seed 1 --triangles 20000 --workers 8 --bins-x 4 --bins-y 4";
+    assert_counted(&rt, rt.alloc(), line)
 }

@@ -1,6 +1,5 @@
 //! A frame that is held up until its tiles were read: its caller runs while it is drawn.
-ghost use Rattle.std.specs.Prelude.{◌≡◌, ◌≤◌, length};
-ghost use Rattle.binning.specs.Parts.{batch_count_of};
+ghost use Rattle.std.specs.Prelude.{◌≡◌, ◌≤◌};
 ghost use Rattle.cull_base.specs.Screen.{screen_of};
 ghost use Rattle.masked_update.specs.Views.{HoldsMet};
 ghost use Rattle.tile_cells.specs.Snapshots.{is_held};
@@ -8,7 +7,7 @@ ghost use Rattle.tile_queues.specs.Callers.{Follows};
 
 use crate::frames::pieces_of;
 use crate::tests::frame_tools::{clips_of, scene_from};
-use crate::tests::scenes::FIRST;
+use crate::tests::scenes::first_scene;
 use crate::tests::waiting::wait_for;
 use binning::{Cut, batch_size};
 use cull_base::{FrameList, Memory, Verdict};
@@ -109,16 +108,14 @@ fn drawn_in_cells<R: Threads + Wait + Sync, G: Gate, C: Caller>(
     list: &FrameList,
     cut: &Cut,
     workers: u32,
-    batch: u32,
     gate: &G,
     caller: &mut C,
 ) -> Result<Vec<TileState>, Memory>
     requires some { 1 ≤ workers }
     requires workers { workers ≤ 64 }
-    requires batch { 1 ≤ batch }
-    requires few { batch_count_of (length list.now.list.members) batch ≤ 2048 }
     requires ready { C.ready caller.old list.now.list }
 {
+    let batch = batch_size(list.len(), 1);
     let (cells, writers, mut readers) = TileCells::make(rt, alloc, list, 1)?;
     let reader = &mut readers[0];
     let writers = draw_frame(
@@ -140,7 +137,7 @@ fn are_alike(tiles: &[TileState], others: &[TileState]) -> bool {
 
 // The two pieces of the first scene's frame.
 fn first_list<R: Threads + Wait + Sync>(rt: &R, alloc: Global) -> Result<FrameList, Fail> {
-    let scene = scene_from(alloc, Vec::from_slice(alloc, &FIRST)?)?;
+    let scene = scene_from(alloc, first_scene(alloc)?)?;
     if scene.cameras().len() == 0 {
         return Err(Fail::from("a frame"));
     }
@@ -162,8 +159,7 @@ fn assert_held<R: Threads + Wait + Sync + Abort>(
     let list = first_list(rt, alloc)?;
     assert_eq!(rt; list.len(), 2);
     let cut = Cut::new(bins, 1).ok_or("a cut")?;
-    let batch = batch_size(list.len(), 1);
-    assert_eq!(rt; batch, 1);
+    assert_eq!(rt; batch_size(list.len(), 1), 1);
     let gate = HoldingGate {
         seen: AtomicBool::new(false),
         freed: AtomicBool::new(false),
@@ -173,7 +169,7 @@ fn assert_held<R: Threads + Wait + Sync + Abort>(
         snapshot: Snapshot::with_room(alloc, list.size())?,
         visible: false,
     };
-    let held = drawn_in_cells(rt, alloc, &list, &cut, workers, batch, &gate, &mut watcher)?;
+    let held = drawn_in_cells(rt, alloc, &list, &cut, workers, &gate, &mut watcher)?;
     let states = draw_plain(alloc, &list)?;
     assert!(rt; gate.freed.load(Ordering::SeqCst));
     assert!(rt; watcher.visible);

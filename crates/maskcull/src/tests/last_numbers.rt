@@ -1,7 +1,6 @@
 //! Scenes of the greatest numbers that there are, and of none.
-use crate::tests::scenes::{
-    FIRST, OCCLUDED, QUAD, TWO, UNDRAWN, WHOLE, assert_reports, scene, scene_of,
-};
+use crate::tests::runs::assert_reports;
+use crate::tests::scenes::{OCCLUDED, QUAD, TWO, UNDRAWN, WHOLE, first_bytes, scene, scene_of};
 use std::test::*;
 
 const LAST: i32 = 16_777_216;
@@ -10,7 +9,7 @@ const LAST: i32 = 16_777_216;
 #[test]
 fn a_camera_of_the_last_numbers_draws_nothing(rt: HostRuntime) -> Result<(), Fail> {
     let alloc = rt.alloc();
-    let mut bytes = Vec::from_slice(alloc, &FIRST[..129])?;
+    let mut bytes = first_bytes(alloc, 129)?;
     for _ in 0..12 {
         bytes.extend_from_slice(&LAST.to_le_bytes())?;
     }
@@ -21,7 +20,7 @@ fn a_camera_of_the_last_numbers_draws_nothing(rt: HostRuntime) -> Result<(), Fai
 #[test]
 fn a_rectangle_of_the_last_numbers_is_hidden(rt: HostRuntime) -> Result<(), Fail> {
     let alloc = rt.alloc();
-    let bytes = scene(alloc, 0, &QUAD, &TWO, &[[-LAST, -LAST, LAST, LAST, LAST]])?;
+    let bytes = scene(alloc, &QUAD, &TWO, &[[-LAST, -LAST, LAST, LAST, LAST]])?;
     assert_reports(&rt, alloc, bytes, OCCLUDED)
 }
 
@@ -30,7 +29,7 @@ fn a_mesh_without_triangles_is_outside(rt: HostRuntime) -> Result<(), Fail> {
     let alloc = rt.alloc();
     let [x0, y0, x1, y1, w] = WHOLE;
     let objects = [(0, [x0, y0, x1, y1, w, 0]), (2, [0; 6])];
-    let bytes = scene_of(alloc, 0, &QUAD, &TWO, &[], &objects)?;
+    let bytes = scene_of(alloc, &QUAD, &TWO, &[], &objects)?;
     let text = concat!(
         "msoc-report 1 32 8 1 2\n",
         "frame 0 pieces 2\n0 occluded\n1 outside\nend 0 visible 0 occluded 1 outside 1\n",

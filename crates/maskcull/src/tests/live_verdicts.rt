@@ -5,10 +5,10 @@ ghost use Rattle.cull_report.specs.Scene.{size_of, frame_clips};
 
 use crate::failure::Status;
 use crate::frames::pieces_of;
-use crate::run::run;
 use crate::tests::frame_tools::{clips_of, scene_from};
-use crate::tests::scenes::{scene_of, seen_twice, words};
-use cull_base::{BytesSource, ClipVertex, FrameList, SureSink, Verdict};
+use crate::tests::runs::run_gated;
+use crate::tests::scenes::{changed, scene_of, seen_from};
+use cull_base::{ClipVertex, FrameList, Verdict};
 use cull_report::verdicts;
 use masked_update::{PlainView, TileState};
 use scene_reader::Scene;
@@ -152,22 +152,7 @@ fn verdict_after<R: Threads + Wait + Sync>(
     }
 }
 
-// Whether a line's verdict is that of the tiles after the members that it states.
-fn is_right<R: Threads + Wait + Sync>(
-    rt: &R,
-    alloc: Global,
-    scene: &Scene,
-    line: &str,
-) -> Result<bool, Fail> {
-    let told = read_line(alloc, line)?;
-    if told.frame as usize >= scene.cameras().len() {
-        return Ok(false);
-    }
-    let verdict = verdict_after(rt, alloc, scene, told.frame, told.object, &told.fronts)?;
-    Ok(verdict == told.verdict)
-}
-
-// How many lines there are, each of which is right.
+// How many lines there are, of which each has the verdict of the tiles after the members that it states.
 fn count_right<R: Threads + Wait + Sync>(
     rt: &R,
     alloc: Global,
@@ -176,7 +161,12 @@ fn count_right<R: Threads + Wait + Sync>(
 ) -> Result<u32, Fail> {
     let mut right = 0u32;
     for line in notes.lines() {
-        if !is_right(rt, alloc, scene, line)? {
+        let told = read_line(alloc, line)?;
+        if told.frame as usize >= scene.cameras().len() {
+            return Err(Fail::from("a frame of the scene"));
+        }
+        let verdict = verdict_after(rt, alloc, scene, told.frame, told.object, &told.fronts)?;
+        if verdict != told.verdict {
             return Err(Fail::from("another verdict than the stated members give"));
         }
         right = right.saturating_add(1);
@@ -209,12 +199,8 @@ fn wide_scene(alloc: Global) -> Result<Vec<u8>, AllocError> {
         (1, [-1, -1, 3, 1, 1, 6]),
         (2, [0, 1, 0, 0, 0, 0]),
     ];
-    let mut bytes = scene_of(alloc, 0, &vertices, &triangles, &[[11, 12, 13]], &objects)?;
-    if bytes.len() > 8 {
-        bytes[6] = 64;
-        bytes[8] = 16;
-    }
-    seen_twice(bytes)
+    let bytes = scene_of(alloc, &vertices, &triangles, &[[11, 12, 13]], &objects)?;
+    seen_from(changed(bytes, &[(6, 64), (8, 16)]), 2, 2)
 }
 
 // Keeps drawing and looking in step, so that tiles are looked at between members: each waits a while for the other.
@@ -251,39 +237,13 @@ fn each_verdict_is_that_of_the_stated_members(rt: HostRuntime) -> Result<(), Fai
     let alloc = rt.alloc();
     let bytes = wide_scene(alloc)?;
     let scene = scene_from(alloc, bytes.clone()?)?;
-    let mut input = BytesSource::new(bytes, 64, Vec::new(alloc));
-    let mut report = SureSink::new(alloc);
-    let mut notes = SureSink::new(alloc);
-    let given = [
-        "maskcull",
-        "live",
-        "--rounds",
-        "3",
-        "--watch",
-        "3",
-        "--workers",
-        "2",
-        "--bins-x",
-        "2",
-        "--batch",
-        "1",
-    ];
-    let words = words(alloc, &given)?;
     let gate = InStep {
         members: AtomicU32::new(0),
         looks: AtomicU32::new(0),
     };
-    let status = run(
-        &rt,
-        alloc,
-        &words,
-        &mut input,
-        &mut report,
-        &mut notes,
-        &gate,
-    );
-    assert_eq!(rt; status, Status::Done);
-    let text = str::from_utf8(notes.held()).map_err(|_| Fail::from("a text"))?;
-    assert_eq!(rt; count_right(&rt, alloc, &scene, text)?, 18);
+    let line = "maskcull live --rounds 3 --watch 3 --workers 2 --bins-x 2 --batch 1";
+    let ended = run_gated(&rt, alloc, line, bytes, &gate)?;
+    assert_eq!(rt; ended.status, Status::Done);
+    assert_eq!(rt; count_right(&rt, alloc, &scene, ended.notes.as_str())?, 18);
     Ok(())
 }

@@ -1,10 +1,8 @@
 //! Runs in which sixty-four threads draw at once: a gate holds each bin up at its first piece until all have come so far.
-use crate::run::run;
-use crate::tests::scenes::{WHOLE, scene, words};
-use cull_base::{BytesSource, SureSink};
+use crate::failure::Status;
+use crate::tests::runs::{assert_ended, run_gated};
+use crate::tests::scenes::{changed, scene};
 use std::alloc::{AllocError, Global};
-use std::process::Abort;
-use std::sync::Wait;
 use std::sync::atomic::{AtomicBool, AtomicU32, Ordering};
 use std::test::*;
 use std::thread::{Threads, yield_now};
@@ -51,15 +49,9 @@ impl Gate for MeetingGate {
 // A screen of 8 by 8 tiles, over all of which a triangle lies so many times, and the rectangle of the whole screen.
 fn covered_scene(alloc: Global) -> Result<Vec<u8>, AllocError> {
     let vertices = [[-2, 2, 2], [6, 2, 2], [-2, -6, 2]];
-    let [x0, y0, _, _, w] = WHOLE;
-    let whole = [x0, y0, 256, 64, w];
-    let mut bytes = scene(alloc, 0, &vertices, &[[0, 1, 2]; PIECES], &[whole])?;
-    for (place, byte) in [(6, 0), (7, 1), (8, 64)] {
-        if place < bytes.len() {
-            bytes[place] = byte;
-        }
-    }
-    Ok(bytes)
+    let whole = [[0, 0, 256, 64, 3]];
+    let bytes = scene(alloc, &vertices, &[[0, 1, 2]; PIECES], &whole)?;
+    Ok(changed(bytes, &[(6, 0), (7, 1), (8, 64)]))
 }
 
 const REPORT: &str = "msoc-report 1 256 64 1 1
@@ -68,59 +60,21 @@ frame 0 pieces 64
 end 0 visible 0 occluded 1 outside 0
 ";
 
-// The words have sixty-four workers meet, and make the whole report.
-fn assert_met<R: Threads + Wait + Sync + Abort>(
-    rt: &R,
-    alloc: Global,
-    given: &[&str],
-) -> Result<(), Fail> {
-    let gate = MeetingGate {
-        come: AtomicU32::new(0),
-        late: AtomicBool::new(false),
-    };
-    let mut input = BytesSource::new(covered_scene(alloc)?, 4096, Vec::new(alloc));
-    let mut report = SureSink::new(alloc);
-    let mut notes = SureSink::new(alloc);
-    let words = words(alloc, given)?;
-    let status = run(
-        rt,
-        alloc,
-        &words,
-        &mut input,
-        &mut report,
-        &mut notes,
-        &gate,
-    );
-    assert_eq!(rt; gate.come.load(Ordering::SeqCst), BINS);
-    assert!(rt; !gate.late.load(Ordering::SeqCst));
-    assert_eq!(rt; report.held(), REPORT.as_bytes());
-    assert_eq!(rt; status.code(), 0);
-    Ok(())
-}
-
+// Sixty-four workers meet over plain tiles and over cells, and the report is whole.
 #[test]
 fn sixty_four_threads_draw_at_once(rt: HostRuntime) -> Result<(), Fail> {
-    let given = [
-        "maskcull",
-        "cull",
-        "--workers=64",
-        "--bins-x=8",
-        "--bins-y=8",
-        "--batch=1",
-    ];
-    assert_met(&rt, rt.alloc(), &given)
-}
-
-#[test]
-fn sixty_four_threads_draw_through_cells_at_once(rt: HostRuntime) -> Result<(), Fail> {
-    let given = [
-        "maskcull",
-        "cull",
-        "--early",
-        "--workers=64",
-        "--bins-x=8",
-        "--bins-y=8",
-        "--batch=1",
-    ];
-    assert_met(&rt, rt.alloc(), &given)
+    for line in [
+        "maskcull cull --workers=64 --bins-x=8 --bins-y=8 --batch=1",
+        "maskcull cull --early --workers=64 --bins-x=8 --bins-y=8 --batch=1",
+    ] {
+        let gate = MeetingGate {
+            come: AtomicU32::new(0),
+            late: AtomicBool::new(false),
+        };
+        let ended = run_gated(&rt, rt.alloc(), line, covered_scene(rt.alloc())?, &gate)?;
+        assert_eq!(rt; gate.come.load(Ordering::SeqCst), BINS);
+        assert!(rt; !gate.late.load(Ordering::SeqCst));
+        assert_ended(&rt, &ended, Status::Done, REPORT, "");
+    }
+    Ok(())
 }

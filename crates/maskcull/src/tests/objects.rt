@@ -1,37 +1,37 @@
 //! Rectangles, boxes and meshes, and their verdicts.
-use crate::tests::scenes::{QUAD, TWO, VISIBLE, assert_reports, scene, scene_of, seen_twice};
+use crate::tests::runs::assert_reports;
+use crate::tests::scenes::{QUAD, TWO, VISIBLE, scene, scene_of, seen_from};
 use std::test::*;
 
+// There are none; two without a pixel in the screen; one beside the screen, one over it and one without a pixel, which
+// all are before the near distance.
 #[test]
-fn no_objects_have_no_lines(rt: HostRuntime) -> Result<(), Fail> {
-    let text = "msoc-report 1 32 8 1 0\nframe 0 pieces 2\nend 0 visible 0 occluded 0 outside 0\n";
-    let alloc = rt.alloc();
-    let bytes = scene(alloc, 0, &QUAD, &TWO, &[])?;
-    assert_reports(&rt, alloc, bytes, text)
-}
-
-#[test]
-fn rectangles_without_a_pixel_in_the_screen_are_outside(rt: HostRuntime) -> Result<(), Fail> {
-    let rectangles = [[5, 0, 5, 8, 3], [32, 0, 40, 8, 3]];
-    let text = concat!(
-        "msoc-report 1 32 8 1 2\n",
-        "frame 0 pieces 2\n0 outside\n1 outside\nend 0 visible 0 occluded 0 outside 2\n",
-    );
-    let alloc = rt.alloc();
-    let bytes = scene(alloc, 0, &QUAD, &TWO, &rectangles)?;
-    assert_reports(&rt, alloc, bytes, text)
-}
-
-#[test]
-fn rectangles_before_the_near_distance_are_visible(rt: HostRuntime) -> Result<(), Fail> {
-    let rectangles = [[40, 0, 48, 8, -1], [0, 0, 8, 8, -1], [4, 4, 4, 4, 0]];
-    let text = concat!(
-        "msoc-report 1 32 8 1 3\n",
-        "frame 0 pieces 2\n0 outside\n1 visible\n2 outside\nend 0 visible 1 occluded 0 outside 2\n",
-    );
-    let alloc = rt.alloc();
-    let bytes = scene(alloc, 0, &QUAD, &TWO, &rectangles)?;
-    assert_reports(&rt, alloc, bytes, text)
+fn rectangles_are_outside_or_before_the_near_distance(rt: HostRuntime) -> Result<(), Fail> {
+    let before = [[40, 0, 48, 8, -1], [0, 0, 8, 8, -1], [4, 4, 4, 4, 0]];
+    for (rectangles, text) in [
+        (
+            [].as_slice(),
+            "msoc-report 1 32 8 1 0\nframe 0 pieces 2\nend 0 visible 0 occluded 0 outside 0\n",
+        ),
+        (
+            &[[5, 0, 5, 8, 3], [32, 0, 40, 8, 3]],
+            concat!(
+                "msoc-report 1 32 8 1 2\n",
+                "frame 0 pieces 2\n0 outside\n1 outside\nend 0 visible 0 occluded 0 outside 2\n",
+            ),
+        ),
+        (
+            &before,
+            concat!(
+                "msoc-report 1 32 8 1 3\nframe 0 pieces 2\n0 outside\n1 visible\n2 outside\n",
+                "end 0 visible 1 occluded 0 outside 2\n",
+            ),
+        ),
+    ] {
+        let bytes = scene(rt.alloc(), &QUAD, &TWO, rectangles)?;
+        assert_reports(&rt, rt.alloc(), bytes, text)?;
+    }
+    Ok(())
 }
 
 // The first box stands at the rectangle (10, 2, 22, 6) with the nearness 21845. The second is before the near distance
@@ -41,6 +41,11 @@ fn rectangles_before_the_near_distance_are_visible(rt: HostRuntime) -> Result<()
 fn boxes_are_hidden_by_their_rectangles(rt: HostRuntime) -> Result<(), Fail> {
     let alloc = rt.alloc();
     let far = 0x100_0000;
+    let text = concat!(
+        "msoc-report 1 32 8 1 6\n",
+        "frame 0 pieces 2\n0 occluded\n1 visible\n2 outside\n3 outside\n4 visible\n5 outside\n",
+        "end 0 visible 2 occluded 1 outside 3\n",
+    );
     let boxes = [
         (1, [-1, -1, 3, 1, 1, 6]),
         (1, [0, 0, 0, 1, 1, 5]),
@@ -49,12 +54,7 @@ fn boxes_are_hidden_by_their_rectangles(rt: HostRuntime) -> Result<(), Fail> {
         (1, [16385, 0, 5, 16385, 1, 6]),
         (1, [40, 0, 5, 41, 1, 6]),
     ];
-    let text = concat!(
-        "msoc-report 1 32 8 1 6\n",
-        "frame 0 pieces 2\n0 occluded\n1 visible\n2 outside\n3 outside\n4 visible\n5 outside\n",
-        "end 0 visible 2 occluded 1 outside 3\n",
-    );
-    let bytes = scene_of(alloc, 0, &QUAD, &TWO, &[], &boxes)?;
+    let bytes = scene_of(alloc, &QUAD, &TWO, &[], &boxes)?;
     assert_reports(&rt, alloc, bytes, text)
 }
 
@@ -66,13 +66,13 @@ fn boxes_and_meshes_move_with_the_camera(rt: HostRuntime) -> Result<(), Fail> {
     let mut vertices = Vec::from_slice(alloc, &QUAD)?;
     vertices.extend_from_slice(&[[-3, 3, 3], [3, 3, 3], [3, -3, 3]])?;
     let objects = [(1, [-1, -1, 3, 1, 1, 6]), (2, [0, 1, 0, 0, 0, 0])];
-    let bytes = scene_of(alloc, 0, &vertices, &TWO, &[[4, 5, 6]], &objects)?;
+    let bytes = scene_of(alloc, &vertices, &TWO, &[[4, 5, 6]], &objects)?;
     let text = concat!(
         "msoc-report 1 32 8 2 2\n",
         "frame 0 pieces 2\n0 occluded\n1 occluded\nend 0 visible 0 occluded 2 outside 0\n",
         "frame 1 pieces 2\n0 occluded\n1 visible\nend 1 visible 1 occluded 1 outside 0\n",
     );
-    assert_reports(&rt, alloc, seen_twice(bytes)?, text)
+    assert_reports(&rt, alloc, seen_from(bytes, 2, 2)?, text)
 }
 
 // The first mesh is behind the quad, the second past the guard, the third between all samples, the fourth beside the
@@ -107,7 +107,7 @@ fn meshes_are_hidden_by_their_pieces(rt: HostRuntime) -> Result<(), Fail> {
         "frame 0 pieces 2\n0 occluded\n1 visible\n2 visible\n3 outside\n4 outside\n5 outside\n",
         "6 outside\nend 0 visible 2 occluded 1 outside 4\n",
     );
-    let bytes = scene_of(alloc, 0, &vertices, &TWO, &triangles, &meshes)?;
+    let bytes = scene_of(alloc, &vertices, &TWO, &triangles, &meshes)?;
     assert_reports(&rt, alloc, bytes, text)
 }
 
@@ -116,6 +116,6 @@ fn a_mesh_at_the_quad_is_visible(rt: HostRuntime) -> Result<(), Fail> {
     let alloc = rt.alloc();
     let quad = [[-3, 3, 3], [3, 3, 3], [3, -3, 3], [-3, -3, 3]];
     let mesh = [(2, [0, 1, 0, 0, 0, 0])];
-    let bytes = scene_of(alloc, 0, &quad, &TWO, &[[0, 1, 2]], &mesh)?;
+    let bytes = scene_of(alloc, &quad, &TWO, &[[0, 1, 2]], &mesh)?;
     assert_reports(&rt, alloc, bytes, VISIBLE)
 }

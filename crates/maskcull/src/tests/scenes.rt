@@ -1,13 +1,5 @@
-//! Scenes in bytes, and what comes of running a command on them.
-use crate::failure::Status;
-use crate::run::run;
-use cull_base::{BytesSource, SureSink};
+//! Scenes in bytes, and reports of the smallest.
 use std::alloc::{AllocError, Global};
-use std::process::Abort;
-use std::sync::Wait;
-use std::test::*;
-use std::thread::Threads;
-use tile_queues::OpenGate;
 
 /// The first scene: a screen of 32 by 8, a quad at distance 2 and the rectangle of the whole screen at distance 3.
 pub const FIRST: [u8; 177] = [
@@ -40,25 +32,17 @@ pub const TWO: [[u32; 3]; 2] = [[0, 1, 2], [0, 2, 3]];
 
 pub const WHOLE: [i32; 5] = [0, 0, 32, 8, 3];
 
-#[derive(Drop)]
-pub struct Ended {
-    pub status: Status,
-    pub report: Vec<u8>,
-    pub notes: Vec<u8>,
-}
-
-/// The bytes of a scene of one frame through the identity camera, on a screen of 32 by 8. An object is its kind and six
-/// numbers.
+/// The bytes of a scene of one frame through the identity camera, on a screen of 32 by 8, with both windings drawn. An
+/// object is its kind and six numbers.
 pub fn scene_of(
     alloc: Global,
-    winding: u8,
     vertices: &[[i32; 3]],
     triangles: &[[u32; 3]],
     object_triangles: &[[u32; 3]],
     objects: &[(u8, [i32; 6])],
 ) -> Result<Vec<u8>, AllocError> {
     let mut bytes = Vec::from_slice(alloc, b"MSOC")?;
-    bytes.extend_from_slice(&[1, 0, 32, 0, 8, 0, 1, 0, winding, 0, 1, 0])?;
+    bytes.extend_from_slice(&[1, 0, 32, 0, 8, 0, 1, 0, 0, 0, 1, 0])?;
     let meshes = object_triangles.len();
     for count in [vertices.len(), triangles.len(), meshes, objects.len()] {
         bytes.extend_from_slice(&[(count % 256) as u8, 0, 0, 0])?;
@@ -88,7 +72,6 @@ pub fn scene_of(
 /// The same with rectangles as objects.
 pub fn scene(
     alloc: Global,
-    winding: u8,
     vertices: &[[i32; 3]],
     triangles: &[[u32; 3]],
     rectangles: &[[i32; 5]],
@@ -97,112 +80,41 @@ pub fn scene(
     for [x0, y0, x1, y1, w] in rectangles {
         objects.push((0, [*x0, *y0, *x1, *y1, *w, 0]))?;
     }
-    scene_of(alloc, winding, vertices, triangles, &[], &objects)
+    scene_of(alloc, vertices, triangles, &[], &objects)
 }
 
-pub fn words(alloc: Global, words: &[&str]) -> Result<Vec<String>, AllocError> {
-    let mut all = Vec::new(alloc);
-    for word in words {
-        all.push(String::from_str(alloc, word)?)?;
-    }
-    Ok(all)
+/// The first so many bytes of the first scene, all where it has no more.
+pub fn first_bytes(alloc: Global, count: usize) -> Result<Vec<u8>, AllocError> {
+    Vec::from_slice(alloc, &FIRST[..count.min(FIRST.len())])
 }
 
-/// What comes of some words with these bytes, in pieces of at most seven.
-pub fn run_with<R: Threads + Wait + Sync>(
-    rt: &R,
-    alloc: Global,
-    given: &[&str],
-    bytes: Vec<u8>,
-) -> Result<Ended, AllocError> {
-    let mut input = BytesSource::new(bytes, 7, Vec::new(alloc));
-    let mut report = SureSink::new(alloc);
-    let mut notes = SureSink::new(alloc);
-    let words = words(alloc, given)?;
-    let status = run(
-        rt,
-        alloc,
-        &words,
-        &mut input,
-        &mut report,
-        &mut notes,
-        &OpenGate,
-    );
-    Ok(Ended {
-        status,
-        report: Vec::from_slice(alloc, report.held())?,
-        notes: Vec::from_slice(alloc, notes.held())?,
-    })
+pub fn first_scene(alloc: Global) -> Result<Vec<u8>, AllocError> {
+    first_bytes(alloc, FIRST.len())
 }
 
-/// What comes of the words `maskcull cull`.
-pub fn culled<R: Threads + Wait + Sync>(
-    rt: &R,
-    alloc: Global,
-    bytes: Vec<u8>,
-) -> Result<Ended, AllocError> {
-    run_with(rt, alloc, &["maskcull", "cull"], bytes)
-}
-
-/// The first scene with the byte at a place changed.
-pub fn changed(alloc: Global, changes: &[(usize, u8)]) -> Result<Vec<u8>, AllocError> {
-    let mut bytes = Vec::from_slice(alloc, &FIRST)?;
+/// Some bytes with those at these places changed.
+pub fn changed(mut bytes: Vec<u8>, changes: &[(usize, u8)]) -> Vec<u8> {
     for (place, byte) in changes {
         if *place < bytes.len() {
             bytes[*place] = *byte;
         }
     }
-    Ok(bytes)
+    bytes
 }
 
-pub fn assert_reports<R: Threads + Wait + Sync + Abort>(
-    rt: &R,
-    alloc: Global,
-    bytes: Vec<u8>,
-    text: &str,
-) -> Result<(), Fail> {
-    let ended = culled(rt, alloc, bytes)?;
-    assert_eq!(rt; ended.report.as_slice(), text.as_bytes());
-    assert_eq!(rt; ended.status, Status::Done);
-    assert_eq!(rt; ended.notes.len(), 0);
-    Ok(())
-}
-
-pub fn assert_refused<R: Threads + Wait + Sync + Abort>(
-    rt: &R,
-    alloc: Global,
-    bytes: Vec<u8>,
-    note: &str,
-) -> Result<(), Fail> {
-    let ended = culled(rt, alloc, bytes)?;
-    assert_eq!(rt; ended.notes.as_slice(), note.as_bytes());
-    assert_eq!(rt; ended.status, Status::Scene);
-    assert_eq!(rt; ended.report.len(), 0);
-    Ok(())
-}
-
-/// The scene of some bytes with a second camera, which stands two further away.
-pub fn seen_twice(mut bytes: Vec<u8>) -> Result<Vec<u8>, AllocError> {
-    bytes.extend_from_slice(&FIRST[129..])?;
-    let last = bytes.len() - 4;
-    bytes[14] = 2;
-    bytes[last] = 2;
-    Ok(bytes)
-}
-
-/// The scene of some bytes with so many cameras, each of which stands one further away than the one before.
-pub fn seen_from(mut bytes: Vec<u8>, frames: u8) -> Result<Vec<u8>, AllocError> {
+/// The scene of some bytes through so many cameras, each of which stands so much further away than the one before.
+pub fn seen_from(mut bytes: Vec<u8>, frames: u8, step: u8) -> Result<Vec<u8>, AllocError> {
     for frame in 1..frames {
         bytes.extend_from_slice(&FIRST[129..])?;
         let last = bytes.len() - 4;
         bytes[14] = frame + 1;
-        bytes[last] = frame;
+        bytes[last] = frame.saturating_mul(step);
     }
     Ok(bytes)
 }
 
-/// The quad with two rectangles behind it.
+/// The quad with two rectangles behind it, through a camera and one that stands two further away.
 pub fn two_frames(alloc: Global) -> Result<Vec<u8>, AllocError> {
     let rectangles = [WHOLE, [8, 2, 24, 6, 5]];
-    seen_twice(scene(alloc, 0, &QUAD, &TWO, &rectangles)?)
+    seen_from(scene(alloc, &QUAD, &TWO, &rectangles)?, 2, 2)
 }

@@ -1,9 +1,8 @@
 //! Frames side by side: what is written of them, and that they are drawn at once.
 use crate::failure::Status;
-use crate::run::run;
-use crate::tests::scenes::{QUAD, TWO, culled, run_with, scene, seen_from, two_frames, words};
+use crate::tests::runs::{CULL, assert_ended, run_gated, run_with};
+use crate::tests::scenes::{QUAD, TWO, scene, seen_from, two_frames};
 use crate::tests::waiting::wait_for;
-use cull_base::{BytesSource, SureSink};
 use std::alloc::{AllocError, Global};
 use std::sync::atomic::{AtomicBool, AtomicU32, Ordering};
 use std::test::*;
@@ -29,8 +28,6 @@ impl Gate for MeetingGate {
     }
 }
 
-const BY_TWO: [&str; 4] = ["maskcull", "cull", "--workers", "2"];
-
 #[test]
 fn two_frames_are_drawn_at_once(rt: HostRuntime) -> Result<(), Fail> {
     let alloc = rt.alloc();
@@ -39,23 +36,12 @@ fn two_frames_are_drawn_at_once(rt: HostRuntime) -> Result<(), Fail> {
         second: AtomicBool::new(false),
         late: AtomicBool::new(false),
     };
-    let mut input = BytesSource::new(two_frames(alloc)?, 4096, Vec::new(alloc));
-    let (mut report, mut notes) = (SureSink::new(alloc), SureSink::new(alloc));
-    let words = words(alloc, &BY_TWO)?;
-    let status = run(
-        &rt,
-        alloc,
-        &words,
-        &mut input,
-        &mut report,
-        &mut notes,
-        &gate,
-    );
+    let line = "maskcull cull --workers 2";
+    let ended = run_gated(&rt, alloc, line, two_frames(alloc)?, &gate)?;
     assert!(rt; !gate.late.load(Ordering::SeqCst));
     assert_eq!(rt; gate.come.load(Ordering::SeqCst), 2);
-    assert_eq!(rt; status, Status::Done);
-    let alone = culled(&rt, alloc, two_frames(alloc)?)?;
-    assert_eq!(rt; report.held(), alone.report.as_slice());
+    let alone = run_with(&rt, alloc, CULL, two_frames(alloc)?)?;
+    assert_ended(&rt, &ended, Status::Done, alone.report.as_str(), "");
     Ok(())
 }
 
@@ -65,40 +51,25 @@ fn path(alloc: Global, frames: u8) -> Result<Vec<u8>, AllocError> {
     for k in 0..7 {
         rectangles[k][4] = 3 + k as i32;
     }
-    seen_from(scene(alloc, 0, &QUAD, &TWO, &rectangles)?, frames)
+    seen_from(scene(alloc, &QUAD, &TWO, &rectangles)?, frames, 1)
 }
 
+// Seven frames in windows of three and one left; twenty-one in a window of eight frames a worker, one of two, and one left.
 #[test]
-fn seven_frames_by_three_workers(rt: HostRuntime) -> Result<(), Fail> {
+fn frames_of_windows_are_those_of_one_worker(rt: HostRuntime) -> Result<(), Fail> {
     let alloc = rt.alloc();
-    let words = ["maskcull", "cull", "--workers", "3"];
-    let ended = run_with(&rt, alloc, &words, path(alloc, 7)?)?;
-    let alone = culled(&rt, alloc, path(alloc, 7)?)?;
-    assert_eq!(rt; ended.report.as_slice(), alone.report.as_slice());
-    let text = str::from_utf8(ended.report.as_slice()).map_err(|_| Fail::from("a text"))?;
-    assert_eq!(rt;
-        text.lines().nth(9),
-        Some("end 0 visible 0 occluded 7 outside 0")
-    );
-    assert_eq!(rt;
-        text.lines().nth(63),
-        Some("end 6 visible 6 occluded 1 outside 0")
-    );
-    Ok(())
-}
-
-// A window of eight frames a worker, one of two, and a frame that is left.
-#[test]
-fn twenty_one_frames_by_two_workers(rt: HostRuntime) -> Result<(), Fail> {
-    let alloc = rt.alloc();
-    let words = ["maskcull", "cull", "--workers", "2"];
-    let ended = run_with(&rt, alloc, &words, path(alloc, 21)?)?;
-    let alone = culled(&rt, alloc, path(alloc, 21)?)?;
-    assert_eq!(rt; ended.report.as_slice(), alone.report.as_slice());
-    let text = str::from_utf8(ended.report.as_slice()).map_err(|_| Fail::from("a text"))?;
-    assert_eq!(rt;
-        text.lines().nth(189),
-        Some("end 20 visible 7 occluded 0 outside 0")
-    );
+    for (workers, frames, last, wanted) in [
+        (3u32, 7, 63, "end 6 visible 6 occluded 1 outside 0"),
+        (2, 21, 189, "end 20 visible 7 occluded 0 outside 0"),
+    ] {
+        let line = format!(in alloc; "maskcull cull --workers {workers}")?;
+        let ended = run_with(&rt, alloc, line.as_str(), path(alloc, frames)?)?;
+        let alone = run_with(&rt, alloc, CULL, path(alloc, frames)?)?;
+        assert_ended(&rt, &ended, Status::Done, alone.report.as_str(), "");
+        let first = "end 0 visible 0 occluded 7 outside 0";
+        for (line, end) in [(9, first), (last, wanted)] {
+            assert_eq!(rt; ended.report.lines().nth(line), Some(end));
+        }
+    }
     Ok(())
 }
