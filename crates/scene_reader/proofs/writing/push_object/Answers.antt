@@ -1,7 +1,11 @@
-use Rattle.std.proofs.Common.{◌∙◌, ◌++◌, ◌∷◌, [], ℕ, List, w32, rules, ap, append_assoc}
+use Rattle.std.proofs.Common.{◌≡◌, ◌∙◌, ◌++◌, ◌∷◌, [], ℕ, List, w32, rules, ap, append_assoc}
 use Rattle.std.proofs.lemmas.Int.{to_z-of_z}
 use mir.Val.{SFits}
 use Rattle.scene_reader.proofs.writing.push_object.Goals as goal
+
+-- a kind was appended, and then the numbers
+both_pushed : (before between after row : List ℕ) (kind : ℕ) → between ≡ before ++ kind ∷ [] → after ≡ between ++ row → after ≡ before ++ kind ∷ row
+both_pushed before between after row kind e f = f ∙ ap (λ (t : List ℕ). t ++ row) e ∙ append_assoc before (kind ∷ []) row
 
 pub returns-in-Area-clause-value : goal.returns-in-Area-clause-value
 returns-in-Area-clause-value c = rw c.in-Area.is (
@@ -11,5 +15,4 @@ returns-in-Area-clause-value c = rw c.in-Area.is (
     let x1 : SFits w32 r.x1 = search rules in
     let y1 : SFits w32 r.y1 = search rules in
     let w : SFits w32 c.in-Area.w = search rules in
-    let row = simp to_z-of_z at c.push_row.ensures.value in
-    row ∙ ap (λ (t : List ℕ). t ++ _) c.push.ensures ∙ append_assoc c.args.piece.now (0 ∷ []) _)
+    both_pushed c.args.piece.now c.push.new.self c.push_row.new.piece _ 0 c.push.ensures (simp to_z-of_z at c.push_row.ensures.value))
