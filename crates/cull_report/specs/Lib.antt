@@ -1,4 +1,3 @@
-pub mod Lines
 pub mod Text
 pub mod Scene
 pub mod Runs

@@ -17,7 +17,7 @@ use Rattle.scene_reader.specs.Layout.{Parts}
 use Rattle.masked_update.specs.Taken.{standing_at}
 use Rattle.masked_update.specs.TileOf.{TileOf, tile_at}
 use Rattle.tile_cells.specs.Snapshots.{SnapshotOf, is_held}
-use Rattle.cull_report.specs.Lines.{line}
+use Rattle.text_lines.specs.Lines.{line}
 use Rattle.cull_report.specs.Scene.{size_of, frame_list, object_area, object_near, object_samples, verdict_in}
 use Rattle.cull_report.specs.Text.{verdict_word}
 use Rattle.cull_report.specs.declared.live_line.TileCount.{TileCount}

@@ -3,7 +3,7 @@ use Rattle.std.specs.Prelude.{ℕ, ◌+◌, List, [], ◌∷◌, ◌++◌, Bool,
 use Rattle.std.specs.Fmt.{decimal}
 use Rattle.cull_base.specs.declared.scene_types.Verdict.{Verdict}
 use Rattle.cull_base.specs.declared.scene_types.Verdict.TheVariants.{Visible, Occluded, Outside}
-use Rattle.cull_report.specs.Lines.{line}
+use Rattle.text_lines.specs.Lines.{line}
 
 abbrev pub verdict_word : Verdict → List ℕ
 verdict_word Visible = codes "visible"

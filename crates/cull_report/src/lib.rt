@@ -14,7 +14,6 @@ mod run_pool;
 mod runs;
 #[cfg(test)]
 mod tests;
-mod text;
 
 pub use asked::Asked;
 pub use by_workers::{verdicts_by_workers, verdicts_with_lines};
@@ -24,4 +23,3 @@ pub use live_line::{LiveLine, TileCount};
 pub use live_text::write_live;
 pub use objects::{object_area, object_settled, object_verdict, verdicts};
 pub use report::{write_frame, write_header};
-pub use text::{Line, Text};

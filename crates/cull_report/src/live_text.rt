@@ -6,8 +6,8 @@ ghost use Rattle.cull_report.specs.LivePieces.{head_text, counts_text};
 
 use crate::live_line::{LiveLine, TileCount};
 use crate::report::word_of;
-use crate::text::{Lines, Text};
 use cull_base::{Sink, SinkError};
+use text_lines::{Lines, Text};
 
 // How many tiles of a line are handed to the sink at once.
 const BATCH: u32 = 64;

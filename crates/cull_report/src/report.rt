@@ -5,9 +5,9 @@ ghost use Rattle.cull_base.specs.Stream.{Writes};
 ghost use Rattle.cull_report.specs.Scene.{scene_header};
 
 use crate::counts::Counts;
-use crate::text::{Line, Lines};
 use cull_base::{Sink, SinkError, Verdict};
 use scene_reader::Scene;
+use text_lines::{Line, Lines};
 
 const REPORT_VERSION: u64 = 1;
 

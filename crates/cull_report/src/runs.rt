@@ -6,10 +6,10 @@ ghost use Rattle.cull_report.specs.Scene.{verdicts_in};
 
 use crate::asked::Asked;
 use crate::report::{BATCH, push_verdict_line};
-use crate::text::Lines;
 use cull_base::{Memory, Verdict};
 use masked_update::TileView;
 use std::alloc::Global;
+use text_lines::Lines;
 
 /// At most so many bytes has the line of an object.
 const LINE: usize = 30;

@@ -4,7 +4,7 @@ use Rattle.std.specs.Fmt.{decimal}
 use Rattle.std.specs.List.{flat_map, range_with_len}
 use Rattle.cull_base.specs.declared.scene_types.Verdict.{Verdict}
 use Rattle.scene_reader.specs.Layout.{Parts}
-use Rattle.cull_report.specs.Lines.{line}
+use Rattle.text_lines.specs.Lines.{line}
 use Rattle.cull_report.specs.Scene.{frame_pieces, frame_verdicts}
 use Rattle.cull_report.specs.Text.{is_visible, is_occluded, is_outside}
 use Rattle.demo_scene.specs.Demo.{demo_of, box_count, frame_count}

@@ -3,8 +3,8 @@ ghost use Rattle.std.specs.Prelude.{◌≡◌, [], ◌∷◌, ◌++◌, ◌≤�
 
 use command_words::Refusal;
 use cull_base::{Memory, Sink, SinkError, write_whole};
-use cull_report::Line;
 use scene_reader::SceneError;
+use text_lines::Line;
 
 /// How a run ended.
 #[derive(Clone, Copy, Debug, PartialEq, Eq)]
@@ -144,7 +144,7 @@ impl Failure {
 }
 
 ghost use Rattle.std.specs.Fmt.{decimal};
-ghost use Rattle.cull_report.specs.Lines.{line};
+ghost use Rattle.text_lines.specs.Lines.{line};
 ghost use Rattle.maskcull.specs.Notes.{refusal_text};
 
 // What the line of a refused scene begins with: the refusal's number.

@@ -5,8 +5,9 @@ ghost use Rattle.cull_report.specs.Text.{is_visible, is_occluded, is_outside};
 ghost use Rattle.maskcull.specs.Summary.{demo_line, counts_line, summary_line};
 
 use cull_base::{Sink, SinkError, Verdict};
-use cull_report::{Counts, Line, Text};
+use cull_report::Counts;
 use demo_scene::{BOXES, FRAMES};
+use text_lines::{Line, Text};
 
 // A frame's line, which is longer than a line of the report may be.
 type SummaryLine = Text<160>;

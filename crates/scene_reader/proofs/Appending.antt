@@ -1,13 +1,14 @@
--- Writing entry after entry, and what an error leaves.
-use Rattle.std.proofs.Common.{◌≡◌, ℕ, ℤ, ◌+◌, ◌<◌, ◌++◌, ◌∷◌, List, [], length, get_or, take, drop, refl, sym, ap, ◌∙◌, Result, Ok, Err}
+-- Writing entries, batch after batch, and what an error leaves.
+use Rattle.std.proofs.Common.{◌≡◌, ℕ, ℤ, ◌+◌, ◌-◌, ◌<◌, ◌≤◌, min, ◌++◌, ◌∷◌, List, [], length, get_or, take, drop, arith, refl, sym, ap, ◌∙◌, Result, Ok, Err}
 use Rattle.std.specs.List.{flat_map}
-use Rattle.std.proofs.lemmas.List.{take-append-drop, take_more, drop_more, append-nil}
+use Rattle.std.proofs.Math.Seq.{take-add}
+use Rattle.std.proofs.lemmas.List.{take-append-drop, take_more, take_min, append-nil}
 use Rattle.std.proofs.lemmas.List.Concat.{flat_map-append}
 use Rattle.cull_base.specs.Stream.{SinkSays, Writes}
 use Rattle.cull_base.specs.declared.memory.SinkError.{SinkError}
 use Rattle.cull_base.specs.declared.scene_types.Object.TheVariants.{Block}
 use Rattle.cull_base.proofs.Streams.{writes_then, writes_no_more}
-use Rattle.scene_reader.specs.Layout.{Parts, number_at, numbers_of, row_bytes, short_bytes, word_bytes, winding_code, header_bytes}
+use Rattle.scene_reader.specs.Layout.{Parts, number_at, numbers_of, row_bytes, short_bytes, word_bytes, winding_code, magic, header_bytes}
 use Rattle.scene_reader.proofs.Shapes.{three}
 
 -- a call that wrote its text, and then another
@@ -16,19 +17,32 @@ writes_on v w = writes_then _ _ _ _ _ _ v.ok v.faults_stay v.refusals_stay w
 
 -- ---- entries
 
-module _ {X : Type 0} (enc : X → List ℕ) (xs : List X) (i : ℕ) (d : X) (lt : i < length xs) {s0 s1 s2 : SinkSays} where
-  -- one entry more
-  pub goes_on : {x y z : Unit {0}} → Writes s0 s1 (Ok x) (flat_map enc (take i xs)) → Writes s1 s2 (Ok y) (enc (get_or xs i d)) → Writes s0 s2 (Ok z) (flat_map enc (take (i + 1) xs))
-  goes_on before now =
-      let more : flat_map enc (take (i + 1) xs) ≡ flat_map enc (take i xs) ++ enc (get_or xs i d) = ap (flat_map enc) (take_more xs i d lt) ∙ flat_map-append enc (take i xs) (get_or xs i d ∷ []) ∙ ap (λ (t : List ℕ). flat_map enc (take i xs) ++ t) (append-nil (enc (get_or xs i d))) in
-      rw more (writes_on before now)
+module _ {X : Type 0} (enc : X → List ℕ) (xs : List X) where
+  -- the bytes so far and those of one entry more
+  pub entry_more : (i : ℕ) (d : X) → i < length xs → flat_map enc (take (i + 1) xs) ≡ flat_map enc (take i xs) ++ enc (get_or xs i d)
+  entry_more i d lt = ap (flat_map enc) (take_more xs i d lt) ∙ flat_map-append enc (take i xs) (get_or xs i d ∷ []) ∙ ap (λ (t : List ℕ). flat_map enc (take i xs) ++ t) (append-nil (enc (get_or xs i d)))
 
-  -- an error in entry number i
-  pub stops_at : {x : Unit {0}} {e : SinkError} → Writes s0 s1 (Ok x) (flat_map enc (take i xs)) → Writes s1 s2 (Err e) (enc (get_or xs i d)) → Writes s0 s2 (Err e) (flat_map enc xs)
-  stops_at {x} {e} before now =
-      let whole : flat_map enc xs ≡ flat_map enc (take i xs) ++ (enc (get_or xs i d) ++ flat_map enc (drop (i + 1) xs)) =
-      ap (flat_map enc) (sym (take-append-drop i xs)) ∙ flat_map-append enc (take i xs) (drop i xs) ∙ ap (λ (t : List ℕ). flat_map enc (take i xs) ++ t) (ap (flat_map enc) (drop_more xs i d lt)) in
-      rw whole (writes_on before (writes_no_more s1 s2 e (enc (get_or xs i d)) (flat_map enc (drop (i + 1) xs)) now))
+  -- the bytes so far and those of a batch more, which has so many entries or all that are left
+  batch_more : (i n m : ℕ) → i ≤ length xs → n ≡ min m (length xs - i) → flat_map enc (take (i + m) xs) ≡ flat_map enc (take i xs) ++ flat_map enc (take n (drop i xs))
+  batch_more i n m le is =
+      let one : min (i + m) (length xs) ≡ min (i + n) (length xs) = omega (arith, is, le) in
+      let same : take (i + m) xs ≡ take (i + n) xs = sym (take_min (i + m) xs) ∙ ap (λ k. take k xs) one ∙ take_min (i + n) xs in
+      ap (flat_map enc) (same ∙ take-add i n xs) ∙ flat_map-append enc (take i xs) (take n (drop i xs))
+
+  module _ (i n m : ℕ) (le : i ≤ length xs) (is : n ≡ min m (length xs - i)) {s0 s1 s2 : SinkSays} where
+    -- one batch more
+    pub goes_on : {x y z : Unit {0}} → Writes s0 s1 (Ok x) (flat_map enc (take i xs)) → Writes s1 s2 (Ok y) (flat_map enc (take n (drop i xs))) → Writes s0 s2 (Ok z) (flat_map enc (take (i + m) xs))
+    goes_on before now = rw (batch_more i n m le is) (writes_on before now)
+
+    -- an error in a batch
+    pub stops_at : {x : Unit {0}} {e : SinkError} → Writes s0 s1 (Ok x) (flat_map enc (take i xs)) → Writes s1 s2 (Err e) (flat_map enc (take n (drop i xs))) → Writes s0 s2 (Err e) (flat_map enc xs)
+    stops_at {x} {e} before now =
+        let some = take n (drop i xs) in
+        let others = drop n (drop i xs) in
+        let whole : flat_map enc xs ≡ flat_map enc (take i xs) ++ (flat_map enc some ++ flat_map enc others) =
+        ap (flat_map enc) (sym (take-append-drop i xs)) ∙ flat_map-append enc (take i xs) (drop i xs)
+        ∙ ap (λ (t : List ℕ). flat_map enc (take i xs) ++ t) (ap (flat_map enc) (sym (take-append-drop n (drop i xs))) ∙ flat_map-append enc some others) in
+        rw whole (writes_on before (writes_no_more s1 s2 e (flat_map enc some) (flat_map enc others) now))
 
 -- ---- objects and headers
 
@@ -36,10 +50,8 @@ pub block_bytes : (low high : List ℤ) → length low ≡ 3 → length high ≡
 block_bytes low high l h =
     ap (λ (xs : List ℤ). row_bytes xs ++ row_bytes high) (sym (three low l)) ∙ ap (λ (xs : List ℤ). row_bytes (number_at low 0 ∷ number_at low 1 ∷ number_at low 2 ∷ []) ++ row_bytes xs) (sym (three high h))
 
-pub header_literal : (p : Parts) (w h n f v o t j : List ℕ) (k : ℕ) → w ≡ short_bytes p.width → h ≡ short_bytes p.height → n ≡ short_bytes p.near → k ≡ winding_code p.winding → f ≡ short_bytes (length p.cameras)
-    → v ≡ word_bytes (length p.vertices) → o ≡ word_bytes (length p.occluders) → t ≡ word_bytes (length p.object_tris) → j ≡ word_bytes (length p.objects)
-    → 77 ∷ 83 ∷ 79 ∷ 67 ∷ 1 ∷ 0 ∷ get_or w 0 0 ∷ get_or w 1 0 ∷ get_or h 0 0 ∷ get_or h 1 0 ∷ get_or n 0 0 ∷ get_or n 1 0 ∷ k ∷ 0 ∷ get_or f 0 0 ∷ get_or f 1 0
-    ∷ get_or v 0 0 ∷ get_or v 1 0 ∷ get_or v 2 0 ∷ get_or v 3 0 ∷ get_or o 0 0 ∷ get_or o 1 0 ∷ get_or o 2 0 ∷ get_or o 3 0
-    ∷ get_or t 0 0 ∷ get_or t 1 0 ∷ get_or t 2 0 ∷ get_or t 3 0 ∷ get_or j 0 0 ∷ get_or j 1 0 ∷ get_or j 2 0 ∷ get_or j 3 0 ∷ [] ≡ header_bytes p
+pub header_literal : (p : Parts) (a w h n k f v o t j : List ℕ) → a ≡ short_bytes 1 → w ≡ short_bytes p.width → h ≡ short_bytes p.height → n ≡ short_bytes p.near → k ≡ winding_code p.winding ∷ 0 ∷ []
+    → f ≡ short_bytes (length p.cameras) → v ≡ word_bytes (length p.vertices) → o ≡ word_bytes (length p.occluders) → t ≡ word_bytes (length p.object_tris) → j ≡ word_bytes (length p.objects)
+    → ((((((((((magic ++ a) ++ w) ++ h) ++ n) ++ k) ++ f) ++ v) ++ o) ++ t) ++ j) ≡ header_bytes p
 unfolding header_bytes
-header_literal p w h n f v o t j k ew eh en ek ef ev eo et ej = rw (ew, eh, en, ek, ef, ev, eo, et, ej) refl
+header_literal p a w h n k f v o t j ea ew eh en ek ef ev eo et ej = rw (ea, ew, eh, en, ek, ef, ev, eo, et, ej) refl

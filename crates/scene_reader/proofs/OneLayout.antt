@@ -11,7 +11,8 @@ use Rattle.scene_reader.specs.declared.error.SceneError.{SceneError}
 use Rattle.scene_reader.specs.declared.error.SceneError.TheVariants.{Truncated, Trailing}
 use Rattle.scene_reader.specs.declared.header.Counts.{Counts}
 use Rattle.scene_reader.specs.Layout.{Parts, IsScene, IsRow, IsTri, IsObject, raw_object, layout}
-use Rattle.scene_reader.specs.Fault.{fault_if, first_among, short_at, counts_at, entries, row_of, tri_of, raw_of, words_in, scene_length, header_fault, length_fault, tables_fault, first_fault, vertex_fault, index_fault, object_fault, camera_fault, is_bad_row, is_bad_object}
+use Rattle.scene_reader.specs.Length.{scene_length}
+use Rattle.scene_reader.specs.Fault.{fault_if, first_among, short_at, counts_at, entries, row_of, tri_of, raw_of, words_in, header_fault, length_fault, tables_fault, first_fault, vertex_fault, index_fault, object_fault, camera_fault, is_bad_row, is_bad_object}
 use Rattle.scene_reader.specs.Law.{IsLayoutOf}
 use Rattle.scene_reader.specs.PartsFault.{AreTables}
 use Rattle.scene_reader.specs.Reading.{IsTable}
@@ -89,7 +90,7 @@ module _ (n : Counts) (h v o t j c : List ℕ) (s : Sized n h v o t j c) (fits :
       (p, record { scene = scene; whole = whole; only = λ q sq is. layout_one q p sq scene (sym is ∙ whole) })
 
 -- bytes of the announced length in six pieces
-cut : (b : List ℕ) → 32 ≤ length b → length b ≡ scene_length (counts_at b) → All IsByte b → header_fault b ≡ None → first_fault b ≡ None → (p : Parts) × IsLayoutOf b p
+cut : (b : List ℕ) → 32 ≤ length b → length b ≡ scene_length 1 (counts_at b) → All IsByte b → header_fault b ≡ None → first_fault b ≡ None → (p : Parts) × IsLayoutOf b p
 cut b long size fits fine e =
     let n = counts_at b in
     let r1 = drop 32 b in
@@ -131,8 +132,8 @@ unfolding first_fault length_fault
 exists b fits e =
     let p = or_parts_none (header_fault b) _ e in
     let q = or_parts_none (length_fault b) _ p.1 in
-    let l = or_parts_none (fault_if (nat_lt (length b) (scene_length (counts_at b))) (Truncated (scene_length (counts_at b)) (length b))) (fault_if (nat_lt (scene_length (counts_at b)) (length b)) Trailing) q.0 in
-    cut b (header_accepted b p.0).long (omega (arith, ltb-false (length b) (scene_length (counts_at b)) (fault_none _ _ l.0), ltb-false (scene_length (counts_at b)) (length b) (fault_none _ _ l.1))) fits p.0 e
+    let l = or_parts_none (fault_if (nat_lt (length b) (scene_length 1 (counts_at b))) (Truncated (scene_length 1 (counts_at b)) (length b))) (fault_if (nat_lt (scene_length 1 (counts_at b)) (length b)) Trailing) q.0 in
+    cut b (header_accepted b p.0).long (omega (arith, ltb-false (length b) (scene_length 1 (counts_at b)) (fault_none _ _ l.0), ltb-false (scene_length 1 (counts_at b)) (length b) (fault_none _ _ l.1))) fits p.0 e
 
 pub of_layout : (b : List ℕ) (p : Parts) → IsLayoutOf b p → first_fault b ≡ None
 of_layout b p h = ap first_fault h.whole ∙ scene_first p h.scene

@@ -12,7 +12,8 @@ use Rattle.scene_reader.specs.declared.error.SceneError.TheVariants.{Truncated, 
 use Rattle.scene_reader.specs.declared.header.Header.{Header}
 use Rattle.scene_reader.specs.declared.header.Counts.{Counts}
 use Rattle.scene_reader.specs.Layout.{Parts, IsScene, IsObject, raw_object, layout, winding_code}
-use Rattle.scene_reader.specs.Fault.{IsRefusal, fault_if, first_among, counts_at, scene_length, header_fault, length_fault, tables_fault, first_fault, vertex_fault, index_fault, object_fault, camera_fault}
+use Rattle.scene_reader.specs.Length.{scene_length}
+use Rattle.scene_reader.specs.Fault.{IsRefusal, fault_if, first_among, counts_at, header_fault, length_fault, tables_fault, first_fault, vertex_fault, index_fault, object_fault, camera_fault}
 use Rattle.scene_reader.specs.Header.{IsHeaderOf}
 use Rattle.scene_reader.specs.PartsFault.{AreTables}
 use Rattle.scene_reader.specs.Reading.{Takes, IsAtEnd, EndsWithin, TakesParts, Refuses, ReadsScene}
@@ -94,45 +95,45 @@ first_of_length : (h rest : List ℕ) (n : Counts) (e : SceneError) → length h
 unfolding first_fault
 first_of_length h rest n e len fine counts f = or_second (header_fault (h ++ rest)) _ (header_front h rest len ∙ fine) ∙ or_first (length_fault (h ++ rest)) _ e f
 
-need_of : (h rest : List ℕ) (n : Counts) → length h ≡ 32 → counts_at h ≡ n → scene_length (counts_at (h ++ rest)) ≡ scene_length n
-need_of h rest n len counts = ap scene_length (counts_front h rest len ∙ counts)
+need_of : (h rest : List ℕ) (n : Counts) → length h ≡ 32 → counts_at h ≡ n → scene_length 1 (counts_at (h ++ rest)) ≡ scene_length 1 n
+need_of h rest n len counts = ap (scene_length 1) (counts_front h rest len ∙ counts)
 
-too_short : (h rest : List ℕ) (n : Counts) → length h ≡ 32 → counts_at h ≡ n → length (h ++ rest) < scene_length n → length_fault (h ++ rest) ≡ Some (Truncated (scene_length n) (length (h ++ rest)))
+too_short : (h rest : List ℕ) (n : Counts) → length h ≡ 32 → counts_at h ≡ n → length (h ++ rest) < scene_length 1 n → length_fault (h ++ rest) ≡ Some (Truncated (scene_length 1 n) (length (h ++ rest)))
 unfolding length_fault
 too_short h rest n len counts lt =
     let need = need_of h rest n len counts in
     ap (λ (k : ℕ). option_or (fault_if (nat_lt (length (h ++ rest)) k) (Truncated k (length (h ++ rest)))) (fault_if (nat_lt k (length (h ++ rest))) Trailing)) need
-    ∙ or_first (fault_if (nat_lt (length (h ++ rest)) (scene_length n)) (Truncated (scene_length n) (length (h ++ rest)))) _ _ (rw (lt-ltb (length (h ++ rest)) (scene_length n) lt) refl)
+    ∙ or_first (fault_if (nat_lt (length (h ++ rest)) (scene_length 1 n)) (Truncated (scene_length 1 n) (length (h ++ rest)))) _ _ (rw (lt-ltb (length (h ++ rest)) (scene_length 1 n) lt) refl)
 
-too_long : (h rest : List ℕ) (n : Counts) → length h ≡ 32 → counts_at h ≡ n → scene_length n < length (h ++ rest) → length_fault (h ++ rest) ≡ Some Trailing
+too_long : (h rest : List ℕ) (n : Counts) → length h ≡ 32 → counts_at h ≡ n → scene_length 1 n < length (h ++ rest) → length_fault (h ++ rest) ≡ Some Trailing
 unfolding length_fault
 too_long h rest n len counts lt =
     let need = need_of h rest n len counts in
     ap (λ (k : ℕ). option_or (fault_if (nat_lt (length (h ++ rest)) k) (Truncated k (length (h ++ rest)))) (fault_if (nat_lt k (length (h ++ rest))) Trailing)) need
-    ∙ or_second (fault_if (nat_lt (length (h ++ rest)) (scene_length n)) (Truncated (scene_length n) (length (h ++ rest)))) _ (fault_none_from _ _ (le-ltb (length (h ++ rest)) (scene_length n) (omega arith)))
-    ∙ (rw (lt-ltb (scene_length n) (length (h ++ rest)) lt) refl)
+    ∙ or_second (fault_if (nat_lt (length (h ++ rest)) (scene_length 1 n)) (Truncated (scene_length 1 n) (length (h ++ rest)))) _ (fault_none_from _ _ (le-ltb (length (h ++ rest)) (scene_length 1 n) (omega arith)))
+    ∙ (rw (lt-ltb (scene_length 1 n) (length (h ++ rest)) lt) refl)
 
 no_header_fault : {P : Type 0} (h rest : List ℕ) (e : SceneError) → length h ≡ 32 → header_fault h ≡ None → header_fault (h ++ rest) ≡ Some e → P
 no_header_fault h rest e len fine f = let no : ◌≡◌ {A = Option SceneError} None (Some e) = sym fine ∙ sym (header_front h rest len) ∙ f in absurd cc
 
 pub refuses_body : (before : Option (List ℕ)) (mid after : SourceSays) (h : List ℕ) (n : Counts) (e : SceneError) → length h ≡ 32 → header_fault h ≡ None → counts_at h ≡ n
-    → Takes before mid.left h → EndsWithin (scene_length n - 32) (scene_length n) 32 mid after e → Refuses before after.left e
+    → Takes before mid.left h → EndsWithin (scene_length 1 n - 32) (scene_length 1 n) 32 mid after e → Refuses before after.left e
 refuses_body before mid after h n e len fine counts t s =
     let both = takes_then before mid.left after.left h s.bytes t s.takes in
     refuses_bytes before after.left (h ++ s.bytes) e both.front (λ rest told.
     let none = at_end after.left rest s.ended told in
     let whole : (h ++ s.bytes) ++ rest ≡ h ++ s.bytes = ap (λ (r : List ℕ). (h ++ s.bytes) ++ r) none ∙ append-nil (h ++ s.bytes) in
-    let few : length (h ++ s.bytes) < scene_length n = omega (arith, s.few, length-append h s.bytes, len) in
-    let is : e ≡ Truncated (scene_length n) (length (h ++ s.bytes)) = s.truncated ∙ ap (Truncated (scene_length n)) (omega (arith, length-append h s.bytes, len)) in
+    let few : length (h ++ s.bytes) < scene_length 1 n = omega (arith, s.few, length-append h s.bytes, len) in
+    let is : e ≡ Truncated (scene_length 1 n) (length (h ++ s.bytes)) = s.truncated ∙ ap (Truncated (scene_length 1 n)) (omega (arith, length-append h s.bytes, len)) in
     (rw (whole, is) (first_of_length h s.bytes n _ len fine counts (too_short h s.bytes n len counts few)), λ f. no_header_fault h (s.bytes ++ rest) e len fine (subst (λ (b : List ℕ). header_fault b ≡ Some e) (append_assoc h s.bytes rest) f)))
 
-pub refuses_trailing : (before mid last after : Option (List ℕ)) (h body more : List ℕ) (n : Counts) → length h ≡ 32 → header_fault h ≡ None → counts_at h ≡ n → length (h ++ body) ≡ scene_length n
+pub refuses_trailing : (before mid last after : Option (List ℕ)) (h body more : List ℕ) (n : Counts) → length h ≡ 32 → header_fault h ≡ None → counts_at h ≡ n → length (h ++ body) ≡ scene_length 1 n
     → Takes before mid h → Takes mid last body → Takes last after more → 0 < length more → Refuses before after Trailing
 refuses_trailing before mid last after h body more n len fine counts size th tb tm some =
     let all = takes_then before mid after h (body ++ more) th (takes_then mid last after body more tb tm) in
     refuses_bytes before after (h ++ (body ++ more)) Trailing all.front (λ rest told.
     let whole : (h ++ (body ++ more)) ++ rest ≡ h ++ ((body ++ more) ++ rest) = append_assoc h (body ++ more) rest in
-    let long : scene_length n < length (h ++ ((body ++ more) ++ rest)) = omega (arith, length-append h ((body ++ more) ++ rest), length-append (body ++ more) rest, length-append body more, length-append h body, size, some) in
+    let long : scene_length 1 n < length (h ++ ((body ++ more) ++ rest)) = omega (arith, length-append h ((body ++ more) ++ rest), length-append (body ++ more) rest, length-append body more, length-append h body, size, some) in
     (rw whole (first_of_length h ((body ++ more) ++ rest) n Trailing len fine counts (too_long h ((body ++ more) ++ rest) n len counts long)), λ f. no_header_fault h ((body ++ more) ++ rest) Trailing len fine (subst (λ (b : List ℕ). header_fault b ≡ Some Trailing) whole f)))
 
 -- ---- a whole body
@@ -152,7 +153,7 @@ module _ {before : Option (List ℕ)} {mid last : SourceSays} {h : List ℕ} {hd
     cameras = t.cameras.whole;
   }
 
-  pub whole_length : length (h ++ (t.vertex_bytes ++ (t.occluder_bytes ++ (t.object_tri_bytes ++ (t.object_bytes ++ t.camera_bytes))))) ≡ scene_length hd.counts
+  pub whole_length : length (h ++ (t.vertex_bytes ++ (t.occluder_bytes ++ (t.object_tri_bytes ++ (t.object_bytes ++ t.camera_bytes))))) ≡ scene_length 1 hd.counts
   whole_length = joined_length hd.counts h t.vertex_bytes t.occluder_bytes t.object_tri_bytes t.object_bytes t.camera_bytes sized
 
   tris_count : length p.object_tris ≡ hd.counts.object_tris

@@ -4,7 +4,8 @@ use Rattle.std.proofs.lemmas.Bool.{le-ltb}
 use Rattle.std.proofs.lemmas.List.{length-append, drop_at}
 use Rattle.cull_base.specs.declared.scene_types.Tri.{Tri}
 use Rattle.scene_reader.specs.declared.header.Counts.{Counts}
-use Rattle.scene_reader.specs.Fault.{counts_at, entries, row_of, tri_of, raw_of, header_fault, length_fault, tables_fault, first_fault, scene_length, vertices_in, occluders_in, object_tris_in, objects_in, cameras_in}
+use Rattle.scene_reader.specs.Length.{scene_length}
+use Rattle.scene_reader.specs.Fault.{counts_at, entries, row_of, tri_of, raw_of, header_fault, length_fault, tables_fault, first_fault, vertices_in, occluders_in, object_tris_in, objects_in, cameras_in}
 use Rattle.scene_reader.specs.Reading.{IsTable}
 use Rattle.scene_reader.proofs.Headers.{header_front, counts_front, or_second, or_none_from, fault_none_from}
 use Rattle.scene_reader.proofs.Pieces.{entries_front}
@@ -30,7 +31,7 @@ module _ (n : Counts) (h v o t j c : List ℕ) (s : Sized n h v o t j c) where
   b-counts : counts_at (six_pieces h v o t j c) ≡ n
   b-counts = counts_front h (v ++ (o ++ (t ++ (j ++ c)))) s.header ∙ s.counts
 
-  pub joined_length : length (six_pieces h v o t j c) ≡ scene_length n
+  pub joined_length : length (six_pieces h v o t j c) ≡ scene_length 1 n
   joined_length = omega (arith, length-append h (v ++ (o ++ (t ++ (j ++ c)))), length-append v (o ++ (t ++ (j ++ c))), length-append o (t ++ (j ++ c)), length-append t (j ++ c), length-append j c, s.header, s.vertices, s.occluders, s.object_tris, s.objects, s.cameras)
 
   at_vertices : drop 32 (six_pieces h v o t j c) ≡ v ++ (o ++ (t ++ (j ++ c)))
@@ -80,8 +81,8 @@ module _ (n : Counts) (h v o t j c : List ℕ) (s : Sized n h v o t j c) where
   length_fine : length_fault (six_pieces h v o t j c) ≡ None
   unfolding length_fault
   length_fine =
-      let need : scene_length (counts_at (six_pieces h v o t j c)) ≡ length (six_pieces h v o t j c) = ap scene_length b-counts ∙ sym joined_length in
-      or_none_from _ _ (fault_none_from _ _ (le-ltb (length (six_pieces h v o t j c)) (scene_length (counts_at (six_pieces h v o t j c))) (omega (arith, need)))) (fault_none_from _ _ (le-ltb (scene_length (counts_at (six_pieces h v o t j c))) (length (six_pieces h v o t j c)) (omega (arith, need))))
+      let need : scene_length 1 (counts_at (six_pieces h v o t j c)) ≡ length (six_pieces h v o t j c) = ap (scene_length 1) b-counts ∙ sym joined_length in
+      or_none_from _ _ (fault_none_from _ _ (le-ltb (length (six_pieces h v o t j c)) (scene_length 1 (counts_at (six_pieces h v o t j c))) (omega (arith, need)))) (fault_none_from _ _ (le-ltb (scene_length 1 (counts_at (six_pieces h v o t j c))) (length (six_pieces h v o t j c)) (omega (arith, need))))
 
   -- behind an accepted header and with the length announced the tables decide
   pub joined_first : (vs : List (List ℤ)) (os ts : List Tri) (raws : List (ℕ × List ℤ)) (cs : List (List ℤ)) → header_fault h ≡ None

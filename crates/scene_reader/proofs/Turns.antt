@@ -8,7 +8,7 @@ use Rattle.scene_reader.specs.declared.error.SceneError.TheVariants.{Read, Memor
 use Rattle.scene_reader.specs.declared.header.Header.{Header}
 use Rattle.scene_reader.specs.declared.header.Counts.{Counts}
 use Rattle.scene_reader.specs.Layout.{Parts}
-use Rattle.scene_reader.specs.Fault.{scene_length}
+use Rattle.scene_reader.specs.Length.{scene_length, greatest_length}
 use Rattle.scene_reader.specs.Header.{AreCounts}
 use Rattle.scene_reader.specs.Reading.{Takes, TakesInTurns, Reads, Fetches, FetchesTables, TakesTable, TakesParts}
 use Rattle.scene_reader.proofs.Takes.{takes_nothing, takes_then, ends_later, ends_wider}
@@ -45,7 +45,7 @@ progress_then {n} {m} {a} {b} {c} p q = record {
 pub then_table : {X T : Type 0} {n size count need taken : ℕ} {read : List ℕ → X} {a b c : SourceSays} {items : List X} {t : T} → Progress n a b → TakesTable size count read b c items → Fetches (size * count) need taken b c (Ok t) → Progress (n + size * count) a c
 then_table p t f = progress_then p (table_read t f)
 
-pub parts_read : {T : Type 0} {h : Header} {a b : SourceSays} {p : Parts} {fault : Option SceneError} {t : T} → TakesParts h a b p fault → FetchesTables h.counts a b (Ok t) → Progress (scene_length h.counts - 32) a b
+pub parts_read : {T : Type 0} {h : Header} {a b : SourceSays} {p : Parts} {fault : Option SceneError} {t : T} → TakesParts h a b p fault → FetchesTables h.counts a b (Ok t) → Progress (scene_length 1 h.counts - 32) a b
 parts_read t f =
     let v = t.vertex_bytes in let o = t.occluder_bytes in let m = t.object_tri_bytes in let j = t.object_bytes in let c = t.camera_bytes in
     record {
@@ -57,7 +57,7 @@ parts_read t f =
     }
 
 -- the header, the tables and one turn more
-pub most_turns : (n : Counts) → AreCounts n → 32 + (scene_length n - 32) + 1 ≤ 8728609
+pub most_turns : (n : Counts) → AreCounts n → 32 + (scene_length 1 n - 32) + 1 ≤ greatest_length 1 + 1
 most_turns n h = omega (arith, h.few_frames, h.few_vertices, h.few_occluders, h.few_object_tris, h.few_objects)
 
 -- ---- one turn more than bytes

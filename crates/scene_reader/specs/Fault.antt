@@ -15,6 +15,7 @@ use Rattle.scene_reader.specs.declared.error.SceneError.TheVariants.{BadWinding,
 use Rattle.scene_reader.specs.declared.error.SceneError.TheVariants.{BadIndex, BadKind, BadObject, BadCamera, Read, Memory}
 use Rattle.scene_reader.specs.declared.header.Counts.{Counts}
 use Rattle.scene_reader.specs.Layout.{magic, number_at}
+use Rattle.scene_reader.specs.Length.{header_length, scene_length, table_start}
 
 -- an answer that speaks of the bytes: neither of a source that failed nor of want of memory
 abbrev pub IsRefusal : SceneError → Type 0
@@ -50,7 +51,7 @@ counts_at bytes =
 
 abbrev pub start_fault : List ℕ → Option SceneError
 start_fault bytes =
-    option_or (fault_if (nat_lt (length bytes) 32) (Truncated 32 (length bytes)))
+    option_or (fault_if (nat_lt (length bytes) (header_length 1)) (Truncated (header_length 1) (length bytes)))
     (option_or (fault_if (not (starts_with nat_eq bytes magic)) BadMagic)
     (fault_if (not (short_at 4 bytes == 1)) (BadVersion (short_at 4 bytes))))
 
@@ -87,12 +88,9 @@ header_fault bytes =
 
 -- ---- the length
 
-abbrev pub scene_length : Counts → ℕ
-scene_length n = 32 + 12 * n.vertices + 12 * n.occluders + 12 * n.object_tris + 25 * n.objects + 48 * n.frames
-
 unfoldable pub length_fault : List ℕ → Option SceneError
 length_fault bytes =
-    let need = scene_length (counts_at bytes) in
+    let need = scene_length 1 (counts_at bytes) in
     option_or (fault_if (nat_lt (length bytes) need) (Truncated need (length bytes)))
     (fault_if (nat_lt need (length bytes)) Trailing)
 
@@ -121,25 +119,25 @@ abbrev pub raw_of : List ℕ → ℕ × List ℤ
 raw_of bytes = (slice_index bytes 0, row_of 6 (drop 1 bytes))
 
 abbrev pub vertices_in : List ℕ → List (List ℤ)
-vertices_in bytes = map (row_of 3) (entries 12 (counts_at bytes).vertices (drop 32 bytes))
+vertices_in bytes = let n = counts_at bytes in map (row_of 3) (entries 12 n.vertices (drop (table_start 1 n 0) bytes))
 
 abbrev pub occluders_in : List ℕ → List Tri
-occluders_in bytes = let n = counts_at bytes in map tri_of (entries 12 n.occluders (drop (32 + 12 * n.vertices) bytes))
+occluders_in bytes = let n = counts_at bytes in map tri_of (entries 12 n.occluders (drop (table_start 1 n 1) bytes))
 
 abbrev pub object_tris_in : List ℕ → List Tri
 object_tris_in bytes =
     let n = counts_at bytes in
-    map tri_of (entries 12 n.object_tris (drop (32 + 12 * n.vertices + 12 * n.occluders) bytes))
+    map tri_of (entries 12 n.object_tris (drop (table_start 1 n 2) bytes))
 
 abbrev pub objects_in : List ℕ → List (ℕ × List ℤ)
 objects_in bytes =
     let n = counts_at bytes in
-    map raw_of (entries 25 n.objects (drop (32 + 12 * n.vertices + 12 * n.occluders + 12 * n.object_tris) bytes))
+    map raw_of (entries 25 n.objects (drop (table_start 1 n 3) bytes))
 
 abbrev pub cameras_in : List ℕ → List (List ℤ)
 cameras_in bytes =
     let n = counts_at bytes in
-    map (row_of 12) (entries 48 n.frames (drop (32 + 12 * n.vertices + 12 * n.occluders + 12 * n.object_tris + 25 * n.objects) bytes))
+    map (row_of 12) (entries 48 n.frames (drop (table_start 1 n 4) bytes))
 
 -- ---- what the tables hold
 

@@ -1,4 +1,5 @@
 pub mod Layout
+pub mod Length
 pub mod Fault
 pub mod PartsFault
 pub mod Header

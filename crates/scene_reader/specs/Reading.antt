@@ -9,7 +9,8 @@ use Rattle.scene_reader.specs.declared.header.Header.{Header}
 use Rattle.scene_reader.specs.declared.header.Counts.{Counts}
 use Rattle.scene_reader.specs.declared.objects.Objects.{Objects}
 use Rattle.scene_reader.specs.Layout.{Parts, IsScene, layout, IsObject, raw_object}
-use Rattle.scene_reader.specs.Fault.{IsRefusal, entries, raw_of, row_of, tri_of, scene_length}
+use Rattle.scene_reader.specs.Length.{header_length, scene_length}
+use Rattle.scene_reader.specs.Fault.{IsRefusal, entries, raw_of, row_of, tri_of}
 use Rattle.scene_reader.specs.Fault.{first_among, object_fault, first_fault, header_fault}
 use Rattle.scene_reader.specs.declared.error.SceneError.{SceneError}
 use Rattle.scene_reader.specs.declared.error.SceneError.TheVariants.{Truncated, Trailing, Read}
@@ -51,7 +52,7 @@ pub record Fetches {T : Type 0} (wanted need taken : ℕ) (before after : Source
 
 -- the same of the five tables behind a header
 abbrev pub FetchesTables : {T : Type 0} → Counts → SourceSays → SourceSays → Result T SceneError → Type 0
-FetchesTables n before after result = Fetches (scene_length n - 32) (scene_length n) 32 before after result
+FetchesTables n before after result = Fetches (scene_length 1 n - header_length 1) (scene_length 1 n) (header_length 1) before after result
 
 -- a table was taken: so many entries of so many bytes each, every one read as an item
 pub record TakesTable {X : Type 0} (size count : ℕ) (read : List ℕ → X) (before after : SourceSays) (items : List X) : Type 0 where
@@ -116,7 +117,7 @@ pub record TakesParts (h : Header) (before after : SourceSays) (p : Parts) (faul
 -- an error is the first fault of the bytes, where they are told; of a header that is refused nothing behind it is taken
 abbrev pub Refuses : Option (List ℕ) → Option (List ℕ) → SceneError → Type 0
 Refuses before after e =
-    IfSome before (λ bytes. (first_fault bytes ≡ Some e) × (header_fault bytes ≡ Some e → after ≡ Some (drop 32 bytes)))
+    IfSome before (λ bytes. (first_fault bytes ≡ Some e) × (header_fault bytes ≡ Some e → after ≡ Some (drop (header_length 1) bytes)))
 
 -- the scene's layout was taken, and nothing is left
 pub record ReadsScene (before after : Option (List ℕ)) (s : Parts) : Type 0 where
@@ -147,4 +148,4 @@ HasFirstFault before fault = IfSome before.left (λ bytes. first_fault bytes ≡
 
 -- where the fault is one of the header, only the header was taken
 abbrev pub StopsAtHeader : SourceSays → SourceSays → SceneError → Type 0
-StopsAtHeader before after e = IfSome before.left (λ bytes. header_fault bytes ≡ Some e → after.left ≡ Some (drop 32 bytes))
+StopsAtHeader before after e = IfSome before.left (λ bytes. header_fault bytes ≡ Some e → after.left ≡ Some (drop (header_length 1) bytes))

@@ -15,6 +15,7 @@ mod tables;
 mod writing;
 
 pub use error::SceneError;
+pub use intake::fill;
 pub use laws::one_layout;
 pub use parts::SceneParts;
 pub use reading::read_scene;

@@ -4,6 +4,7 @@ ghost use Rattle.cull_base.specs.Stream.{Rose};
 ghost use Rattle.scene_reader.specs.Layout.{IsScene};
 ghost use Rattle.scene_reader.specs.Fault.{IsRefusal};
 ghost use Rattle.scene_reader.specs.Header.{AreCounts};
+ghost use Rattle.scene_reader.specs.Length.{greatest_length};
 ghost use Rattle.scene_reader.specs.Reading.{TakesEnd, TakesInTurns, TakesParts, TakesLayout, FetchesTables, Reads};
 ghost use Rattle.scene_reader.specs.Reading.{ReadsScene, IsOnlyScene, IsNoScene, IsTrailing, Refuses};
 ghost use Rattle.scene_reader.specs.Reading.{HasFirstFault, StopsAtHeader};
@@ -91,7 +92,7 @@ fn read_end<S: Source>(source: &mut S) -> Result<(), SceneError>
 fn read_whole<S: Source>(alloc: Global, source: &mut S) -> Result<Scene, SceneError>
     ensures ok { IfOk result (λ s. ReadsScene (S.says source.old).left (S.says source.new).left s) }
     ensures refused { IfErr result (λ e. IsRefusal e → Refuses (S.says source.old).left (S.says source.new).left e) }
-    ensures reads { Reads 8728609 (S.says source.old) (S.says source.new) result }
+    ensures reads { Reads (greatest_length 1 + 1) (S.says source.old) (S.says source.new) result }
 {
     let mut bytes = [0; 32];
     fetch(source, &mut bytes, HEADER, 0)?;
@@ -117,7 +118,8 @@ pub fn read_scene<S: Source>(alloc: Global, source: &mut S) -> Result<Scene, Sce
     ensures faults_stay { (S.says source.old).faults ≤ (S.says source.new).faults }
     // Of a header that is refused 32 bytes are taken, or all there were.
     ensures header { IfErr result (λ e. IsRefusal e → StopsAtHeader (S.says source.old) (S.says source.new) e) }
-    ensures turns { (S.says source.new).turns ≤ (S.says source.old).turns + 8728609 }
+    // No more bytes are read than the longest scene has, in one turn more at most.
+    ensures turns { (S.says source.new).turns ≤ (S.says source.old).turns + greatest_length 1 + 1 }
     // Each read but one took a byte.
     ensures takes { TakesInTurns (S.says source.old) (S.says source.new) }
 {

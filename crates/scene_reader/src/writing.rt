@@ -1,5 +1,6 @@
-//! Writing a scene as its one layout, number by number. Nothing is allocated.
-ghost use Rattle.std.specs.Prelude.{◌≡◌};
+//! Writing a scene as its one layout. Numbers are gathered on the stack, and the sink is asked once to take many of them.
+//! Nothing is allocated.
+ghost use Rattle.std.specs.Prelude.{◌≡◌, ℕ, List, ◌∷◌, ◌++◌, ◌+◌, ◌*◌, ◌≤◌, length};
 ghost use Rattle.std.specs.List.{flat_map};
 ghost use Rattle.cull_base.specs.Stream.{Writes};
 ghost use Rattle.scene_reader.specs.Layout.{layout, header_bytes, word_bytes, row_bytes, tri_bytes};
@@ -7,76 +8,129 @@ ghost use Rattle.scene_reader.specs.Layout.{corner_bytes, object_bytes, winding_
 
 use crate::objects::{BOX, MESH, RECTANGLE};
 use crate::scene::Scene;
-use cull_base::{Object, Sink, SinkError, Tri, Winding, write_whole};
+use cull_base::{Object, Sink, SinkError, Tri, Winding};
+use text_lines::Text;
 
-fn write_words<W: Sink>(sink: &mut W, words: &[u32]) -> Result<(), SinkError>
-    ensures { Writes (W.says sink.old) (W.says sink.new) result (flat_map word_bytes words.now) }
+/// Bytes of some entries, one behind the other, that a sink is asked once to take.
+type Piece = Text<12288>;
+
+/// How many entries of a table are handed to the sink at once. Each has at most 48 bytes.
+const BATCH: usize = 256;
+
+/// What stands in a table, as bytes.
+trait Written {
+    ghost bytes: { Self → List ℕ };
+
+    /// Appends the bytes of an entry. Condition: there is room for 48.
+    fn push_to(&self, piece: &mut Piece)
+        requires { length piece.old + 48 ≤ 12288 }
+        ensures value { piece.new ≡ piece.old ++ bytes self.now }
+        ensures room { length piece.new ≤ length piece.old + 48 };
+}
+
+fn push_words(piece: &mut Piece, words: &[u32])
+    requires { length piece.old + 4 * length words.now ≤ 12288 }
+    ensures value { piece.new ≡ piece.old ++ flat_map word_bytes words.now }
+    ensures room { length piece.new ≡ length piece.old + 4 * length words.now }
 {
     for word in words {
-        write_whole(sink, &word.to_le_bytes())?;
+        piece.push(&word.to_le_bytes());
     }
-    Ok(())
 }
 
-fn write_row<W: Sink>(sink: &mut W, row: &[i32]) -> Result<(), SinkError>
-    ensures { Writes (W.says sink.old) (W.says sink.new) result (row_bytes row.now) }
+fn push_row(piece: &mut Piece, row: &[i32])
+    requires { length piece.old + 4 * length row.now ≤ 12288 }
+    ensures value { piece.new ≡ piece.old ++ row_bytes row.now }
+    ensures room { length piece.new ≡ length piece.old + 4 * length row.now }
 {
     for number in row {
-        write_whole(sink, &number.to_le_bytes())?;
+        piece.push(&number.to_le_bytes());
     }
-    Ok(())
 }
 
-fn write_rows<W: Sink, const N: usize>(sink: &mut W, rows: &[[i32; N]]) -> Result<(), SinkError>
-    ensures { Writes (W.says sink.old) (W.says sink.new) result (flat_map row_bytes rows.now) }
-{
-    for row in rows {
-        write_row(sink, row)?;
+impl Written for [i32; 3] {
+    ghost bytes = { row_bytes };
+
+    fn push_to(&self, piece: &mut Piece) {
+        push_row(piece, self);
     }
-    Ok(())
 }
 
-fn write_tris<W: Sink>(sink: &mut W, triangles: &[Tri]) -> Result<(), SinkError>
-    ensures { Writes (W.says sink.old) (W.says sink.new) result (flat_map tri_bytes triangles.now) }
-{
-    for triangle in triangles {
-        write_words(sink, &triangle.0)?;
+impl Written for [i32; 12] {
+    ghost bytes = { row_bytes };
+
+    fn push_to(&self, piece: &mut Piece) {
+        push_row(piece, self);
     }
-    Ok(())
 }
 
-fn write_corners<W: Sink>(sink: &mut W, low: &[i32; 3], high: &[i32; 3]) -> Result<(), SinkError>
-    ensures { Writes (W.says sink.old) (W.says sink.new) result (corner_bytes low.now high.now) }
+impl Written for Tri {
+    ghost bytes = { tri_bytes };
+
+    fn push_to(&self, piece: &mut Piece) {
+        push_words(piece, &self.0);
+    }
+}
+
+fn push_corners(piece: &mut Piece, low: &[i32; 3], high: &[i32; 3])
+    requires { length piece.old + 24 ≤ 12288 }
+    ensures value { piece.new ≡ piece.old ++ corner_bytes low.now high.now }
+    ensures room { length piece.new ≡ length piece.old + 24 }
 {
-    write_row(sink, low)?;
-    write_row(sink, high)
+    push_row(piece, low);
+    push_row(piece, high);
 }
 
 /// The kind of an object and its six numbers.
-fn write_object<W: Sink>(sink: &mut W, object: &Object) -> Result<(), SinkError>
-    ensures { Writes (W.says sink.old) (W.says sink.new) result (object_bytes object.now) }
+fn push_object(piece: &mut Piece, object: &Object)
+    requires { length piece.old + 25 ≤ 12288 }
+    ensures value { piece.new ≡ piece.old ++ object_bytes object.now }
+    ensures room { length piece.new ≡ length piece.old + 25 }
 {
     match object {
         Object::Area { rect, w } => {
-            write_whole(sink, &[RECTANGLE])?;
-            write_row(sink, &[rect.x0, rect.y0, rect.x1, rect.y1, *w, 0])
+            piece.push(&[RECTANGLE]);
+            push_row(piece, &[rect.x0, rect.y0, rect.x1, rect.y1, *w, 0]);
         }
         Object::Block { low, high } => {
-            write_whole(sink, &[BOX])?;
-            write_corners(sink, low, high)
+            piece.push(&[BOX]);
+            push_corners(piece, low, high);
         }
         Object::Mesh { first, count } => {
-            write_whole(sink, &[MESH])?;
-            write_words(sink, &[*first, *count, 0, 0, 0, 0])
+            piece.push(&[MESH]);
+            push_words(piece, &[*first, *count, 0, 0, 0, 0]);
         }
     }
 }
 
-fn write_objects<W: Sink>(sink: &mut W, objects: &[Object]) -> Result<(), SinkError>
-    ensures { Writes (W.says sink.old) (W.says sink.new) result (flat_map object_bytes objects.now) }
+impl Written for Object {
+    ghost bytes = { object_bytes };
+
+    fn push_to(&self, piece: &mut Piece) {
+        push_object(piece, self);
+    }
+}
+
+/// The bytes of some entries, one behind the other.
+fn piece_of<E: Written>(entries: &[E]) -> Piece
+    requires { length entries.now ≤ 256 }
+    ensures { result ≡ flat_map E.bytes entries.now }
 {
-    for object in objects {
-        write_object(sink, object)?;
+    let mut piece = Piece::empty();
+    for entry in entries {
+        entry.push_to(&mut piece);
+    }
+    piece
+}
+
+/// Writes a table.
+fn write_table<W: Sink, E: Written>(sink: &mut W, entries: &[E]) -> Result<(), SinkError>
+    ensures { Writes (W.says sink.old) (W.says sink.new) result (flat_map E.bytes entries.now) }
+{
+    for batch in 0..entries.len().div_ceil(BATCH) {
+        let first = BATCH * batch;
+        let end = first + BATCH.min(entries.len() - first);
+        piece_of(&entries[first..end]).write_to(sink)?;
     }
     Ok(())
 }
@@ -91,52 +145,21 @@ fn code_of(winding: Winding) -> u8
     }
 }
 
-fn header_of(scene: &Scene) -> [u8; 32]
+fn header_of(scene: &Scene) -> Text<32>
     ensures { result ≡ header_bytes scene.now }
 {
-    let width = scene.size().width().to_le_bytes();
-    let height = scene.size().height().to_le_bytes();
-    let near = scene.near().to_le_bytes();
-    let winding = code_of(scene.winding());
-    let frames = (scene.cameras().len() as u16).to_le_bytes();
-    let vertices = (scene.vertices().len() as u32).to_le_bytes();
-    let occluders = (scene.occluders().len() as u32).to_le_bytes();
-    let object_tris = (scene.object_tris().len() as u32).to_le_bytes();
-    let objects = (scene.objects().len() as u32).to_le_bytes();
-    [
-        b'M',
-        b'S',
-        b'O',
-        b'C',
-        1,
-        0,
-        width[0],
-        width[1],
-        height[0],
-        height[1],
-        near[0],
-        near[1],
-        winding,
-        0,
-        frames[0],
-        frames[1],
-        vertices[0],
-        vertices[1],
-        vertices[2],
-        vertices[3],
-        occluders[0],
-        occluders[1],
-        occluders[2],
-        occluders[3],
-        object_tris[0],
-        object_tris[1],
-        object_tris[2],
-        object_tris[3],
-        objects[0],
-        objects[1],
-        objects[2],
-        objects[3],
-    ]
+    let mut header = Text::begin(b"MSOC");
+    header.push(&1_u16.to_le_bytes());
+    header.push(&scene.size().width().to_le_bytes());
+    header.push(&scene.size().height().to_le_bytes());
+    header.push(&scene.near().to_le_bytes());
+    header.push(&[code_of(scene.winding()), 0]);
+    header.push(&(scene.cameras().len() as u16).to_le_bytes());
+    header.push(&(scene.vertices().len() as u32).to_le_bytes());
+    header.push(&(scene.occluders().len() as u32).to_le_bytes());
+    header.push(&(scene.object_tris().len() as u32).to_le_bytes());
+    header.push(&(scene.objects().len() as u32).to_le_bytes());
+    header
 }
 
 /// Appends the scene's layout; after an error the beginning of it was appended, and not the whole. Err: Failed only where
@@ -144,10 +167,10 @@ fn header_of(scene: &Scene) -> [u8; 32]
 pub fn write_scene<W: Sink>(scene: &Scene, sink: &mut W) -> Result<(), SinkError>
     ensures { Writes (W.says sink.old) (W.says sink.new) result (layout scene.now) }
 {
-    write_whole(sink, &header_of(scene))?;
-    write_rows(sink, scene.vertices())?;
-    write_tris(sink, scene.occluders())?;
-    write_tris(sink, scene.object_tris())?;
-    write_objects(sink, scene.objects())?;
-    write_rows(sink, scene.cameras())
+    header_of(scene).write_to(sink)?;
+    write_table(sink, scene.vertices())?;
+    write_table(sink, scene.occluders())?;
+    write_table(sink, scene.object_tris())?;
+    write_table(sink, scene.objects())?;
+    write_table(sink, scene.cameras())
 }

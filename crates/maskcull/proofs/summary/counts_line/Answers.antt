@@ -1,7 +1,7 @@
 use Rattle.std.proofs.Common.{◌≡◌, ℕ, List, ◌++◌, ◌∷◌, [], append_assoc}
 use Rattle.std.specs.Prelude.{codes}
 use Rattle.std.specs.Fmt.{decimal}
-use Rattle.cull_report.specs.Lines.{line}
+use Rattle.text_lines.specs.Lines.{line}
 use Rattle.maskcull.specs.Summary.{counts_line}
 use Rattle.maskcull.proofs.summary.counts_line.Goals as goal
 

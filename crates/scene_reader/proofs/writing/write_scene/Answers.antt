@@ -22,52 +22,52 @@ after_vertices p = flat_map tri_bytes p.occluders ++ after_occluders p
 abbrev after_header : Parts → List ℕ
 after_header p = flat_map row_bytes p.vertices ++ after_vertices p
 
-pub returns-in_err-write_whole : goal.returns-in_err-write_whole
+pub returns-in_err-write_to : goal.returns-in_err-write_to
 unfolding layout
-returns-in_err-write_whole g c =
+returns-in_err-write_to g c =
     let q = err_from_is_err_and c.from_residual.result c.from_residual.ensures.1 in
-    rw (q.1, q.2) (writes_no_more _ _ _ _ (after_header c.args.scene.now) (rw c.header_of.ensures at c.in_err-write_whole.ensures))
+    rw (q.1, q.2) (writes_no_more _ _ _ _ (after_header c.args.scene.now) (rw c.header_of.ensures at c.in_err-write_to.ensures))
 
-pub returns-in_err-write_rows : goal.returns-in_err-write_rows
+pub returns-in_err-write_table : goal.returns-in_err-write_table
 unfolding layout
-returns-in_err-write_rows g c =
-    let q = err_from_is_err_and c.from_residual-in_err-write_rows.result c.from_residual-in_err-write_rows.ensures.1 in
-    let header = rw c.header_of.ensures at c.in_ok-write_whole.ensures in
-    rw (q.1, q.2) (writes_on header (writes_no_more _ _ _ _ (after_vertices c.args.scene.now) (rw c.vertices.ensures at c.in_err-write_rows.ensures)))
+returns-in_err-write_table g c =
+    let q = err_from_is_err_and c.from_residual-in_err-write_table.result c.from_residual-in_err-write_table.ensures.1 in
+    let header = rw c.header_of.ensures at c.in_ok-write_to.ensures in
+    rw (q.1, q.2) (writes_on header (writes_no_more _ _ _ _ (after_vertices c.args.scene.now) (rw c.vertices.ensures at c.in_err-write_table.ensures)))
 
-pub returns-in_err-write_tris : goal.returns-in_err-write_tris
+pub returns-in_err-write_table-2 : goal.returns-in_err-write_table-2
 unfolding layout
-returns-in_err-write_tris g c =
-    let q = err_from_is_err_and c.from_residual-in_err-write_tris.result c.from_residual-in_err-write_tris.ensures.1 in
-    let header = rw c.header_of.ensures at c.in_ok-write_whole.ensures in
-    let vertices = rw c.vertices.ensures at c.in_ok-write_rows.ensures in
-    rw (q.1, q.2) (writes_on header (writes_on vertices (writes_no_more _ _ _ _ (after_occluders c.args.scene.now) (rw c.occluders.ensures at c.in_err-write_tris.ensures))))
+returns-in_err-write_table-2 g c =
+    let q = err_from_is_err_and c.from_residual-in_err-write_table-2.result c.from_residual-in_err-write_table-2.ensures.1 in
+    let header = rw c.header_of.ensures at c.in_ok-write_to.ensures in
+    let vertices = rw c.vertices.ensures at c.in_ok-write_table.ensures in
+    rw (q.1, q.2) (writes_on header (writes_on vertices (writes_no_more _ _ _ _ (after_occluders c.args.scene.now) (rw c.occluders.ensures at c.in_err-write_table-2.ensures))))
 
-pub returns-in_err-write_tris-2 : goal.returns-in_err-write_tris-2
+pub returns-in_err-write_table-3 : goal.returns-in_err-write_table-3
 unfolding layout
-returns-in_err-write_tris-2 g c =
-    let q = err_from_is_err_and c.from_residual-in_err-write_tris-2.result c.from_residual-in_err-write_tris-2.ensures.1 in
-    let header = rw c.header_of.ensures at c.in_ok-write_whole.ensures in
-    let vertices = rw c.vertices.ensures at c.in_ok-write_rows.ensures in
-    let occluders = rw c.occluders.ensures at c.in_ok-write_tris.ensures in
-    rw (q.1, q.2) (writes_on header (writes_on vertices (writes_on occluders (writes_no_more _ _ _ _ (after_object_tris c.args.scene.now) (rw c.object_tris.ensures at c.in_err-write_tris-2.ensures)))))
+returns-in_err-write_table-3 g c =
+    let q = err_from_is_err_and c.from_residual-in_err-write_table-3.result c.from_residual-in_err-write_table-3.ensures.1 in
+    let header = rw c.header_of.ensures at c.in_ok-write_to.ensures in
+    let vertices = rw c.vertices.ensures at c.in_ok-write_table.ensures in
+    let occluders = rw c.occluders.ensures at c.in_ok-write_table-2.ensures in
+    rw (q.1, q.2) (writes_on header (writes_on vertices (writes_on occluders (writes_no_more _ _ _ _ (after_object_tris c.args.scene.now) (rw c.object_tris.ensures at c.in_err-write_table-3.ensures)))))
 
-pub returns-in_err-write_objects : goal.returns-in_err-write_objects
+pub returns-in_err-write_table-4 : goal.returns-in_err-write_table-4
 unfolding layout
-returns-in_err-write_objects g c =
-    let q = err_from_is_err_and c.from_residual-in_err-write_objects.result c.from_residual-in_err-write_objects.ensures.1 in
-    let header = rw c.header_of.ensures at c.in_ok-write_whole.ensures in
-    let vertices = rw c.vertices.ensures at c.in_ok-write_rows.ensures in
-    let occluders = rw c.occluders.ensures at c.in_ok-write_tris.ensures in
-    let object_tris = rw c.object_tris.ensures at c.in_ok-write_tris-2.ensures in
-    rw (q.1, q.2) (writes_on header (writes_on vertices (writes_on occluders (writes_on object_tris (writes_no_more _ _ _ _ (after_objects c.args.scene.now) (rw c.objects.ensures at c.in_err-write_objects.ensures))))))
+returns-in_err-write_table-4 g c =
+    let q = err_from_is_err_and c.from_residual-in_err-write_table-4.result c.from_residual-in_err-write_table-4.ensures.1 in
+    let header = rw c.header_of.ensures at c.in_ok-write_to.ensures in
+    let vertices = rw c.vertices.ensures at c.in_ok-write_table.ensures in
+    let occluders = rw c.occluders.ensures at c.in_ok-write_table-2.ensures in
+    let object_tris = rw c.object_tris.ensures at c.in_ok-write_table-3.ensures in
+    rw (q.1, q.2) (writes_on header (writes_on vertices (writes_on occluders (writes_on object_tris (writes_no_more _ _ _ _ (after_objects c.args.scene.now) (rw c.objects.ensures at c.in_err-write_table-4.ensures))))))
 
 pub returns : goal.returns
 unfolding layout
 returns g c =
-    let header = rw c.header_of.ensures at c.in_ok-write_whole.ensures in
-    let vertices = rw c.vertices.ensures at c.in_ok-write_rows.ensures in
-    let occluders = rw c.occluders.ensures at c.in_ok-write_tris.ensures in
-    let object_tris = rw c.object_tris.ensures at c.in_ok-write_tris-2.ensures in
-    let objects = rw c.objects.ensures at c.in_ok-write_objects.ensures in
-    writes_on header (writes_on vertices (writes_on occluders (writes_on object_tris (writes_on objects (rw c.cameras.ensures.value at c.write_rows-2.ensures)))))
+    let header = rw c.header_of.ensures at c.in_ok-write_to.ensures in
+    let vertices = rw c.vertices.ensures at c.in_ok-write_table.ensures in
+    let occluders = rw c.occluders.ensures at c.in_ok-write_table-2.ensures in
+    let object_tris = rw c.object_tris.ensures at c.in_ok-write_table-3.ensures in
+    let objects = rw c.objects.ensures at c.in_ok-write_table-4.ensures in
+    writes_on header (writes_on vertices (writes_on occluders (writes_on object_tris (writes_on objects (rw c.cameras.ensures.value at c.write_table-5.ensures)))))
