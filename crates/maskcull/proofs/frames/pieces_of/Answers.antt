@@ -11,8 +11,8 @@ use Rattle.cull_report.specs.Scene.{frame_list}
 use Rattle.cull_report.proofs.Forms.{clip_count, has_clips}
 use Rattle.maskcull.proofs.frames.pieces_of.Goals as goal
 
-pub invariant_of-occluders-clause-indices : goal.invariant_of-occluders-clause-indices
-invariant_of-occluders-clause-indices g c =
+pub invariant_of-occluders-2-clause-indices : goal.invariant_of-occluders-2-clause-indices
+invariant_of-occluders-2-clause-indices g c =
     let s = c.args.scene.now in
     let n : length c.args.clips.now ≡ length s.vertices = ap length c.requires ∙ clip_count s c.args._frame in
     let all : All (HasClips (length c.args.clips.now)) s.occluders = λ k d lt. has_clips (length c.args.clips.now) (length s.vertices) _ n ((c.near.ensures.valid).occluders k d lt).1 in
