@@ -47,16 +47,19 @@ fn floors_go_on_below_the_least_nearness_down_to_zero(rt: HostRuntime) {
         [812, 612, 412, 212, 812, 612, 412, 212]
     );
     assert_eq!(rt; floors(&tri, 1, 0), [12, 0, 0, 0, 12, 0, 0, 0]);
-    assert_eq!(rt; bounds(&tri, 1, 1).0, 612);
-    assert_eq!(rt; bounds(&tri, 4, 1).0, 200);
+    let plane = Plane::of(&tri);
+    assert_eq!(rt; plane.low(&tri, Sub { column: 1, row: 1 }), 612);
+    assert_eq!(rt; plane.low(&tri, Sub { column: 4, row: 1 }), 200);
 }
 
 // The least depth over the first subtile is 768 and 63/64; it falls by 199.75 a column and by 50 a row.
 #[test]
 fn what_is_left_of_two_quotients_is_carried(rt: HostRuntime) {
     let tri = piece_of(&rt, [0, 512, 0], [0, 0, 512], [1000, 201, 600]);
-    let carried = [768, 569, 369, 169, 718, 519, 319, 119];
-    assert_eq!(rt; floors(&tri, 0, 0), carried);
+    assert_eq!(rt;
+        floors(&tri, 0, 0),
+        [768, 569, 369, 169, 718, 519, 319, 119]
+    );
 }
 
 // The doubled area is 1, and the depth 1,000,000x - 1,001,000y: too steep for lanes.
@@ -136,6 +139,29 @@ fn nearer_is_strict_and_sees_remainders(rt: HostRuntime) {
     assert!(rt; !sloping.nearer(&sloping, sample));
 }
 
+fn number(state: u64, below: u64) -> u64
+    requires { 0 < below }
+    ensures { result < below }
+{
+    state / 0x1_0000_0000 % below
+}
+
+fn after(state: u64) -> u64 {
+    state
+        .wrapping_mul(6364136223846793005)
+        .wrapping_add(1442695040888963407)
+}
+
+// Three coordinates from -4,000 on.
+fn coordinates(state: u64) -> [i32; 3] {
+    let second = after(state);
+    [
+        number(state, 40_000) as i32 - 4000,
+        number(second, 40_000) as i32 - 4000,
+        number(after(second), 40_000) as i32 - 4000,
+    ]
+}
+
 fn edge_value(ax: i32, ay: i32, bx: i32, by: i32, x: i64, y: i64) -> i64 {
     let across = i64::from(bx).wrapping_sub(i64::from(ax));
     let down = i64::from(by).wrapping_sub(i64::from(ay));
@@ -164,7 +190,7 @@ fn extremes(x: &[i32; 3], y: &[i32; 3], q: &[u32; 3], sub: Sub) -> (i64, i64) {
     (least, greatest)
 }
 
-fn plain_bounds(x: &[i32; 3], y: &[i32; 3], q: &[u32; 3], sub: Sub) -> (u32, u32) {
+fn plain_bounds(x: &[i32; 3], y: &[i32; 3], q: &[u32; 3], sub: Sub) -> (i64, i64) {
     let area = edge_value(x[0], y[0], x[1], y[1], i64::from(x[2]), i64::from(y[2]));
     let (least, greatest) = extremes(x, y, q, sub);
     if area <= 0 {
@@ -180,40 +206,36 @@ fn plain_bounds(x: &[i32; 3], y: &[i32; 3], q: &[u32; 3], sub: Sub) -> (u32, u32
     let least_nearness = i64::from(q[0].min(q[1]).min(q[2]));
     let greatest_nearness = i64::from(q[0].max(q[1]).max(q[2]));
     (
-        floor.max(least_nearness).clamp(0, i64::from(HELD_TOP)) as u32,
-        ceiling.min(greatest_nearness).clamp(0, i64::from(HELD_TOP)) as u32,
+        floor.max(least_nearness).clamp(0, i64::from(HELD_TOP)),
+        ceiling.min(greatest_nearness).clamp(0, i64::from(HELD_TOP)),
     )
 }
 
-// Pieces of all sizes and slopes: over, beside and far from the screen, small, flat and steep.
 #[test]
 fn the_corner_agrees_with_all_samples(rt: HostRuntime) {
-    for (x, y, q) in [
-        ([-4000, 36_000, 900], [300, -3900, 20_000], [5, 65_535, 700]),
-        (
-            [-4000, 35_999, 35_999],
-            [-4000, -4000, 35_999],
-            [3, 60_000, 2],
-        ),
-        (
-            [20_000, 31_000, 19_000],
-            [-4000, 33_000, 30_000],
-            [HELD_TOP, 1, 2],
-        ),
-        ([8, 24, 8], [8, 8, 24], [0, 9, 40_000]),
-        ([100, 117, 90], [64, 640, 6400], [40_000, 100, 50_000]),
-        (
-            [30_000, 30_001, 30_000],
-            [32_700, 32_700, 32_701],
-            [7, 7, 8],
-        ),
-    ] {
-        let tri = piece_of(&rt, x, y, q);
-        for column in [0, 1, 7, 100, 234, 255] {
-            for row in [0, 3, 12, 100, 500, 511] {
-                let wanted = plain_bounds(&x, &y, &q, Sub { column, row });
-                assert_eq!(rt; bounds(&tri, column, row), wanted, "{column}, {row}");
-            }
+    let mut state = 7u64;
+    let mut pieces = 0u32;
+    let top = u64::from(HELD_TOP) + 1;
+    for i in 0..800u32 {
+        state = after(after(state));
+        let x = coordinates(state);
+        let y = coordinates(after(after(after(state))));
+        let q = [
+            number(after(state), top) as u32,
+            number(state, top) as u32,
+            number(after(after(state)), top) as u32,
+        ];
+        if let Some(tri) = ScreenTri::new(x, y, q) {
+            pieces = pieces.wrapping_add(1);
+            let plane = Plane::of(&tri);
+            let sub = Sub {
+                column: number(state, 256) as u16,
+                row: number(after(state), 512) as u16,
+            };
+            let (low, high) = plain_bounds(&x, &y, &q, sub);
+            assert_eq!(rt; i64::from(plane.low(&tri, sub)), low, "low at {i}");
+            assert_eq!(rt; i64::from(plane.high(&tri, sub)), high, "high at {i}");
         }
     }
+    assert!(rt; pieces > 300, "{pieces} pieces");
 }
