@@ -39,7 +39,7 @@ fn a_refused_set_up_writes_nothing(rt: HostRuntime) -> Result<(), Fail> {
     let mut room = [UNWRITTEN; 4];
     let mut count = 99;
     let wrong = Setup { near: 0, ..SETUP };
-    let beyond = [Triangle { a: 0, b: 1, c: 2 }, Triangle { a: 0, b: 4, c: 3 }];
+    let beyond = [Triangle { a: 0, b: 1, c: 2 }, Triangle { a: 0, b: 5, c: 3 }];
     assert_eq!(rt;
         maskcull_set_up(&wrong, &VERTICES, &QUAD, &mut room, &mut count),
         BAD_SETUP
