@@ -113,40 +113,45 @@ SUBTILES = ((0, 100, 0x0F0F0F0F), (0, 100, 0x00FFFFFF), (100, 0, 0), (100, 240, 
 COUNT = 3
 
 
-def packed(reference, working, mask):
-    return reference | working << 16 | mask << 32
+def word(x, y, width, name, told, shade):
+    yield rect(x, y, width, 44, shade)
+    yield rect(x, y, width, 44, "line")
+    yield text(x + width / 2, y + 18, name, "small", "middle")
+    yield text(x + width / 2, y + 35, told, "small code", "middle")
 
 
 def words_of_cell():
-    yield text(24, 30, "A cell has nine words. One writer stores all of them at once.", "strong")
-    width = 92
-    for number in range(9):
-        x = 24 + number * width
-        yield rect(x, 44, width, 44, "two" if number == 0 else "one")
-        yield rect(x, 44, width, 44, "line")
-        yield text(x + width / 2, 62, "count" if number == 0 else f"subtile {number - 1}", "small", "middle")
-        told = str(COUNT) if number == 0 else f"{packed(*SUBTILES[number - 1]):016X}"[:8] + ".."
-        yield text(x + width / 2, 79, told, "small code", "middle")
+    yield text(24, 30, "A cell has thirteen words. One writer stores all of them at once.", "strong")
+    yield from word(24, 44, 92, "count", str(COUNT), "two")
+    for number, (reference, working, _) in enumerate(SUBTILES):
+        told = f"{working << 24 | reference:012X}"
+        yield from word(116 + number * 92, 44, 92, f"layers of {number}", told, "one")
+    for number in range(0, 8, 2):
+        (_, _, even), (_, _, odd) = SUBTILES[number:number + 2]
+        told = f"{odd << 32 | even:016X}"
+        yield from word(392 + number // 2 * 115, 100, 115, f"masks of {number + 1} and {number}", told, "three")
 
 
-def bits_of_word(left, top):
+def bits_of_subtile(left, top):
     reference, working, mask = SUBTILES[0]
-    yield line(24 + 92, 88, left, top, "thin")
-    yield line(24 + 2 * 92, 88, left + 480, top, "thin")
-    parts = (("mask: bits 63 to 32", f"{mask:08X}", 240), ("working: 31 to 16", f"{working:04X}", 120),
-             ("reference: 15 to 0", f"{reference:04X}", 120))
-    x = left
-    for name, told, width in parts:
-        yield rect(x, top, width, 30, "one")
+    for x0, x1 in ((116, left), (208, left + 300)):
+        yield line(x0, 88, x1, top, "thin")
+    for x0, x1 in ((449.5, left + 320), (507, left + 560)):
+        yield line(x0, 144, x1, top, "thin")
+    parts = (("working: bits 47 to 24", f"{working:06X}", 0, 150, "one"),
+             ("reference: 23 to 0", f"{reference:06X}", 150, 150, "one"),
+             ("mask: 31 to 0", f"{mask:08X}", 320, 240, "three"))
+    for name, told, place, width, shade in parts:
+        x = left + place
+        yield rect(x, top, width, 30, shade)
         yield rect(x, top, width, 30, "line")
         yield text(x + width / 2, top + 20, told, "code", "middle")
         yield text(x + width / 2, top + 46, name, "small", "middle")
-        x += width
     for sample in range(32):
-        x, y = left + 530 + sample % 8 * 29, top - 14 + sample // 8 * 18
+        x, y = left + 586 + sample % 8 * 29, top - 14 + sample // 8 * 18
         yield rect(x, y, 28, 17, "one" if mask >> sample & 1 else "none")
         yield text(x + 14, y + 13, str(working if mask >> sample & 1 else reference), "small", "middle")
-    yield text(left + 530, top + 76, "subtile 0: the bounds of its 32 samples", "small")
+    yield text(left + 586, top + 76, "subtile 0: the bounds of its 32 samples", "small")
 
 
 def loads_of_cell(top):
@@ -172,10 +177,10 @@ def loads_of_cell(top):
 
 
 def cell_figure():
-    yield 880, 344, "The nine words of a tile's cell, and loads beside stores"
+    yield 880, 400, "The thirteen words of a tile's cell, and loads beside stores"
     yield from words_of_cell()
-    yield from bits_of_word(76, 124)
-    yield from loads_of_cell(234)
+    yield from bits_of_subtile(24, 182)
+    yield from loads_of_cell(290)
 
 
 # The life of a command's bytes.

@@ -45,10 +45,13 @@ abbrev pub greatest_nearness : Piece → ℕ
 greatest_nearness t = max (nearness t 0) (max (nearness t 1) (nearness t 2))
 
 -- Over the 32 samples of the subtile, covered or not; the denominator is the same at each.
-unfoldable pub low_of : Piece → Sub → ℕ
-low_of t u =
-    cut_to_range HELD_TOP (int_max (pos (least_nearness t))
+abbrev pub low_up_to : ℕ → Piece → Sub → ℕ
+low_up_to top t u =
+    cut_to_range top (int_max (pos (least_nearness t))
     (floor_of (least_of (each_sample (λ k. numerator t (sample u k)))) (denominator t)))
+
+unfoldable pub low_of : Piece → Sub → ℕ
+low_of t u = low_up_to HELD_TOP t u
 
 unfoldable pub high_of : Piece → Sub → ℕ
 high_of t u =

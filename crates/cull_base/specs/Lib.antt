@@ -1,6 +1,7 @@
 pub mod Screen
 pub mod Rectangle
 pub mod Bounds
+pub mod Grade
 pub mod Piece
 pub mod Depth
 pub mod Divisor
@@ -8,6 +9,7 @@ pub mod Fraction
 pub mod State
 pub mod Fold
 pub mod Tiles
+pub mod Sampled
 pub mod Span
 pub mod Guard
 pub mod NearPlane

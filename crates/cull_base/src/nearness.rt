@@ -1,15 +1,37 @@
-//! How far nearness goes. Two tops that are equal today, each stated here alone.
-ghost use Rattle.std.specs.Prelude.{◌≡◌};
+//! How far nearness goes: by a scene's grade, and in pieces, subtiles and cells, which are the same for both grades.
+ghost use Rattle.std.specs.Prelude.{◌≡◌, ◌≤◌};
 ghost use Rattle.cull_base.specs.declared.nearness.TheConstants.{GRADE_TOP, HELD_TOP};
 
 /// The greatest nearness that pieces and subtiles hold.
-pub const HELD_TOP: u32 = 65535;
+pub const HELD_TOP: u32 = 16777215;
 
-/// The top of a scene's grade: the nearness of the near distance, by which quotients are scaled.
+/// The top of the narrow grade: the nearness of the near distance, by which quotients are scaled.
 pub const GRADE_TOP: u32 = 65535;
 
 /// The two tops as numbers. Definitions read them by name, so a changed constant would change these too.
 pub fn tops()
-    ensures held { HELD_TOP ≡ 65535 }
+    ensures held { HELD_TOP ≡ 16777215 }
     ensures grade { GRADE_TOP ≡ 65535 }
 {}
+
+/// How finely a scene tells distances apart: its nearness goes to 65535 or to 16777215.
+#[derive(Clone, Copy, Debug, PartialEq, Eq)]
+pub enum Grade {
+    Narrow,
+    Wide,
+}
+
+impl Grade {
+    ghost use Rattle.cull_base.specs.Grade.{top_of};
+
+    /// The nearness of the near distance, by which quotients are scaled. Pieces and subtiles hold it.
+    pub fn top(self) -> u32
+        ensures value { result ≡ top_of self }
+        ensures within { result ≤ HELD_TOP }
+    {
+        match self {
+            Grade::Narrow => 65535,
+            Grade::Wide => 16777215,
+        }
+    }
+}

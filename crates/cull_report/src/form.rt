@@ -9,7 +9,7 @@ ghost use Rattle.cull_report.specs.Forms.{shape_of_form, IsFlatForm, HasTriangle
 ghost use Rattle.scene_reader.specs.Layout.{IsObject};
 
 use camera_path::Camera;
-use cull_base::{ClipVertex, Object, Rect, Size};
+use cull_base::{ClipVertex, Grade, Object, Rect, Size};
 use rect_query::{BoxAnswer, box_rect, rect_near};
 use scene_reader::Scene;
 
@@ -29,7 +29,7 @@ fn rectangle_form(size: Size, near: u16, rect: Rect, w: i32) -> Form
     requires most { near ≤ 1024 }
     ensures { IsFlatForm size result (rectangle_shape GRADE_TOP near size rect w) }
 {
-    match rect_near(w, near) {
+    match rect_near(w, near, Grade::Narrow) {
         Some(q) => Form::Flat { rect, q },
         None => if rect.meets(&size.screen()) {
             Form::Visible
@@ -45,7 +45,7 @@ fn box_form(size: Size, near: u16, corners: &[ClipVertex; 8]) -> Form
     requires most { near ≤ 1024 }
     ensures { IsFlatForm size result (box_shape GRADE_TOP near size corners.now) }
 {
-    match box_rect(corners, near, size) {
+    match box_rect(corners, near, size, Grade::Narrow) {
         BoxAnswer::Outside => Form::Outside,
         BoxAnswer::Straddles => Form::Visible,
         BoxAnswer::At { rect, q } => Form::Flat { rect, q },

@@ -108,7 +108,7 @@ share_le n d w r p e h =
     let g = le_from_times (pos w) (pos (2 ^ 29)) (pos d) (omega (arith, ints, p)) (omega (arith, ints, f, h)) in
     omega (arith, ints, g)
 
-lt_step : (a b d : ℤ) → pos 0 <ℤ d → (a *ℤ d) <ℤ ((b *ℤ d) +ℤ d) → a ≤ℤ b
+pub lt_step : (a b d : ℤ) → pos 0 <ℤ d → (a *ℤ d) <ℤ ((b *ℤ d) +ℤ d) → a ≤ℤ b
 lt_step a b d h l = by_lt_z b a (λ k.
     let p = le_times (b +ℤ pos 1) a d (omega (arith, ints, h)) (omega (arith, ints, k)) in
     let e = add_times b (pos 1) d in let f = one_times d in

@@ -8,3 +8,4 @@ pub mod Depths
 pub mod Fractions
 pub mod Boxes
 pub mod FloorLanes
+pub mod Rises

@@ -1,7 +1,7 @@
 //! The plane of a piece of a few pixels, which is divided only in the subtiles that the piece covers.
-ghost use Rattle.std.specs.Prelude.{◌≡◌, ℕ, ℤ, pos, max, ◌<◌, ◌≤◌, ◌^◌, ◌+◌, IfSome};
+ghost use Rattle.std.specs.Prelude.{◌≡◌, ℕ, ℤ, pos, ◌<◌, ◌≤◌, ◌^◌, ◌+◌, ◌+ℤ◌, ◌*ℤ◌, IfSome};
 ghost use Rattle.cull_base.specs.Bounds.{Bounded};
-ghost use Rattle.cull_base.specs.Piece.{IsPiece, Piece, least_of, sample, each_sample};
+ghost use Rattle.cull_base.specs.Piece.{Piece, least_of, sample, each_sample};
 ghost use Rattle.cull_base.specs.Depth.{cut_to_range, floor_of, least_nearness, low_of};
 ghost use Rattle.cull_base.specs.declared.nearness.TheConstants.{HELD_TOP};
 ghost use Rattle.depth_plane.specs.Plane.{low_from, numerator_at, plane_of};
@@ -11,6 +11,9 @@ use crate::corner::{narrow_first, narrow_numerator};
 use crate::vertices::Vertices;
 use cull_base::{HELD_TOP, ScreenTri, Sub};
 use std::marker::Model;
+
+/// An area is below this.
+const GREATEST: u64 = 0x8000_0000;
 
 /// A plane as `Plane`, whose numerators over the screen fit 64 bits.
 #[derive(Drop)]
@@ -24,7 +27,7 @@ pub struct SmallPlane {
 }
 
 impl Model for SmallPlane {
-    ghost use Rattle.std.specs.Prelude.{pos};
+    ghost use Rattle.std.specs.Prelude.{pos, ◌<◌, ◌^◌};
     ghost use Rattle.depth_plane.specs.Plane.{Coefficients, coefficients, IsPlane, IsNarrow};
 
     ghost Value = { Coefficients };
@@ -33,21 +36,41 @@ impl Model for SmallPlane {
 
     ghost invariant = { λ p.
         let c = coefficients p.across p.down p.level (pos p.area) in
-        IsPlane c × IsNarrow c p.first };
+        IsPlane c × (IsNarrow c p.first × (p.area < 2 ^ 31)) };
 }
 
-// The floor of a numerator over an area, cut to the range.
+// What a numerator rises above a nearness, in parts of an area.
 #[inline(always)]
-fn cut_floor(numerator: i64, area: u64) -> u32
-    requires { 0 < area }
-    ensures value { result ≡ cut_to_range HELD_TOP (int_max (pos 0) (floor_of numerator (pos area))) }
+fn rise_above(nearness: u32, numerator: i64, area: u64) -> i64
+    requires nearness { nearness ≤ HELD_TOP }
+    requires numerator { Bounded (2 ^ 62 + 2 ^ 61 + 2 ^ 54) numerator }
+    requires small { area < 2 ^ 31 }
+    ensures { numerator ≡ (pos nearness *ℤ pos area) +ℤ result }
+{
+    numerator - i64::from(nearness) * area as i64
+}
+
+// The floor of a numerator over an area, no less than a nearness, cut to the range. Where it rises above that by less
+// than the area, nothing is divided; and where it does by more, the quotient is mostly one of 32 bits.
+#[inline(always)]
+fn raised_floor(nearness: u32, numerator: i64, area: u64) -> u32
+    requires nearness { nearness ≤ HELD_TOP }
+    requires numerator { Bounded (2 ^ 62 + 2 ^ 61 + 2 ^ 54) numerator }
+    requires positive { 0 < area }
+    requires small { area < 2 ^ 31 }
+    ensures value { result ≡ cut_to_range HELD_TOP (int_max (pos nearness) (floor_of numerator (pos area))) }
     ensures within { result ≤ HELD_TOP }
 {
-    (numerator.max(0) as u64 / area).min(u64::from(HELD_TOP)) as u32
+    let rise = rise_above(nearness, numerator, area);
+    if rise < area as i64 {
+        nearness
+    } else {
+        (u64::from(nearness) + rise as u64 / area).min(u64::from(HELD_TOP)) as u32
+    }
 }
 
 impl SmallPlane {
-    /// The piece's plane. None where a numerator may be too great.
+    /// The piece's plane. None where a numerator or the area may be too great.
     #[inline(always)]
     pub fn of(tri: &ScreenTri) -> Option<SmallPlane>
         ensures { IfSome result (λ p. p ≡ plane_of tri.now) }
@@ -58,12 +81,16 @@ impl SmallPlane {
         let area = vertices.area();
         let level = vertices.level(across, down, area);
         let first = narrow_first(across, down, level)?;
+        let area = area.unsigned_abs();
+        if area >= GREATEST {
+            return None;
+        }
         Some(SmallPlane {
             across,
             down,
             level,
             first,
-            area: area.unsigned_abs(),
+            area,
         })
     }
 
@@ -72,23 +99,25 @@ impl SmallPlane {
     fn least(&self, sub: Sub) -> i64
         requires column { sub.column < 256 }
         requires row { sub.row < 512 }
-        ensures { result ≡ least_of (each_sample (λ k. numerator_at self.now (sample sub k))) }
+        ensures value { result ≡ least_of (each_sample (λ k. numerator_at self.now (sample sub k))) }
+        ensures bounded { Bounded (2 ^ 62 + 2 ^ 61 + 2 ^ 54) result }
     {
         let right = 128 * u32::from(sub.column);
         let below = 64 * u32::from(sub.row);
         narrow_numerator(self.across, self.down, self.first, right, below)
     }
 
-    /// The floor of the least depth over a subtile, from 0 to the top that pieces hold. The greater of it and the
-    /// piece's least nearness is the low bound. Condition: the subtile lies within 2048 by 2048 pixels.
+    /// The low bound of a subtile, for a piece whose least nearness is this. Condition: the subtile lies within 2048 by
+    /// 2048 pixels.
     #[inline(always)]
-    pub fn floor(&self, sub: Sub) -> u32
+    pub fn bound(&self, sub: Sub, nearness: u32) -> u32
         requires column { sub.column < 256 }
         requires row { sub.row < 512 }
-        ensures value { result ≡ low_from self.now 0 sub }
+        requires nearness { nearness ≤ HELD_TOP }
+        ensures value { result ≡ low_from self.now nearness sub }
         ensures within { result ≤ HELD_TOP }
-        ensures raised { (x : Piece) → self.now ≡ plane_of x → IsPiece x → max (least_nearness x) result ≡ low_of x sub }
+        ensures low { (x : Piece) → self.now ≡ plane_of x → nearness ≡ least_nearness x → result ≡ low_of x sub }
     {
-        cut_floor(self.least(sub), self.area)
+        raised_floor(nearness, self.least(sub), self.area)
     }
 }

@@ -2,6 +2,7 @@
 ghost use Rattle.std.specs.Prelude.{◌<◌};
 
 use crate::plane::Plane;
+use crate::small_plane::SmallPlane;
 use cull_base::{HELD_TOP, Sample, ScreenTri, Sub, Tile};
 use std::process::Abort;
 
@@ -19,6 +20,41 @@ fn a_sloping_piece_is_bounded_by_its_plane_and_its_vertices(rt: HostRuntime) {
     assert_eq!(rt; plane.low(&tri, Sub { column: 4, row: 0 }), 200);
 }
 
+#[test]
+fn a_small_plane_has_the_bounds_of_the_plane(rt: HostRuntime) {
+    let tri = piece_of(&rt, [0, 512, 0], [0, 0, 512], [1000, 200, 1000]);
+    let plane = SmallPlane::of(&tri).expect(&rt, "a small plane");
+    assert_eq!(rt; plane.bound(Sub { column: 0, row: 0 }, 200), 812);
+    assert_eq!(rt; plane.bound(Sub { column: 3, row: 0 }, 200), 212);
+    assert_eq!(rt; plane.bound(Sub { column: 4, row: 0 }, 200), 200);
+}
+
+// Their doubled areas are 2^31 - 2^16 and 2^31.
+#[test]
+fn a_small_plane_has_an_area_below_31_bits(rt: HostRuntime) {
+    let below = piece_of(&rt, [0, 65_536, 0], [0, 0, 32_767], [7, 7, 7]);
+    let above = piece_of(&rt, [0, 65_536, 0], [0, 0, 32_768], [7, 7, 7]);
+    let plane = SmallPlane::of(&below).expect(&rt, "a small plane");
+    assert_eq!(rt; plane.bound(Sub { column: 0, row: 0 }, 7), 7);
+    assert!(rt; SmallPlane::of(&above).is_none());
+}
+
+// The numbers of the first test 256 times as great: more than 16 bits hold.
+#[test]
+fn a_sloping_piece_of_the_wide_grade_is_bounded_as_finely(rt: HostRuntime) {
+    let tri = piece_of(&rt, [0, 512, 0], [0, 0, 512], [256_000, 51_200, 256_000]);
+    assert_eq!(rt; bounds(&tri, 0, 0), (208_000, 252_800));
+    assert_eq!(rt; bounds(&tri, 3, 0).0, 54_400);
+    assert_eq!(rt; bounds(&tri, 4, 0).0, 51_200);
+}
+
+#[test]
+fn nearness_goes_to_the_top_that_pieces_hold(rt: HostRuntime) {
+    let (x, y) = ([0, 16, 0], [0, 0, 16]);
+    assert!(rt; ScreenTri::new(x, y, [0, 16_777_215, 0]).is_some());
+    assert!(rt; ScreenTri::new(x, y, [0, 16_777_216, 0]).is_none());
+}
+
 // The depth goes from 0 at x = -400,000,000 to 1001 at 400,000,000, so it is 500.5 at x = 0 and hardly rises there.
 #[test]
 fn numerators_beyond_64_bits_are_divided_too(rt: HostRuntime) {
@@ -29,6 +65,26 @@ fn numerators_beyond_64_bits_are_divided_too(rt: HostRuntime) {
     assert_eq!(rt; plane.low(&tri, sub), 500);
     assert_eq!(rt; plane.high(&tri, sub), 501);
     assert_eq!(rt; plane.floors(Tile { column: 0, row: 0 }), [500; 8]);
+}
+
+// The same with 16,777,201 in place of 1001: it is 8,388,600.5 at x = 0, and rises by one in 47 or 48 sixteenths.
+#[test]
+fn numerators_of_the_wide_grade_beyond_64_bits_are_divided_too(rt: HostRuntime) {
+    let far = 400_000_000;
+    let nearest = 16_777_201;
+    let tri = piece_of(
+        &rt,
+        [-far, far, far],
+        [-far, -far, far],
+        [0, nearest, nearest],
+    );
+    assert_eq!(rt; bounds(&tri, 0, 0), (8_388_600, 8_388_604));
+    assert_eq!(rt;
+        floors(&tri, 0, 0),
+        [
+            8_388_600, 8_388_603, 8_388_606, 8_388_608, 8_388_600, 8_388_603, 8_388_606, 8_388_608
+        ]
+    );
 }
 
 fn floors(tri: &ScreenTri, column: u16, row: u16) -> [u32; 8]
@@ -67,9 +123,12 @@ fn what_is_left_of_two_quotients_is_carried(rt: HostRuntime) {
 fn a_steep_piece_has_floors_too(rt: HostRuntime) {
     let tri = piece_of(&rt, [0, 1000, 1001], [0, 999, 1000], [0, 1000, 0]);
     let top = HELD_TOP;
-    assert_eq!(rt; floors(&tri, 0, 0), [0, top, top, top, 0, top, top, top]);
+    assert_eq!(rt;
+        floors(&tri, 0, 0),
+        [0, top, top, top, 0, 15_880_000, top, top]
+    );
     assert_eq!(rt; bounds(&tri, 0, 1).0, 0);
-    assert_eq!(rt; bounds(&tri, 1, 1).0, top);
+    assert_eq!(rt; bounds(&tri, 1, 1).0, 15_880_000);
 }
 
 // The doubled area is 2^32, too great for lanes, and the depth 60,000 - 50,000x/65,536.

@@ -19,4 +19,5 @@ pub mod Crossed
 pub mod Lesser
 pub mod Rows
 pub mod TileRows
+pub mod Reciprocals
 pub mod Calls

@@ -7,3 +7,4 @@ pub mod Between
 pub mod Spans
 pub mod Crossings
 pub mod Rows
+pub mod Reciprocals

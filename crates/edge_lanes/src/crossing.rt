@@ -6,9 +6,9 @@ ghost use Rattle.cull_base.specs.Depth.{floor_of};
 ghost use Rattle.edge_lanes.specs.Between.{IsLimit, column_at};
 ghost use Rattle.edge_lanes.specs.Lanes.{offsets_of};
 
+use crate::reciprocal::Reciprocal;
 use crate::spans::Spans;
 use crate::turned::Turned;
-use cull_base::Divisor;
 use std::simd::prelude::*;
 
 /// The parts of a pixel.
@@ -36,9 +36,9 @@ pub struct Crossing {
 
 // So many pixels over a size, in parts, rounded down. The sign is no branch around the division.
 #[inline(always)]
-fn parts(pixels: i64, size: &Divisor) -> i64
+fn parts(pixels: i64, size: &Reciprocal) -> i64
     requires { Bounded (2 ^ 30) pixels }
-    ensures { result ≡ floor_of (pixels *ℤ pos (2 ^ 32)) (pos size.now) }
+    ensures { result ≡ floor_of (pixels *ℤ pos (2 ^ 32)) (pos size.now.number) }
 {
     let numerator = pixels * PIXEL;
     let distance = if numerator < 0 {
@@ -89,7 +89,7 @@ impl Crossing {
             ≡ column_at edge.now.start edge.now.row edge.now.size y }
         ensures limit { result.limit ≡ edge.now.limit }
     {
-        let size = Divisor::of(edge.size as u64);
+        let size = Reciprocal::of(edge.size as u64);
         let step = parts(edge.row, &size);
         Crossing {
             start: parts(edge.start, &size) + SHORTFALL,

@@ -8,6 +8,7 @@ mod crossings;
 mod edges;
 mod narrow_edge;
 mod narrow_edges;
+mod reciprocal;
 mod row_edges;
 mod shared;
 mod slant;

@@ -195,6 +195,36 @@ fn a_narrow_piece_around_the_screen_is_whole_on_one_side(rt: HostRuntime) {
     assert_eq!(rt; below.mask(0), 0);
 }
 
+// The masks of a tile, by the edges over its row.
+fn row_masks(rt: &impl Abort, x: [i32; 3], y: [i32; 3], row: u32, column: u32) -> [u32; 8]
+    requires row { row < 256 }
+    requires column { column < 64 }
+{
+    let edges = RowEdges::of(&ScreenTri::new(x, y, [0; 3]).expect(rt, "a piece"));
+    edges.over_row(row).masks(column)
+}
+
+// The diagonal of a square goes through a sample in each row: the piece above it covers that sample, the one below it
+// doesn't. The reciprocal of a height below 2^16 is computed by 32 bits, of one from there on by 64.
+#[test]
+fn a_diagonal_through_samples_is_exact_at_each_height(rt: HostRuntime) {
+    let full = u32::MAX;
+    let above = [0xF8FC_FEFF, full, full, full, 0x80C0_E0F0, full, full, full];
+    let below = [0x0703_0100, 0, 0, 0, 0x7F3F_1F0F, 0, 0, 0];
+    for size in [65_535, 65_536] {
+        assert_eq!(rt; row_masks(&rt, [0, size, size], [0, 0, size], 0, 0), above);
+        assert_eq!(rt;
+            row_masks(&rt, [0, size, size], [0, 0, size], 252, 63),
+            above
+        );
+        assert_eq!(rt; row_masks(&rt, [0, size, 0], [0, size, size], 0, 0), below);
+        assert_eq!(rt;
+            row_masks(&rt, [0, size, 0], [0, size, size], 252, 63),
+            below
+        );
+    }
+}
+
 // Whether lanes and samples agree at a piece, in the subtile nearest to a place and in its tile.
 fn agree(tri: &ScreenTri, x: &[i32; 3], y: &[i32; 3], side: Side, sub: Sub) -> bool
     requires column { sub.column < 256 }

@@ -10,17 +10,14 @@ use Rattle.cull_base.specs.declared.memory.SinkError.{SinkError}
 use Rattle.cull_base.specs.declared.memory.SinkError.TheVariants as sink
 use Rattle.cull_base.specs.Stream.{SinkSays, Appends, AppendsPrefix, Rose, Writes}
 use Rattle.cull_base.proofs.Streams.{appends_then}
-use Rattle.scene_reader.specs.Layout.{Parts, IsScene}
+use Rattle.scene_reader.specs.Layout.{Parts}
 use Rattle.cull_report.specs.Scene.{frame_pieces, frames_text}
-use Rattle.cull_report.specs.Hiding.{HidesTruly}
-use Rattle.cull_report.proofs.Occluders.{hides_truly}
 use Rattle.maskcull.specs.declared.failure.Failure.{Failure}
 use Rattle.maskcull.specs.declared.frames.FrameLines.{FrameLines}
 use Rattle.maskcull.specs.declared.frames.FrameLines.TheVariants.{Report, Summary}
 use Rattle.maskcull.specs.Frames.{AreValidFrom, lines_of, lines_from, frames_lines}
 use Rattle.demo_scene.specs.Demo.{demo_of, frame_count}
 use Rattle.maskcull.specs.Summary.{frames_summary}
-use Rattle.std.specs.Prelude.{OnOk}
 use Rattle.maskcull.specs.Culling.{Reports, AllArePieces, IsReportFailure}
 use Rattle.maskcull.specs.Outcome.{sink_failure}
 
@@ -82,11 +79,6 @@ next_valid s k before last f lt = elim (cases_lt f k) [
   | inl less ↦ before f less
   | inr not_less ↦ let is : k ≡ f = omega arith in subst (λ f. ArePieces (frame_pieces s f)) is last
 ]
-
--- what is called occluded is hidden, once the frames of a scene were drawn
-pub hidden_then : (r : Result (Unit {0}) Failure) (s : Parts) → OnOk r (IsScene s) → OnOk r (AllArePieces s) → OnOk r (HidesTruly s)
-hidden_then (Ok x) s scene all = hides_truly s scene all
-hidden_then (Err e) s scene all = all
 
 failed_later : (f : Failure) (s0 s1 s2 : SinkSays) → s0.faults ≤ s1.faults → IsReportFailure f s1 s2 → IsReportFailure f s0 s2
 failed_later f s0 s1 s2 le h = elim h [

@@ -5,6 +5,8 @@ pub mod Marks
 pub mod LiveTexts
 pub mod ScenePieces
 pub mod Shares
+pub mod Fronts
+pub mod OutcomeTexts
 pub mod LiveEnds
-pub mod RunEnds
-pub mod RunStatus
+pub mod Comings
+pub mod Corollaries

@@ -17,41 +17,19 @@ use Rattle.cull_report.specs.Scene.{frame_pieces, frame_report, frame_verdicts, 
 use Rattle.maskcull.specs.Frames.{lines_by}
 use Rattle.maskcull.specs.declared.frames.FrameLines.TheVariants.{Report}
 use Rattle.maskcull.specs.declared.failure.Failure.{Failure}
-use Rattle.maskcull.specs.declared.failure.Failure.TheVariants.{ReportFault, NotesFault, Memory}
-use Rattle.maskcull.specs.Culling.{AllArePieces}
+use Rattle.maskcull.specs.declared.failure.Failure.TheVariants.{Scene, ReadFault, ReportFault, NotesFault, Memory}
 use Rattle.maskcull.specs.LiveFrames.{AreLive}
-use Rattle.maskcull.specs.LiveRuns.{GainsLive, StopsAtNotes}
-use Rattle.maskcull.specs.LiveScenes.{CountsStay, GainsRising, HasLive, IsLiveFailure, IsUnnoted, NotesLines, ReportsFrame, ReportsLive}
+use Rattle.maskcull.specs.LiveRuns.{ReportsLive}
+use Rattle.maskcull.specs.LiveScenes.{CountsStay, HasLive, IsLiveFailure, IsUnnoted, NotesLines, ReportsFrame}
+use Rattle.maskcull.specs.Outcomes.{live_frames}
+use Rattle.maskcull.specs.Runs.{AwaitsNote}
+use Rattle.maskcull.specs.declared.failure.Status.TheVariants as statuses
 use Rattle.maskcull.specs.Outcome.{notes_failure, sink_failure}
 use Rattle.demo_scene.proofs.Ranges.{flat_map-next, flat_map-begins}
 use Rattle.maskcull.proofs.LiveLooks.{with_at, at_same, at_other}
 use Rattle.maskcull.proofs.LiveTexts.{flat_map-alike}
-use Rattle.maskcull.proofs.ScenePieces.{lines_hide}
-
--- ---- texts on sinks
-
-pub nothing_appended : (says : SinkSays) → Appends says says []
-nothing_appended says = by says.holding
-  where
-    by : (held : Option (List ℕ)) → held ≡ option_map (λ (h : List ℕ). h ++ []) held
-    by None = refl
-    by (Some h) = ap Some (sym (append-nil h))
-
--- a whole text is a beginning of a longer one
-pub whole_is_front : (s0 s1 : SinkSays) (a b : List ℕ) → Appends s0 s1 a → AppendsPrefix s0 s1 (a ++ b)
-whole_is_front s0 s1 a b h = (length a, omega (arith, length-append a b), rw (take-append-le (length a) a b (omega arith), take-length a) h)
-
--- and of itself
-pub all_is_front : (s0 s1 : SinkSays) (a : List ℕ) → Appends s0 s1 a → AppendsPrefix s0 s1 a
-all_is_front s0 s1 a h = (length a, omega arith, rw (take-length a) h)
-
--- a beginning is one of a longer text
-pub front_of_more : (s0 s1 : SinkSays) (a b : List ℕ) → AppendsPrefix s0 s1 a → AppendsPrefix s0 s1 (a ++ b)
-front_of_more s0 s1 a b (n, le, h) = (n, omega (arith, length-append a b), rw (take-append-le n a b le) h)
-
--- a beginning after a whole text
-pub front_then : (s0 s1 s2 : SinkSays) (a b : List ℕ) → Appends s0 s1 a → AppendsPrefix s1 s2 b → AppendsPrefix s0 s2 (a ++ b)
-front_then s0 s1 s2 a b h (n, le, f) = (length a + n, omega (arith, length-append a b), rw (take-append-add a b n) (appends_then s0 s1 s2 a (take n b) h f))
+use Rattle.maskcull.proofs.Fronts.{all_is_front, front_of_more, front_then, nothing_appended, rose_later}
+use Rattle.maskcull.proofs.OutcomeTexts.{lines_front, live_is, report_is}
 
 -- ---- texts of frames
 
@@ -77,7 +55,7 @@ report_begins s k lt =
     let (rest, e) = frames_text-begins s k (length s.cameras) lt in
     (rest, report_text-is s ∙ ap (λ (t : List ℕ). scene_header s ++ t) e ∙ sym (append_assoc (scene_header s) (frames_text s (k + 1)) rest))
 
-report_next : (s : Parts) (k : ℕ) → scene_header s ++ frames_text s (k + 1) ≡ (scene_header s ++ frames_text s k) ++ frame_report s k
+pub report_next : (s : Parts) (k : ℕ) → scene_header s ++ frames_text s (k + 1) ≡ (scene_header s ++ frames_text s k) ++ frame_report s k
 report_next s k = ap (λ (t : List ℕ). scene_header s ++ t) (frames_text-next s k) ∙ sym (append_assoc (scene_header s) (frames_text s k) (frame_report s k))
 
 frames_live-none : (s : Parts) (rounds watch : ℕ) (counts : Counts) → frames_live s rounds watch counts 0 ≡ []
@@ -139,9 +117,6 @@ live_begins s rounds watch r0 r n h stays = record {
 pub stay_then : (a b c : SinkSays) → CountsStay a b → CountsStay b c → CountsStay a c
 stay_then a b c x y = record { faults = omega (arith, x.faults, y.faults); refusals = omega (arith, x.refusals, y.refusals) }
 
-pub rose_later : (a b c : ℕ) → a ≤ b → Rose b c → Rose a c
-rose_later a b c le h = let x : Rose a c = omega (arith, h, le) in x
-
 cause_then : (f : Failure) (r0 r1 r2 n0 n1 n2 : SinkSays) → r0.faults ≤ r1.faults → n0.faults ≤ n1.faults → IsLiveFailure f r1 r2 n1 n2 → IsLiveFailure f r0 r2 n0 n2
 cause_then f r0 r1 r2 n0 n1 n2 le le' h = elim h [
   | inl m ↦ inl m
@@ -167,78 +142,74 @@ live_next s rounds watch counts k r0 r r' n0 n n' so frame =
       },
     )
 
--- the lines of the frames before one and a beginning of its own are a beginning of the live text
-lines_are_front : (s : Parts) (rounds watch : ℕ) (counts : Counts) (k m : ℕ) → k < length s.cameras → m ≤ length (frame_live s rounds watch (counts k) k)
-    → (n : ℕ) × (n ≤ length (live_text s rounds watch counts))
-    × (take n (live_text s rounds watch counts) ≡ frames_live s rounds watch counts k ++ take m (frame_live s rounds watch (counts k) k))
-lines_are_front s rounds watch counts k m lt le =
-    let (rest, e) = frames_live-begins s rounds watch counts k (length s.cameras) lt in
-    let a = frames_live s rounds watch counts k in let b = frame_live s rounds watch (counts k) k in
-    let is : live_text s rounds watch counts ≡ a ++ (b ++ rest) = e ∙ ap (λ (t : List ℕ). t ++ rest) (frames_live-next s rounds watch counts k) ∙ append_assoc a b rest in
-    let n = length a + m in (
-      n,
-      omega (arith, le, ap length is, length-append a (b ++ rest), length-append b rest),
-      ap (take n) is ∙ take-append-add a (b ++ rest) m ∙ ap (λ (t : List ℕ). a ++ t) (take-append-le m b rest le),
-    )
-
--- what the notes gained of a live text, by the frame under way
-pub gains_rising : (s : Parts) (rounds watch : ℕ) (counts : Counts) (f : Failure) (k m : ℕ) (r0 r n0 n : SinkSays) → IsScene s → IsRising s rounds watch counts → k < length s.cameras
+-- a front of the report and of the live text, by the frame under way
+front_ends : (s : Parts) (rounds watch : ℕ) (counts : Counts) (f : Failure) (k m : ℕ) (r0 r n0 n : SinkSays) → IsRising s rounds watch counts → k < length s.cameras
     → AppendsPrefix r0 r (scene_header s ++ frames_text s (k + 1))
     → (0 < k → (more : List ℕ) × Appends r0 r ((scene_header s ++ frames_text s k) ++ more))
     → m ≤ length (frame_live s rounds watch (counts k) k)
     → (0 < m → Appends r0 r (scene_header s ++ frames_text s (k + 1)))
     → (f ≡ ReportFault → m ≡ 0)
+    → (f ≡ NotesFault → Appends r0 r (scene_header s ++ frames_text s (k + 1)) × (m < length (frame_live s rounds watch (counts k) k)))
     → Appends n0 n (frames_live s rounds watch counts k ++ take m (frame_live s rounds watch (counts k) k))
-    → GainsRising s rounds watch f r0 r n0 n
-gains_rising s rounds watch counts f k m r0 r n0 n scene rising lt reported earlier within joined none noted =
-    let (size, le, is) = lines_are_front s rounds watch counts k m lt within in
-    record {
-      counts = counts;
-      rising = rising;
-      size = size;
-      within = le;
-      lines = record { frame = k; is_frame = lt; reported = reported; earlier = earlier; size = m; within = within; joined = joined; spelled = is };
-      whole_frames = none;
-      gained = subst (Appends n0 n) (sym is) noted;
-      hidden = lines_hide s rounds watch counts scene;
-    }
-
--- nothing was noted, and of the report at most the header written
-pub nothing_rises : (s : Parts) (rounds watch : ℕ) (f : Failure) (r0 r n0 n : SinkSays) → IsScene s → AppendsPrefix r0 r (scene_header s) → Appends n0 n [] → GainsRising s rounds watch f r0 r n0 n
-nothing_rises s rounds watch f r0 r n0 n scene h none =
-    let unseen : Counts = λ f r o t. 0 in
-    gains_rising s rounds watch unseen f 0 0 r0 r n0 n scene (λ frame lt. none_rise s rounds watch frame) (omega (arith, scene.some_frames)) (front_of_more r0 r (scene_header s) (frames_text s (0 + 1)) h) (λ lt. absurd (omega arith)) (omega arith)
-    (λ lt. absurd (omega arith)) (λ is. refl)
-    (subst (λ (t : List ℕ). Appends n0 n (t ++ [])) (sym (frames_live-none s rounds watch unseen)) none)
+    → CountsStay n0 n → IsLiveFailure f r0 r n0 n → ReportsLive s rounds watch r0 r n0 n (Err f)
+front_ends s rounds watch counts Memory k m r0 r n0 n rising lt reported earlier within whole of_report of_notes noted stay cause = record {
+  counts = counts;
+  rising = rising;
+  leaves = inr (
+    inr (inr refl),
+    lines_front s rounds watch counts statuses.Memory k m r0 r (AwaitsNote (Err Memory) n0 n) lt reported earlier within whole (λ is. absurd cc) (λ is. absurd cc)
+        (record { gained = noted; note_is = refl; stay = stay }),
+  );
+  cause = cause;
+}
+front_ends s rounds watch counts ReportFault k m r0 r n0 n rising lt reported earlier within whole of_report of_notes noted stay cause = record {
+  counts = counts;
+  rising = rising;
+  leaves = inr (
+    inl refl,
+    lines_front s rounds watch counts statuses.ReportFault k m r0 r (AwaitsNote (Err ReportFault) n0 n) lt reported earlier within whole (λ is. of_report refl) (λ is. absurd cc)
+        (record { gained = noted; note_is = refl; stay = stay }),
+  );
+  cause = cause;
+}
+front_ends s rounds watch counts NotesFault k m r0 r n0 n rising lt reported earlier within whole of_report of_notes noted stay cause = record {
+  counts = counts;
+  rising = rising;
+  leaves = inr (
+    inr (inl refl),
+    lines_front s rounds watch counts statuses.NotesFault k m r0 r (AwaitsNote (Err NotesFault) n0 n) lt reported earlier within whole (λ is. absurd cc) (λ is. of_notes refl)
+        (record { gained = noted; note_is = refl; stay = stay }),
+  );
+  cause = cause;
+}
+front_ends s rounds watch counts ReadFault k m r0 r n0 n rising lt reported earlier within whole of_report of_notes noted stay cause = absurd (elim cause [
+  | inl m ↦ absurd cc
+  | inr rest ↦ elim rest [ inl w ↦ let y = w.0 in absurd cc | inr n ↦ let y = n.0 in absurd cc ]
+])
+front_ends s rounds watch counts (Scene e) k m r0 r n0 n rising lt reported earlier within whole of_report of_notes noted stay cause = absurd (elim cause [
+  | inl m ↦ absurd cc
+  | inr rest ↦ elim rest [ inl w ↦ let y = w.0 in absurd cc | inr n ↦ let y = n.0 in absurd cc ]
+])
 
 -- a frame failed before its lines were noted
-unnoted_end : (s : Parts) (rounds watch : ℕ) (counts : Counts) (k : ℕ) (f : Failure) (r0 r r' n0 n n' : SinkSays) → IsScene s → LiveSoFar s rounds watch counts k r0 r n0 n → k < length s.cameras
+unnoted_end : (s : Parts) (rounds watch : ℕ) (counts : Counts) (k : ℕ) (f : Failure) (r0 r r' n0 n n' : SinkSays) → LiveSoFar s rounds watch counts k r0 r n0 n → k < length s.cameras
     → IsUnnoted s k f r r' n n' → ReportsFrame s rounds watch k r r' n n' (Err f) → ReportsLive s rounds watch r0 r' n0 n' (Err f)
-unnoted_end s rounds watch counts k f r0 r r' n0 n n' scene so lt un frame =
-    let (rest, e) = report_begins s k lt in
+unnoted_end s rounds watch counts k f r0 r r' n0 n n' so lt un frame =
     let here = front_then r0 r r' (scene_header s ++ frames_text s k) (frame_report s k) so.reported un.reported in
     let there : AppendsPrefix r0 r' (scene_header s ++ frames_text s (k + 1)) = subst (AppendsPrefix r0 r') (sym (report_next s k)) here in
     let (m, le, part) = un.reported in
     let earlier = appends_then r0 r r' (scene_header s ++ frames_text s k) (take m (frame_report s k)) so.reported part in
     let noted = appends_then n0 n n' (frames_live s rounds watch counts k) [] so.noted un.noted in
-    record {
-      ok = tt;
-      err = subst (AppendsPrefix r0 r') (sym e) (front_of_more r0 r' (scene_header s ++ frames_text s (k + 1)) rest there);
-      front = λ other. gains_rising s rounds watch counts f k 0 r0 r' n0 n' scene so.rising lt there (λ some. (take m (frame_report s k), earlier)) (omega arith) (λ some. absurd (omega arith)) (λ is. refl) noted;
-      stops = λ is. let e : f ≡ NotesFault = cc in absurd (un.cause e);
-      cause = cause_then f r0 r r' n0 n n' so.report_stays so.stay.faults frame.cause;
-      report_stays = omega (arith, so.report_stays, frame.report_stays);
-      stay = stay_then n0 n n' so.stay frame.stay;
-    }
+    front_ends s rounds watch counts f k 0 r0 r' n0 n' so.rising lt there (λ some. (take m (frame_report s k), earlier)) (omega arith) (λ some. absurd (omega arith)) (λ is. refl) (λ is. absurd (un.cause is)) noted
+    (stay_then n0 n n' so.stay frame.stay) (cause_then f r0 r r' n0 n n' so.report_stays so.stay.faults frame.cause)
 
 -- a frame's lines couldn't be noted
-noted_end : (s : Parts) (rounds watch : ℕ) (counts : Counts) (k : ℕ) (f : Failure) (r0 r r' n0 n n' : SinkSays) → IsScene s → LiveSoFar s rounds watch counts k r0 r n0 n → k < length s.cameras
+noted_end : (s : Parts) (rounds watch : ℕ) (counts : Counts) (k : ℕ) (f : Failure) (r0 r r' n0 n n' : SinkSays) → LiveSoFar s rounds watch counts k r0 r n0 n → k < length s.cameras
     → (f ≡ ReportFault → ⊥) → HasLive s rounds watch k r r' (AppendsProperPrefix n n') → ReportsFrame s rounds watch k r r' n n' (Err f) → ReportsLive s rounds watch r0 r' n0 n' (Err f)
-noted_end s rounds watch counts k f r0 r r' n0 n n' scene so lt written has frame =
+noted_end s rounds watch counts k f r0 r r' n0 n n' so lt written has frame =
     let c = has.counts in
     let counts' = with_at counts k c in
     let (m, proper, gained) = has.noted_is in
-    let (rest, e) = report_begins s k lt in
     let earlier = appends_then r0 r r' (scene_header s ++ frames_text s k) (frame_report s k) so.reported has.reported in
     let reported : Appends r0 r' (scene_header s ++ frames_text s (k + 1)) = subst (Appends r0 r') (sym (report_next s k)) earlier in
     let rising = rising_with s rounds watch counts k c so.rising has.rising in
@@ -249,62 +220,45 @@ noted_end s rounds watch counts k f r0 r r' n0 n n' scene so lt written has fram
     subst (λ (t : List ℕ). Appends n0 n' (t ++ take m (frame_live s rounds watch (counts' k) k))) (sym alike)
     (subst (λ (d : ℕ → ℕ → ℕ → ℕ). Appends n0 n' (frames_live s rounds watch counts k ++ take m (frame_live s rounds watch d k))) (sym is)
     (appends_then n0 n n' (frames_live s rounds watch counts k) (take m (frame_live s rounds watch c k)) so.noted gained)) in
-    record {
-      ok = tt;
-      err = subst (AppendsPrefix r0 r') (sym e) (whole_is_front r0 r' (scene_header s ++ frames_text s (k + 1)) rest reported);
-      front = λ other. gains_rising s rounds watch counts' f k m r0 r' n0 n' scene rising lt (all_is_front r0 r' (scene_header s ++ frames_text s (k + 1)) reported) (λ some. (frame_report s k, earlier)) (omega (arith, fits))
-          (λ some. reported) (λ fault. absurd (written fault)) noted;
-      stops = λ stop. record {
-        counts = counts';
-        rising = rising;
-        frame = k;
-        is_frame = lt;
-        reported = reported;
-        size = m;
-        proper = fits;
-        gained = noted;
-        hidden = lines_hide s rounds watch counts' scene;
-      };
-      cause = cause_then f r0 r r' n0 n n' so.report_stays so.stay.faults frame.cause;
-      report_stays = omega (arith, so.report_stays, frame.report_stays);
-      stay = stay_then n0 n n' so.stay frame.stay;
-    }
+    front_ends s rounds watch counts' f k m r0 r' n0 n' rising lt (all_is_front r0 r' (scene_header s ++ frames_text s (k + 1)) reported) (λ some. (frame_report s k, earlier)) (omega (arith, fits))
+    (λ some. reported) (λ fault. absurd (written fault)) (λ is. (reported, fits)) noted
+    (stay_then n0 n n' so.stay frame.stay) (cause_then f r0 r r' n0 n n' so.report_stays so.stay.faults frame.cause)
 
-pub live_ends : (s : Parts) (rounds watch : ℕ) (counts : Counts) (k : ℕ) (f : Failure) (r0 r r' n0 n n' : SinkSays) → IsScene s → LiveSoFar s rounds watch counts k r0 r n0 n → k < length s.cameras
+pub live_ends : (s : Parts) (rounds watch : ℕ) (counts : Counts) (k : ℕ) (f : Failure) (r0 r r' n0 n n' : SinkSays) → LiveSoFar s rounds watch counts k r0 r n0 n → k < length s.cameras
     → ReportsFrame s rounds watch k r r' n n' (Err f) → ReportsLive s rounds watch r0 r' n0 n' (Err f)
-live_ends s rounds watch counts k f r0 r r' n0 n n' scene so lt frame = elim frame.err [
-  | inl un ↦ unnoted_end s rounds watch counts k f r0 r r' n0 n n' scene so lt un frame
-  | inr has ↦ noted_end s rounds watch counts k f r0 r r' n0 n n' scene so lt has.0 has.1 frame
+live_ends s rounds watch counts k f r0 r r' n0 n n' so lt frame = elim frame.err [
+  | inl un ↦ unnoted_end s rounds watch counts k f r0 r r' n0 n n' so lt un frame
+  | inr has ↦ noted_end s rounds watch counts k f r0 r r' n0 n n' so lt has.0 has.1 frame
 ]
 
 -- all frames were drawn
-pub live_whole : (s : Parts) (rounds watch : ℕ) (counts : Counts) (k : ℕ) (r0 r n0 n : SinkSays) → LiveSoFar s rounds watch counts k r0 r n0 n → k ≡ length s.cameras → HidesLive s rounds watch counts
+pub live_whole : (s : Parts) (rounds watch : ℕ) (counts : Counts) (k : ℕ) (r0 r n0 n : SinkSays) → LiveSoFar s rounds watch counts k r0 r n0 n → k ≡ length s.cameras
     → ReportsLive s rounds watch r0 r n0 n (Ok tt)
-live_whole s rounds watch counts k r0 r n0 n so is hidden = record {
-  ok = (
-    subst (Appends r0 r) (ap (λ m. scene_header s ++ frames_text s m) is ∙ sym (report_text-is s)) so.reported,
-    record { counts = counts; rising = so.rising; gained = subst (λ m. Appends n0 n (frames_live s rounds watch counts m)) is so.noted; hidden = hidden },
+live_whole s rounds watch counts k r0 r n0 n so is = record {
+  counts = counts;
+  rising = so.rising;
+  leaves = inl (
+    refl,
+    record {
+      reported = subst (Appends r0 r) (ap (λ m. scene_header s ++ frames_text s m) is ∙ sym (report_text-is s) ∙ sym (report_is s (live_frames s rounds watch counts))) so.reported;
+      noted_is = record {
+        gained = subst (Appends n0 n) (sym (live_is s rounds watch counts)) (subst (λ m. Appends n0 n (frames_live s rounds watch counts m)) is so.noted);
+        note_is = refl;
+        stay = so.stay;
+      };
+    },
   );
-  err = tt;
-  front = tt;
-  stops = λ e. absurd cc;
   cause = tt;
-  report_stays = so.report_stays;
-  stay = so.stay;
 }
 
 -- only a beginning of the header was written, or no more than the header
-pub header_ends : (s : Parts) (rounds watch : ℕ) (f : Failure) (r0 r n : SinkSays) → IsScene s → AppendsPrefix r0 r (scene_header s) → (f ≡ NotesFault → ⊥) → IsLiveFailure f r0 r n n → r0.faults ≤ r.faults
-    → ReportsLive s rounds watch r0 r n n (Err f)
-header_ends s rounds watch f r0 r n scene h other cause stays = record {
-  ok = tt;
-  err = subst (AppendsPrefix r0 r) (sym (report_text-is s)) (front_of_more r0 r (scene_header s) (frames_text s (length s.cameras)) h);
-  front = λ no. nothing_rises s rounds watch f r0 r n n scene h (nothing_appended n);
-  stops = λ is. let e : f ≡ NotesFault = cc in absurd (other e);
-  cause = cause;
-  report_stays = stays;
-  stay = record { faults = omega arith; refusals = omega arith };
-}
+pub header_ends : (s : Parts) (rounds watch : ℕ) (f : Failure) (r0 r n : SinkSays) → IsScene s → AppendsPrefix r0 r (scene_header s) → (f ≡ NotesFault → ⊥) → IsLiveFailure f r0 r n n → ReportsLive s rounds watch r0 r n n (Err f)
+header_ends s rounds watch f r0 r n scene h other cause =
+    let unseen : Counts = λ f r o t. 0 in
+    front_ends s rounds watch unseen f 0 0 r0 r n n (λ frame lt. none_rise s rounds watch frame) (omega (arith, scene.some_frames)) (front_of_more r0 r (scene_header s) (frames_text s (0 + 1)) h)
+    (λ lt. absurd (omega arith)) (omega arith) (λ lt. absurd (omega arith)) (λ is. refl) (λ is. absurd (other is))
+    (subst (λ (t : List ℕ). Appends n n (t ++ [])) (sym (frames_live-none s rounds watch unseen)) (nothing_appended n))
+    (record { faults = omega arith; refusals = omega arith }) cause
 
 -- ---- a frame
 

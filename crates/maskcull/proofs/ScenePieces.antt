@@ -9,6 +9,7 @@ use Rattle.cull_base.specs.declared.triangle.Side.TheVariants.{Occluder}
 use Rattle.cull_base.specs.declared.triangle.Winding.{Winding}
 use Rattle.cull_base.specs.Piece.{IsPiece}
 use Rattle.cull_base.specs.Screen.{Dimensions, IsSize}
+use Rattle.cull_base.specs.Tiles.{ArePieces}
 use Rattle.scene_reader.specs.Layout.{Parts, IsScene}
 use Rattle.snap_setup.specs.Pieces.{clip_at, list_of_clips, pieces_at}
 use Rattle.snap_setup.proofs.ValidPieces.{pieces_are}
@@ -28,11 +29,14 @@ members_are clips tris near size winding sized some within = go tris
         All-append IsPiece (pieces_at clips GRADE_TOP near size winding t) (flat_map (pieces_at clips GRADE_TOP near size winding) ts)
         (pieces_are (clip_at clips t 0) (clip_at clips t 1) (clip_at clips t 2) near size winding Occluder sized some within) (go ts)
 
--- each member of each frame's list is a piece
-pub all_are_pieces : (s : Parts) → IsScene s → AllArePieces s
+-- each member of a frame's list is a piece
+pub frame_pieces_are : (s : Parts) (frame : ℕ) → IsScene s → ArePieces (frame_pieces s frame)
 unfolding frame_list
-all_are_pieces s scene frame lt t has =
+frame_pieces_are s frame scene t has =
     All-contains IsPiece (frame_pieces s frame) t (members_are (frame_clips s frame) s.occluders s.near (size_of s) s.winding scene.size scene.near_some scene.near_within) has
+
+pub all_are_pieces : (s : Parts) → IsScene s → AllArePieces s
+all_are_pieces s scene frame lt = frame_pieces_are s frame scene
 
 -- the lines of any counts
 pub lines_hide : (s : Parts) (rounds watch : ℕ) (counts : Counts) → IsScene s → HidesLive s rounds watch counts

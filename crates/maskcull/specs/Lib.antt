@@ -1,5 +1,6 @@
 pub mod Summary
 pub mod Frames
+pub mod DrawnPieces
 pub mod Windows
 pub mod LiveFrames
 pub mod Notes
@@ -7,3 +8,5 @@ pub mod Outcome
 pub mod Culling
 pub mod LiveRuns
 pub mod LiveScenes
+pub mod Outcomes
+pub mod Runs

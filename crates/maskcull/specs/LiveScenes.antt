@@ -1,10 +1,9 @@
--- What the frames of a scene leave on the report and on the notes, drawn one after the other with looks at objects.
-use Rattle.std.specs.Prelude.{ℕ, ◌≡◌, ◌⊎◌, ◌≤◌, [], List, length, take, Result, OnOk, OnErr, IfErr, IsErrOf}
+-- What a frame leaves on the report and on the notes, drawn with looks at objects.
+use Rattle.std.specs.Prelude.{ℕ, ◌≡◌, ◌⊎◌, ◌≤◌, [], List, Result, OnOk, OnErr, IfErr}
 use Rattle.cull_base.specs.Stream.{SinkSays, Rose, Appends, AppendsPrefix, AppendsProperPrefix}
 use Rattle.scene_reader.specs.Layout.{Parts}
-use Rattle.cull_report.specs.Live.{Counts, HidesLive, IsRising, IsRisingIn, frame_live, live_text}
-use Rattle.cull_report.specs.Scene.{frame_report, report_text}
-use Rattle.maskcull.specs.LiveRuns.{AreJoined, GainsLive, StopsAtNotes}
+use Rattle.cull_report.specs.Live.{IsRisingIn, frame_live}
+use Rattle.cull_report.specs.Scene.{frame_report}
 use Rattle.maskcull.specs.declared.failure.Failure.{Failure}
 use Rattle.maskcull.specs.declared.failure.Failure.TheVariants.{ReportFault, NotesFault, Memory}
 
@@ -43,28 +42,6 @@ pub record ReportsFrame (s : Parts) (rounds watch frame : ℕ) (report_before re
   pub ok : OnOk result (HasLive s rounds watch frame report_before report_after (Appends before after))
   pub err : IfErr result (λ f. IsUnnoted s frame f report_before report_after before after
       ⊎ ((f ≡ ReportFault → ⊥) × HasLive s rounds watch frame report_before report_after (AppendsProperPrefix before after)))
-  pub cause : IfErr result (λ f. IsLiveFailure f report_before report_after before after)
-  pub report_stays : report_before.faults ≤ report_after.faults
-  pub stay : CountsStay before after
-
--- The notes gained a beginning of a live text of counts that rise: lines of frames that were joined, and no other. After a report that couldn't be written there
--- is none of the frame under way. What a line calls occluded is hidden by the members that it states.
-pub record GainsRising (s : Parts) (rounds watch : ℕ) (f : Failure) (report_before report_after before after : SinkSays) : Type 0 where
-  pub counts : Counts
-  pub rising : IsRising s rounds watch counts
-  pub size : ℕ
-  pub within : size ≤ length (live_text s rounds watch counts)
-  pub lines : AreJoined s rounds watch counts report_before report_after (take size (live_text s rounds watch counts))
-  pub whole_frames : f ≡ ReportFault → lines.size ≡ 0
-  pub gained : Appends before after (take size (live_text s rounds watch counts))
-  pub hidden : HidesLive s rounds watch counts
-
--- A scene's report was written and its live text noted; or after a failure a beginning of each.
-pub record ReportsLive (s : Parts) (rounds watch : ℕ) (report_before report_after before after : SinkSays) (result : Result (Unit {0}) Failure) : Type 0 where
-  pub ok : OnOk result (Appends report_before report_after (report_text s) × GainsLive s rounds watch before after)
-  pub err : OnErr result (AppendsPrefix report_before report_after (report_text s))
-  pub front : IfErr result (λ f. (f ≡ NotesFault → ⊥) → GainsRising s rounds watch f report_before report_after before after)
-  pub stops : IsErrOf result NotesFault → StopsAtNotes s rounds watch report_before report_after before after
   pub cause : IfErr result (λ f. IsLiveFailure f report_before report_after before after)
   pub report_stays : report_before.faults ≤ report_after.faults
   pub stay : CountsStay before after

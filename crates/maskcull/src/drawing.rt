@@ -5,7 +5,7 @@ ghost use Rattle.cull_report.specs.Scene.{size_of, frame_clips, frame_pieces, fr
 ghost use Rattle.bin_tiles.specs.BinViews.{table_of};
 ghost use Rattle.command_words.specs.Words.{AreInRange};
 
-use crate::frames::{Asking, Frame, pieces_of, unset_marks, verdicts_by};
+use crate::frames::{Asking, Frame, drawn_pieces, unset_marks, verdicts_by};
 use binning::batch_size;
 use command_words::Settings;
 use cull_base::{ClipVertex, Memory};
@@ -47,19 +47,19 @@ pub fn draw_plainly<R: Threads + Wait + Sync, G: Gate>(
 {
     let (rt, alloc, scene) = (drawing.rt, drawing.alloc, drawing.scene);
     let settings = drawing.settings;
-    let workers = settings.workers;
-    let list = pieces_of(rt, alloc, scene, frame, clips, workers)?;
+    let drawn = drawn_pieces(rt, alloc, scene, frame, clips, settings)?;
+    let list = &drawn.list;
     let batch = batch_size(list.len(), settings.batch);
     let bins = draw_plain_frame(
         rt,
         alloc,
-        &list,
+        list,
         &settings.cut,
-        workers,
+        settings.workers,
         batch,
         drawing.gate,
     )?;
-    let view = BinView::of(drawing.table, &bins, &list);
+    let view = BinView::of(drawing.table, &bins, list);
     let settled = unset_marks(alloc, scene.objects().len())?;
     let asked = Asked {
         scene,
@@ -70,7 +70,7 @@ pub fn draw_plainly<R: Threads + Wait + Sync, G: Gate>(
     };
     let verdicts = verdicts_by(rt, alloc, &asked, asking)?;
     Ok(Frame {
-        pieces: list.len(),
+        pieces: drawn.listed,
         verdicts,
     })
 }

@@ -2,17 +2,19 @@
 ghost use Rattle.std.specs.Prelude.{◌≡◌, ◌<◌, length, IfOk, replicate, false};
 ghost use Rattle.cull_base.specs.Stream.{Writes};
 ghost use Rattle.scene_reader.specs.Layout.{IsScene};
-ghost use Rattle.cull_report.specs.Scene.{frame_clips, frame_list, frame_verdicts};
+ghost use Rattle.cull_report.specs.Scene.{frame_clips, frame_list, frame_pieces, frame_verdicts};
 ghost use Rattle.maskcull.specs.Culling.{TookFrame};
+ghost use Rattle.maskcull.specs.DrawnPieces.{DrawsAs, listed_by};
 ghost use Rattle.maskcull.specs.Frames.{lines_by};
 
 use crate::summary::write_summary;
 use camera_path::{Camera, clip_into};
+use command_words::Settings;
 use cull_base::{ClipVertex, FrameList, Memory, Near, Sink, SinkError};
 use cull_report::{Asked, FrameVerdicts, verdicts_by_workers, verdicts_with_lines};
 use masked_update::TileView;
 use scene_reader::Scene;
-use snap_setup::{Occluders, frame_list_by_workers};
+use snap_setup::{KeptList, Occluders, frame_list_by_workers, sampled_list};
 use std::alloc::Global;
 use std::sync::Wait;
 use std::thread::Threads;
@@ -84,6 +86,23 @@ pub fn verdicts_by<R: Threads + Wait + Sync, V: TileView + Sync>(
     }
 }
 
+// The triangles of a frame that hide what is behind them. Its clauses alone ask for the frame's number.
+fn occluders_of<'a>(scene: &'a Scene, _frame: u32, clips: &'a [ClipVertex]) -> Occluders<'a>
+    requires { clips.now ≡ frame_clips scene.now _frame }
+    ensures list { listed_by result ≡ frame_list scene.now _frame }
+    ensures scene { IsScene scene.now }
+{
+    Occluders {
+        clips,
+        tris: scene.occluders(),
+        near: Near {
+            distance: scene.near(),
+        },
+        size: scene.size(),
+        winding: scene.winding(),
+    }
+}
+
 /// The pieces of a frame, in submission order. Its clauses alone ask for the frame's number.
 pub fn pieces_of<R: Threads + Sync>(
     rt: &R,
@@ -97,16 +116,32 @@ pub fn pieces_of<R: Threads + Sync>(
     ensures list { IfOk result (λ f. f.list ≡ frame_list scene.now _frame) }
     ensures scene { IsScene scene.now }
 {
-    let occluders = Occluders {
-        clips,
-        tris: scene.occluders(),
-        near: Near {
-            distance: scene.near(),
-        },
-        size: scene.size(),
-        winding: scene.winding(),
-    };
+    let occluders = occluders_of(scene, _frame, clips);
     frame_list_by_workers(rt, alloc, &occluders, workers)
+}
+
+/// The pieces of a frame that are drawn into plain tiles, and how many the frame has: where one worker draws in one
+/// bin, those that may cover a sample of the screen, else all. Its clauses alone ask for the frame's number.
+pub fn drawn_pieces<R: Threads + Sync>(
+    rt: &R,
+    alloc: Global,
+    scene: &Scene,
+    _frame: u32,
+    clips: &[ClipVertex],
+    settings: &Settings,
+) -> Result<KeptList, Memory>
+    requires { clips.now ≡ frame_clips scene.now _frame }
+    ensures tiles { IfOk result (λ k. DrawsAs k.list.list (frame_list scene.now _frame)) }
+    ensures listed { IfOk result (λ k. k.listed ≡ length (frame_pieces scene.now _frame)) }
+    ensures scene { IsScene scene.now }
+{
+    if settings.workers == 1 && settings.cut.bins() == 1 {
+        let occluders = occluders_of(scene, _frame, clips);
+        return sampled_list(alloc, &occluders);
+    }
+    let list = pieces_of(rt, alloc, scene, _frame, clips, settings.workers)?;
+    let listed = list.len();
+    Ok(KeptList { list, listed })
 }
 
 /// Writes a frame's lines. Failed and Memory are the sink's.

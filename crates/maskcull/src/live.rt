@@ -1,15 +1,12 @@
 //! Culling a scene with looks at its first objects while its frames are drawn.
-ghost use Rattle.std.specs.Prelude.{◌≡◌, ◌≤◌, ◌⊎◌, length, IfErr, IfOk, OnErr, OnOk, IsErrOf};
-ghost use Rattle.cull_base.specs.Stream.{Rose};
-ghost use Rattle.scene_reader.specs.Fault.{IsRefusal};
-ghost use Rattle.cull_report.specs.Hiding.{HidesTruly};
-ghost use Rattle.maskcull.specs.Culling.{IfScene, EndsAs, IsCulled, HasFault, EachFault, EachScene, GainsFront};
-ghost use Rattle.maskcull.specs.Culling.{WithoutScene, IsBeforeReport};
-ghost use Rattle.maskcull.specs.LiveRuns.{GainsLive, StopsAtNotes};
-ghost use Rattle.maskcull.specs.LiveScenes.{CountsStay, GainsRising, ReportsLive};
+ghost use Rattle.std.specs.Prelude.{◌≡◌, length, IfOk};
+ghost use Rattle.maskcull.specs.LiveRuns.{ReportsLive};
+ghost use Rattle.maskcull.specs.Outcome.{status_by};
+ghost use Rattle.maskcull.specs.Runs.{AwaitsNote, Comes, streams};
 
 use crate::failure::Failure;
 use crate::live_frame::{LiveDrawing, Looks, live_frame};
+use command_words::Command;
 use cull_base::{ClipVertex, Memory, Sink, Source};
 use cull_report::write_header;
 use scene_reader::read_scene;
@@ -37,7 +34,6 @@ fn live_scene<R: Threads + Wait + Sync, W: Sink, E: Sink, G: Gate>(
 ) -> Result<(), Failure>
     ensures reported { ReportsLive drawing.now.scene.now drawing.now.looks.now.rounds drawing.now.looks.now.watch
         (W.says report.old) (W.says report.new) (E.says notes.old) (E.says notes.new) result }
-    ensures hidden { OnOk result (HidesTruly drawing.now.scene.now) }
 {
     let scene = drawing.scene;
     // an accessor tells what is held of a scene
@@ -60,34 +56,10 @@ pub fn live<R: Threads + Wait + Sync, S: Source, W: Sink, E: Sink, G: Gate>(
     notes: &mut E,
     gate: &G,
 ) -> Result<(), Failure>
-    ensures done { OnOk result (
-        IsCulled (S.says input.old) (S.says input.new) (W.says report.old) (W.says report.new)) }
-    ensures gained { OnOk result (EachScene (S.says input.old)
-        (λ s. GainsLive s looks.now.rounds looks.now.watch (E.says notes.old) (E.says notes.new))) }
-    ensures refusal { IfErr result (λ f. IfScene f IsRefusal) }
-    ensures scene { IfErr result (λ f. IfScene f (HasFault (S.says input.old))) }
-    ensures read { IsErrOf result Failure.ReadFault → Rose (S.says input.old).faults (S.says input.new).faults }
-    ensures report { IsErrOf result Failure.ReportFault → Rose (W.says report.old).faults (W.says report.new).faults }
-    ensures notes { IsErrOf result Failure.NotesFault → Rose (E.says notes.old).faults (E.says notes.new).faults }
-
-    // What comes of bytes that are refused, and of a scene's.
-    ensures refused { EachFault (S.says input.old) (λ e. EndsAs result (Failure.Scene e)) }
-    ensures drawn { EachScene (S.says input.old)
-        (λ _. OnErr result (IsErrOf result Failure.NotesFault ⊎ EndsAs result Failure.ReportFault)) }
-
-    // What stands on the report and on the notes.
-    ensures untouched { IfErr result (λ f. IsBeforeReport f → report.new ≡ report.old) }
-    ensures unnoted { IfErr result (λ f. IsBeforeReport f → notes.new ≡ notes.old) }
-    ensures prefix { OnErr result (GainsFront (S.says input.old) (W.says report.old) (W.says report.new)) }
-    ensures front { IfErr result (λ f. (f ≡ Failure.NotesFault → ⊥) → EachScene (S.says input.old)
-        (λ s. GainsRising s looks.now.rounds looks.now.watch f
-        (W.says report.old) (W.says report.new) (E.says notes.old) (E.says notes.new))) }
-    ensures stops { IsErrOf result Failure.NotesFault → EachScene (S.says input.old)
-        (λ s. StopsAtNotes s looks.now.rounds looks.now.watch
-        (W.says report.old) (W.says report.new) (E.says notes.old) (E.says notes.new)) }
-    ensures nothing { WithoutScene (S.says input.old) (report.new ≡ report.old) }
-    ensures nothing_noted { WithoutScene (S.says input.old) (notes.new ≡ notes.old) }
-    ensures stay { CountsStay (E.says notes.old) (E.says notes.new) }
+    ensures outcome { let before = streams (S.says input.old) (W.says report.old) (E.says notes.old) in
+        let after = streams (S.says input.new) (W.says report.new) (E.says notes.new) in
+        Comes (Command.Live looks.now.settings.now looks.now.rounds looks.now.watch) (status_by result)
+        before after (AwaitsNote result) (report.new ≡ report.old) (notes.new ≡ notes.old) }
 {
     let scene = read_scene(alloc, input)?;
     let drawing = LiveDrawing {

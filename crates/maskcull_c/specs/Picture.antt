@@ -1,5 +1,5 @@
 -- What tiles hold, as a picture: the bound at each pixel of the screen.
-use Rattle.std.specs.Prelude.{ℕ, ◌≡◌, ◌+◌, ◌-◌, ◌*◌, ◌<◌, ◌≤◌, ◌⊎◌, List, length, slice_index_or}
+use Rattle.std.specs.Prelude.{ℕ, ◌≡◌, ◌+◌, ◌-◌, ◌*◌, ◌<◌, ◌≤◌, ◌⊎◌, List, length, min, slice_index_or}
 use Rattle.cull_base.specs.Pixels.{sample_of_pixel, sub_of_pixel}
 use Rattle.cull_base.specs.Screen.{Dimensions}
 use Rattle.cull_base.specs.State.{bound_at}
@@ -10,9 +10,9 @@ use Rattle.masked_update.specs.Views.{state_in}
 abbrev pub bound_of_pixel : Dimensions → List TileOf → ℕ → ℕ → ℕ
 bound_of_pixel size tiles x y = bound_at (state_in size (tile_at tiles) (sub_of_pixel x y)) (sample_of_pixel x y)
 
--- a bound as an element of a picture, which has 16 bits: what tiles hold fits them as it stands
+-- a bound as an element of a picture, which has 16 bits: they fit all that the library draws
 abbrev pub shade_of : ℕ → ℕ
-shade_of bound = bound
+shade_of bound = min bound 65535
 
 abbrev pub shade_of_pixel : Dimensions → List TileOf → ℕ → ℕ → ℕ
 shade_of_pixel size tiles x y = shade_of (bound_of_pixel size tiles x y)

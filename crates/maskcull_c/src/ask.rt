@@ -12,7 +12,7 @@ ghost use Rattle.maskcull_c.specs.declared.status.TheConstants.{BAD_SETUP, BAD_T
 use crate::given::{Area, Corners, Setup, Triangle, Vertex, are_among};
 use crate::mesh::mesh_verdict;
 use crate::status::{BAD_INDEX, BAD_SETUP, BAD_TILES, OCCLUDED, OUTSIDE, VISIBLE};
-use cull_base::{ClipVertex, Rect, Size, Verdict};
+use cull_base::{ClipVertex, Grade, Rect, Size, Verdict};
 use masked_update::{PlainView, TileState};
 use rect_query::{BoxAnswer, box_rect, rect_near, rect_test};
 
@@ -43,7 +43,7 @@ fn rectangle_verdict(tiles: &[TileState], size: Size, near: u16, rect: Rect, w: 
     requires all { AreAll size tiles.now }
     ensures { result ≡ verdict_over size tiles.now (rectangle_shape GRADE_TOP near size rect w) }
 {
-    match rect_near(w, near) {
+    match rect_near(w, near, Grade::Narrow) {
         Some(q) => rect_test(&PlainView::new(tiles), size, rect, q),
         None => if rect.meets(&size.screen()) {
             Verdict::Visible
@@ -78,7 +78,7 @@ fn box_verdict(tiles: &[TileState], size: Size, near: u16, corners: &Corners) ->
     ensures { result ≡ verdict_over size tiles.now
         (box_shape GRADE_TOP near size (map clip_of corners.now.corners)) }
 {
-    match box_rect(&clips(corners), near, size) {
+    match box_rect(&clips(corners), near, size, Grade::Narrow) {
         BoxAnswer::Outside => Verdict::Outside,
         BoxAnswer::Straddles => Verdict::Visible,
         BoxAnswer::At { rect, q } => rect_test(&PlainView::new(tiles), size, rect, q),

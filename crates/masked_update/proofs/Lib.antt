@@ -2,6 +2,7 @@ pub mod Steps
 pub mod Packed
 pub mod Hiding
 pub mod Unchanged
+pub mod Cuts
 pub mod Fractions
 pub mod Sounds
 pub mod Best
@@ -22,7 +23,9 @@ pub mod Drawing
 pub mod TileLists
 pub mod Walks
 pub mod SampleBoxes
+pub mod SampledLists
 pub mod Marks
 pub mod SmallSteps
+pub mod LeastTables
 pub mod EightOf
 pub mod Canvases

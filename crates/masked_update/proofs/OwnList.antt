@@ -10,7 +10,7 @@ use Rattle.cull_base.specs.Tiles.{PieceList, ArePieces, tile_list}
 use Rattle.masked_update.proofs.Best.{at_head, in_tail}
 use Rattle.masked_update.proofs.Boxes.{step_outside}
 
-fold-filter : (f : State → Piece → State) (p : Piece → Bool) (xs : List Piece) (s : State) → ((r : State) (t : Piece) → Contains xs t → p t ≡ false → f r t ≡ r) → fold f s (filter p xs) ≡ fold f s xs
+pub fold-filter : (f : State → Piece → State) (p : Piece → Bool) (xs : List Piece) (s : State) → ((r : State) (t : Piece) → Contains xs t → p t ≡ false → f r t ≡ r) → fold f s (filter p xs) ≡ fold f s xs
 fold-filter f p [] s stays = refl
 fold-filter f p (x ∷ xs) s stays =
     let rest = λ (r : State). fold-filter f p xs r (λ q t m. stays q t (in_tail x t xs m)) in

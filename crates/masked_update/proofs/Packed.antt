@@ -1,4 +1,4 @@
--- Words of packed subtiles.
+-- Packed subtiles.
 use Rattle.std.proofs.Common.{◌≡◌, ℕ, zero, suc, ◌+◌, ◌-◌, ◌*◌, ◌/◌, ◌%◌, ◌<◌, ◌≤◌, ◌^◌, List, [], ◌∷◌, Bool, true, false, length, nat_eq, arith, refl, ap, ◌∙◌, sym, subst, bit_or}
 use Rattle.std.specs.Simd.Lanes.{mask_l}
 use Rattle.std.proofs.lemmas.Bool.Decides.{nat_tests}
@@ -9,7 +9,7 @@ use Rattle.cull_base.specs.State.{State, bits, is_all, samples_of}
 use Rattle.cull_base.specs.Fold.{IsLayered}
 use Rattle.cull_base.proofs.Bits.{all-samples_of, length-samples_of, mask_l-samples_of}
 use Rattle.masked_update.specs.SubTile.{seen, Layers}
-use Rattle.masked_update.specs.Packing.{IsSubTile, packed}
+use Rattle.masked_update.specs.Packing.{IsSubTile, packed, packed_layers}
 use Rattle.masked_update.proofs.Steps.{layered_of, layers_of}
 
 -- samples are given back by their mask
@@ -54,27 +54,31 @@ layers_are a b m s is l = subst IsSubTile is (
     }
     )
 
-pub packed_seen : (a b m : ℕ) → m < 2 ^ 32 → packed (seen a b m) ≡ a + 2 ^ 16 * b + 2 ^ 32 * m
-packed_seen a b m lt = ap (λ n. a + 2 ^ 16 * b + 2 ^ 32 * n) (mask_l-samples_of m lt)
+pub packed_seen : (a b m : ℕ) → m < 2 ^ 32 → packed (seen a b m) ≡ (a + 2 ^ 24 * b, m)
+packed_seen a b m lt = λ i. (a + 2 ^ 24 * b, mask_l-samples_of m lt i)
 
--- the fields that a word shows
-pub word_fields : (s : State) (word : ℕ) → IsSubTile s → packed s ≡ word
-    → (word % 2 ^ 16 ≡ s.reference) × (word / 2 ^ 16 % 2 ^ 16 ≡ s.working) × (word / 2 ^ 32 ≡ mask_l s.samples)
-word_fields s word is e =
+-- the fields that the two numbers show
+pub packed_fields : (s : State) (layers mask : ℕ) → IsSubTile s → packed s ≡ (layers, mask)
+    → (layers % 2 ^ 24 ≡ s.reference) × (layers / 2 ^ 24 ≡ s.working) × (mask ≡ mask_l s.samples)
+packed_fields s layers mask is e =
     let a = is.reference_within in
-    let b = is.working_within in
-    (omega arith, omega arith, omega arith)
+    let l : s.reference + 2 ^ 24 * s.working ≡ layers = ap (λ (p : ℕ × ℕ). p.0) e in
+    let m : mask_l s.samples ≡ mask = ap (λ (p : ℕ × ℕ). p.1) e in
+    (omega (arith, l, a), omega (arith, l, a), sym m)
 
--- the word as it is written
+-- the layers as they are written
+pub layers_is : (a b : ℕ) → a ≤ HELD_TOP → b ≤ HELD_TOP → bit_or a (b * 16777216 % 18446744073709551616) ≡ a + 2 ^ 24 * b
+layers_is a b ha hb =
+    let high : b * 16777216 % 18446744073709551616 ≡ b * 2 ^ 24 = omega (arith, hb) in
+    let both : bit_or a (b * 2 ^ 24) ≡ b * 2 ^ 24 + a = or_comm a (b * 2 ^ 24) ∙ or_shifted b 24 a (omega (arith, ha)) in
+    ap (bit_or a) high ∙ both ∙ omega arith
+
 pub pack_is : (a b m : ℕ) (s : State) → a ≡ s.reference → b ≡ s.working → samples_of m ≡ s.samples → a ≤ HELD_TOP → b ≤ HELD_TOP → m < 2 ^ 32 - 1
-    → bit_or (bit_or a (b * 65536 % 18446744073709551616)) (m * 4294967296 % 18446744073709551616) ≡ packed s
+    → (bit_or a (b * 16777216 % 18446744073709551616), m) ≡ packed s
 pack_is a b m s ea eb em ha hb hm =
-    let low : b * 65536 % 18446744073709551616 ≡ b * 2 ^ 16 = omega arith in
-    let high : m * 4294967296 % 18446744073709551616 ≡ m * 2 ^ 32 = omega arith in
-    let depths : bit_or a (b * 2 ^ 16) ≡ b * 2 ^ 16 + a = or_comm a (b * 2 ^ 16) ∙ or_shifted b 16 a (omega arith) in
-    let whole : bit_or (b * 2 ^ 16 + a) (m * 2 ^ 32) ≡ m * 2 ^ 32 + (b * 2 ^ 16 + a) = or_comm (b * 2 ^ 16 + a) (m * 2 ^ 32) ∙ or_shifted m 32 (b * 2 ^ 16 + a) (omega arith) in
     let mask : mask_l s.samples ≡ m = ap mask_l (sym em) ∙ mask_l-samples_of m (omega (arith, hm)) in
-    (λ i. bit_or (bit_or a (low i)) (high i)) ∙ ap (λ n. bit_or n (m * 2 ^ 32)) depths ∙ whole ∙ omega arith
+    let layers : bit_or a (b * 16777216 % 18446744073709551616) ≡ packed_layers s = layers_is a b ha hb ∙ omega (arith, ea, eb) in
+    λ i. (layers i, sym mask i)
 
 -- a subtile's state, by what its accessors say
 pub is_subtile : (a b m : ℕ) (s : State) → a ≡ s.reference → b ≡ s.working → samples_of m ≡ s.samples → a ≤ HELD_TOP → b ≤ HELD_TOP → m < 2 ^ 32 - 1 → IsLayered s → IsSubTile s
@@ -86,17 +90,19 @@ is_subtile a b m s ea eb em ha hb hm l = record {
   layered = l;
 }
 
--- the word of the fields that it shows
-pub word_of_fields : (word : ℕ) (s : State) → word < 2 ^ 64 → s ≡ seen (word % 2 ^ 16) (word / 2 ^ 16 % 2 ^ 16) (word / 2 ^ 32) → packed s ≡ word
-word_of_fields word s lt is = ap packed is ∙ packed_seen (word % 2 ^ 16) (word / 2 ^ 16 % 2 ^ 16) (word / 2 ^ 32) (omega arith) ∙ omega arith
+-- the two numbers of the fields that they show
+pub packed_of_fields : (layers mask : ℕ) (s : State) → mask < 2 ^ 32 → s ≡ seen (layers % 2 ^ 24) (layers / 2 ^ 24) mask → packed s ≡ (layers, mask)
+packed_of_fields layers mask s lt is =
+    let whole : layers % 2 ^ 24 + 2 ^ 24 * (layers / 2 ^ 24) ≡ layers = omega arith in
+    ap packed is ∙ packed_seen (layers % 2 ^ 24) (layers / 2 ^ 24) mask lt ∙ (λ i. (whole i, mask))
 
--- the only state that a subtile can have and that packs to the word
-pub only_state : (word a b m : ℕ) (s : State) → a ≡ word % 2 ^ 16 → b ≡ word / 2 ^ 16 % 2 ^ 16 → m ≡ word / 2 ^ 32 → IsSubTile s → packed s ≡ word → seen a b m ≡ s
-only_state word a b m s ea eb em is e =
-    let f = word_fields s word is e in
-    (λ i. seen ((ea ∙ f.0) i) ((eb ∙ f.1) i) ((em ∙ f.2) i)) ∙ (λ i. record { reference = s.reference; working = s.working; samples = samples_of-mask_l s.samples is.whole i })
+-- the only state that a subtile can have and that packs to the two
+pub only_state : (layers mask a b : ℕ) (s : State) → a ≡ layers % 2 ^ 24 → b ≡ layers / 2 ^ 24 → IsSubTile s → packed s ≡ (layers, mask) → seen a b mask ≡ s
+only_state layers mask a b s ea eb is e =
+    let f = packed_fields s layers mask is e in
+    (λ i. seen ((ea ∙ f.0) i) ((eb ∙ f.1) i) (f.2 i)) ∙ (λ i. record { reference = s.reference; working = s.working; samples = samples_of-mask_l s.samples is.whole i })
 
-pub only_layers : (word a b m : ℕ) (s : State) → a ≡ word % 2 ^ 16 → b ≡ word / 2 ^ 16 % 2 ^ 16 → m ≡ word / 2 ^ 32 → IsSubTile s → packed s ≡ word → Layers a b m
-only_layers word a b m s ea eb em is e =
-    let f = word_fields s word is e in
-    subst (λ (z : ℕ × ℕ × ℕ). Layers z.0 z.1 z.2) (λ i. (sym (ea ∙ f.0) i, sym (eb ∙ f.1) i, sym (em ∙ f.2) i)) (layers_back s is)
+pub only_layers : (layers mask a b : ℕ) (s : State) → a ≡ layers % 2 ^ 24 → b ≡ layers / 2 ^ 24 → IsSubTile s → packed s ≡ (layers, mask) → Layers a b mask
+only_layers layers mask a b s ea eb is e =
+    let f = packed_fields s layers mask is e in
+    subst (λ (z : ℕ × ℕ × ℕ). Layers z.0 z.1 z.2) (λ i. (sym (ea ∙ f.0) i, sym (eb ∙ f.1) i, sym f.2 i)) (layers_back s is)

@@ -17,7 +17,6 @@ use Rattle.cull_base.proofs.Extents.{least_of_three, greatest_of_three}
 use Rattle.cull_base.proofs.Rectangles.{meets_pixel}
 use Rattle.depth_plane.proofs.Boxes.{touches-between, covers-in_box}
 use Rattle.depth_plane.proofs.Mean.{touches_covered}
-use Rattle.edge_lanes.proofs.Sides.{coordinate_at}
 use Rattle.masked_update.specs.Samples.{HoldsCovered}
 use Rattle.masked_update.specs.TileOf.{TileOf, tile_at}
 use Rattle.masked_update.specs.Taken.{merged_tile}
@@ -28,17 +27,6 @@ use Rattle.masked_update.proofs.Boxes.{in_tile}
 use Rattle.masked_update.proofs.Merging.{eight_of}
 use Rattle.masked_update.proofs.Tiles.{number_within}
 use Rattle.masked_update.proofs.Unchanged.{step_unless_covered}
-
--- the least and the greatest of a piece's coordinates are coordinates
-pub least_within : (vs : List ℤ) → All IsCoordinate vs → length vs ≡ 3 → IsCoordinate (least_of vs)
-least_within vs all three =
-    let h = coordinate_at vs 0 all three (omega arith) in let i = coordinate_at vs 1 all three (omega arith) in let j = coordinate_at vs 2 all three (omega arith) in
-    rw (← least_of_three vs three) (omega (arith, ints, clamps, h.0, i.0, j.0), omega (arith, ints, clamps, h.1, i.1, j.1))
-
-pub greatest_within : (vs : List ℤ) → All IsCoordinate vs → length vs ≡ 3 → IsCoordinate (greatest_of vs)
-greatest_within vs all three =
-    let h = coordinate_at vs 0 all three (omega arith) in let i = coordinate_at vs 1 all three (omega arith) in let j = coordinate_at vs 2 all three (omega arith) in
-    rw (← greatest_of_three vs three) (omega (arith, ints, clamps, h.0, i.0, j.0), omega (arith, ints, clamps, h.1, i.1, j.1))
 
 -- a pixel whose sample isn't before a coordinate, and one whose sample isn't past it
 from_first : (low : ℤ) (n : ℕ) → low ≤ℤ pos (16 * n + 8) → first_pixel (low +ℤ pos 7) ≤ℤ pos n

@@ -1,5 +1,5 @@
 -- The subtiles of a tile take a piece one after the other.
-use Rattle.std.proofs.Common.{◌≡◌, ◌≢◌, ◌∙◌, ◌⊎◌, inl, inr, ℕ, ◌*◌, ◌%◌, ◌<◌, ◌^◌, List, ap, arith, length, refl, slice_index_or, subst, sym, w32}
+use Rattle.std.proofs.Common.{◌≡◌, ◌≢◌, ◌∙◌, ◌⊎◌, ◌||◌, Bool, true, false, inl, inr, ℕ, ◌*◌, ◌%◌, ◌<◌, ◌^◌, List, ap, arith, length, refl, slice_index_or, subst, sym, w32}
 use Rattle.std.specs.Int.{bit_at, bit_not}
 use Rattle.std.proofs.lemmas.Bool.{cases_eq, cond-true}
 use Rattle.std.proofs.lemmas.Nat.{and_le_l}
@@ -12,7 +12,7 @@ use Rattle.cull_base.specs.declared.place.Tile.{Tile}
 use Rattle.edge_lanes.specs.Inside.{sub_of}
 use Rattle.masked_update.specs.Coverage.{AreWanted}
 use Rattle.masked_update.specs.Merged.{merged_at, merged_by}
-use Rattle.masked_update.specs.Small.{IsMergedAt}
+use Rattle.masked_update.specs.Small.{HaveSameReferences, IsMergedAt}
 use Rattle.masked_update.proofs.Marks.{cleared}
 use Rattle.masked_update.proofs.Merging.{eight_of, left_out}
 
@@ -70,3 +70,9 @@ all_merged size place x wanted left old now wants inv none = eight_of (merged_at
     by j h (inr set) =
         let one : bit_at wanted j ≡ 1 = omega (arith, set, bit_at-lt wanted j) in
         inv.done j h (ap (λ n. bit_at n j) none ∙ bit_at-zero j) one ∙ sym (cond-true _ _ _ (wants.on_screen j h one))
+
+-- the references are the same after a step if they are before it, and it changes none
+pub references_kept : (raised more : Bool) (old now new : List State) → (raised ≡ false → HaveSameReferences old now) → (more ≡ false → HaveSameReferences now new) → (raised || more) ≡ false → HaveSameReferences old new
+references_kept false false old now new before step e j = step refl j ∙ before refl j
+references_kept false true old now new before step e j = absurd (cc)
+references_kept true more old now new before step e j = absurd (cc)

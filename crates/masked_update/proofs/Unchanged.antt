@@ -33,7 +33,7 @@ step_not_nearer u s t h = cond-true _ _ _ (or_right _ _ (le-leb _ _ h))
 pub low_reached : (t : Piece) (u : Sub) (k : ℕ) → IsPiece t → k < 32 → covers t (sample u k) ≡ true → DepthAtLeast t (sample u k) (low_of t u)
 low_reached t u k piece h c = low_of-below t u k piece h (touches_covered t (sample u k) c)
 
-low_le_greatest : (t : Piece) (u : Sub) (k : ℕ) → IsPiece t → k < 32 → covers t (sample u k) ≡ true → low_of t u ≤ greatest_nearness t
+pub low_le_greatest : (t : Piece) (u : Sub) (k : ℕ) → IsPiece t → k < 32 → covers t (sample u k) ≡ true → low_of t u ≤ greatest_nearness t
 low_le_greatest t u k piece h c =
     let a = nearness t 0 in let b = nearness t 1 in let d = nearness t 2 in
     let x = low_reached t u k piece h c in

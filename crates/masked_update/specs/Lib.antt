@@ -14,5 +14,6 @@ pub mod Coverage
 pub mod Taken
 pub mod Least
 pub mod Drawn
+pub mod Cuts
 pub mod Canvas
 pub mod Walk

@@ -1,4 +1,4 @@
--- Subtiles packed into words.
+-- Subtiles packed into two numbers: their layers, and their masks.
 use Rattle.std.specs.Prelude.{ℕ, ◌≡◌, ◌≤◌, ◌+◌, ◌*◌, ◌^◌, false, length}
 use Rattle.std.specs.Simd.Lanes.{mask_l}
 use Rattle.cull_base.specs.declared.nearness.TheConstants.{HELD_TOP}
@@ -13,10 +13,17 @@ pub record IsSubTile (s : State) : Type 0 where
   pub not_full : is_all s.samples ≡ false
   pub layered : IsLayered s
 
--- the reference in bits 0 to 15, the working depth in bits 16 to 31, sample k in bit 32 + k
-abbrev pub packed : State → ℕ
-packed s = s.reference + 2 ^ 16 * s.working + 2 ^ 32 * mask_l s.samples
+-- the reference in bits 0 to 23, the working depth in bits 24 to 47
+abbrev pub packed_layers : State → ℕ
+packed_layers s = s.reference + 2 ^ 24 * s.working
 
--- the word is that of no subtile
-abbrev pub NonePacks : ℕ → Type 0
-NonePacks word = (s : State) → IsSubTile s → packed s ≡ word → ⊥
+-- sample k in bit k
+abbrev pub packed_mask : State → ℕ
+packed_mask s = mask_l s.samples
+
+abbrev pub packed : State → ℕ × ℕ
+packed s = (packed_layers s, packed_mask s)
+
+-- no subtile has these layers and this mask
+abbrev pub NonePacks : ℕ → ℕ → Type 0
+NonePacks layers mask = (s : State) → IsSubTile s → packed s ≡ (layers, mask) → ⊥

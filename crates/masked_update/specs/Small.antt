@@ -23,3 +23,7 @@ pub record IsMergedAt (x : Piece) (place : Tile) (j : ℕ) (old new : List State
   pub eight : length new ≡ 8
   pub this : slice_index_or new j empty_state ≡ step (sub_of place j) (slice_index_or old j empty_state) x
   pub others : (i : ℕ) → i ≢ j → slice_index_or new i empty_state ≡ slice_index_or old i empty_state
+
+-- no subtile has another reference
+abbrev pub HaveSameReferences : List State → List State → Type 0
+HaveSameReferences old new = (j : ℕ) → (slice_index_or new j empty_state).reference ≡ (slice_index_or old j empty_state).reference

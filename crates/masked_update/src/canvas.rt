@@ -143,8 +143,9 @@ impl Canvas {
         self.least[number] = self.tiles[number].least_reference();
     }
 
-    /// Merges a small piece into the tile of a number, and counts nothing. Conditions: there is such a tile, the column
-    /// and the row are below the screen's, and what is reached on it has each sample that the piece covers.
+    /// Merges a small piece into the tile of a number, and counts nothing. Most raise no reference, and the table stays.
+    /// Conditions: there is such a tile, the column and the row are below the screen's, and what is reached on it has
+    /// each sample that the piece covers.
     #[inline(always)]
     pub(crate) fn merge_small(
         &mut self,
@@ -160,8 +161,9 @@ impl Canvas {
         ensures { self.new ≡ with_tile self.old number
             (merged_tile reached.now.size place piece.now (tile_at self.old.tiles number)) }
     {
-        self.tiles[number].merge_small(piece, reached, place);
-        self.least[number] = self.tiles[number].least_reference();
+        if self.tiles[number].merge_small(piece, reached, place) {
+            self.least[number] = self.tiles[number].least_reference();
+        }
     }
 
     /// Its tiles, row by row.

@@ -4,6 +4,7 @@
 
 mod canvas;
 mod coverage;
+mod cut;
 mod draw;
 mod member;
 mod packing;
@@ -28,9 +29,11 @@ mod walk;
 mod window;
 
 pub use canvas::Canvas;
+pub use cut::lower_cut;
 pub use draw::draw_plain;
 pub use member::next_member;
 pub use piece_setup::PieceSetup;
+pub use sample_box::sampled_members;
 pub use sub_span::SubBox;
 pub use sub_tile::SubTile;
 pub use tile_state::TileState;

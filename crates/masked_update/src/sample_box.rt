@@ -1,30 +1,11 @@
 //! The pixels whose samples a piece may cover, by the least and the greatest of its coordinates.
-ghost use Rattle.std.specs.Prelude.{◌≡◌, pos, ◌+ℤ◌, ◌≤ℤ◌, length};
-ghost use Rattle.std.specs.List.{All};
-ghost use Rattle.cull_base.specs.Piece.{IsCoordinate, first_pixel, least_of, greatest_of};
+ghost use Rattle.std.specs.Prelude.{◌≡◌, ◌≤ℤ◌, ℕ};
+ghost use Rattle.cull_base.specs.Sampled.{sampled_list};
+ghost use Rattle.cull_base.specs.Screen.{IsSize};
+ghost use Rattle.cull_base.specs.Tiles.{PieceList, ArePieces, tile_after};
 ghost use Rattle.masked_update.specs.Samples.{HoldsCovered};
 
-use cull_base::{Extent, Rect, ScreenTri};
-
-// The first pixel whose sample isn't before the least of three coordinates.
-#[inline(always)]
-fn first_sample(values: &[i32; 3]) -> i32
-    requires { All IsCoordinate values.now }
-    ensures { result ≡ first_pixel (least_of values.now +ℤ pos 7) }
-{
-    let least = Extent::of_three(values).least;
-    (least + 7).div_euclid(16)
-}
-
-// The first pixel whose sample, and that of each one past it, is past the greatest.
-#[inline(always)]
-fn end_sample(values: &[i32; 3]) -> i32
-    requires { All IsCoordinate values.now }
-    ensures { result ≡ first_pixel (greatest_of values.now +ℤ pos 8) }
-{
-    let greatest = Extent::of_three(values).greatest;
-    (greatest + 8).div_euclid(16)
-}
+use cull_base::{Rect, ScreenTri, samples_between};
 
 /// Pixels, not cut to the screen, that hold those whose sample the piece covers: their samples stand in its box or on
 /// the box's edge. Of a piece of a few sixteenths there may be none.
@@ -34,12 +15,11 @@ pub fn sampled(tri: &ScreenTri) -> Rect
     ensures across { result.x0 ≤ℤ result.x1 }
     ensures down { result.y0 ≤ℤ result.y1 }
 {
-    let across = tri.x();
-    let down = tri.y();
-    Rect {
-        x0: first_sample(&across),
-        y0: first_sample(&down),
-        x1: end_sample(&across),
-        y1: end_sample(&down),
-    }
+    samples_between(&tri.x(), &tri.y())
 }
+
+/// The members of a list with such a pixel on the screen leave each tile as the whole list does.
+pub fn sampled_members()
+    ensures { (list : PieceList) (tile : ℕ) → IsSize list.size.width list.size.height → ArePieces list.members
+        → tile_after list.size tile (sampled_list list).members ≡ tile_after list.size tile list.members }
+{}

@@ -1,14 +1,13 @@
 //! A piece of a few pixels, set up for the subtiles that it reaches: each is asked by itself, and its bound is computed
 //! only where the piece covers a sample.
-ghost use Rattle.std.specs.Prelude.{◌≡◌, ◌<◌, ◌≤◌, ◌^◌, IfSome, length, max};
+ghost use Rattle.std.specs.Prelude.{◌≡◌, ◌<◌, ◌^◌, IfSome, false, length};
 ghost use Rattle.cull_base.specs.Piece.{IsPiece};
 ghost use Rattle.cull_base.specs.Screen.{tile_columns_of, tile_rows_of};
-ghost use Rattle.cull_base.specs.declared.nearness.TheConstants.{HELD_TOP};
 ghost use Rattle.masked_update.specs.Coverage.{AreWanted};
 ghost use Rattle.edge_lanes.specs.Inside.{sub_of};
 ghost use Rattle.masked_update.specs.Merged.{merged_by};
 ghost use Rattle.masked_update.specs.Samples.{HoldsSampled};
-ghost use Rattle.masked_update.specs.Small.{IsMergedAt};
+ghost use Rattle.masked_update.specs.Small.{HaveSameReferences, IsMergedAt};
 
 use crate::sub_span::SubBox;
 use crate::tile_layers::TileLayers;
@@ -67,17 +66,6 @@ fn are_few(reached: &SubBox) -> bool {
     columns.saturating_mul(rows) <= FEW
 }
 
-// A bound that is no less than a nearness.
-#[inline(always)]
-fn raised(least: u32, bound: u32) -> u32
-    requires least { least ≤ HELD_TOP }
-    requires bound { bound ≤ HELD_TOP }
-    ensures value { result ≡ max least bound }
-    ensures within { result ≤ HELD_TOP }
-{
-    least.max(bound)
-}
-
 impl SmallPiece {
     /// Sets a piece up. None where it reaches more than a few subtiles, or is too far away or too steep for that.
     #[inline(always)]
@@ -98,23 +86,26 @@ impl SmallPiece {
         })
     }
 
-    // Merges the piece into subtile j of a tile.
+    // Merges the piece into subtile j of a tile. Says whether its reference is another then.
     #[inline(always)]
-    fn merge_at(&self, layers: &mut TileLayers, place: Tile, j: u32)
+    fn merge_at(&self, layers: &mut TileLayers, place: Tile, j: u32) -> bool
         requires column { place.column < 64 }
         requires row { place.row < 256 }
         requires j { j < 8 }
-        ensures { IsMergedAt self.now place j layers.old layers.new }
+        ensures merged { IsMergedAt self.now place j layers.old layers.new }
+        ensures same { result ≡ false → HaveSameReferences layers.old layers.new }
     {
         let mut sub = layers.sub(j as usize);
         let here = subtile(place, j);
         let mask = self.edges.mask(here);
         if mask == 0 {
-            return;
+            return false;
         }
-        let bound = raised(self.least, self.plane.floor(here));
+        let reference = sub.reference();
+        let bound = self.plane.bound(here, self.least);
         sub.merge(bound, mask);
         layers.put(j as usize, sub);
+        sub.reference() != reference
     }
 
     // The subtiles of a tile, as bits, that are reached on the screen and whose reference is below the piece.
@@ -129,23 +120,26 @@ impl SmallPiece {
         reached.in_tile(place).bits() & layers.below(self.nearest)
     }
 
-    /// Merges the piece into a tile's subtiles on the screen. Conditions: the column and the row are below the screen's,
-    /// and what is reached on it holds each sample that the piece covers.
+    /// Merges the piece into a tile's subtiles on the screen. Says whether any reference is another then. Conditions: the
+    /// column and the row are below the screen's, and what is reached on it holds each sample that the piece covers.
     #[inline(always)]
-    pub fn merge_into(&self, layers: &mut TileLayers, reached: &SubBox, place: Tile)
+    pub fn merge_into(&self, layers: &mut TileLayers, reached: &SubBox, place: Tile) -> bool
         requires reached { HoldsSampled self.now reached.now }
         requires column { place.column < tile_columns_of reached.now.size }
         requires row { place.row < tile_rows_of reached.now.size }
-        ensures { layers.new ≡ merged_by reached.now.size place self.now layers.old }
+        ensures merged { layers.new ≡ merged_by reached.now.size place self.now layers.old }
+        ensures same { result ≡ false → HaveSameReferences layers.old layers.new }
     {
         // an accessor tells what is held of a size
         let _width = reached.size.width();
         let wanted = self.wanted(layers, reached, place);
         let mut left = wanted;
+        let mut raised = false;
         while left != 0 {
             let j = left.trailing_zeros();
-            self.merge_at(layers, place, j);
+            raised |= self.merge_at(layers, place, j);
             left &= !(1 << j);
         }
+        raised
     }
 }

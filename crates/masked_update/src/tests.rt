@@ -5,7 +5,7 @@ ghost use Rattle.cull_base.specs.declared.nearness.TheConstants.{HELD_TOP};
 
 use crate::{
     Canvas, PieceSetup, PlainView, SubTile, TileState, TileView, draw_plain, drawn_window,
-    missing_members, next_member,
+    lower_cut, missing_members, next_member,
 };
 use cull_base::{FrameList, HELD_TOP, Memory, ScreenTri, Size, Tile, TileSpan};
 use std::alloc::Global;
@@ -34,6 +34,22 @@ fn working_layer_is_dropped_at_201_and_kept_at_200(rt: HostRuntime) {
     let left_half = (100, 0x0F0F_0F0F);
     assert_eq!(rt; after_two(left_half, (201, 0x10)), (0, 201, 0x10));
     assert_eq!(rt; after_two(left_half, (200, 0x10)), (0, 100, 0x0F0F_0F1F));
+}
+
+#[test]
+fn depths_go_to_the_top_that_subtiles_hold(rt: HostRuntime) {
+    let mut sub = SubTile::empty();
+    sub.merge(16_777_215, EVERY_SAMPLE);
+    assert_eq!(rt; layers(&sub), (16_777_215, 0, 0));
+    let left_half = (8_388_607, 0x0F0F_0F0F);
+    assert_eq!(rt;
+        after_two(left_half, (16_777_215, 0x10)),
+        (0, 16_777_215, 0x10)
+    );
+    assert_eq!(rt;
+        after_two(left_half, (16_777_214, 0x10)),
+        (0, 8_388_607, 0x0F0F_0F1F)
+    );
 }
 
 #[test]
@@ -84,6 +100,7 @@ fn two_halves_of_a_quad_fill_each_reference(rt: HostRuntime) -> Result<(), Fail>
     assert_eq!(rt; tile.count(), 2);
     assert_from(&rt, &tile, 0, (32767, 0, 0));
     next_member();
+    lower_cut();
     Ok(())
 }
 

@@ -36,6 +36,7 @@ impl TileState {
     ghost use Rattle.masked_update.specs.TileOf.{sub_at, empty_tile};
     ghost use Rattle.masked_update.specs.Merged.{AreRowOf, IsSubBox};
     ghost use Rattle.masked_update.specs.Samples.{HoldsSampled};
+    ghost use Rattle.masked_update.specs.Small.{HaveSameReferences};
     ghost use Rattle.masked_update.specs.Taken.{taken_by, taken_at, merged_tile, counted_tile};
 
     /// Eight empty subtiles, and no piece taken.
@@ -142,17 +143,18 @@ impl TileState {
         piece.merge_over(&mut self.layers, reached, over, place);
     }
 
-    /// Merges a small piece, and doesn't count it. Conditions: the column and the row are below the screen's, and what is
-    /// reached on it has each sample that the piece covers.
+    /// Merges a small piece, doesn't count it, and says whether any reference is another then. Conditions: the column and
+    /// the row are below the screen's, and what is reached on it has each sample that the piece covers.
     #[inline(always)]
-    pub(crate) fn merge_small(&mut self, piece: &SmallPiece, reached: &SubBox, place: Tile)
+    pub(crate) fn merge_small(&mut self, piece: &SmallPiece, reached: &SubBox, place: Tile) -> bool
         requires reached { HoldsSampled piece.now reached.now }
         requires column { place.column < tile_columns_of reached.now.size }
         requires row { place.row < tile_rows_of reached.now.size }
         ensures merged { self.new ≡ merged_tile reached.now.size place piece.now self.old }
         ensures eight { length self.new.subs ≡ 8 }
+        ensures same { result ≡ false → HaveSameReferences self.old.subs self.new.subs }
     {
-        piece.merge_into(&mut self.layers, reached, place);
+        piece.merge_into(&mut self.layers, reached, place)
     }
 
     /// Counts a piece, and doesn't merge it.

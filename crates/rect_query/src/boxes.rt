@@ -1,7 +1,7 @@
 //! Boxes in space, each by the clip vertices of its corners, and their rectangles on the screen.
 ghost use Rattle.std.specs.Prelude.{◌≡◌, pos, ◌≤◌, ◌≤ℤ◌, ◌*◌, ◌||◌, false, map};
 ghost use Rattle.std.specs.List.{All, list_all, list_any};
-ghost use Rattle.cull_base.specs.declared.nearness.TheConstants.{GRADE_TOP};
+ghost use Rattle.cull_base.specs.Grade.{top_of};
 ghost use Rattle.cull_base.specs.Guard.{is_past_guard};
 ghost use Rattle.cull_base.specs.NearPlane.{is_behind};
 ghost use Rattle.cull_base.specs.Piece.{least_of};
@@ -9,7 +9,7 @@ ghost use Rattle.rect_query.specs.Boxes.{box_answer, box_rect_of};
 
 use crate::rectangle::nearness;
 use camera_path::{is_behind, past_guard};
-use cull_base::{ClipVertex, Extent, Near, Rect, Size};
+use cull_base::{ClipVertex, Extent, Grade, Near, Rect, Size};
 use near_clip::whole;
 use snap_setup::{place_of, rect_between};
 
@@ -73,12 +73,12 @@ fn rect_around(corners: &[ClipVertex; 8], near: Near, size: Size) -> Rect
 
 /// Where a box stands, by its eight corners: outside where all are before the near distance, else straddling where one
 /// is or is past the guard, else at the rectangle around them on the screen, with the nearness of the least distance.
-/// Condition: `near` is 1 to 1024.
+/// The grade is that by which the pieces were set up, as for `rect_near`. Condition: `near` is 1 to 1024.
 #[tactic(auto, unfolding(crate::specs::Boxes::box_answer))]
-pub fn box_rect(corners: &[ClipVertex; 8], near: u16, size: Size) -> BoxAnswer
+pub fn box_rect(corners: &[ClipVertex; 8], near: u16, size: Size, grade: Grade) -> BoxAnswer
     requires least { 1 ≤ near }
     requires most { near ≤ 1024 }
-    ensures { result ≡ box_answer GRADE_TOP near size corners.now }
+    ensures { result ≡ box_answer (top_of grade) near size corners.now }
 {
     if are_all_behind(corners, near) {
         return BoxAnswer::Outside;
@@ -89,6 +89,6 @@ pub fn box_rect(corners: &[ClipVertex; 8], near: u16, size: Size) -> BoxAnswer
     }
     BoxAnswer::At {
         rect: rect_around(corners, near, size),
-        q: nearness(least_w(corners, near), near),
+        q: nearness(least_w(corners, near), near, grade),
     }
 }

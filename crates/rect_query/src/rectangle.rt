@@ -1,37 +1,38 @@
 //! Rectangles of pixels with one nearness, tested against what the tiles hold.
 ghost use Rattle.std.specs.Prelude.{◌≡◌, ℕ, ℤ, pos, ◌≤ℤ◌, ◌<ℤ◌, ◌≤◌, MatchOption, IfSome};
-ghost use Rattle.cull_base.specs.declared.nearness.TheConstants.{GRADE_TOP};
+ghost use Rattle.cull_base.specs.Grade.{top_of};
 ghost use Rattle.cull_base.specs.Shape.{flat_shape, verdict_of};
 ghost use Rattle.masked_update.specs.Views.{HoldsMet, state_in};
 ghost use Rattle.rect_query.specs.Rectangles.{nearness_at};
 
 use crate::area::{Area, is_area_hiding};
-use cull_base::{GRADE_TOP, Near, Rect, Size, Verdict};
+use cull_base::{Grade, Near, Rect, Size, Verdict};
 use masked_update::TileView;
 
 /// The nearness of an object at distance w, rounded up. Condition: w isn't before the near distance.
-pub(crate) fn nearness(w: i32, near: Near) -> u32
+pub(crate) fn nearness(w: i32, near: Near, grade: Grade) -> u32
     requires { pos near.distance ≤ℤ w }
-    ensures value { result ≡ nearness_at GRADE_TOP near.distance w }
-    ensures within { result ≤ GRADE_TOP }
+    ensures value { result ≡ nearness_at (top_of grade) near.distance w }
+    ensures within { result ≤ top_of grade }
 {
-    let top = u64::from(GRADE_TOP) * u64::from(near.distance);
-    top.div_ceil(w as u64) as u32
+    let scaled = u64::from(grade.top()) * u64::from(near.distance);
+    scaled.div_ceil(w as u64) as u32
 }
 
-/// The nearness of an object at distance w, rounded up. None exactly where w is before the near distance.
-/// Condition: `near` is 1 to 1024.
-pub fn rect_near(w: i32, near: u16) -> Option<u32>
+/// The nearness of an object at distance w, rounded up. None exactly where w is before the near distance. The grade is
+/// that by which the pieces were set up: tiles don't know it, and what was drawn in the wide grade hides all that is
+/// asked in the narrow one. Condition: `near` is 1 to 1024.
+pub fn rect_near(w: i32, near: u16, grade: Grade) -> Option<u32>
     requires least { 1 ≤ near }
     requires most { near ≤ 1024 }
     ensures value { MatchOption result (w <ℤ pos near)
-        (λ q. (pos near ≤ℤ w) × (q ≡ nearness_at GRADE_TOP near w)) }
-    ensures within { IfSome result (λ q. q ≤ GRADE_TOP) }
+        (λ q. (pos near ≤ℤ w) × (q ≡ nearness_at (top_of grade) near w)) }
+    ensures within { IfSome result (λ q. q ≤ top_of grade) }
 {
     if w < i32::from(near) {
         return None;
     }
-    Some(nearness(w, Near { distance: near }))
+    Some(nearness(w, Near { distance: near }, grade))
 }
 
 /// The verdict of a rectangle with nearness q: outside without a pixel in the screen, else occluded where the sample

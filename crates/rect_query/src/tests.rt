@@ -1,6 +1,6 @@
 //! Rectangles over a tile that is drawn in part, and boxes before, across and behind the near plane.
 use super::*;
-use cull_base::{ClipVertex, FrameList, Rect, ScreenTri, Size, Verdict};
+use cull_base::{ClipVertex, FrameList, Grade, Rect, ScreenTri, Size, Verdict};
 use masked_update::{PlainView, SubTile, TileState, draw_plain};
 use std::test::Fail;
 
@@ -24,9 +24,13 @@ fn corners(low: [i64; 3], high: [i64; 3]) -> [ClipVertex; 8] {
 }
 
 // Where a box stands on a screen of 32 by 8 with the near distance 1.
-fn answer(low: [i64; 3], high: [i64; 3]) -> Result<BoxAnswer, &'static str> {
+fn answer_in(grade: Grade, low: [i64; 3], high: [i64; 3]) -> Result<BoxAnswer, &'static str> {
     let size = Size::new(32, 8).ok_or("size")?;
-    Ok(box_rect(&corners(low, high), 1, size))
+    Ok(box_rect(&corners(low, high), 1, size, grade))
+}
+
+fn answer(low: [i64; 3], high: [i64; 3]) -> Result<BoxAnswer, &'static str> {
+    answer_in(Grade::Narrow, low, high)
 }
 
 // The verdict of a rectangle over a tile of which the first subtile is drawn, and whether it is settled.
@@ -91,12 +95,39 @@ fn a_rectangle_beside_the_screen_is_outside_and_not_settled(rt: HostRuntime) -> 
 
 #[test]
 fn nearness_is_rounded_up(rt: HostRuntime) {
-    assert_eq!(rt; rect_near(1, 1), Some(65535));
-    assert_eq!(rt; rect_near(2, 1), Some(32768));
-    assert_eq!(rt; rect_near(3, 1), Some(21845));
-    assert_eq!(rt; rect_near(16384, 1), Some(4));
-    assert_eq!(rt; rect_near(0, 1), None);
-    assert_eq!(rt; rect_near(-1, 1), None);
+    let narrow = |w: i32| rect_near(w, 1, Grade::Narrow);
+    assert_eq!(rt; narrow(1), Some(65535));
+    assert_eq!(rt; narrow(2), Some(32768));
+    assert_eq!(rt; narrow(3), Some(21845));
+    assert_eq!(rt; narrow(16384), Some(4));
+    assert_eq!(rt; narrow(0), None);
+    assert_eq!(rt; narrow(-1), None);
+}
+
+#[test]
+fn nearness_of_the_wide_grade_is_rounded_up(rt: HostRuntime) {
+    let wide = |w: i32| rect_near(w, 1, Grade::Wide);
+    assert_eq!(rt; wide(1), Some(16_777_215));
+    assert_eq!(rt; wide(2), Some(8_388_608));
+    assert_eq!(rt; wide(3), Some(5_592_405));
+    assert_eq!(rt; wide(1001), Some(16_761));
+    assert_eq!(rt; wide(16384), Some(1024));
+    assert_eq!(rt; wide(0), None);
+}
+
+// At distances 1000 and 1001 the wide grade has 16777 and 16761; the narrow one has 65 and 66, and hides nothing there.
+#[test]
+fn a_rectangle_just_behind_a_quad_is_hidden_in_the_wide_grade(rt: HostRuntime) -> Result<(), Fail> {
+    let size = Size::new(32, 8).ok_or("a size")?;
+    let mut list = FrameList::with_room(rt.alloc(), size, 2)?;
+    list.push(ScreenTri::new([0, 512, 512], [0, 0, 128], [16777; 3]).ok_or("a piece")?);
+    list.push(ScreenTri::new([0, 512, 0], [0, 128, 128], [16777; 3]).ok_or("a piece")?);
+    let tiles = draw_plain(rt.alloc(), &list)?;
+    let view = PlainView::new(&tiles);
+    let whole = size.screen();
+    assert_eq!(rt; rect_test(&view, size, whole, 16761), Verdict::Occluded);
+    assert_eq!(rt; rect_test(&view, size, whole, 16777), Verdict::Visible);
+    Ok(())
 }
 
 #[test]
@@ -106,6 +137,8 @@ fn a_box_before_the_viewer_has_a_rectangle_and_the_nearness_of_its_least_distanc
     let rect = rect(10, 2, 22, 6);
     let wanted = BoxAnswer::At { rect, q: 21845 };
     assert_eq!(rt; answer([-1, -1, 3], [1, 1, 6])?, wanted);
+    let wide = BoxAnswer::At { rect, q: 5592405 };
+    assert_eq!(rt; answer_in(Grade::Wide, [-1, -1, 3], [1, 1, 6])?, wide);
     Ok(())
 }
 
@@ -132,7 +165,7 @@ fn a_triangle_hides_what_lies_behind_it(rt: HostRuntime) -> Result<(), Fail> {
     let tiles = draw_plain(rt.alloc(), &list)?;
     let view = PlainView::new(&tiles);
     // at twice the near distance of 16: half of 65535, rounded up
-    let nearness = rect_near(32, 16).ok_or("a nearness")?;
+    let nearness = rect_near(32, 16, Grade::Narrow).ok_or("a nearness")?;
     let behind = Rect {
         x0: 4,
         y0: 4,

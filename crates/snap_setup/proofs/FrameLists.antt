@@ -78,21 +78,3 @@ with_none f ps e = sym (ap (λ (xs : List Piece). record { list = record { size 
 pub with_more : (f g h : FrameListOf) (a b c : List Piece) → g ≡ with_members f a → h ≡ with_members g b → a ++ b ≡ c → h ≡ with_members f c
 with_more f g h a b c eg eh e = eh ∙ ap (λ (x : FrameListOf). with_members x b) eg
     ∙ ap (λ (xs : List Piece). record { list = record { size = f.list.size; members = xs }; room = f.room }) (append_assoc f.list.members a b ∙ ap (λ (xs : List Piece). f.list.members ++ xs) e)
-
--- where there was room for two pieces a triangle, there is room for those of the next
-pub room_for_two : (o : Occluders) (tris : List Tri) (i : ℕ) (f g : FrameListOf) → i < length tris → g ≡ with_members f (list_of_some o (take i tris))
-    → length f.list.members + 2 * length tris ≤ f.room → length g.list.members + 2 ≤ g.room
-room_for_two o tris i f g lt is room =
-    let most = list_most o.clips.now (take i tris) GRADE_TOP o.near.distance o.size o.winding in
-    let members = ap (λ (x : FrameListOf). length x.list.members) is in
-    let rooms = ap (λ (x : FrameListOf). x.room) is in
-    omega (arith, most, members, rooms, room, lt, length-take-le i tris (omega (arith, lt)), length-append f.list.members (list_of_some o (take i tris)))
-
--- the next triangle's pieces behind those of the ones before it
-pub one_more : (o : Occluders) (tris : List Tri) (i : ℕ) (d : Tri) (f g h : FrameListOf) (r : Corners) → i < length tris → g ≡ with_members f (list_of_some o (take i tris))
-    → r.v0.now ≡ clip_at o.clips.now (get_or tris i d) 0 → r.v1.now ≡ clip_at o.clips.now (get_or tris i d) 1 → r.v2.now ≡ clip_at o.clips.now (get_or tris i d) 2
-    → h ≡ with_members g (pieces_of_corners r o.near.distance o.size o.winding) → h ≡ with_members f (list_of_some o (take (i + 1) tris))
-one_more o tris i d f g h r lt is e0 e1 e2 grown =
-    let before = list_of_some o (take i tris) in
-    let ps = by_corners o.clips.now r.v0.now r.v1.now r.v2.now GRADE_TOP o.near.distance o.size o.winding (get_or tris i d) e0 e1 e2 in
-    with_more f g h before _ _ is grown (list_more o.clips.now tris GRADE_TOP o.near.distance o.size o.winding i d before _ lt refl ps)

@@ -147,13 +147,7 @@ pub held : (v0 v1 v2 : ClipVertex) (top near : ℕ) (size : Dimensions) (winding
 unfolding pieces_of
 held v0 v1 v2 top near size winding side r e h = rw e h
 
--- a list grows by the pieces of a triangle, of which there are few
-pub grown : (f g : FrameListOf) (r ps : List Piece) → g ≡ with_members f r → r ≡ ps → g ≡ with_members f ps
-grown f g r ps eg er = rw (← er) eg
-
-pub grown_by_none : (v0 v1 v2 : ClipVertex) (top near : ℕ) (size : Dimensions) (winding : Winding) (side : Side) (f : FrameListOf) → is_any_past_guard v0 v1 v2 near ≡ true → f ≡ with_members f (pieces_of v0 v1 v2 top near size winding side)
-grown_by_none v0 v1 v2 top near size winding side f e = grown f f [] _ (let n = append-nil f.list.members in rw n refl) (past v0 v1 v2 top near size winding side e)
-
+-- they are few
 pub few : (r ps : List Piece) → r ≡ ps → length r ≤ 2 → length ps ≤ 2
 few r ps e h = rw (← e) h
 

@@ -4,6 +4,7 @@ pub mod Reached
 pub mod Areas
 pub mod KeptPieces
 pub mod FrameLists
+pub mod Takes
 pub mod BoxSteps
 pub mod Rows
 pub mod ValidPieces

@@ -100,7 +100,7 @@ pub record IsNearness (top near : ℕ) (p : HomPoint) (down up : ℕ) : Type 0 w
 quotient_small : (top n w : ℕ) → 0 < w → n ≤ top * w → n / w ≤ top
 quotient_small top n w h le = div-le_of_le-mul w (omega (arith, le))
 
-ceiling_small : (top n w : ℕ) → 0 < w → n ≤ top * w → n / w + min 1 (n % w) ≤ top
+pub ceiling_small : (top n w : ℕ) → 0 < w → n ≤ top * w → n / w + min 1 (n % w) ≤ top
 ceiling_small top n w h le = by_rest (n % w) refl
   where
     by_rest : (r : ℕ) → r ≡ n % w → n / w + min 1 (n % w) ≤ top

@@ -39,9 +39,12 @@ kept_more P winding t ts here rest = subst (All P) (sym (kept_cons winding t ts)
     by false e = All-cons P (turned t) (kept_from winding ts) (here e) rest
 
 -- points in reach are snapped into range
+held : (a b : ℕ) → a ≡ b → a ≤ GRADE_TOP → b ≤ HELD_TOP
+held a b e h = omega (arith, e, h)
+
 snapped_nearness : (p : HomPoint) (near : ℕ) (side : Side) → 1 ≤ near → near ≤ 1024 → IsInReach near p → nearness_of p GRADE_TOP near side ≤ HELD_TOP
-snapped_nearness p near Occluder hn le r = let k = nearness_is GRADE_TOP near p hn le r in subst (λ n. n ≤ HELD_TOP) k.down_is k.down_small
-snapped_nearness p near Object hn le r = let k = nearness_is GRADE_TOP near p hn le r in subst (λ n. n ≤ HELD_TOP) k.up_is k.up_small
+snapped_nearness p near Occluder hn le r = let k = nearness_is GRADE_TOP near p hn le r in held _ _ k.down_is k.down_small
+snapped_nearness p near Object hn le r = let k = nearness_is GRADE_TOP near p hn le r in held _ _ k.up_is k.up_small
 
 pub snapped_is : (p : HomPoint) (near : ℕ) (size : Dimensions) (side : Side) → IsSize size.width size.height → 1 ≤ near → near ≤ 1024 → IsInReach near p → IsSnapped (snapped p GRADE_TOP near size side)
 unfolding snapped

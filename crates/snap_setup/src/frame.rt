@@ -2,12 +2,13 @@
 ghost use Rattle.std.specs.Prelude.{◌≡◌, ◌≤◌, ◌+◌, ◌*◌, [], ◌∷◌, length, IfOk};
 ghost use Rattle.std.specs.List.{All};
 ghost use Rattle.cull_base.specs.declared.nearness.TheConstants.{GRADE_TOP};
-ghost use Rattle.cull_base.specs.Tiles.{with_members};
 ghost use Rattle.near_clip.specs.NearPart.{corner};
+ghost use Rattle.snap_setup.specs.Keeping.{Took};
 ghost use Rattle.snap_setup.specs.Occluders.{list_of_some};
 ghost use Rattle.snap_setup.specs.Pieces.{list_of_clips, clip_at, HasClips};
 ghost use Rattle.snap_setup.specs.Vertices.{screen_vertices, vertex_at, AreShared};
 
+use crate::keeping::Keeping;
 use crate::occluders::Occluders;
 use crate::triangle::{Corners, ScreenCorners, push_pieces, push_shared};
 use crate::vertices::{ScreenVertex, shared_vertices};
@@ -15,10 +16,15 @@ use cull_base::{ClipVertex, FrameList, Memory, Near, Size, Tri, Winding};
 use std::alloc::Global;
 
 // As `push_all`, each corner snapped by itself.
-fn push_by_corners(occluders: &Occluders, tris: &[Tri], list: &mut FrameList)
+fn push_by_corners(
+    occluders: &Occluders,
+    tris: &[Tri],
+    keeping: Keeping,
+    list: &mut FrameList,
+) -> u32
     requires indices { All (HasClips (length occluders.now.clips.now)) tris.now }
     requires room { length list.old.list.members + 2 * length tris.now ≤ list.old.room }
-    ensures { list.new ≡ with_members list.old (list_of_some occluders.now tris.now) }
+    ensures { Took keeping list.old list.new result (list_of_some occluders.now tris.now) }
 {
     let Occluders {
         clips,
@@ -27,9 +33,14 @@ fn push_by_corners(occluders: &Occluders, tris: &[Tri], list: &mut FrameList)
         winding,
         ..
     } = *occluders;
+    // an accessor tells how long a list may be
+    let _length = list.len();
+    let mut count = 0u32;
     for tri in tris {
-        push_pieces(&corner_references(clips, tri), near, size, winding, list);
+        let corners = corner_references(clips, tri);
+        count += push_pieces(&corners, near, size, winding, keeping, list);
     }
+    count
 }
 
 // As `push_all`, by all vertices on the screen.
@@ -37,12 +48,13 @@ fn push_by_vertices(
     occluders: &Occluders,
     vertices: &[ScreenVertex],
     tris: &[Tri],
+    keeping: Keeping,
     list: &mut FrameList,
-)
+) -> u32
     requires vertices { let o = occluders.now in vertices.now ≡ screen_vertices o.clips.now o.near.distance o.size }
     requires indices { All (HasClips (length occluders.now.clips.now)) tris.now }
     requires room { length list.old.list.members + 2 * length tris.now ≤ list.old.room }
-    ensures { list.new ≡ with_members list.old (list_of_some occluders.now tris.now) }
+    ensures { Took keeping list.old list.new result (list_of_some occluders.now tris.now) }
 {
     let Occluders {
         clips,
@@ -51,37 +63,43 @@ fn push_by_vertices(
         winding,
         ..
     } = *occluders;
+    // an accessor tells how long a list may be
+    let _length = list.len();
+    let mut count = 0u32;
     for tri in tris {
         let corners = vertex_references(vertices, tri);
-        push_shared(
+        count += push_shared(
             &corner_references(clips, tri),
             &corners,
             near,
             size,
             winding,
+            keeping,
             list,
         );
     }
+    count
 }
 
-/// The occluder pieces of some of a frame's triangles, one triangle after another, behind those that a list has.
-/// Conditions: the vertices are all of the frame's or none, each index is below the number of clips, and the list has
-/// room for two pieces a triangle.
+/// Puts the occluder pieces of some of a frame's triangles that are kept behind those that a list has, one triangle
+/// after another, and gives how many pieces the triangles have. Conditions: the vertices are all of the frame's or none,
+/// each index is below the number of clips, and the list has room for two pieces a triangle.
 pub(crate) fn push_all(
     occluders: &Occluders,
     vertices: &[ScreenVertex],
     tris: &[Tri],
+    keeping: Keeping,
     list: &mut FrameList,
-)
+) -> u32
     requires vertices { AreShared occluders.now vertices.now }
     requires indices { All (HasClips (length occluders.now.clips.now)) tris.now }
     requires room { length list.old.list.members + 2 * length tris.now ≤ list.old.room }
-    ensures { list.new ≡ with_members list.old (list_of_some occluders.now tris.now) }
+    ensures { Took keeping list.old list.new result (list_of_some occluders.now tris.now) }
 {
     if vertices.is_empty() {
-        push_by_corners(occluders, tris, list);
+        push_by_corners(occluders, tris, keeping, list)
     } else {
-        push_by_vertices(occluders, vertices, tris, list);
+        push_by_vertices(occluders, vertices, tris, keeping, list)
     }
 }
 
@@ -120,7 +138,13 @@ pub(crate) fn list_in_turn(alloc: Global, occluders: &Occluders) -> Result<Frame
 {
     let mut list = FrameList::with_room(alloc, occluders.size, 2 * occluders.tris.len() as u32)?;
     let vertices = shared_vertices(alloc, occluders)?;
-    push_all(occluders, vertices.as_slice(), occluders.tris, &mut list);
+    push_all(
+        occluders,
+        vertices.as_slice(),
+        occluders.tris,
+        Keeping::Each,
+        &mut list,
+    );
     Ok(list)
 }
 

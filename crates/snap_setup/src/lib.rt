@@ -4,9 +4,11 @@
 
 mod boxes;
 mod frame;
+mod keeping;
 mod occluders;
 mod pieces;
 mod runs;
+mod sampled;
 mod snapping;
 mod triangle;
 mod vertices;
@@ -16,6 +18,7 @@ pub use frame::{corners, frame_list};
 pub use occluders::Occluders;
 pub use pieces::Pieces;
 pub use runs::frame_list_by_workers;
+pub use sampled::{KeptList, sampled_list};
 pub use snapping::{Place, Snapped, place_of, snap};
 pub use triangle::set_up;
 

@@ -1,6 +1,7 @@
 //! What a triangle leaves on the screen.
 ghost use Rattle.std.specs.Prelude.{◌≡◌, List, [], ◌++◌, ◌<◌, ◌≤◌, ◌+◌, length, slice_index_or, option_to_list};
 
+use crate::keeping::{Keeping, take};
 use cull_base::{FrameList, ScreenTri};
 use std::marker::Model;
 
@@ -28,7 +29,7 @@ impl Model for Pieces {
 }
 
 impl Pieces {
-    ghost use Rattle.cull_base.specs.Tiles.{with_members};
+    ghost use Rattle.snap_setup.specs.Keeping.{Took};
 
     #[inline(always)]
     pub(crate) fn none() -> Pieces
@@ -75,19 +76,17 @@ impl Pieces {
         }
     }
 
+    /// Appends those that are kept to a list, and gives how many there are. Condition: there is room for two.
     #[inline(always)]
-    pub(crate) fn push_onto(&self, list: &mut FrameList)
+    pub(crate) fn push_onto(&self, keeping: Keeping, list: &mut FrameList) -> u32
         requires { length list.old.list.members + 2 ≤ list.old.room }
-        ensures value { list.new ≡ with_members list.old self.now }
+        ensures value { Took keeping list.old list.new result self.now }
         ensures most { length self.now ≤ 2 }
     {
         match &self.members {
-            Members::Nothing => {}
-            Members::One(one) => list.push(*one),
-            Members::Two(one, two) => {
-                list.push(*one);
-                list.push(*two);
-            }
+            Members::Nothing => 0,
+            Members::One(one) => take(*one, keeping, list),
+            Members::Two(one, two) => take(*one, keeping, list) + take(*two, keeping, list),
         }
     }
 }

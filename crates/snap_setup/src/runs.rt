@@ -12,6 +12,7 @@ ghost use Rattle.snap_setup.specs.Runs.{AreFilled, AreMade, IsFirstFor, IsRoom};
 ghost use Rattle.snap_setup.specs.Vertices.{AreShared};
 
 use crate::frame::{list_in_turn, push_all};
+use crate::keeping::Keeping;
 use crate::occluders::Occluders;
 use crate::vertices::{ScreenVertex, shared_vertices_by_workers};
 use cull_base::{FrameList, Memory, Size, Tri};
@@ -58,7 +59,7 @@ fn run(tris: &[Tri], share: usize, k: usize) -> &[Tri]
     &tris[start..end]
 }
 
-// As `push_all`. Meanwhile the list stands apart from those of other threads: side by side these are on one cache line,
+// As `push_all`, where each piece is kept. Meanwhile the list stands apart from those of other threads: side by side these are on one cache line,
 // which each piece would take from the others.
 fn push_all_apart(
     alloc: Global,
@@ -75,10 +76,12 @@ fn push_all_apart(
     match FrameList::with_room(alloc, occluders.size, 0) {
         Ok(empty) => {
             let mut apart = mem::replace(list, empty);
-            push_all(occluders, vertices, tris, &mut apart);
+            push_all(occluders, vertices, tris, Keeping::Each, &mut apart);
             *list = apart;
         }
-        Err(_) => push_all(occluders, vertices, tris, list),
+        Err(_) => {
+            push_all(occluders, vertices, tris, Keeping::Each, list);
+        }
     }
 }
 

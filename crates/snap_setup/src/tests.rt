@@ -7,7 +7,7 @@ ghost use Rattle.std.specs.List.{All};
 
 use super::*;
 use camera_path::past_guard;
-use cull_base::{ClipVertex, FrameList, Rect, Side, Size, Tri, Winding};
+use cull_base::{ClipVertex, FrameList, Near, Rect, Side, Size, Tri, Winding};
 use near_clip::HomPoint;
 use std::alloc::Global;
 use std::process::Abort;
@@ -242,5 +242,62 @@ fn there_may_be_more_vertices_than_corners(rt: HostRuntime) -> Result<(), Fail> 
         numbers(&list, 0)?,
         ([0, 512, 512], [0, 0, 128], [32767; 3])
     );
+    Ok(())
+}
+
+// The vertex that comes to a place on a screen of 32 by 8 pixels, in sixteenths of a pixel.
+fn vertex_at(x: i32, y: i32) -> ClipVertex {
+    vertex(i64::from(x) - 256, 256 - 4 * i64::from(y), 256)
+}
+
+// How many pieces of a triangle may cover a sample of that screen, and how many it has.
+fn kept_of_one(alloc: Global, clips: &[ClipVertex; 3]) -> Result<(u32, u32), Fail> {
+    let occluders = Occluders {
+        clips,
+        tris: &[Tri([0, 1, 2])],
+        near: Near { distance: 1 },
+        size: Size::new(32, 8).ok_or("size")?,
+        winding: Winding::Both,
+    };
+    let kept = sampled_list(alloc, &occluders)?;
+    Ok((kept.list.len(), kept.listed))
+}
+
+#[test]
+fn a_piece_is_kept_for_one_sample_on_the_edge_of_its_box(rt: HostRuntime) -> Result<(), Fail> {
+    for clips in [
+        [vertex_at(8, 8), vertex_at(16, 8), vertex_at(16, 16)],
+        [vertex_at(0, 0), vertex_at(8, 0), vertex_at(8, 8)],
+        [vertex_at(-8, 0), vertex_at(8, 0), vertex_at(8, 8)],
+        [
+            vertex_at(504, 120),
+            vertex_at(520, 120),
+            vertex_at(520, 136),
+        ],
+    ] {
+        assert_eq!(rt; kept_of_one(rt.alloc(), &clips)?, (1, 1));
+    }
+    Ok(())
+}
+
+#[test]
+fn a_piece_without_a_sample_of_the_screen_is_counted_alone(rt: HostRuntime) -> Result<(), Fail> {
+    for clips in [
+        [vertex_at(9, 8), vertex_at(23, 8), vertex_at(23, 16)],
+        [vertex_at(8, 9), vertex_at(16, 9), vertex_at(16, 23)],
+        [vertex_at(-8, 0), vertex_at(7, 0), vertex_at(7, 8)],
+        [
+            vertex_at(505, 120),
+            vertex_at(520, 120),
+            vertex_at(520, 136),
+        ],
+        [
+            vertex_at(504, 121),
+            vertex_at(520, 121),
+            vertex_at(520, 136),
+        ],
+    ] {
+        assert_eq!(rt; kept_of_one(rt.alloc(), &clips)?, (0, 1));
+    }
     Ok(())
 }

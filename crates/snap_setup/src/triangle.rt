@@ -3,13 +3,14 @@ ghost use Rattle.std.specs.Prelude.{◌≡◌, pos, [], false, true, ◌+◌, �
 ghost use Rattle.cull_base.specs.declared.nearness.TheConstants.{GRADE_TOP};
 ghost use Rattle.cull_base.specs.declared.triangle.Side.TheVariants.{Occluder};
 ghost use Rattle.cull_base.specs.Piece.{doubled_area};
-ghost use Rattle.cull_base.specs.Tiles.{with_members};
 ghost use Rattle.snap_setup.specs.Pieces.{triangle, is_dropped, piece_if, kept_of, is_any_past_guard, is_all_in_front};
 ghost use Rattle.snap_setup.specs.Corners.{part_of, pieces_of_corners};
+ghost use Rattle.snap_setup.specs.Keeping.{Took};
 ghost use Rattle.snap_setup.specs.Triangles.{pieces_of_triangle, TriangleGivesNone};
 ghost use Rattle.snap_setup.specs.Snapping.{IsSnapped};
 ghost use Rattle.snap_setup.specs.Vertices.{are_all_placed, is_any_placed, is_any_past, AreCornersOf};
 
+use crate::keeping::{Keeping, take_if};
 use crate::pieces::Pieces;
 use crate::snapping::{Snapped, snap};
 use crate::vertices::ScreenVertex;
@@ -158,48 +159,51 @@ pub fn set_up(tri: &[ClipVertex; 3], near: u16, size: Size, winding: Winding, si
     }
 }
 
-#[inline(always)]
-fn push_if(piece: Option<ScreenTri>, list: &mut FrameList)
-    requires { length list.old.list.members + 2 ≤ list.old.room }
-    ensures { list.new ≡ with_members list.old (option_to_list piece) }
-{
-    if let Some(piece) = piece {
-        list.push(piece);
-    }
-}
-
 // Out of line, so that no pieces are held where none are clipped.
 #[inline(never)]
-fn push_clipped(tri: &Corners, near: Near, size: Size, winding: Winding, list: &mut FrameList)
+fn push_clipped(
+    tri: &Corners,
+    near: Near,
+    size: Size,
+    winding: Winding,
+    keeping: Keeping,
+    list: &mut FrameList,
+) -> u32
     requires guarded { is_any_past_guard tri.now.v0.now tri.now.v1.now tri.now.v2.now near.distance ≡ false }
     requires room { length list.old.list.members + 2 ≤ list.old.room }
-    ensures value { list.new ≡ with_members list.old (kept_of (part_of tri.now near.distance size Occluder) winding) }
+    ensures value { Took keeping list.old list.new result
+        (kept_of (part_of tri.now near.distance size Occluder) winding) }
     ensures most { length (kept_of (part_of tri.now near.distance size Occluder) winding) ≤ 2 }
 {
-    clipped_pieces(tri, near, size, winding, Side::Occluder).push_onto(list);
+    clipped_pieces(tri, near, size, winding, Side::Occluder).push_onto(keeping, list)
 }
 
-/// Appends the pieces of an occluder's triangle to a list, as `set_up` makes them. Most have one, which goes straight
-/// to its place. Condition: there is room for two.
+/// Appends the pieces of an occluder's triangle that are kept to a list, as `set_up` makes them, and gives how many the
+/// triangle has. Most have one, which goes straight to its place. Condition: there is room for two.
 #[inline(always)]
 pub(crate) fn push_pieces(
     tri: &Corners,
     near: Near,
     size: Size,
     winding: Winding,
+    keeping: Keeping,
     list: &mut FrameList,
-)
+) -> u32
     requires { length list.old.list.members + 2 ≤ list.old.room }
-    ensures value { list.new ≡ with_members list.old (pieces_of_corners tri.now near.distance size winding) }
+    ensures value { Took keeping list.old list.new result (pieces_of_corners tri.now near.distance size winding) }
     ensures most { length (pieces_of_corners tri.now near.distance size winding) ≤ 2 }
 {
     if is_any_past_guard(tri, near) {
-        return;
+        return 0;
     }
     if is_all_in_front(tri, near) {
-        push_if(whole_piece(tri, near, size, winding, Side::Occluder), list);
+        take_if(
+            whole_piece(tri, near, size, winding, Side::Occluder),
+            keeping,
+            list,
+        )
     } else {
-        push_clipped(tri, near, size, winding, list);
+        push_clipped(tri, near, size, winding, keeping, list)
     }
 }
 
@@ -243,26 +247,29 @@ pub(crate) fn push_shared(
     near: Near,
     size: Size,
     winding: Winding,
+    keeping: Keeping,
     list: &mut FrameList,
-)
+) -> u32
     requires corners { AreCornersOf tri.now near.distance size corners.now }
     requires room { length list.old.list.members + 2 ≤ list.old.room }
-    ensures value { list.new ≡ with_members list.old (pieces_of_corners tri.now near.distance size winding) }
+    ensures value { Took keeping list.old list.new result (pieces_of_corners tri.now near.distance size winding) }
     ensures most { length (pieces_of_corners tri.now near.distance size winding) ≤ 2 }
 {
     // an accessor tells what is held of a size
     let _width = size.width();
     if corners.are_all_placed() {
-        push_if(
+        return take_if(
             piece(&corners.v0.at, &corners.v1.at, &corners.v2.at, winding),
+            keeping,
             list,
         );
-        return;
     }
     if corners.is_any_past() {
-        return;
+        return 0;
     }
     if corners.is_any_placed() {
-        push_clipped(tri, near, size, winding, list);
+        push_clipped(tri, near, size, winding, keeping, list)
+    } else {
+        0
     }
 }

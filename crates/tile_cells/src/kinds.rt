@@ -38,7 +38,7 @@ impl<B: Naming> Split<View> for Name<B> {
 /// The writer's words change to those after one member more.
 pub(crate) struct Store;
 
-impl Outcome<[u64; 9], View> for Store {
+impl Outcome<[u64; 13], View> for Store {
     ghost use Rattle.tile_cells.specs.Rule.{Stored};
 
     ghost then = { Stored };
@@ -47,7 +47,7 @@ impl Outcome<[u64; 9], View> for Store {
 /// A reader sees the words.
 pub(crate) struct Load;
 
-impl Outcome<[u64; 9], View> for Load {
+impl Outcome<[u64; 13], View> for Load {
     ghost use Rattle.tile_cells.specs.Rule.{Loaded};
 
     ghost then = { Loaded };
@@ -56,7 +56,7 @@ impl Outcome<[u64; 9], View> for Load {
 /// The writer sees its own words.
 pub(crate) struct Check;
 
-impl Outcome<[u64; 9], View> for Check {
+impl Outcome<[u64; 13], View> for Check {
     ghost use Rattle.tile_cells.specs.Rule.{Checked};
 
     ghost then = { Checked };

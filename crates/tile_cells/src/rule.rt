@@ -49,7 +49,7 @@ pub struct View {
 /// The rule of a tile's cell.
 pub struct OneTile;
 
-impl Protocol<[u64; 9], View> for OneTile {
+impl Protocol<[u64; 13], View> for OneTile {
     ghost use Rattle.tile_cells.specs.Rule.{CellRule, nameless};
 
     ghost holds = { CellRule };
@@ -57,8 +57,8 @@ impl Protocol<[u64; 9], View> for OneTile {
     ghost first = { nameless };
 }
 
-/// A tile's nine words, which change together.
-pub type Cell = RuledSeqCell<[u64; 9], View, OneTile, 9>;
+/// A tile's thirteen words, which change together.
+pub type Cell = RuledSeqCell<[u64; 13], View, OneTile, 13>;
 
 /// What is needed for a step of a cell. It has no bytes.
-pub type CellPass = Pass<[u64; 9], View>;
+pub type CellPass = Pass<[u64; 13], View>;

@@ -16,7 +16,7 @@ use std::sync::Wait;
 pub(crate) fn opened(alloc: Global) -> Result<(Cell, CellPass), AllocError>
     ensures { IfOk result (λ c. (c.1.table_id ≡ c.0.table.shared.table_id) × (cell_view c.1 ≡ nameless)) }
 {
-    Cell::ruled(alloc, [0; 9])
+    Cell::ruled(alloc, [0; 13])
 }
 
 fn named<B: Naming>(cell: &Cell, pass: &mut CellPass, _list: &FrameList, _tile: u32)
@@ -49,8 +49,8 @@ pub(crate) fn tell(cell: &Cell, pass: &mut CellPass) -> CellPass
     cell.split_pass::<Tell>(pass)
 }
 
-/// Stores all nine words at once. Condition: they are those after one member more.
-pub(crate) fn store<R: Wait>(rt: &R, cell: &Cell, pass: &mut CellPass, words: [u64; 9])
+/// Stores all thirteen words at once. Condition: they are those after one member more.
+pub(crate) fn store<R: Wait>(rt: &R, cell: &Cell, pass: &mut CellPass, words: [u64; 13])
     requires own { pass.old.table_id ≡ cell.now.table.shared.table_id }
     requires writes { IsWriter (cell_view pass.old) }
     requires next { HoldsNext words (cell_view pass.old) }
@@ -60,8 +60,8 @@ pub(crate) fn store<R: Wait>(rt: &R, cell: &Cell, pass: &mut CellPass, words: [u
     cell.swap_as::<Store, R>(rt, pass, words);
 }
 
-/// All nine words at one moment, seen by a reader.
-pub(crate) fn load<R: Wait>(rt: &R, cell: &Cell, pass: &mut CellPass) -> [u64; 9]
+/// All thirteen words at one moment, seen by a reader.
+pub(crate) fn load<R: Wait>(rt: &R, cell: &Cell, pass: &mut CellPass) -> [u64; 13]
     requires own { pass.old.table_id ≡ cell.now.table.shared.table_id }
     requires reads { IsReader (cell_view pass.old) }
     ensures own { IsSamePass pass.old pass.new }
@@ -72,8 +72,8 @@ pub(crate) fn load<R: Wait>(rt: &R, cell: &Cell, pass: &mut CellPass) -> [u64; 9
     cell.load_as::<Load, R>(rt, pass)
 }
 
-/// All nine words, seen by the writer.
-pub(crate) fn check<R: Wait>(rt: &R, cell: &Cell, pass: &mut CellPass) -> [u64; 9]
+/// All thirteen words, seen by the writer.
+pub(crate) fn check<R: Wait>(rt: &R, cell: &Cell, pass: &mut CellPass) -> [u64; 13]
     requires own { pass.old.table_id ≡ cell.now.table.shared.table_id }
     requires writes { IsWriter (cell_view pass.old) }
     ensures own { IsSamePass pass.old pass.new × (cell_view pass.new ≡ cell_view pass.old) }

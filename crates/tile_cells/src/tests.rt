@@ -3,14 +3,30 @@ ghost use Rattle.std.specs.Prelude.{◌≡◌, ◌+◌, ◌≤◌, ◌<◌, leng
 ghost use Rattle.cull_base.specs.Screen.{tile_count_of};
 ghost use Rattle.tile_cells.specs.Standing.{AreStanding, IsReading, StandsAt};
 
+use crate::words::{tile_of, words_of};
 use crate::{Snapshot, TileCells, TileReader, TileWriter};
 use cull_base::{FrameList, Memory, ScreenTri, Size};
-use masked_update::{TileState, TileView, draw_plain};
+use masked_update::{SubTile, TileState, TileView, draw_plain};
 use std::alloc::Global;
 use std::sync::Wait;
 use std::sync::atomic::{AtomicBool, Ordering};
 use std::test::Fail;
 use std::thread::{Threads, for_each_mut, join_mut};
+
+#[test]
+fn words_have_the_count_then_layers_then_masks_two_by_two(rt: HostRuntime) {
+    let mut subs = [SubTile::empty(); 8];
+    subs[3].merge(100, 0x0F0F_0F0F);
+    let words = words_of(&TileState::of(subs, 7));
+    let masks = 0x0F0F_0F0F_0000_0000;
+    assert_eq!(rt;
+        words,
+        [7, 0, 0, 0, 0x6400_0000, 0, 0, 0, 0, 0, masks, 0, 0]
+    );
+    let back = tile_of(&words);
+    assert_eq!(rt; back.count(), 7);
+    assert_eq!(rt; back.sub(3).pack(), (0x6400_0000, 0x0F0F_0F0F));
+}
 
 // Five times the first half of a quad that fills the screen of one tile.
 fn five_halves(rt: &HostRuntime) -> Result<FrameList, Fail> {

@@ -1,24 +1,32 @@
--- Frames whose tasks drew all batches have the tiles of the whole list.
-use Rattle.std.proofs.Common.{◌≡◌, ℕ, ◌-◌, ◌<◌, ◌≤◌, List, length, get_or, option_map, arith, ap, ◌∙◌, sym, subst}
+-- Writers of a frame whose tasks drew all batches.
+use Rattle.std.proofs.Common.{◌≡◌, ⊎_elim, inl, inr, ℕ, ◌+◌, ◌*◌, ◌/◌, ◌%◌, ◌<◌, List, None, Some, length, option_map, arith, ap, ◌∙◌, sym, subst}
+use Rattle.std.specs.Prelude.{slice_index_or}
+use Rattle.std.specs.declared.option.Option.{Option}
+use Rattle.std.proofs.lemmas.Bool.{cases_lt}
 use Rattle.std.proofs.lemmas.List.{length-map}
+use Rattle.std.proofs.lemmas.Nat.{div-add-mod'}
 use Rattle.std.proofs.lemmas.Option.{slice_get-get_or, slice_get-map}
 use Rattle.atomic_table.specs.Seated.{TableId}
+use Rattle.binning.specs.Bins.{bin_of}
 use Rattle.binning.specs.Cut.{bin_count_of}
 use Rattle.cull_base.specs.Screen.{tile_count_of}
 use Rattle.cull_base.specs.Tiles.{PieceList}
 use Rattle.tile_cells.proofs.Lists.{same_lists}
 use Rattle.tile_cells.specs.Cells.{AreFresh, Writing}
-use Rattle.tile_cells.specs.Standing.{AreStanding, StandsAt}
-use Rattle.tile_queues.specs.CellBins.{StandsInCells, HoldsBin}
-use Rattle.tile_queues.specs.declared.cell_bin.CellBin.{CellBin}
-use Rattle.tile_queues.specs.Owners.{AreHandedBack, cells_of}
-use Rattle.bin_queues.specs.QueueParts.{BatchedFrame, BinOfFrame, batches_in, bin_of_frame, places_before}
-use Rattle.bin_tasks.specs.Drains.{StandsAtBatches}
-use Rattle.tile_queues.specs.Shares.{AreWhole, IsDrawnAt}
-use Rattle.bin_queues.specs.Tasks.{IsTaskOf, QueuesOf, Tasking}
-use Rattle.bin_tasks.specs.declared.task.Task.{Task}
+use Rattle.tile_cells.specs.Standing.{StandsAt}
+use Rattle.tile_queues.specs.Owners.{AreBinsOf, ArePutBack, IsBack, IsHandedBack, IsSlotAt, cells_of}
+use Rattle.bin_queues.specs.QueueParts.{BatchedFrame, BinOfFrame, IsBatched, places_before}
+use Rattle.tile_queues.specs.Shares.{bins_owned, IsDrawnAt, IsShare}
+use Rattle.bin_queues.specs.Tasks.{QueuesOf, Tasking}
 use Rattle.bin_queues.proofs.Intaking.{places_end}
 use Rattle.tile_queues.proofs.Dealing.{one_of}
+use Rattle.tile_queues.proofs.Owning.{belongs}
+use Rattle.tile_queues.proofs.Returning.{bin_within}
+
+-- the slots of the tiles of the first workers' bins have writers at the whole list
+abbrev pub AreBackBelow : BatchedFrame → ℕ → ℕ → List (Option Writing) → Type 0
+AreBackBelow frame workers n slots =
+    (t : ℕ) (d : Option Writing) → t < tile_count_of frame.list.size → bin_of frame.list.size frame.cut t % workers < n → IsSlotAt frame (length frame.list.members) t (slice_index_or slots t d)
 
 -- the cells of new writers
 pub fresh_cells : (cells : List TableId) (list : PieceList) (ws : List Writing) → AreFresh cells list (length cells) ws → cells_of ws ≡ cells
@@ -30,45 +38,33 @@ fresh_cells cells list ws fresh =
     let d = one_of ws t below in
     slice_get-map (λ (w : Writing). w.cell) ws t ∙ ap (option_map (λ (w : Writing). w.cell)) (slice_get-get_or ws t d below) ∙ sym (fresh.at t d lt))
 
--- the writers that are handed back stand at the whole list
-pub standing_back : (queues : QueuesOf) (frame : BatchedFrame) (tasks : List Tasking) (ws : List Writing) → 1 ≤ frame.size → length frame.cells ≡ tile_count_of frame.list.size → AreWhole queues frame tasks → AreHandedBack frame tasks ws
-    → AreStanding frame.cells frame.list (length frame.list.members) ws
-standing_back queues frame tasks ws some cells whole back = record {
-  whole = back.whole ∙ sym cells;
-  each = λ t d lt.
-      let there = back.each t d (omega (arith, lt, cells)) in
-      let i = there.0 in
-      let e = one_of tasks i there.1 in
-      let at : StandsAt frame.cells frame.list (places_before frame (get_or tasks i e).batches) t (get_or ws t d) = (there.2 e).1 in
-      subst (λ n. StandsAt frame.cells frame.list n t (get_or ws t d)) (ap (places_before frame) (whole.whole i e there.1) ∙ places_end frame some) at;
-}
+-- what a worker's tasks hand back stands at the whole list, where they drew all batches
+module _ (queues : QueuesOf) (frame : BatchedFrame) (batched : IsBatched frame) (workers worker : ℕ) (tasks : List Tasking)
+    (share : IsShare (IsDrawnAt queues frame) workers (bin_count_of frame.cut) worker tasks) where
+  whole_writer : (t : ℕ) (w : Writing) → IsHandedBack frame tasks t w → StandsAt frame.cells frame.list (length frame.list.members) t w
+  whole_writer t w back =
+      let e = one_of tasks back.0 back.1 in
+      subst (λ n. StandsAt frame.cells frame.list n t w) (ap (places_before frame) (share.each back.0 e back.1).whole ∙ places_end frame batched.some) (back.2 e).1
 
--- the task of a bin that drew all batches
-pub record IsWholeTask (queues : QueuesOf) (frame : BatchedFrame) (bin : ℕ) (t : Tasking) : Type 0 where
-  pub of_is : t.of ≡ bin_of_frame frame bin
-  pub queues_are : IsTaskOf queues t
-  pub whole : t.batches ≡ batches_in frame
+  whole_slot : (t : ℕ) (o : Option Writing) → IsBack frame tasks t o → IsSlotAt frame (length frame.list.members) t o
+  whole_slot t None back = absurd back
+  whole_slot t (Some w) back = whole_writer t w back
 
-pub whole_task : (queues : QueuesOf) (frame : BatchedFrame) (bin : ℕ) (t : Task CellBin) (u : Tasking) → u ≡ t.intake → IsDrawnAt StandsInCells frame.cells queues frame bin t → IsWholeTask queues frame bin u
-whole_task queues frame bin t u same at = subst (IsWholeTask queues frame bin) (sym same) (record { of_is = λ i. record { frame = at.at.task.frame_is i; bin = at.at.bin_is i }; queues_are = at.at.task.queues_are; whole = at.whole })
+  pub share_bins : AreBinsOf frame tasks
+  share_bins = record { batched = batched; frame_is = λ i d lt. ap (λ (b : BinOfFrame). b.frame) (share.each i d lt).at.of_is }
 
--- and its bin's writers
-pub holds_whole : (queues : QueuesOf) (frame : BatchedFrame) (bin : ℕ) (t : Task CellBin) → IsDrawnAt StandsInCells frame.cells queues frame bin t → HoldsBin t.intake t.keeper
-holds_whole queues frame bin t at =
-    subst (λ (cells : List TableId). StandsAtBatches StandsInCells cells t.intake t.keeper) (ap (λ (f : BatchedFrame). f.cells) (sym at.at.task.frame_is)) at.at.task.at
-
--- all tasks, from the last bin's on
-pub all_whole : (queues : QueuesOf) (frame : BatchedFrame) (bins : ℕ) (tasks : List Tasking) → bins ≡ bin_count_of frame.cut → length tasks ≡ bins → ((i : ℕ) (d : Tasking) → i < bins → IsWholeTask queues frame (bins - 1 - i) (get_or tasks i d)) → AreWhole queues frame tasks
-all_whole queues frame bins tasks is count each = record {
-  tasks_are = record {
-    count = count ∙ is;
-    of = λ i d lt. (each i d (omega (arith, lt, count))).queues_are;
-    frame_is = λ i d lt. ap (λ (b : BinOfFrame). b.frame) (each i d (omega (arith, lt, count))).of_is;
-    all = λ b lt.
-        let i = bins - 1 - b in
-        let below : i < bins = omega (arith, lt, is) in
-        let back : bins - 1 - i ≡ b = omega (arith, lt, is) in
-        (i, omega (arith, below, count), λ d. ap (λ (k : BinOfFrame). k.bin) (each i d below).of_is ∙ back);
-  };
-  whole = λ i d lt. (each i d (omega (arith, lt, count))).whole;
-}
+  pub share_back : (old new : List (Option Writing)) → 0 < workers → ArePutBack frame tasks (length tasks) old new → AreBackBelow frame workers worker old → AreBackBelow frame workers (worker + 1) new
+  share_back old new some put back t d tl below =
+      let bin = bin_of frame.list.size frame.cut t in
+      let is = div-add-mod' bin workers in
+      elim (cases_lt (bin % workers) worker) [
+        | inl before ↦ ⊎_elim
+            (λ (same : slice_index_or new t d ≡ slice_index_or old t d). subst (IsSlotAt frame (length frame.list.members) t) (sym same) (back t d tl before))
+            (λ (mine : IsBack frame tasks t (slice_index_or new t d)). whole_slot t (slice_index_or new t d) mine)
+            (put.kept t d tl)
+        | inr after ↦
+            let mine : bin % workers ≡ worker = omega (arith, below, after) in
+            let owned : bin / workers < bins_owned (bin_count_of frame.cut) workers worker = subst (λ w. bin / workers < bins_owned (bin_count_of frame.cut) workers w) mine (belongs (bin_count_of frame.cut) workers bin some (bin_within frame.list.size frame.cut t batched.sized batched.is_cut tl)) in
+            let lt : bin / workers < length tasks = (let count = share.count in omega (arith, owned, count)) in
+            whole_slot t (slice_index_or new t d) (put.back t d (bin / workers) tl lt (λ e. ap (λ (b : BinOfFrame). b.bin) (share.each (bin / workers) e lt).at.of_is ∙ ap (λ w. bin / workers * workers + w) (sym mine) ∙ is))
+      ]

@@ -5,7 +5,6 @@ pub mod Taking
 pub mod Making
 pub mod Returning
 pub mod Dealing
-pub mod FirstInCells
 pub mod Ending
 pub mod Keeping
 pub mod Turning

@@ -4,12 +4,10 @@ use Rattle.std.specs.Prelude.{slice_index_or}
 use Rattle.std.proofs.lemmas.List.{get_or-map, length-append, map-append}
 use Rattle.std.proofs.lemmas.Option.{slice_get-get_or, slice_get-map}
 use Rattle.atomic_table.specs.Seated.{TableId}
-use Rattle.cull_base.specs.Tiles.{PieceList}
 use Rattle.tile_cells.specs.Cells.{Writing, AreFresh}
 use Rattle.tile_cells.specs.Standing.{StandsAt}
 use Rattle.tile_cells.proofs.Standing.{fresh_stands}
-use Rattle.tile_queues.specs.Owners.{AreFirst, AreFirstOf, AreLeft, IsFull, MayTake, cells_of}
-use Rattle.bin_queues.specs.Tasks.{Tasking}
+use Rattle.tile_queues.specs.Owners.{AreFirst, AreLeft, IsFull, cells_of}
 use Rattle.bin_queues.specs.QueueParts.{BatchedFrame}
 
 -- the slots of new writers are full
@@ -31,11 +29,3 @@ first_left frame ws are first t d lt there =
     first_of : (ws : List Writing) → t < length ws → Writing
     first_of [] h = absurd (omega arith)
     first_of (x ∷ xs) h = x
-
-pub may_take : (frame : BatchedFrame) (list : PieceList) (ws : List Writing) (ts : List Tasking) → frame.list ≡ list → frame.cells ≡ cells_of ws → AreFirst list ws → AreFirstOf frame ts → MayTake frame list 0 ts (map (λ (w : Writing). Some w) ws)
-may_take frame list ws ts of are first tasks = record {
-  list_is = of;
-  bins = tasks.bins;
-  first = tasks.first;
-  left = first_left frame ws are (subst (λ (l : PieceList). AreFirst l ws) (sym of) first);
-}

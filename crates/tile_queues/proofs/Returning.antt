@@ -20,7 +20,7 @@ use Rattle.tile_cells.specs.Standing.{StandsAt}
 use Rattle.tile_cells.proofs.Lists.{same_at}
 use Rattle.tile_queues.specs.declared.cell_bin.CellBin.{CellBin}
 use Rattle.tile_queues.specs.CellBins.{tile_numbered, HoldsBin}
-use Rattle.tile_queues.specs.Owners.{AreBackTo, AreBinsOf, ArePut, AreTasksOf, IsHandedBack, IsPut}
+use Rattle.tile_queues.specs.Owners.{AreBinsOf, ArePut, ArePutBack, AreTasksOf, IsBack, IsHandedBack, IsPut}
 use Rattle.bin_queues.specs.QueueParts.{BatchedFrame, IsBatched, places_before}
 use Rattle.bin_queues.specs.Tasks.{QueuesOf, Tasking}
 use Rattle.tile_queues.proofs.Slotting.{numbered}
@@ -106,32 +106,43 @@ handed frame tasks n x bin t o bins is lt holds real (m, ml, put) =
     ) in
     subst (λ (z : Option Writing). MatchOption z ⊥ (IsHandedBack frame tasks t)) (sym p.0) back
 
-pub back_more : (frame : BatchedFrame) (tasks : List Tasking) (n : ℕ) (x : Tasking) (bin : CellBin) (old new : List (Option Writing)) → AreBinsOf frame tasks → x ≡ slice_index_or tasks n x → n < length tasks → HoldsBin x bin → x.of.bin < bin_count_of x.of.frame.cut
-    → length old ≡ tile_count_of frame.list.size → AreBackTo frame tasks n old → ArePut bin.writers.items (length bin.writers.items) old new → AreBackTo frame tasks (n + 1) new
-back_more frame tasks n x bin old new bins is lt holds real whole back put t d i tl il binned =
-    ⊎_elim
-    (λ (before : i < n). ⊎_elim
-    (λ (same : slice_index_or new t d ≡ slice_index_or old t d). subst (λ (o : Option Writing). MatchOption o ⊥ (IsHandedBack frame tasks t)) (sym same) (back t d i tl before binned))
-    (λ (p : IsPut bin.writers.items (length bin.writers.items) t (slice_index_or new t d)). handed frame tasks n x bin t (slice_index_or new t d) bins is lt holds real p)
-    (put.kept t d (omega (arith, tl, whole))))
-    (λ (after : n ≤ i).
-    let here : i ≡ n = omega (arith, il, after) in
-    let framed : x.of.frame ≡ frame = ap (λ (z : Tasking). z.of.frame) is ∙ bins.frame_is n x lt in
-    let mine : bin_of x.of.frame.list.size x.of.frame.cut t ≡ x.of.bin = (λ j. bin_of (framed j).list.size (framed j).cut t) ∙ sym (ap (λ (z : Tasking). z.of.bin) is ∙ ap (λ k. (slice_index_or tasks k x).of.bin) (sym here) ∙ binned x) in
-    let batched = subst IsBatched (sym framed) bins.batched in
-    let below : t < tile_count_of x.of.frame.list.size = subst (λ (f : BatchedFrame). t < tile_count_of f.list.size) (sym framed) tl in
-    let inside = in_span x.of.frame.list.size x.of.frame.cut x.of.bin t batched.sized batched.is_cut below mine in
-    let window = bin_span_of x.of.frame.list.size x.of.frame.cut x.of.bin in
-    let m = number_in window (tile_place x.of.frame.list.size t) in
-    let many = holds.whole in
-    let ml : m < length bin.writers.items = (let h = number_within window (tile_place x.of.frame.list.size t) inside in omega (arith, h, many)) in
-    let e = some_of bin.writers.items m ml in
-    let tile : (slice_index_or bin.writers.items m e).tile ≡ t = (holds.each t e (record { on_screen = below; within = inside })).tile_is in
-    handed frame tasks n x bin t (slice_index_or new t d) bins is lt holds real (subst (λ u. IsPut bin.writers.items (length bin.writers.items) u (slice_index_or new u d)) tile (put.put m e d ml)))
-    (cases_lt i n)
+pub put_back_none : (frame : BatchedFrame) (tasks : List Tasking) (slots : List (Option Writing)) → ArePutBack frame tasks 0 slots slots
+put_back_none frame tasks slots = record { kept = λ t d lt. inl refl; back = λ t d i lt il binned. absurd (omega (arith, il)) }
+
+pub put_back_more : (frame : BatchedFrame) (tasks : List Tasking) (n : ℕ) (x : Tasking) (bin : CellBin) (old mid new : List (Option Writing)) → AreBinsOf frame tasks → x ≡ slice_index_or tasks n x → n < length tasks → HoldsBin x bin → x.of.bin < bin_count_of x.of.frame.cut
+    → length mid ≡ tile_count_of frame.list.size → ArePutBack frame tasks n old mid → ArePut bin.writers.items (length bin.writers.items) mid new → ArePutBack frame tasks (n + 1) old new
+put_back_more frame tasks n x bin old mid new bins is lt holds real whole at put = record {
+  kept = λ t d tl. ⊎_elim
+      (λ (same : slice_index_or new t d ≡ slice_index_or mid t d). ⊎_elim
+      (λ (stayed : slice_index_or mid t d ≡ slice_index_or old t d). inl (same ∙ stayed))
+      (λ (back : IsBack frame tasks t (slice_index_or mid t d)). inr (subst (IsBack frame tasks t) (sym same) back))
+      (at.kept t d tl))
+      (λ (p : IsPut bin.writers.items (length bin.writers.items) t (slice_index_or new t d)). inr (handed frame tasks n x bin t (slice_index_or new t d) bins is lt holds real p))
+      (put.kept t d (omega (arith, tl, whole)));
+  back = λ t d i tl il binned. ⊎_elim
+      (λ (before : i < n). ⊎_elim
+      (λ (same : slice_index_or new t d ≡ slice_index_or mid t d). subst (IsBack frame tasks t) (sym same) (at.back t d i tl before binned))
+      (λ (p : IsPut bin.writers.items (length bin.writers.items) t (slice_index_or new t d)). handed frame tasks n x bin t (slice_index_or new t d) bins is lt holds real p)
+      (put.kept t d (omega (arith, tl, whole))))
+      (λ (after : n ≤ i).
+      let here : i ≡ n = omega (arith, il, after) in
+      let framed : x.of.frame ≡ frame = ap (λ (z : Tasking). z.of.frame) is ∙ bins.frame_is n x lt in
+      let mine : bin_of x.of.frame.list.size x.of.frame.cut t ≡ x.of.bin = (λ j. bin_of (framed j).list.size (framed j).cut t) ∙ sym (ap (λ (z : Tasking). z.of.bin) is ∙ ap (λ k. (slice_index_or tasks k x).of.bin) (sym here) ∙ binned x) in
+      let batched = subst IsBatched (sym framed) bins.batched in
+      let below : t < tile_count_of x.of.frame.list.size = subst (λ (f : BatchedFrame). t < tile_count_of f.list.size) (sym framed) tl in
+      let inside = in_span x.of.frame.list.size x.of.frame.cut x.of.bin t batched.sized batched.is_cut below mine in
+      let window = bin_span_of x.of.frame.list.size x.of.frame.cut x.of.bin in
+      let m = number_in window (tile_place x.of.frame.list.size t) in
+      let many = holds.whole in
+      let ml : m < length bin.writers.items = (let h = number_within window (tile_place x.of.frame.list.size t) inside in omega (arith, h, many)) in
+      let e = some_of bin.writers.items m ml in
+      let tile : (slice_index_or bin.writers.items m e).tile ≡ t = (holds.each t e (record { on_screen = below; within = inside })).tile_is in
+      handed frame tasks n x bin t (slice_index_or new t d) bins is lt holds real (subst (λ u. IsPut bin.writers.items (length bin.writers.items) u (slice_index_or new u d)) tile (put.put m e d ml)))
+      (cases_lt i n);
+}
 
 -- each tile has a bin
-bin_within : (size : Dimensions) (cut : CutOf) (t : ℕ) → IsSize size.width size.height → IsCut cut.columns cut.rows → t < tile_count_of size → bin_of size cut t < bin_count_of cut
+pub bin_within : (size : Dimensions) (cut : CutOf) (t : ℕ) → IsSize size.width size.height → IsCut cut.columns cut.rows → t < tile_count_of size → bin_of size cut t < bin_count_of cut
 unfolding bin_of
 bin_within size cut t sized valid lt =
     let columns = tile_columns_of size in
@@ -143,31 +154,16 @@ bin_within size cut t sized valid lt =
     let down = bin_below cut.rows rows (t / columns) any row (let h = valid.some_rows in omega (arith, h)) in
     number_below (bin_along cut.rows rows (t / columns)) cut.rows (bin_along cut.columns columns (t % columns)) cut.columns down across
 
-match_some : (o : Option Writing) (P : Writing → Type 0) → MatchOption o ⊥ P → IsSome o
+pub match_some : (o : Option Writing) (P : Writing → Type 0) → MatchOption o ⊥ P → IsSome o
 match_some None P h = absurd h
 match_some (Some w) P h = refl
 
-match_at : (o : Option Writing) (P : Writing → Type 0) (w : Writing) → MatchOption o ⊥ P → o ≡ Some w → P w
+pub match_at : (o : Option Writing) (P : Writing → Type 0) (w : Writing) → MatchOption o ⊥ P → o ≡ Some w → P w
 match_at o P w h e = subst (λ (z : Option Writing). MatchOption z ⊥ P) e h
 
-pub bins_of : (queues : QueuesOf) (frame : BatchedFrame) (tasks : List Tasking) → IsBatched frame → AreTasksOf queues frame tasks → AreBinsOf frame tasks
-bins_of queues frame tasks batched at = record { batched = batched; frame_is = at.frame_is }
-
 -- when all tasks' writers are back, each slot is full
-pub all_back : (queues : QueuesOf) (frame other : BatchedFrame) (tasks : List Tasking) (slots : List (Option Writing)) → IsBatched frame → AreTasksOf queues frame tasks → AreBinsOf other tasks → AreBackTo other tasks (length tasks) slots
-    → (t : ℕ) (d : Option Writing) → t < tile_count_of frame.list.size → MatchOption (slice_index_or slots t d) ⊥ (IsHandedBack frame tasks t)
-all_back queues frame other tasks slots batched at bins back t d lt =
+pub all_back : (queues : QueuesOf) (frame : BatchedFrame) (tasks : List Tasking) (old slots : List (Option Writing)) → IsBatched frame → AreTasksOf queues frame tasks → ArePutBack frame tasks (length tasks) old slots
+    → (t : ℕ) (d : Option Writing) → t < tile_count_of frame.list.size → IsBack frame tasks t (slice_index_or slots t d)
+all_back queues frame tasks old slots batched at put t d lt =
     let there = at.all (bin_of frame.list.size frame.cut t) (bin_within frame.list.size frame.cut t batched.sized batched.is_cut lt) in
-    let x = task_of tasks there.0 there.1 in
-    let same : other ≡ frame = sym (bins.frame_is there.0 x there.1) ∙ at.frame_is there.0 x there.1 in
-    subst (λ (f : BatchedFrame). AreBackTo f tasks (length tasks) slots) same back t d there.0 lt there.1 there.2
-  where
-    task_of : (ts : List Tasking) (i : ℕ) → i < length ts → Tasking
-    task_of [] i h = absurd (omega arith)
-    task_of (y ∷ ys) i h = y
-
-pub back_full : (frame : BatchedFrame) (tasks : List Tasking) (t : ℕ) (o : Option Writing) → MatchOption o ⊥ (IsHandedBack frame tasks t) → IsSome o
-back_full frame tasks t o h = match_some o (IsHandedBack frame tasks t) h
-
-pub back_at : (frame : BatchedFrame) (tasks : List Tasking) (t : ℕ) (o : Option Writing) (w : Writing) → MatchOption o ⊥ (IsHandedBack frame tasks t) → o ≡ Some w → IsHandedBack frame tasks t w
-back_at frame tasks t o w h e = match_at o (IsHandedBack frame tasks t) w h e
+    put.back t d there.0 lt there.1 there.2

@@ -13,9 +13,8 @@ use Rattle.tile_cells.specs.Cells.{Writing}
 use Rattle.tile_cells.specs.Standing.{StandsAt}
 use Rattle.tile_queues.specs.declared.cell_bin.CellBin.{CellBin}
 use Rattle.tile_queues.specs.CellBins.{AreWritersAt, tile_numbered, HoldsBin}
-use Rattle.cull_base.specs.Tiles.{PieceList}
-use Rattle.tile_queues.specs.Owners.{AreLeft, IsFull, MayTake}
-use Rattle.bin_queues.specs.QueueParts.{BatchedFrame, BinOfFrame, bin_of_frame, places_before}
+use Rattle.tile_queues.specs.Owners.{AreLeft, IsFull}
+use Rattle.bin_queues.specs.QueueParts.{BatchedFrame, places_before}
 use Rattle.bin_queues.specs.Tasks.{Tasking}
 use Rattle.tile_queues.proofs.Slotting.{by_tile, numbered}
 
@@ -80,28 +79,3 @@ holds_first t window ws bin none is span windowed items whole each =
           (by_tile f.cells f.list window 0 ws span each);
     } in
     subst (λ (z : TileSpan × ℕ). AreWritersAt f.cells f.list z.0 z.1 bin) (λ i. (is i, sym zero_is i)) at
-
--- the task whose turn it is
-pub record IsTurnOf (list : PieceList) (t : Tasking) (slots : List (Option Writing)) : Type 0 where
-  pub list_is : t.of.frame.list ≡ list
-  pub first : t.batches ≡ 0
-  pub left : AreLeft t.of.frame t.of.bin 0 slots
-
-pub turn_of : (frame : BatchedFrame) (list : PieceList) (n : ℕ) (tasks : List Tasking) (slots : List (Option Writing)) (t : Tasking) → MayTake frame list n tasks slots → t ≡ slice_index_or tasks n t → n < length tasks → IsTurnOf list t slots
-turn_of frame list n tasks slots t may is lt =
-    let of : t.of ≡ bin_of_frame frame n = ap (λ (w : Tasking). w.of) is ∙ may.bins n t lt in
-    record {
-      list_is = ap (λ (b : BinOfFrame). b.frame.list) of ∙ may.list_is;
-      first = ap (λ (w : Tasking). w.batches) is ∙ may.first n t lt;
-      left = subst (λ (b : BinOfFrame). AreLeft b.frame b.bin 0 slots) (sym of) may.left;
-    }
-
-pub turn_done : (frame : BatchedFrame) (list : PieceList) (n m : ℕ) (tasks : List Tasking) (slots slots' : List (Option Writing)) (t : Tasking) → MayTake frame list n tasks slots → t ≡ slice_index_or tasks n t → n < length tasks → AreLeft t.of.frame (t.of.bin + 1) 0 slots' → m ≡ n + 1 → MayTake frame list m tasks slots'
-turn_done frame list n m tasks slots slots' t may is lt left e =
-    let of : t.of ≡ bin_of_frame frame n = ap (λ (w : Tasking). w.of) is ∙ may.bins n t lt in
-    record {
-      list_is = may.list_is;
-      bins = may.bins;
-      first = may.first;
-      left = subst (λ k. AreLeft frame k 0 slots') (sym e) (subst (λ (b : BinOfFrame). AreLeft b.frame (b.bin + 1) 0 slots') of left);
-    }

@@ -9,7 +9,7 @@ use Rattle.cull_base.specs.Span.{number_in}
 use Rattle.cull_base.specs.Tiles.{PieceList}
 use Rattle.tile_cells.specs.Cells.{Writing, first_at}
 use Rattle.tile_cells.specs.Standing.{StandsAt}
-use Rattle.bin_queues.specs.QueueParts.{BatchedFrame, IsBatched, bin_of_frame, places_before}
+use Rattle.bin_queues.specs.QueueParts.{BatchedFrame, IsBatched, places_before}
 use Rattle.bin_queues.specs.Tasks.{QueuesOf, Tasking, IsTaskOf}
 
 -- the cells of writers
@@ -21,14 +21,18 @@ pub record AreFirst (list : PieceList) (ws : List Writing) : Type 0 where
   pub whole : length ws ≡ tile_count_of list.size
   pub each : (t : ℕ) (d : Writing) → t < length ws → slice_index_or ws t d ≡ first_at (slice_index_or ws t d).cell list t
 
--- tasks of a frame before the first batch, from the first bin on
-pub record AreFirstOf (frame : BatchedFrame) (tasks : List Tasking) : Type 0 where
-  pub bins : (b : ℕ) (d : Tasking) → b < length tasks → (slice_index_or tasks b d).of ≡ bin_of_frame frame b
-  pub first : (b : ℕ) (d : Tasking) → b < length tasks → (slice_index_or tasks b d).batches ≡ 0
+-- a slot has the writer of its tile, at the list's first k members
+abbrev pub IsSlotAt : BatchedFrame → ℕ → ℕ → Option Writing → Type 0
+IsSlotAt frame k t o = MatchOption o ⊥ (λ w. StandsAt frame.cells frame.list k t w)
 
--- a slot has a writer of its tile, which took nothing
+-- which took nothing
 abbrev pub IsFull : BatchedFrame → ℕ → Option Writing → Type 0
-IsFull frame t o = MatchOption o ⊥ (λ w. StandsAt frame.cells frame.list 0 t w)
+IsFull frame t o = IsSlotAt frame 0 t o
+
+-- so have the slots of all tiles
+abbrev pub AreSlotsAt : BatchedFrame → ℕ → List (Option Writing) → Type 0
+AreSlotsAt frame k slots =
+    (t : ℕ) (d : Option Writing) → t < tile_count_of frame.list.size → IsSlotAt frame k t (slice_index_or slots t d)
 
 -- the slots of the tiles of a bin from a number on, and of all bins behind it, are full
 abbrev pub AreLeft : BatchedFrame → ℕ → ℕ → List (Option Writing) → Type 0
@@ -37,15 +41,6 @@ AreLeft frame bin n slots =
     → let b = bin_of frame.list.size frame.cut t in
     (bin < b) ⊎ ((b ≡ bin) × (n ≤ number_in (bin_span_of frame.list.size frame.cut bin) (tile_place frame.list.size t)))
     → IsFull frame t (slice_index_or slots t d)
-
--- the tasks of a frame of this list before the first batch, bin by bin, of which the first n have their writers; those of
--- the others are in the slots
-pub record MayTake (frame : BatchedFrame) (list : PieceList) (n : ℕ) (tasks : List Tasking)
-    (slots : List (Option Writing)) : Type 0 where
-  pub list_is : frame.list ≡ list
-  pub bins : (b : ℕ) (d : Tasking) → b < length tasks → (slice_index_or tasks b d).of ≡ bin_of_frame frame b
-  pub first : (b : ℕ) (d : Tasking) → b < length tasks → (slice_index_or tasks b d).batches ≡ 0
-  pub left : AreLeft frame n 0 slots
 
 -- tasks of one frame and of these queues, one of each bin, in any order
 pub record AreTasksOf (queues : QueuesOf) (frame : BatchedFrame) (tasks : List Tasking) : Type 0 where
@@ -87,9 +82,15 @@ pub record AreBinsOf (frame : BatchedFrame) (tasks : List Tasking) : Type 0 wher
   pub batched : IsBatched frame
   pub frame_is : (i : ℕ) (d : Tasking) → i < length tasks → (slice_index_or tasks i d).of.frame ≡ frame
 
--- the slots of the tiles of the first n tasks' bins have the writers that are handed back
-abbrev pub AreBackTo : BatchedFrame → List Tasking → ℕ → List (Option Writing) → Type 0
-AreBackTo frame tasks n slots =
-    (t : ℕ) (d : Option Writing) (i : ℕ) → t < tile_count_of frame.list.size → i < n
-    → ((e : Tasking) → (slice_index_or tasks i e).of.bin ≡ bin_of frame.list.size frame.cut t)
-    → MatchOption (slice_index_or slots t d) ⊥ (IsHandedBack frame tasks t)
+-- a slot has the writer that is handed back to its tile
+abbrev pub IsBack : BatchedFrame → List Tasking → ℕ → Option Writing → Type 0
+IsBack frame tasks t o = MatchOption o ⊥ (IsHandedBack frame tasks t)
+
+-- the writers of the first n tasks' bins were put into the slots of their tiles, and the other slots stayed
+pub record ArePutBack (frame : BatchedFrame) (tasks : List Tasking) (n : ℕ) (old new : List (Option Writing))
+    : Type 0 where
+  pub kept : (t : ℕ) (d : Option Writing) → t < tile_count_of frame.list.size
+      → (slice_index_or new t d ≡ slice_index_or old t d) ⊎ IsBack frame tasks t (slice_index_or new t d)
+  pub back : (t : ℕ) (d : Option Writing) (i : ℕ) → t < tile_count_of frame.list.size → i < n
+      → ((e : Tasking) → (slice_index_or tasks i e).of.bin ≡ bin_of frame.list.size frame.cut t)
+      → IsBack frame tasks t (slice_index_or new t d)

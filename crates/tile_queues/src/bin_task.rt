@@ -1,20 +1,19 @@
 //! A bin's task over the cells of its tiles.
 ghost use Rattle.std.specs.Prelude.{◌≡◌, ◌≤◌, ◌<◌};
 ghost use Rattle.binning.specs.Cut.{bin_count_of};
-ghost use Rattle.bin_queues.specs.Frames.{over};
-ghost use Rattle.bin_queues.specs.QueueParts.{batches_in, taken_before};
-ghost use Rattle.bin_queues.specs.Tasks.{GoesOn, IsTaskOf};
+ghost use Rattle.bin_queues.specs.QueueParts.{IsBatched, batches_in, taken_before};
+ghost use Rattle.bin_queues.specs.Tasks.{IsSubmitterOf};
 ghost use Rattle.tile_queues.specs.CellBins.{HoldsBin, StandsInCells};
-ghost use Rattle.bin_tasks.specs.Drains.{HasDrained, IsAnswer, IsTaskIn};
+ghost use Rattle.tile_queues.specs.Shares.{MayDraw, frame_over};
+ghost use Rattle.bin_tasks.specs.Drains.{HasDrained, IsAnswer, IsTaskIn, WasTold};
 
 use crate::cell_bin::{CellBin, InCells};
-use bin_queues::{Batched, Intake, PartQueues};
+use bin_queues::{Intake, Sender};
 use bin_tasks::{Drained, Drawing, Task};
 use bin_tiles::Gate;
-use cull_base::FrameList;
+use binning::Cut;
 use std::marker::Model;
 use std::sync::Wait;
-use tile_cells::TileCells;
 
 /// Draws the parts of a bin's queue into the cells of the bin's tiles, whose writers it owns. They stand at the members of
 /// the parts that are drawn.
@@ -35,29 +34,36 @@ impl Model for BinTask {
 }
 
 // Draws what is in the queue of a bin.
-fn drain_in<'a, R: Wait, G: Gate>(
+fn drain_in<R: Wait, G: Gate>(
     task: &mut Task<CellBin>,
-    queues: &'a PartQueues,
-    frame: Batched<'a>,
-    beside: &'a InCells<'a, R>,
-    gate: &'a G,
+    drawing: &Drawing<R, InCells<R>, G>,
 ) -> Drained
-    requires { let cells = beside.now.cells.now in
-        IsTaskIn StandsInCells cells queues.now (over frame cells) task.old }
-    ensures task { let cells = beside.now.cells.now in
-        IsTaskIn StandsInCells cells queues.now (over frame.entry cells) task.new }
+    requires may { MayDraw drawing.now task.old.intake }
+    requires holds { HoldsBin task.old.intake task.old.keeper }
+    ensures may { MayDraw drawing.now task.new.intake }
+    ensures holds { HoldsBin task.new.intake task.new.keeper }
     ensures answer { IsAnswer result task.old.intake task.new.intake }
     ensures drained { HasDrained task.old.intake task.new.intake }
 {
-    let rt = beside.rt;
-    let drawing = Drawing {
-        rt,
-        queues,
-        frame,
-        beside,
-        gate,
-    };
     drawing.drain(task)
+}
+
+// Tells it how many batches were submitted.
+fn tell_in<R: Wait, G: Gate>(
+    task: &mut Task<CellBin>,
+    drawing: &Drawing<R, InCells<R>, G>,
+    sender: &mut Sender,
+)
+    requires sender { IsSubmitterOf drawing.now.queues.now sender.old }
+    requires frame { sender.old.frame ≡ frame_over drawing.now }
+    requires may { MayDraw drawing.now task.old.intake }
+    requires holds { HoldsBin task.old.intake task.old.keeper }
+    ensures same { sender.new ≡ sender.old }
+    ensures may { MayDraw drawing.now task.new.intake }
+    ensures holds { HoldsBin task.new.intake task.new.keeper }
+    ensures told { WasTold sender.old.batches task.old.intake task.new.intake }
+{
+    drawing.tell(sender, task);
 }
 
 impl BinTask {
@@ -78,6 +84,23 @@ impl BinTask {
         self.task.intake.bin()
     }
 
+    /// How the screen is cut.
+    pub(crate) fn cut(&self) -> &Cut
+        ensures { result.now ≡ self.now.of.frame.cut }
+    {
+        self.task.intake.cut()
+    }
+
+    /// How many pieces a batch has.
+    pub(crate) fn size(&self) -> u32
+        ensures value { result ≡ self.now.of.frame.size }
+        ensures batched { IsBatched self.now.of.frame }
+    {
+        // an accessor tells what is held of a frame
+        let _bin = self.task.intake.bin();
+        self.task.intake.size()
+    }
+
     /// How many batches are drawn.
     pub fn batches(&self) -> u32
         ensures value { result ≡ self.now.batches }
@@ -94,39 +117,34 @@ impl BinTask {
         self.task.intake.taken()
     }
 
-    /// Draws what is in the bin's queue.
-    pub(crate) fn draw<R: Wait, G: Gate>(
-        &mut self,
-        rt: &R,
-        queues: &PartQueues,
-        cells: &TileCells,
-        list: &FrameList,
-        gate: &G,
-    ) -> Drained
-        requires queues { IsTaskOf queues.now self.old }
-        requires cells { self.old.of.frame.cells ≡ cells.now }
-        requires list { self.old.of.frame.list ≡ list.now.list }
-        ensures on { GoesOn self.old self.new }
-        ensures taken { self.new.taken ≡ taken_before self.new.of self.new.batches }
+    /// Draws what is in the bin's queue. Condition: the task is of these queues and of this frame.
+    pub(crate) fn drain<R: Wait, G: Gate>(&mut self, drawing: &Drawing<R, InCells<R>, G>) -> Drained
+        requires { MayDraw drawing.now self.old }
+        ensures may { MayDraw drawing.now self.new }
         ensures answer { IsAnswer result self.old self.new }
+        ensures drained { HasDrained self.old self.new }
     {
-        let cut = *self.task.intake.cut();
-        let size = self.task.intake.size();
-        // an accessor tells what is held of a frame
-        let _bin = self.task.intake.bin();
-        let beside = InCells { rt, cells };
-        let frame = Batched {
-            list,
-            cut: &cut,
-            size,
-        };
-        let drained = drain_in(&mut self.task, queues, frame, &beside, gate);
-        // an accessor tells what is held of an intake
-        let _taken = self.task.intake.taken();
-        drained
+        drain_in(&mut self.task, drawing)
     }
 
-    /// The writers of the bin's tiles.
+    /// Tells the task how many batches were submitted. Conditions: the sender and the task are of these queues and of
+    /// this frame.
+    pub(crate) fn tell<R: Wait, G: Gate>(
+        &mut self,
+        drawing: &Drawing<R, InCells<R>, G>,
+        sender: &mut Sender,
+    )
+        requires sender { IsSubmitterOf drawing.now.queues.now sender.old }
+        requires frame { sender.old.frame ≡ frame_over drawing.now }
+        requires task { MayDraw drawing.now self.old }
+        ensures same { sender.new ≡ sender.old }
+        ensures may { MayDraw drawing.now self.new }
+        ensures told { WasTold sender.old.batches self.old self.new }
+    {
+        tell_in(&mut self.task, drawing, sender);
+    }
+
+    /// What it takes in, and the writers of the bin's tiles.
     pub(crate) fn into_parts(self) -> (Intake, CellBin)
         ensures intake { result.0 ≡ self }
         ensures bin { HoldsBin self result.1 }

@@ -1,15 +1,18 @@
 //! The drawing of all batches: binned, submitted and drained at once, and drained to the end.
-ghost use Rattle.std.specs.Prelude.{◌≡◌, ◌<◌, ◌+◌, All, OnOk};
+ghost use Rattle.std.specs.Prelude.{◌≡◌, ◌<◌, ◌+◌, All, length, OnOk};
 ghost use Rattle.bin_queues.specs.Frames.{over};
 ghost use Rattle.bin_queues.specs.QueueParts.{batches_in};
 ghost use Rattle.bin_queues.specs.Tasks.{IsSubmitterOf};
-ghost use Rattle.bin_tasks.specs.Drains.{HasDrained, MayDrain, WasTold};
+ghost use Rattle.bin_tasks.specs.Drains.{HasDrained, WasTold};
 ghost use Rattle.tile_queues.specs.Shares.{AreAllIn, AreChanged, AreChangedIn, AreDrained, AreShares};
+ghost use Rattle.tile_queues.specs.Shares.{MayDraw, frame_over};
 
+use crate::bin_task::BinTask;
+use crate::cell_bin::InCells;
 use crate::share::Share;
 use bin_queues::Sender;
-use bin_tasks::{Drawing, Task};
-use bin_tiles::{Gate, Keeper};
+use bin_tasks::Drawing;
+use bin_tiles::Gate;
 use cull_base::Memory;
 use side_by_side::for_each_beside;
 use std::alloc::Global;
@@ -17,39 +20,39 @@ use std::sync::Wait;
 use std::thread::Threads;
 
 // Draws what is in the queues of some bins, bin by bin.
-fn drain_some<R: Wait, B, K: Keeper<B>, G: Gate>(drawing: &Drawing<R, B, G>, tasks: &mut [Task<K>])
-    requires { All (MayDrain K.stands K.cells drawing.now) tasks.old }
-    ensures may { All (MayDrain K.stands K.cells drawing.now) tasks.new }
+fn drain_in_order<R: Wait, G: Gate>(drawing: &Drawing<R, InCells<R>, G>, tasks: &mut [BinTask])
+    requires { All (MayDraw drawing.now) tasks.old }
+    ensures may { All (MayDraw drawing.now) tasks.new }
     ensures drained { AreChanged HasDrained tasks.old tasks.new }
 {
     for j in 0..tasks.len() {
-        drawing.drain(&mut tasks[j]);
+        tasks[j].drain(drawing);
     }
 }
 
 // Draws what is in the queues of a worker's bins, each once: from the middle of the screen on, and then those before.
 // There most is drawn, so that the submitter is ahead when bins come that are drawn faster than it bins.
-fn drain_each<R: Wait, B, K: Keeper<B>, G: Gate>(drawing: &Drawing<R, B, G>, tasks: &mut [Task<K>])
-    requires { All (MayDrain K.stands K.cells drawing.now) tasks.old }
-    ensures may { All (MayDrain K.stands K.cells drawing.now) tasks.new }
+fn drain_each<R: Wait, G: Gate>(drawing: &Drawing<R, InCells<R>, G>, tasks: &mut [BinTask])
+    requires { All (MayDraw drawing.now) tasks.old }
+    ensures may { All (MayDraw drawing.now) tasks.new }
     ensures drained { AreChanged HasDrained tasks.old tasks.new }
 {
     let middle = tasks.len() / 2;
     let (before, behind) = tasks.split_at_mut(middle);
-    drain_some(drawing, behind);
-    drain_some(drawing, before);
+    drain_in_order(drawing, behind);
+    drain_in_order(drawing, before);
 }
 
 // Whether a batch was drawn into a bin of a worker.
-fn has_begun<K>(tasks: &[Task<K>]) -> bool {
-    tasks.iter().any(|task| 0 < task.intake.batches())
+fn has_begun(tasks: &[BinTask]) -> bool {
+    tasks.iter().any(|task| 0 < task.batches())
 }
 
 // Draws what is in the queues of a worker's bins. Where it found batches, it looks once more behind the last bin: by then
 // those have come that were submitted while it drew.
-fn drain_share<R: Wait, B, K: Keeper<B>, G: Gate>(drawing: &Drawing<R, B, G>, tasks: &mut [Task<K>])
-    requires { All (MayDrain K.stands K.cells drawing.now) tasks.old }
-    ensures may { All (MayDrain K.stands K.cells drawing.now) tasks.new }
+fn drain_share<R: Wait, G: Gate>(drawing: &Drawing<R, InCells<R>, G>, tasks: &mut [BinTask])
+    requires { All (MayDraw drawing.now) tasks.old }
+    ensures may { All (MayDraw drawing.now) tasks.new }
     ensures drained { AreChanged HasDrained tasks.old tasks.new }
 {
     drain_each(drawing, tasks);
@@ -60,25 +63,25 @@ fn drain_share<R: Wait, B, K: Keeper<B>, G: Gate>(drawing: &Drawing<R, B, G>, ta
 
 // Draws what is in the queues, the workers side by side in at most so many threads, while the caller does its own work.
 // With no threads it draws behind that.
-fn drain_all<R: Threads + Wait + Sync, B: Sync, K: Keeper<B> + Send, G: Gate, O: FnMut() -> A, A>(
-    drawing: &Drawing<R, B, G>,
-    shares: &mut [Share<K>],
-    threads: u32,
+fn drain_all<R: Threads + Wait + Sync, G: Gate, O: FnMut() -> A, A>(
+    drawing: &Drawing<R, InCells<R>, G>,
+    shares: &mut [Share],
+    threads: usize,
     own: &mut O,
 ) -> A
-    requires shares { AreAllIn (MayDrain K.stands K.cells drawing.now) shares.old }
+    requires shares { AreAllIn (MayDraw drawing.now) shares.old }
     requires own { O.pre own.old }
-    ensures may { AreAllIn (MayDrain K.stands K.cells drawing.now) shares.new }
+    ensures may { AreAllIn (MayDraw drawing.now) shares.new }
     ensures drained { AreChangedIn HasDrained shares.old shares.new }
     ensures own { O.step own.old result own.new }
 {
     for_each_beside(
         drawing.rt,
         shares,
-        threads as usize,
-        &|_w: usize, share: &mut Share<K>|
-            requires { All (MayDrain K.stands K.cells drawing.now) share.old.tasks.items }
-            ensures may { All (MayDrain K.stands K.cells drawing.entry.now) share.new.tasks.items }
+        threads,
+        &|_w: usize, share: &mut Share|
+            requires { All (MayDraw drawing.now) share.old.tasks.items }
+            ensures may { All (MayDraw drawing.entry.now) share.new.tasks.items }
             ensures drained { AreChanged HasDrained share.old.tasks.items share.new.tasks.items }
         { drain_share(drawing, share.tasks.as_mut_slice()) },
         own,
@@ -86,50 +89,50 @@ fn drain_all<R: Threads + Wait + Sync, B: Sync, K: Keeper<B> + Send, G: Gate, O:
 }
 
 // Tells each task of a worker.
-fn tell_share<R: Wait, B, K: Keeper<B>, G: Gate>(
-    drawing: &Drawing<R, B, G>,
+fn tell_share<R: Wait, G: Gate>(
+    drawing: &Drawing<R, InCells<R>, G>,
     sender: &mut Sender,
-    tasks: &mut [Task<K>],
+    tasks: &mut [BinTask],
 )
     requires sender { IsSubmitterOf drawing.now.queues.now sender.old }
-    requires frame { sender.old.frame ≡ over drawing.now.frame (K.cells drawing.now.beside.now) }
-    requires tasks { All (MayDrain K.stands K.cells drawing.now) tasks.old }
+    requires frame { sender.old.frame ≡ frame_over drawing.now }
+    requires tasks { All (MayDraw drawing.now) tasks.old }
     ensures same { sender.new ≡ sender.old }
-    ensures may { All (MayDrain K.stands K.cells drawing.now) tasks.new }
+    ensures may { All (MayDraw drawing.now) tasks.new }
     ensures told { AreChanged (WasTold sender.old.batches) tasks.old tasks.new }
 {
     for j in 0..tasks.len() {
-        drawing.tell(sender, &mut tasks[j]);
+        tasks[j].tell(drawing, sender);
     }
 }
 
 // Tells each task of a worker, which is lent whole.
-fn tell_worker<R: Wait, B, K: Keeper<B>, G: Gate>(
-    drawing: &Drawing<R, B, G>,
+fn tell_worker<R: Wait, G: Gate>(
+    drawing: &Drawing<R, InCells<R>, G>,
     sender: &mut Sender,
-    own: &mut Share<K>,
+    own: &mut Share,
 )
     requires sender { IsSubmitterOf drawing.now.queues.now sender.old }
-    requires frame { sender.old.frame ≡ over drawing.now.frame (K.cells drawing.now.beside.now) }
-    requires tasks { All (MayDrain K.stands K.cells drawing.now) own.old.tasks.items }
+    requires frame { sender.old.frame ≡ frame_over drawing.now }
+    requires tasks { All (MayDraw drawing.now) own.old.tasks.items }
     ensures same { sender.new ≡ sender.old }
-    ensures may { All (MayDrain K.stands K.cells drawing.now) own.new.tasks.items }
+    ensures may { All (MayDraw drawing.now) own.new.tasks.items }
     ensures told { AreChanged (WasTold sender.old.batches) own.old.tasks.items own.new.tasks.items }
 {
     tell_share(drawing, sender, own.tasks.as_mut_slice());
 }
 
 // Tells the tasks of all workers.
-fn tell_all<R: Wait, B, K: Keeper<B>, G: Gate>(
-    drawing: &Drawing<R, B, G>,
+fn tell_all<R: Wait, G: Gate>(
+    drawing: &Drawing<R, InCells<R>, G>,
     sender: &mut Sender,
-    shares: &mut [Share<K>],
+    shares: &mut [Share],
 )
     requires sender { IsSubmitterOf drawing.now.queues.now sender.old }
-    requires frame { sender.old.frame ≡ over drawing.now.frame (K.cells drawing.now.beside.now) }
-    requires shares { AreAllIn (MayDrain K.stands K.cells drawing.now) shares.old }
+    requires frame { sender.old.frame ≡ frame_over drawing.now }
+    requires shares { AreAllIn (MayDraw drawing.now) shares.old }
     ensures same { sender.new ≡ sender.old }
-    ensures may { AreAllIn (MayDrain K.stands K.cells drawing.now) shares.new }
+    ensures may { AreAllIn (MayDraw drawing.now) shares.new }
     ensures told { AreChangedIn (WasTold sender.old.batches) shares.old shares.new }
 {
     for w in 0..shares.len() {
@@ -139,22 +142,22 @@ fn tell_all<R: Wait, B, K: Keeper<B>, G: Gate>(
 
 // Submits all batches, a first part of them before the workers begin, and the others while these drain what is there. So
 // each finds batches when it has started. Nobody waits for another.
-fn submit_and_drain<R: Threads + Wait + Sync, B: Sync, K: Keeper<B> + Send, G: Gate>(
-    drawing: &Drawing<R, B, G>,
+fn submit_and_drain<R: Threads + Wait + Sync, G: Gate>(
+    drawing: &Drawing<R, InCells<R>, G>,
     alloc: Global,
     sender: &mut Sender,
-    shares: &mut [Share<K>],
-    workers: u32,
+    shares: &mut [Share],
 ) -> Result<(), Memory>
     requires sender { IsSubmitterOf drawing.now.queues.now sender.old }
-    requires frame { sender.old.frame ≡ over drawing.now.frame (K.cells drawing.now.beside.now) }
+    requires frame { sender.old.frame ≡ frame_over drawing.now }
     requires none { sender.old.batches ≡ 0 }
-    requires shares { AreAllIn (MayDrain K.stands K.cells drawing.now) shares.old }
+    requires shares { AreAllIn (MayDraw drawing.now) shares.old }
     ensures submitted { OnOk result
         (sender.new ≡ record sender.old { batches = batches_in sender.old.frame }) }
-    ensures may { OnOk result (AreAllIn (MayDrain K.stands K.cells drawing.now) shares.new) }
+    ensures may { OnOk result (AreAllIn (MayDraw drawing.now) shares.new) }
     ensures drained { OnOk result (AreChangedIn HasDrained shares.old shares.new) }
 {
+    let workers = shares.len();
     let ahead = drawing.batches_ahead();
     let left = drawing.frame.batches() - ahead;
     drawing.submit(alloc, sender, ahead)?;
@@ -172,45 +175,44 @@ fn submit_and_drain<R: Threads + Wait + Sync, B: Sync, K: Keeper<B> + Send, G: G
     )
 }
 
-fn have_drawn<K>(tasks: &[Task<K>], batches: u32) -> bool {
-    tasks.iter().all(|task| task.intake.batches() == batches)
+fn have_drawn(tasks: &[BinTask], batches: u32) -> bool {
+    tasks.iter().all(|task| task.batches() == batches)
 }
 
 // In how many threads of their own the rest is drained: in none where all batches are drawn.
-fn threads_for_rest<K>(shares: &[Share<K>], batches: u32, workers: u32) -> u32 {
+fn threads_for_rest(shares: &[Share], batches: u32) -> usize {
     if shares
         .iter()
         .all(|share| have_drawn(share.tasks.as_slice(), batches))
     {
         0
     } else {
-        workers
+        shares.len()
     }
 }
 
 /// Draws all batches. The submitter bins and submits them, while each worker drains its bins; when these have returned
 /// each task is told that all are submitted, and the workers drain to the end. Err where memory gave out.
 /// Conditions: the sender and the tasks are of these queues and of this frame, and nothing is submitted yet.
-pub(crate) fn draw_all<R: Threads + Wait + Sync, B: Sync, K: Keeper<B> + Send, G: Gate>(
-    drawing: &Drawing<R, B, G>,
+pub(crate) fn draw_all<R: Threads + Wait + Sync, G: Gate>(
+    drawing: &Drawing<R, InCells<R>, G>,
     alloc: Global,
     sender: &mut Sender,
-    shares: &mut [Share<K>],
-    workers: u32,
+    shares: &mut [Share],
 ) -> Result<(), Memory>
     requires sender { IsSubmitterOf drawing.now.queues.now sender.old }
-    requires frame { sender.old.frame ≡ over drawing.now.frame (K.cells drawing.now.beside.now) }
+    requires frame { sender.old.frame ≡ frame_over drawing.now }
     requires none { sender.old.batches ≡ 0 }
-    requires shares { let d = drawing.now in let frame = over d.frame (K.cells d.beside.now) in
-        AreShares K.stands d.beside.now d.queues.now frame workers shares.old }
+    requires shares { let d = drawing.now in
+        AreShares d.queues.now (frame_over d) (length shares.old) shares.old }
     ensures submitted { OnOk result
         (sender.new ≡ record sender.old { batches = batches_in sender.old.frame }) }
-    ensures drawn { let d = drawing.now in let frame = over d.frame (K.cells d.beside.now) in
-        OnOk result (AreDrained K.stands d.beside.now d.queues.now frame workers shares.new) }
+    ensures drawn { let d = drawing.now in
+        OnOk result (AreDrained d.queues.now (frame_over d) (length shares.new) shares.new) }
 {
-    submit_and_drain(drawing, alloc, sender, shares, workers)?;
+    submit_and_drain(drawing, alloc, sender, shares)?;
     tell_all(drawing, sender, shares);
-    let threads = threads_for_rest(shares, drawing.frame.batches(), workers);
+    let threads = threads_for_rest(shares, drawing.frame.batches());
     drain_all(drawing, shares, threads, &mut || {});
     Ok(())
 }

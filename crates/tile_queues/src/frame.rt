@@ -5,17 +5,14 @@ ghost use Rattle.cull_base.specs.Screen.{tile_count_of};
 ghost use Rattle.cull_base.specs.Tiles.{ArePieces};
 ghost use Rattle.tile_cells.specs.Cells.{AreFresh};
 ghost use Rattle.tile_cells.specs.Standing.{AreStanding, IsReading};
-ghost use Rattle.tile_queues.specs.CellBins.{StandsInCells};
 ghost use Rattle.tile_queues.specs.Callers.{Follows};
-ghost use Rattle.bin_queues.specs.Frames.{over};
 ghost use Rattle.bin_queues.specs.QueueParts.{batches_in};
-ghost use Rattle.tile_queues.specs.Shares.{AreDrained, AreShares};
+ghost use Rattle.tile_queues.specs.Shares.{AreDrained, AreShares, frame_over};
 ghost use Rattle.bin_queues.specs.Tasks.{IsSubmitterOf};
 
 use crate::caller::Caller;
-use crate::cell_bin::{CellBin, InCells};
-use crate::cell_shares::{deal, take_tasks};
-use crate::close_queues::hand_back;
+use crate::cell_bin::InCells;
+use crate::close_queues::hand_back_all;
 use crate::drawing::draw_all;
 use crate::make_queues::make_over_cells;
 use crate::share::Share;
@@ -29,27 +26,6 @@ use std::alloc::Global;
 use std::sync::Wait;
 use std::thread::{Threads, join_mut};
 use tile_cells::{TileCells, TileReader, TileWriter};
-
-// Draws all batches into the cells.
-fn draw_cells<R: Threads + Wait + Sync, G: Gate>(
-    drawing: &Drawing<R, InCells<R>, G>,
-    alloc: Global,
-    sender: &mut Sender,
-    shares: &mut [Share<CellBin>],
-    workers: u32,
-) -> Result<(), Memory>
-    requires sender { IsSubmitterOf drawing.now.queues.now sender.old }
-    requires frame { sender.old.frame ≡ over drawing.now.frame drawing.now.beside.now.cells.now }
-    requires none { sender.old.batches ≡ 0 }
-    requires shares { let d = drawing.now in let cells = d.beside.now.cells.now in
-        AreShares StandsInCells cells d.queues.now (over d.frame cells) workers shares.old }
-    ensures submitted { OnOk result
-        (sender.new ≡ record sender.old { batches = batches_in sender.old.frame }) }
-    ensures drawn { let d = drawing.now in let cells = d.beside.now.cells.now in
-        OnOk result (AreDrained StandsInCells cells d.queues.now (over d.frame cells) workers shares.new) }
-{
-    draw_all(drawing, alloc, sender, shares, workers)
-}
 
 // The caller reads the cells.
 fn read_cells<R: Threads + Wait + Sync, C: Caller>(
@@ -73,22 +49,21 @@ fn draw_and_read<R: Threads + Wait + Sync, G: Gate, C: Caller>(
     drawing: &Drawing<R, InCells<R>, G>,
     alloc: Global,
     sender: &mut Sender,
-    shares: &mut [Share<CellBin>],
-    workers: u32,
+    shares: &mut [Share],
     reader: &mut TileReader,
     caller: &mut C,
 ) -> Result<(), Memory>
     requires sender { IsSubmitterOf drawing.now.queues.now sender.old }
-    requires frame { sender.old.frame ≡ over drawing.now.frame drawing.now.beside.now.cells.now }
+    requires frame { sender.old.frame ≡ frame_over drawing.now }
     requires none { sender.old.batches ≡ 0 }
-    requires shares { let d = drawing.now in let cells = d.beside.now.cells.now in
-        AreShares StandsInCells cells d.queues.now (over d.frame cells) workers shares.old }
+    requires shares { let d = drawing.now in
+        AreShares d.queues.now (frame_over d) (length shares.old) shares.old }
     requires reader { IsReading drawing.now.beside.now.cells.now drawing.now.frame.list.now.list reader.old }
     requires ready { C.ready caller.old drawing.now.frame.list.now.list }
     ensures submitted { OnOk result
         (sender.new ≡ record sender.old { batches = batches_in sender.old.frame }) }
-    ensures drawn { let d = drawing.now in let cells = d.beside.now.cells.now in
-        OnOk result (AreDrained StandsInCells cells d.queues.now (over d.frame cells) workers shares.new) }
+    ensures drawn { let d = drawing.now in
+        OnOk result (AreDrained d.queues.now (frame_over d) (length shares.new) shares.new) }
     ensures done { C.done caller.new drawing.now.frame.list.now.list reader.new }
     ensures keeps { C.keeps caller.old caller.new }
     ensures follows { Follows reader.old reader.new }
@@ -105,15 +80,15 @@ fn draw_and_read<R: Threads + Wait + Sync, G: Gate, C: Caller>(
         { read_cells(rt, cells, reader, list, caller) },
         &mut || -> Result<(), Memory>
             requires sender { IsSubmitterOf drawing.now.queues.now sender.now }
-            requires frame { sender.now.frame ≡ over drawing.now.frame drawing.now.beside.now.cells.now }
+            requires frame { sender.now.frame ≡ frame_over drawing.now }
             requires none { sender.now.batches ≡ 0 }
-            requires shares { let d = drawing.now in let cells = d.beside.now.cells.now in
-                AreShares StandsInCells cells d.queues.now (over d.frame cells) workers shares.now }
+            requires shares { let d = drawing.now in
+                AreShares d.queues.now (frame_over d) (length shares.now) shares.now }
             ensures submitted { OnOk result
                 (sender.exit.now ≡ record sender.entry.now { batches = batches_in sender.entry.now.frame }) }
-            ensures drawn { let d = drawing.entry.now in let cells = d.beside.now.cells.now in OnOk result
-                (AreDrained StandsInCells cells d.queues.now (over d.frame cells) workers shares.exit.now) }
-        { draw_cells(drawing, alloc, sender, shares, workers) },
+            ensures drawn { let d = drawing.entry.now in OnOk result
+                (AreDrained d.queues.now (frame_over d) (length shares.exit.now) shares.exit.now) }
+        { draw_all(drawing, alloc, sender, shares) },
     );
     drawn
 }
@@ -163,7 +138,7 @@ pub fn draw_frame<R: Threads + Wait + Sync, G: Gate, C: Caller>(
         cut,
         size: batch,
     };
-    let (queues, submitter, tasks) = make_over_cells(alloc, &frame, writers)?;
+    let (queues, submitter, mut shares) = make_over_cells(alloc, &frame, writers, workers)?;
     let (mut sender, slots, room) = submitter.into_parts();
     let beside = InCells { rt, cells };
     let drawing = Drawing {
@@ -173,9 +148,7 @@ pub fn draw_frame<R: Threads + Wait + Sync, G: Gate, C: Caller>(
         beside: &beside,
         gate,
     };
-    let mut shares = deal(&drawing, alloc, tasks, workers)?;
     let lent = shares.as_mut_slice();
-    draw_and_read(&drawing, alloc, &mut sender, lent, workers, reader, caller)?;
-    let tasks = take_tasks(&drawing, alloc, shares, workers)?;
-    Ok(hand_back(&queues, Submitter::of(sender, slots, room), tasks))
+    draw_and_read(&drawing, alloc, &mut sender, lent, reader, caller)?;
+    Ok(hand_back_all(&queues, Submitter::of(sender, slots, room), shares))
 }

@@ -4,7 +4,6 @@
 mod bin_task;
 mod caller;
 mod cell_bin;
-mod cell_shares;
 mod close_queues;
 mod drawing;
 mod frame;

@@ -3,15 +3,19 @@ ghost use Rattle.std.specs.Prelude.{◌≡◌, ◌≤◌, ◌<◌, ◌+◌, leng
 ghost use Rattle.binning.specs.Parts.{batch_count_of, parts_of};
 ghost use Rattle.bin_queues.specs.QueueParts.{batched, batches_in, taken_before};
 ghost use Rattle.bin_queues.specs.Tasks.{AreFirstTasks, GoesOn, IsSubmitterOf, IsTaskOf};
-ghost use Rattle.bin_tasks.specs.Drains.{IsAnswer};
+ghost use Rattle.bin_queues.specs.Frames.{over};
+ghost use Rattle.bin_tasks.specs.Drains.{HasDrained, IsAnswer};
 ghost use Rattle.tile_queues.specs.Owners.{AreFirst, AreHandedBack, AreTasksOf, cells_of};
+ghost use Rattle.tile_queues.specs.Shares.{IsTaskOver};
 
 use crate::bin_task::BinTask;
+use crate::cell_bin::InCells;
 use crate::close_queues::hand_back;
 use crate::make_queues::make_over_cells;
+use crate::share::all_tasks;
 use crate::submitter::Submitter;
 use bin_queues::{Batched, PartQueues};
-use bin_tasks::Drained;
+use bin_tasks::{Drained, Drawing};
 use bin_tiles::Gate;
 use binning::{BinPart, Cut};
 use cull_base::{FrameList, Memory};
@@ -32,6 +36,29 @@ impl Model for BinQueues {
     ghost Value = { QueuesOf };
 
     ghost view = { λ s. s.queues };
+}
+
+// Draws what is in the queue of a task's bin.
+fn drain_in<'a, R: Wait, G: Gate>(
+    task: &mut BinTask,
+    queues: &'a PartQueues,
+    frame: Batched<'a>,
+    beside: &'a InCells<'a, R>,
+    gate: &'a G,
+) -> Drained
+    requires { IsTaskOver queues.now (over frame beside.now.cells.now) task.old }
+    ensures answer { IsAnswer result task.old task.new }
+    ensures drained { HasDrained task.old task.new }
+{
+    let rt = beside.rt;
+    let drawing = Drawing {
+        rt,
+        queues,
+        frame,
+        beside,
+        gate,
+    };
+    task.drain(&drawing)
 }
 
 impl BinQueues {
@@ -60,7 +87,8 @@ impl BinQueues {
             cut,
             size: batch,
         };
-        let (queues, submitter, tasks) = make_over_cells(alloc, &frame, writers)?;
+        let (queues, submitter, shares) = make_over_cells(alloc, &frame, writers, 1)?;
+        let tasks = all_tasks(&queues, &submitter, shares);
         Ok((BinQueues { queues }, submitter, tasks))
     }
 
@@ -95,7 +123,18 @@ impl BinQueues {
         ensures answer { IsAnswer result task.old task.new }
         ensures told { task.old.told ≡ batches_in task.old.of.frame → result ≡ Drained.Whole }
     {
-        task.draw(rt, &self.queues, cells, list, gate)
+        let cut = *task.cut();
+        let size = task.size();
+        let frame = Batched {
+            list,
+            cut: &cut,
+            size,
+        };
+        let beside = InCells { rt, cells };
+        let drained = drain_in(task, &self.queues, frame, &beside, gate);
+        // an accessor tells what is held of a task
+        let _taken = task.taken();
+        drained
     }
 
     /// The writers of all tiles, in tile order, each after the batches that the task of its bin drew. Conditions: the

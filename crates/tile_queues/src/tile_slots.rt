@@ -1,13 +1,12 @@
-//! The writers of all tiles, each in the slot of its tile, from which the bins' tasks get them.
-ghost use Rattle.std.specs.Prelude.{◌≡◌, ◌≤◌, ◌<◌, ◌+◌, None, Some, length, map, slice_set, slice_index_or, IfOk, IsSome, OnOk};
-ghost use Rattle.binning.specs.Cut.{bin_count_of};
+//! The writers of all tiles, each in the slot of its tile: bins take those of their tiles, and put them back.
+ghost use Rattle.std.specs.Prelude.{◌≡◌, ◌≤◌, ◌<◌, ◌+◌, ℕ, [], None, Some, All, length, map, slice_set, slice_index_or};
+ghost use Rattle.std.specs.Prelude.{vec_capacity, IfOk, IsSome, OnOk};
 ghost use Rattle.cull_base.specs.Screen.{tile_count_of};
 ghost use Rattle.cull_base.specs.Span.{IsSpan, tiles_in};
 ghost use Rattle.tile_queues.specs.CellBins.{tile_numbered, HoldsBin};
-ghost use Rattle.tile_queues.specs.Owners.{AreLeft, MayTake};
-ghost use Rattle.bin_queues.specs.QueueParts.{BatchedFrame};
+ghost use Rattle.tile_queues.specs.Owners.{AreLeft, ArePut};
+ghost use Rattle.tile_cells.specs.Cells.{Writing};
 
-use crate::bin_task::BinTask;
 use crate::cell_bin::CellBin;
 use bin_queues::Intake;
 use binning::bin_span;
@@ -29,8 +28,8 @@ pub(crate) fn into_slots(
     Ok(slots)
 }
 
-/// The writer in a slot, which is left empty. Condition: there is one.
-pub(crate) fn take_from(slots: &mut [Option<TileWriter>], tile: usize) -> TileWriter
+// The writer in a slot, which is left empty. Condition: there is one.
+fn take_writer(slots: &mut [Option<TileWriter>], tile: usize) -> TileWriter
     requires within { tile < length slots.old }
     requires full { IsSome (slice_index_or slots.old tile None) }
     ensures taken { slice_index_or slots.old tile None ≡ Some result }
@@ -54,8 +53,9 @@ fn tile_at_number(size: Size, window: TileSpan, number: usize) -> usize
     row * size.tile_columns() as usize + column
 }
 
-// The writers of the tiles of a task's bin. Err where memory gave out.
-fn take_bin(
+/// The writers of the tiles of a task's bin. Err where memory gave out. Conditions: the task drew no batch, and the
+/// slots of the tiles of its bin, and of the bins behind it, are full.
+pub(crate) fn take_bin(
     alloc: Global,
     slots: &mut [Option<TileWriter>],
     intake: &Intake,
@@ -77,27 +77,37 @@ fn take_bin(
     let mut writers = Vec::with_capacity(alloc, count).map_err(|_| Memory)?;
     for number in 0..count {
         let tile = tile_at_number(size, window, number);
-        writers.push_reserved(take_from(slots, tile));
+        writers.push_reserved(take_writer(slots, tile));
     }
     Ok(CellBin { window, writers })
 }
 
-/// The tasks of all bins in order, each with the writers of its bin's tiles. Err where memory gave out.
-pub(crate) fn make_tasks(
-    alloc: Global,
-    intakes: Vec<Intake>,
-    slots: &mut [Option<TileWriter>],
-    list: &FrameList,
-) -> Result<Vec<BinTask>, Memory>
-    requires whole { length slots.old ≡ tile_count_of list.now.list.size }
-    requires first { (frame : BatchedFrame) × MayTake frame list.now.list 0 intakes.items slots.old }
-    ensures whole { length slots.new ≡ length slots.old }
-    ensures tasks { IfOk result (λ v. v.items ≡ intakes.items) }
+/// Puts writers into the slots of their tiles. Condition: there is a slot for each.
+pub(crate) fn put_writers(slots: &mut [Option<TileWriter>], writers: Vec<TileWriter>)
+    requires { All (λ w. w.tile < length slots.old) writers.items }
+    ensures { ArePut writers.items (length writers.items) slots.old slots.new }
 {
-    let mut tasks = Vec::with_capacity(alloc, intakes.len()).map_err(|_| Memory)?;
-    for intake in intakes {
-        let keeper = take_bin(alloc, slots, &intake, list)?;
-        tasks.push_reserved(BinTask::of(intake, keeper));
+    let mut done = 0usize;
+    for writer in writers {
+        let tile = writer.tile();
+        slots[tile as usize] = Some(writer);
+        done += 1;
     }
-    Ok(tasks)
+}
+
+/// The writers of all slots, in tile order. Conditions: each slot has one, and there is room.
+pub(crate) fn empty_slots(
+    slots: &mut [Option<TileWriter>],
+    mut room: Vec<TileWriter>,
+) -> Vec<TileWriter>
+    requires room { (room.items ≡ []) × (length slots.old ≤ vec_capacity room) }
+    requires full { (t : ℕ) → t < length slots.old → IsSome (slice_index_or slots.old t None) }
+    ensures whole { length result.items ≡ length slots.old }
+    ensures each { (t : ℕ) (d : Writing) → t < length slots.old
+        → slice_index_or slots.old t None ≡ Some (slice_index_or result.items t d) }
+{
+    for tile in 0..slots.len() {
+        room.push_reserved(take_writer(slots, tile));
+    }
+    room
 }

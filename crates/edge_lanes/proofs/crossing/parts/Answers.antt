@@ -31,6 +31,6 @@ returns-then-numerator-lt0-2 c =
     let l : (c.args.pixels *ℤ pos 4294967296) <ℤ pos 0 = lt_of _ _ (simp to_z-of_z at c.if-numerator-lt0-2.true) in
     let fd : FitsSigned w64 (negsuc 0 -ℤ (c.args.pixels *ℤ pos 4294967296)) = omega (arith, ints, near) in
     elim c.if-numerator-lt0.branch [
-      | then-numerator-lt0 w ↦ counted_down (c.args.pixels *ℤ pos 4294967296) _ c.args.size.now c.quotient-whole.result l b (simp to_z-of_z at w.distance-is) c.quotient-whole.ensures
+      | then-numerator-lt0 w ↦ counted_down (c.args.pixels *ℤ pos 4294967296) _ c.args.size.now.number c.quotient-whole.result l b (simp to_z-of_z at w.distance-is) c.quotient-whole.ensures
       | else-numerator-lt0 w ↦ absurd (let t = c.if-numerator-lt0-2.true in let u = w.if-numerator-lt0.false in cc)
     ]

@@ -1,17 +1,21 @@
-use Rattle.std.proofs.Common.{◌≡◌}
+use Rattle.std.proofs.Common.{◌≡◌, ap, refl, Err}
 use Rattle.std.proofs.lemmas.Result.{err_from_is_err_and}
-use Rattle.cull_report.specs.Scene.{report_text}
-use Rattle.maskcull.specs.declared.failure.Failure.TheVariants.{NotesFault}
-use Rattle.maskcull.specs.Outcome.{failure_of}
-use Rattle.maskcull.proofs.RunEnds.{read_is_no_note, reports_no_note}
+use Rattle.command_words.specs.declared.command.Command.TheVariants.{Cull}
+use Rattle.maskcull.proofs.Comings.{cull_comes, failed_read}
 use Rattle.maskcull.proofs.cull.cull.Goals as goal
 
-pub returns-in_err-scene-clause-no_notes : goal.returns-in_err-scene-clause-no_notes
-returns-in_err-scene-clause-no_notes g c is =
+pub returns-in_err-scene : goal.returns-in_err-scene
+returns-in_err-scene g c =
     let p = err_from_is_err_and c.from_residual.result c.from_residual.ensures.1 in
-    let e : failure_of c.in_err-scene.field-0.0 ≡ NotesFault = cc in
-    read_is_no_note c.in_err-scene.field-0.0 e
+    let read = c.in_err-scene.ensures in
+    rw (p.1, p.2)
+    (record {
+      outcome = λ n. failed_read (Cull c.args.settings.now) (g.S.Source.says c.args.input.now) (g.S.Source.says c.read_scene.new.source) (g.W.Sink.says c.args.report.now) n c.in_err-scene.field-0.0 _ _
+          tt read.refused (λ is. read.read (ap Err is)) refl tt;
+    })
 
-pub returns-clause-no_notes : goal.returns-clause-no_notes
-returns-clause-no_notes g c is =
-    reports_no_note (g.W.Sink.says c.args.report.now) (g.W.Sink.says c.report_scene.new.report) c.report_scene.result (report_text c.in_ok-scene.scene) c.report_scene.ensures.reported is
+pub returns : goal.returns
+returns g c = record {
+  outcome = λ n. cull_comes c.args.settings.now c.in_ok-scene.scene (g.S.Source.says c.args.input.now) (g.S.Source.says c.read_scene.new.source)
+      (g.W.Sink.says c.args.report.now) (g.W.Sink.says c.report_scene.new.report) n c.report_scene.result _ _ c.in_ok-scene.ensures.ok c.in_ok-scene.ensures.layout tt c.report_scene.ensures.reported;
+}

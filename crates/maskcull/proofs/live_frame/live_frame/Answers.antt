@@ -7,7 +7,8 @@ use Rattle.cull_report.specs.Scene.{frame_report}
 use Rattle.maskcull.specs.LiveScenes.{NotesLines}
 use Rattle.maskcull.specs.declared.failure.Failure.TheVariants as failures
 use Rattle.maskcull.specs.Outcome.{sink_failure}
-use Rattle.maskcull.proofs.LiveEnds.{frame_noted, frame_unnoted, lines_are, nothing_appended, not_of_notes, proper_is_front, sink_cause}
+use Rattle.maskcull.proofs.Fronts.{nothing_appended}
+use Rattle.maskcull.proofs.LiveEnds.{frame_noted, frame_unnoted, lines_are, not_of_notes, proper_is_front, sink_cause}
 use Rattle.maskcull.proofs.live_frame.live_frame.Goals as goal
 
 pub returns-in_err-seen-clause-reported : goal.returns-in_err-seen-clause-reported

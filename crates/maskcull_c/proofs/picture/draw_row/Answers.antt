@@ -1,5 +1,5 @@
-use Rattle.std.proofs.Common.{◌≡◌, arith, ◌∙◌, subst}
-use Rattle.maskcull_c.specs.Picture.{IsRow, shade_of_pixel}
+use Rattle.std.proofs.Common.{◌≡◌, ap, arith, ◌∙◌, subst}
+use Rattle.maskcull_c.specs.Picture.{IsRow, shade_of, shade_of_pixel}
 use Rattle.maskcull_c.proofs.Pictures.{row_more, row_none}
 use Rattle.maskcull_c.proofs.picture.draw_row.Goals as goal
 
@@ -13,7 +13,7 @@ loop-x-preserved c =
     let same = inv.whole in
     let room = c.requires.room in
     row_more c.args.start x c.shade.result (λ x. shade_of_pixel c.args.size c.args.tiles.now x c.args.y) c.args.out.now c.loop-x.out
-    (omega (arith, c.loop-x-test.true, c.width-x-end.ensures.value, same, room)) (c.shade.ensures ∙ c.bound_of_pixel.ensures.value) inv
+    (omega (arith, c.loop-x-test.true, c.width-x-end.ensures.value, same, room)) (c.shade.ensures ∙ ap shade_of c.bound_of_pixel.ensures) inv
 
 pub returns : goal.returns
 returns c =

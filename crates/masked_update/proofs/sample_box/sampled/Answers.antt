@@ -1,31 +1,24 @@
-use Rattle.std.proofs.Common.{◌∙◌, ◌+ℤ◌, ℤ, FitsSigned, List, ap, pos, rules, w32}
-use Rattle.std.proofs.lemmas.Int.{to_z-of_z}
-use Rattle.cull_base.specs.Piece.{first_pixel, least_of, greatest_of}
+use Rattle.std.proofs.Common.{◌≡◌, ◌∙◌, ◌≤ℤ◌, refl, subst, sym}
+use Rattle.cull_base.specs.Sampled.{samples_between}
 use Rattle.cull_base.specs.declared.rect.Rect.{Rect}
+use Rattle.masked_update.specs.Samples.{HoldsCovered}
 use Rattle.masked_update.proofs.SampleBoxes.{holds_covered, samples_ordered}
 use Rattle.masked_update.proofs.sample_box.sampled.Goals as goal
 
-abbrev rect : ℤ → ℤ → ℤ → ℤ → Rect
-rect x0 y0 x1 y1 = record { x0 = x0; y0 = y0; x1 = x1; y1 = y1 }
-
 pub returns-clause-holds : goal.returns-clause-holds
 returns-clause-holds c =
-    let x = c.args.tri.now in
-    let f0 : FitsSigned w32 c.first_sample.result = search rules in let g0 : FitsSigned w32 c.first_sample-2.result = search rules in
-    let f1 : FitsSigned w32 c.end_sample.result = search rules in let g1 : FitsSigned w32 c.end_sample-2.result = search rules in
-    let across = c.x-across.ensures.value in let down = c.y-down.ensures.value in
-    simp to_z-of_z (holds_covered x (rect c.first_sample.result c.first_sample-2.result c.end_sample.result c.end_sample-2.result) c.x-across.ensures.valid
-    (c.first_sample.ensures ∙ ap (λ (vs : List ℤ). first_pixel (least_of vs +ℤ pos 7)) across) (c.first_sample-2.ensures ∙ ap (λ (vs : List ℤ). first_pixel (least_of vs +ℤ pos 7)) down)
-    (c.end_sample.ensures ∙ ap (λ (vs : List ℤ). first_pixel (greatest_of vs +ℤ pos 8)) across) (c.end_sample-2.ensures ∙ ap (λ (vs : List ℤ). first_pixel (greatest_of vs +ℤ pos 8)) down))
+    let t = c.args.tri.now in
+    let is : c.samples_between.result ≡ samples_between t.xs t.ys = c.samples_between.ensures ∙ (λ i. samples_between (c.x.ensures.value i) (c.y.ensures.value i)) in
+    subst (HoldsCovered t) (sym is) (holds_covered t (samples_between t.xs t.ys) c.x.ensures.valid refl refl refl refl)
 
 pub returns-clause-across : goal.returns-clause-across
 returns-clause-across c =
-    let f : FitsSigned w32 c.first_sample.result = search rules in let e : FitsSigned w32 c.end_sample.result = search rules in
-    simp to_z-of_z (samples_ordered c.args.tri.now.xs c.first_sample.result c.end_sample.result c.x-across.ensures.valid.three_x
-    (c.first_sample.ensures ∙ ap (λ (vs : List ℤ). first_pixel (least_of vs +ℤ pos 7)) c.x-across.ensures.value) (c.end_sample.ensures ∙ ap (λ (vs : List ℤ). first_pixel (greatest_of vs +ℤ pos 8)) c.x-across.ensures.value))
+    let t = c.args.tri.now in
+    let is : c.samples_between.result ≡ samples_between t.xs t.ys = c.samples_between.ensures ∙ (λ i. samples_between (c.x.ensures.value i) (c.y.ensures.value i)) in
+    subst (λ (r : Rect). r.x0 ≤ℤ r.x1) (sym is) (samples_ordered t.xs _ _ c.x.ensures.valid.three_x refl refl)
 
 pub returns-clause-down : goal.returns-clause-down
 returns-clause-down c =
-    let f : FitsSigned w32 c.first_sample-2.result = search rules in let e : FitsSigned w32 c.end_sample-2.result = search rules in
-    simp to_z-of_z (samples_ordered c.args.tri.now.ys c.first_sample-2.result c.end_sample-2.result c.y-down.ensures.valid.three_y
-    (c.first_sample-2.ensures ∙ ap (λ (vs : List ℤ). first_pixel (least_of vs +ℤ pos 7)) c.y-down.ensures.value) (c.end_sample-2.ensures ∙ ap (λ (vs : List ℤ). first_pixel (greatest_of vs +ℤ pos 8)) c.y-down.ensures.value))
+    let t = c.args.tri.now in
+    let is : c.samples_between.result ≡ samples_between t.xs t.ys = c.samples_between.ensures ∙ (λ i. samples_between (c.x.ensures.value i) (c.y.ensures.value i)) in
+    subst (λ (r : Rect). r.y0 ≤ℤ r.y1) (sym is) (samples_ordered t.ys _ _ c.x.ensures.valid.three_y refl refl)

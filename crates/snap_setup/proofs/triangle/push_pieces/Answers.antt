@@ -1,12 +1,13 @@
 use Rattle.std.proofs.Common.{[], sym, ◌∙◌, arith, refl, option_to_list}
 use Rattle.cull_base.specs.declared.nearness.TheConstants.{GRADE_TOP}
 use Rattle.cull_base.specs.declared.triangle.Side.TheVariants.{Occluder}
-use Rattle.snap_setup.proofs.KeptPieces.{grown, grown_by_none, few, few_by_option, past, held}
+use Rattle.snap_setup.proofs.KeptPieces.{few, few_by_option, past, held}
+use Rattle.snap_setup.proofs.Takes.{took_none, took_as}
 use Rattle.snap_setup.proofs.triangle.push_pieces.Goals as goal
 
 pub returns-then-is_any_past_guard-clause-value : goal.returns-then-is_any_past_guard-clause-value
 returns-then-is_any_past_guard-clause-value c =
-    grown_by_none c.args.tri.now.v0.now c.args.tri.now.v1.now c.args.tri.now.v2.now GRADE_TOP c.args.near.distance c.args.size c.args.winding Occluder c.args.list.now (sym c.is_any_past_guard.ensures ∙ c.if-is_any_past_guard.true)
+    took_none c.args.keeping c.args.list.now _ (past c.args.tri.now.v0.now c.args.tri.now.v1.now c.args.tri.now.v2.now GRADE_TOP c.args.near.distance c.args.size c.args.winding Occluder (sym c.is_any_past_guard.ensures ∙ c.if-is_any_past_guard.true))
 
 pub returns-then-is_any_past_guard-clause-most : goal.returns-then-is_any_past_guard-clause-most
 returns-then-is_any_past_guard-clause-most c =
@@ -14,7 +15,7 @@ returns-then-is_any_past_guard-clause-most c =
 
 pub returns-then-is_all_in_front-clause-value : goal.returns-then-is_all_in_front-clause-value
 returns-then-is_all_in_front-clause-value c =
-    grown c.args.list.now c.push_if.new.list _ _ c.push_if.ensures
+    took_as c.args.keeping c.args.list.now c.take_if.new.list c.take_if.result _ _ c.take_if.ensures
     (held c.args.tri.now.v0.now c.args.tri.now.v1.now c.args.tri.now.v2.now GRADE_TOP c.args.near.distance c.args.size c.args.winding Occluder (option_to_list c.whole_piece.result) (sym c.is_any_past_guard.ensures ∙ c.if-is_any_past_guard.false) c.whole_piece.ensures)
 
 pub returns-then-is_all_in_front-clause-most : goal.returns-then-is_all_in_front-clause-most
@@ -25,7 +26,7 @@ returns-then-is_all_in_front-clause-most c =
 
 pub returns-else-is_all_in_front-clause-value : goal.returns-else-is_all_in_front-clause-value
 returns-else-is_all_in_front-clause-value c =
-    grown c.args.list.now c.push_clipped.new.list _ _ c.push_clipped.ensures.value
+    took_as c.args.keeping c.args.list.now c.push_clipped.new.list c.push_clipped.result _ _ c.push_clipped.ensures.value
     (held c.args.tri.now.v0.now c.args.tri.now.v1.now c.args.tri.now.v2.now GRADE_TOP c.args.near.distance c.args.size c.args.winding Occluder _ (sym c.is_any_past_guard.ensures ∙ c.if-is_any_past_guard.false) refl)
 
 pub returns-else-is_all_in_front-clause-most : goal.returns-else-is_all_in_front-clause-most

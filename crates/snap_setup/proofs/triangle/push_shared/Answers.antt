@@ -1,9 +1,9 @@
 use Rattle.std.proofs.Common.{[], sym, ◌∙◌, arith, refl, option_to_list}
 use Rattle.cull_base.specs.declared.nearness.TheConstants.{GRADE_TOP}
 use Rattle.cull_base.specs.declared.triangle.Side.TheVariants.{Occluder}
-use Rattle.snap_setup.proofs.FrameLists.{with_none}
-use Rattle.snap_setup.proofs.KeptPieces.{grown, grown_by_none, few, few_by_option, past, held}
+use Rattle.snap_setup.proofs.KeptPieces.{few, few_by_option, past, held}
 use Rattle.snap_setup.proofs.SharedVertices.{are_placed, past_guard_is, whole_of, none_behind}
+use Rattle.snap_setup.proofs.Takes.{took_none, took_as}
 use Rattle.snap_setup.proofs.triangle.push_shared.Goals as goal
 
 pub piece-requires-clause-a : goal.piece-requires-clause-a
@@ -21,7 +21,7 @@ piece-requires-clause-c c =
 pub returns-then-are_all_placed-clause-value : goal.returns-then-are_all_placed-clause-value
 returns-then-are_all_placed-clause-value c =
     let there = are_placed c.args.tri.now c.args.near.distance c.args.size c.args.winding c.args.corners.now c.requires.corners c.width-width.ensures.valid c.args.near.least c.args.near.most (sym c.are_all_placed.ensures ∙ c.if-are_all_placed.true) in
-    grown c.args.list.now c.push_if.new.list _ _ c.push_if.ensures (whole_of c.args.tri.now c.args.near.distance c.args.size c.args.winding c.args.corners.now c.requires.corners c.piece.result there c.piece.ensures)
+    took_as c.args.keeping c.args.list.now c.take_if.new.list c.take_if.result _ _ c.take_if.ensures (whole_of c.args.tri.now c.args.near.distance c.args.size c.args.winding c.args.corners.now c.requires.corners c.piece.result there c.piece.ensures)
 
 pub returns-then-are_all_placed-clause-most : goal.returns-then-are_all_placed-clause-most
 returns-then-are_all_placed-clause-most c =
@@ -32,7 +32,7 @@ pub returns-then-is_any_past-clause-value : goal.returns-then-is_any_past-clause
 returns-then-is_any_past-clause-value c =
     let e = past_guard_is c.args.tri.now c.args.near.distance c.args.size c.args.winding c.args.corners.now c.requires.corners in
     let t = c.args.tri.now in
-    grown_by_none t.v0.now t.v1.now t.v2.now GRADE_TOP c.args.near.distance c.args.size c.args.winding Occluder c.args.list.now (sym e ∙ sym c.is_any_past.ensures ∙ c.if-is_any_past.true)
+    took_none c.args.keeping c.args.list.now _ (past t.v0.now t.v1.now t.v2.now GRADE_TOP c.args.near.distance c.args.size c.args.winding Occluder (sym e ∙ sym c.is_any_past.ensures ∙ c.if-is_any_past.true))
 
 pub returns-then-is_any_past-clause-most : goal.returns-then-is_any_past-clause-most
 returns-then-is_any_past-clause-most c =
@@ -48,7 +48,7 @@ pub returns-then-is_any_placed-clause-value : goal.returns-then-is_any_placed-cl
 returns-then-is_any_placed-clause-value c =
     let e = past_guard_is c.args.tri.now c.args.near.distance c.args.size c.args.winding c.args.corners.now c.requires.corners in
     let t = c.args.tri.now in
-    grown c.args.list.now c.push_clipped.new.list _ _ c.push_clipped.ensures.value
+    took_as c.args.keeping c.args.list.now c.push_clipped.new.list c.push_clipped.result _ _ c.push_clipped.ensures.value
     (held t.v0.now t.v1.now t.v2.now GRADE_TOP c.args.near.distance c.args.size c.args.winding Occluder _ (sym e ∙ sym c.is_any_past.ensures ∙ c.if-is_any_past.false) refl)
 
 pub returns-then-is_any_placed-clause-most : goal.returns-then-is_any_placed-clause-most
@@ -59,7 +59,7 @@ returns-then-is_any_placed-clause-most c =
 
 pub returns-else-is_any_placed-clause-value : goal.returns-else-is_any_placed-clause-value
 returns-else-is_any_placed-clause-value c =
-    with_none c.args.list.now _ (none_behind c.args.tri.now c.args.near.distance c.args.size c.args.winding c.args.corners.now c.requires.corners (sym c.is_any_past.ensures ∙ c.if-is_any_past.false) (sym c.is_any_placed.ensures ∙ c.if-is_any_placed.false))
+    took_none c.args.keeping c.args.list.now _ (none_behind c.args.tri.now c.args.near.distance c.args.size c.args.winding c.args.corners.now c.requires.corners (sym c.is_any_past.ensures ∙ c.if-is_any_past.false) (sym c.is_any_placed.ensures ∙ c.if-is_any_placed.false))
 
 pub returns-else-is_any_placed-clause-most : goal.returns-else-is_any_placed-clause-most
 returns-else-is_any_placed-clause-most c =

@@ -1,15 +1,15 @@
 use Rattle.std.proofs.Common.{All, arith, get_or, refl, subst, ◌∙◌}
 use Rattle.std.proofs.lemmas.List.{get_or_default}
 use Rattle.bin_queues.specs.Tasks.{Submitting}
-use Rattle.bin_tasks.specs.Drains.{MayDrain, WasTold}
-use Rattle.tile_queues.specs.Shares.{AreChanged}
+use Rattle.bin_tasks.specs.Drains.{WasTold}
+use Rattle.tile_queues.specs.Shares.{AreChanged, MayDraw}
 use Rattle.tile_queues.proofs.Turning.{none_turned, turned_more}
 use Rattle.tile_queues.proofs.drawing.tell_all.Goals as goal
 
 pub loop-w-init : goal.loop-w-init
 loop-w-init g c = record {
   same = refl;
-  told = none_turned (λ s. All (MayDrain g.K.Keeper.stands g.K.Keeper.cells c.args.drawing.now) s.tasks.items) (λ a b. AreChanged (WasTold c.args.sender.now.batches) a.tasks.items b.tasks.items) c.args.shares.now c.requires.shares;
+  told = none_turned (λ s. All (MayDraw c.args.drawing.now) s.tasks.items) (λ a b. AreChanged (WasTold c.args.sender.now.batches) a.tasks.items b.tasks.items) c.args.shares.now c.requires.shares;
 }
 
 pub loop-w-preserved : goal.loop-w-preserved
@@ -18,7 +18,7 @@ loop-w-preserved g c =
     let own = c.tell_worker.new.own in
     record {
       same = c.tell_worker.ensures.same ∙ c.loop-w.invariant.same;
-      told = turned_more (λ s. All (MayDrain g.K.Keeper.stands g.K.Keeper.cells c.args.drawing.now) s.tasks.items) (λ a b. AreChanged (WasTold c.args.sender.now.batches) a.tasks.items b.tasks.items) c.args.shares.now xs c.loop-w.w own c.loop-w.invariant.told (omega arith) c.tell_worker.ensures.may
+      told = turned_more (λ s. All (MayDraw c.args.drawing.now) s.tasks.items) (λ a b. AreChanged (WasTold c.args.sender.now.batches) a.tasks.items b.tasks.items) c.args.shares.now xs c.loop-w.w own c.loop-w.invariant.told (omega arith) c.tell_worker.ensures.may
           (λ d. subst (λ (s : Submitting). AreChanged (WasTold s.batches) (get_or xs c.loop-w.w d).tasks.items own.tasks.items) c.loop-w.invariant.same (subst (λ x. AreChanged (WasTold c.loop-w.sender.batches) x.tasks.items own.tasks.items) (get_or_default xs c.loop-w.w _ d (omega arith)) c.tell_worker.ensures.told));
     }
 

@@ -1,5 +1,6 @@
 use Rattle.std.proofs.Common.{◌≡◌}
-use Rattle.bin_tasks.specs.Drains.{MayDrain, WasTold}
+use Rattle.bin_tasks.specs.Drains.{WasTold}
+use Rattle.tile_queues.specs.Shares.{MayDraw}
 use Rattle.tile_queues.proofs.Turning.{IsTurnedTo}
 use Rattle.tile_queues.proofs.drawing.tell_share.Given as goal
 
@@ -7,5 +8,5 @@ abbrev pub invariant-loop-j : goal.invariant-loop-j
 invariant-loop-j g l =
     record {
       same : l.sender ≡ l.initial.sender;
-      told : IsTurnedTo (MayDrain g.K.Keeper.stands g.K.Keeper.cells l.drawing) (λ a b. WasTold l.initial.sender.batches a.intake b.intake) l.initial.tasks l.tasks l.j;
+      told : IsTurnedTo (MayDraw l.drawing) (WasTold l.initial.sender.batches) l.initial.tasks l.tasks l.j;
     }

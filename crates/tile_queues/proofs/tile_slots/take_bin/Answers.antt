@@ -12,8 +12,8 @@ use Rattle.bin_tiles.proofs.Lists.{pushed_at}
 use Rattle.tile_queues.proofs.Taking.{holds_first, next_bin, one_less, slot_is_full, writer_is}
 use Rattle.tile_queues.proofs.tile_slots.take_bin.Goals as goal
 
-pub take_from-requires-clause-full : goal.take_from-requires-clause-full
-take_from-requires-clause-full c =
+pub take_writer-requires-clause-full : goal.take_writer-requires-clause-full
+take_writer-requires-clause-full c =
     let t = c.args.intake.now in
     let f = t.of.frame in
     let old = c.loop-number.invariant in
@@ -32,7 +32,7 @@ loop-number-preserved c =
     let f = t.of.frame in
     let old = c.loop-number.invariant in
     let n = c.loop-number.number in
-    let w = c.take_from.result in
+    let w = c.take_writer.result in
     let b = c.bin.ensures.batched in
     let sized : c.size-size.result ≡ f.list.size = c.size-size.ensures ∙ ap (λ (l : PieceList). l.size) (sym c.requires.list) in
     let window : c.bin_span-window.result ≡ bin_span_of f.list.size f.cut t.of.bin = c.bin_span-window.ensures.value ∙ (λ i. bin_span_of (sized i) (c.cut-2.ensures i) (c.bin.ensures.value i)) in
@@ -40,12 +40,12 @@ loop-number-preserved c =
     let count : c.columns.result * c.rows.result ≡ tiles_in (bin_span_of f.list.size f.cut t.of.bin) = (λ i. c.columns.ensures i * c.rows.ensures i) ∙ ap tiles_in window in
     let lt : n < tiles_in (bin_span_of f.list.size f.cut t.of.bin) = omega (arith, count, c.loop-number-test.true) in
     let tile = c.tile_at_number-tile.ensures.value ∙ (λ i. tile_numbered (sized i) (window i) n) in
-    let at = writer_is f t.of.bin b.sized b.is_cut span n lt c.loop-number.slots old.left c.tile_at_number-tile.result w tile c.take_from.ensures.taken in
+    let at = writer_is f t.of.bin b.sized b.is_cut span n lt c.loop-number.slots old.left c.tile_at_number-tile.result w tile c.take_writer.ensures.taken in
     let here = subst (λ (z : TileSpan). StandsAt f.cells f.list 0 (tile_numbered f.list.size z n) w) (sym window) at in
     let items = c.push_reserved.ensures.items in
     record {
-      whole = ap length c.take_from.ensures.left ∙ length-set c.loop-number.slots c.tile_at_number-tile.result None ∙ old.whole;
-      left = rw c.take_from.ensures.left (one_less f t.of.bin b.sized b.is_cut span n lt c.loop-number.slots old.left c.tile_at_number-tile.result tile);
+      whole = ap length c.take_writer.ensures.left ∙ length-set c.loop-number.slots c.tile_at_number-tile.result None ∙ old.whole;
+      left = rw c.take_writer.ensures.left (one_less f t.of.bin b.sized b.is_cut span n lt c.loop-number.slots old.left c.tile_at_number-tile.result tile);
       made = (let m = ap length items in omega (arith, m, length-append c.loop-number.writers.items (w ∷ []), old.made));
       each = λ m d ml. subst (λ (ws : List Writing). StandsAt f.cells f.list 0 (tile_numbered f.list.size c.bin_span-window.result m) (get_or ws m d)) (sym items)
           (pushed_at (λ k (x : Writing). StandsAt f.cells f.list 0 (tile_numbered f.list.size c.bin_span-window.result k) x) n c.loop-number.writers.items w old.made old.each here m d ml);

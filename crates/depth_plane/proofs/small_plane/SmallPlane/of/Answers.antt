@@ -2,6 +2,7 @@ use Rattle.std.proofs.Common.{◌≡◌, ℕ, ℤ, pos, negsuc, ◌<ℤ◌, ◌�
 use Rattle.std.specs.Int.{w128}
 use Rattle.std.specs.Int.RustNames.{unsigned_abs}
 use Rattle.std.proofs.lemmas.Int.{ints, to_z-of_z}
+use Rattle.std.proofs.lemmas.Bool.Decides.{nat_tests}
 use Rattle.cull_base.specs.Bounds.{Bounded}
 use Rattle.cull_base.specs.Piece.{Piece, IsPiece}
 use Rattle.depth_plane.specs.Plane.{Coefficients}
@@ -32,8 +33,8 @@ returns c =
     let fn : FitsSigned w64 c.area-area.result = search rules in
     let v = c.of-vertices.ensures in
     let p = positive c.args.tri.now c.of-vertices.result c.area-area.result v.valid v.value c.area-area.ensures.value in
-    simp to_z-of_z (same_area c.across-across.result c.down-down.result c.level-level.result (pos c.unsigned_abs.result) c.area-area.result _
-    (size_is c.area-area.result c.unsigned_abs.result p (simp to_z-of_z at c.unsigned_abs.ensures.value))
+    simp to_z-of_z (same_area c.across-across.result c.down-down.result c.level-level.result (pos c.unsigned_abs-area.result) c.area-area.result _
+    (size_is c.area-area.result c.unsigned_abs-area.result p (simp to_z-of_z at c.unsigned_abs-area.ensures.value))
     (plane_of-computed c.args.tri.now c.of-vertices.result c.across-across.result c.down-down.result c.level-level.result c.area-area.result v.value
     c.across-across.ensures.value c.down-down.ensures.value c.area-area.ensures.value (simp to_z-of_z at c.level-level.ensures.value)))
 
@@ -46,7 +47,7 @@ invariant_of-result c =
     let ff : FitsSigned w64 c.in_ok-first.first = search rules in
     let v = c.of-vertices.ensures in
     let p = positive c.args.tri.now c.of-vertices.result c.area-area.result v.valid v.value c.area-area.ensures.value in
-    let is = size_is c.area-area.result c.unsigned_abs.result p (simp to_z-of_z at c.unsigned_abs.ensures.value) in (
+    let is = size_is c.area-area.result c.unsigned_abs-area.result p (simp to_z-of_z at c.unsigned_abs-area.ensures.value) in (
       simp to_z-of_z (record {
         across = c.across-across.ensures.bounded;
         down = c.down-down.ensures.bounded;
@@ -54,5 +55,5 @@ invariant_of-result c =
         positive_area = rw is p;
         area_within = within c.area-area.result _ c.area-area.ensures.bounded is;
       }),
-      simp to_z-of_z (simp to_z-of_z at (c.in_ok-first.ensures (pos c.unsigned_abs.result))),
+      (simp to_z-of_z (simp to_z-of_z at (c.in_ok-first.ensures (pos c.unsigned_abs-area.result))), (let t = c.if-area-ge-GREATEST.false in grind (arith, nat_tests, t))),
     )
