@@ -1,6 +1,7 @@
 -- How commands come to their outcomes.
-use Rattle.std.proofs.Common.{◌≡◌, ℕ, zero, suc, ◌+◌, ◌<◌, ◌≤◌, ◌++◌, List, [], length, take, arith, refl, sym, ap, ◌∙◌, subst, inl, inr, Option, Some, None, Result, Ok, Err, ◌⊎◌}
+use Rattle.std.proofs.Common.{◌≡◌, ℕ, zero, suc, ◌+◌, ◌<◌, ◌≤◌, ◌++◌, List, [], length, map, take, arith, refl, sym, ap, ◌∙◌, subst, inl, inr, Option, Some, None, Result, Ok, Err, ◌⊎◌}
 use Rattle.std.specs.Prelude.{IfSome, IsErrOf, slice_index_or}
+use Rattle.std.specs.List.{flat_map, range_with_len}
 use Rattle.std.proofs.lemmas.List.{append-nil}
 use Rattle.clap.specs.Words.{Text}
 use Rattle.cull_base.specs.Stream.{SinkSays, SourceSays, Appends, AppendsPrefix, IsNoted, Rose}
@@ -12,7 +13,7 @@ use Rattle.scene_reader.specs.declared.error.SceneError.{SceneError}
 use Rattle.scene_reader.specs.declared.error.SceneError.TheVariants as errors
 use Rattle.cull_report.proofs.Occluders.{hides_truly}
 use Rattle.cull_report.specs.Live.{Counts}
-use Rattle.cull_report.specs.Scene.{report_text, scene_header}
+use Rattle.cull_report.specs.Scene.{scene_header}
 use Rattle.command_words.specs.Words.{AreWords, IsWithinLimits, command_of}
 use Rattle.command_words.specs.declared.command.Command.{Command}
 use Rattle.command_words.specs.declared.command.Command.TheVariants.{Cull, Live, Demo}
@@ -20,52 +21,33 @@ use Rattle.command_words.specs.declared.settings.Settings.{Settings}
 use Rattle.command_words.specs.declared.words.Refusal.{Refusal}
 use Rattle.command_words.specs.declared.words.Refusal.TheVariants as refusals
 use Rattle.demo_scene.proofs.DemoScene.{demo_is_scene}
-use Rattle.demo_scene.specs.Demo.{demo_of}
+use Rattle.demo_scene.specs.Demo.{demo_of, frame_count}
 use Rattle.maskcull.specs.declared.failure.Failure.{Failure}
 use Rattle.maskcull.specs.declared.failure.Failure.TheVariants.{Scene, ReadFault, ReportFault, NotesFault, Memory}
 use Rattle.maskcull.specs.declared.failure.Status.{Status}
 use Rattle.maskcull.specs.declared.failure.Status.TheVariants as statuses
-use Rattle.maskcull.specs.Culling.{Reports}
-use Rattle.maskcull.specs.LiveRuns.{ReportsLive}
-use Rattle.maskcull.specs.LiveScenes.{CountsStay}
+use Rattle.maskcull.specs.FrameRuns.{LeavesFrames, LeavesTexts}
+use Rattle.maskcull.specs.Frames.{lines_of}
+use Rattle.maskcull.specs.NotedLines.{CountsStay}
 use Rattle.maskcull.specs.Notes.{IsNotedBehind, IsNotedFirst, note_by, note_text, refusal_text, status_text, usage_text}
 use Rattle.maskcull.specs.Outcome.{failure_of, refusal_status, status_by, status_of}
 use Rattle.maskcull.specs.Outcomes.{Ends, HasFault, HasScene, IfAsked, IfBytes, IsTrue, ReadsScene, OutcomeOf, joined, live_frames, note_alone, notes_at, notes_before, report_and, report_before, report_of, text_alone}
 use Rattle.maskcull.specs.Runs.{AwaitsNote, Comes, HasCause, IsComplete, IsCut, IsUnasked, Leaves, LeavesFront, LeavesWhole, Streams, WithoutFault, streams}
-use Rattle.maskcull.specs.Summary.{summary_text}
+use Rattle.maskcull.specs.Summary.{demo_line, frames_summary, summary_text}
+use Rattle.maskcull.specs.declared.frames.Beside.TheVariants.{Nothing, Looks}
+use Rattle.maskcull.specs.declared.frames.FrameLines.TheVariants.{Report, Summary}
 use Rattle.maskcull.proofs.Fronts.{nothing_appended, rose_later}
-use Rattle.maskcull.proofs.OutcomeTexts.{front_at, header_some, live_frames_are, none_joined, not_empty, report_is, summary_some}
+use Rattle.maskcull.proofs.FrameByFrame.{are_empty}
+use Rattle.maskcull.proofs.FrameTexts.{as_one_text, counts_same, never_done, none_at, without_notes}
+use Rattle.maskcull.proofs.OutcomeTexts.{header_some, joined_is, live_frames_are, not_empty, summary_some}
 use Rattle.maskcull.proofs.ScenePieces.{all_are_pieces, lines_hide}
 
 -- ---- what waits for its note
 
-pub counts_same : (n : SinkSays) → CountsStay n n
-counts_same n = record { faults = omega arith; refusals = omega arith }
-
 nothing_awaits : (n : SinkSays) (r : Result (Unit {0}) Failure) (note : List ℕ) → note ≡ note_by r → AwaitsNote r n n [] note
 nothing_awaits n r note is = record { gained = nothing_appended n; note_is = is; stay = counts_same n }
 
--- ---- a front without notes
-
-quiet_front : (status result : Status) (note head : List ℕ) (frames : List (List ℕ)) (before after : SinkSays) (noted : List ℕ → List ℕ → Type 0) → (result ≡ statuses.NotesFault → ⊥)
-    → AppendsPrefix before after (head ++ joined frames) → noted [] (status_text result)
-    → LeavesFront (record { status = status; note = note; head = head; frames = frames; notes = [] }) result before after noted
-quiet_front status result note head frames before after noted other front none =
-    let o : OutcomeOf = record { status = status; note = note; head = head; frames = frames; notes = [] } in
-    let at = front_at o before after front in
-    let no_text : joined (take at.frame []) ≡ [] = none_joined at.frame in
-    record {
-      frame = at.frame;
-      is_frame = at.is_frame;
-      reported = at.reported;
-      earlier = at.earlier;
-      size = 0;
-      within = omega arith;
-      whole = λ lt. absurd (omega arith);
-      noted_is = subst (λ (t : List ℕ). noted (t ++ []) (status_text result)) (sym no_text) none;
-      of_report = λ is. refl;
-      of_notes = λ is. absurd (other is);
-    }
+-- ---- nothing is left
 
 nothing_front : (before : SinkSays) (text : List ℕ) → AppendsPrefix before before text
 nothing_front before text = (0, omega arith, nothing_appended before)
@@ -156,50 +138,44 @@ failed_read c i0 i1 r n (errors.BadKind i) P Q reads fault rose p q = comes_refu
 failed_read c i0 i1 r n (errors.BadObject i) P Q reads fault rose p q = comes_refused c i0 i1 r n (errors.BadObject i) P Q reads tt (fault tt) p q
 failed_read c i0 i1 r n (errors.BadCamera i) P Q reads fault rose p q = comes_refused c i0 i1 r n (errors.BadCamera i) P Q reads tt (fault tt) p q
 
--- ---- a command that notes nothing of its frames
+-- ---- a scene's frames
 
-reports_come : (c : Command) (head : List ℕ) (frames : List (List ℕ)) (i0 i1 : SourceSays) (r0 r1 n : SinkSays) (r : Result (Unit {0}) Failure) (P Q : Type 0)
-    → Ends c i0 (record { status = statuses.Done; note = []; head = head; frames = frames; notes = [] })
-    → 0 < length head → (ReadsScene c → IfBytes i0 (λ bytes. i1.left ≡ Some [])) → Q → Reports r0 r1 r (head ++ joined frames)
-    → Comes c (status_by r) (streams i0 r0 n) (streams i1 r1 n) (AwaitsNote r) P Q
-reports_come c head frames i0 i1 r0 r1 n (Ok x) P Q ends some taken q w = record {
-  outcome = record { status = statuses.Done; note = []; head = head; frames = frames; notes = [] };
+-- a failure's cause, by its status
+no_notes : (o : OutcomeOf) (r : Result (Unit {0}) Failure) (r0 r1 n0 n1 : SinkSays) → LeavesTexts o r r0 r1 n0 n1 → status_by r ≡ statuses.NotesFault → o.notes ≡ [] → o.status ≡ statuses.Done → ⊥
+no_notes o r r0 r1 n0 n1 l is none done = elim l.leaves [
+  | inl whole ↦ let other : statuses.NotesFault ≡ statuses.Done = sym is ∙ whole.0 ∙ done in absurd cc
+  | inr front ↦ let x = front.1.of_notes is in absurd (omega (arith, x.1, ap length (none_at o front.1.frame none)))
+]
+
+texts_causes : (o : OutcomeOf) (r : Result (Unit {0}) Failure) (i0 i1 : SourceSays) (r0 r1 n0 n1 : SinkSays) → o.status ≡ statuses.Done → LeavesTexts o r r0 r1 n0 n1
+    → HasCause o (status_by r) (streams i0 r0 n0) (streams i1 r1 n1)
+texts_causes o (Ok x) i0 i1 r0 r1 n0 n1 done l = record { read = λ is. absurd cc; report = λ is. absurd cc; notes = λ is. absurd cc }
+texts_causes o (Err f) i0 i1 r0 r1 n0 n1 done l = elim l.cause [
+  | inl memory ↦
+      let is : status_of f ≡ statuses.Memory = ap status_of memory in
+      record { read = λ e. absurd cc; report = λ e. absurd cc; notes = λ e. absurd cc }
+  | inr rest ↦ elim rest [
+    | inl report ↦
+        let is : status_of f ≡ statuses.ReportFault = ap status_of report.0 in
+        record { read = λ e. absurd cc; report = λ e. report.1; notes = λ e. absurd cc }
+    | inr notes ↦
+        let is : status_of f ≡ statuses.NotesFault = ap status_of notes.0 in
+        record { read = λ e. absurd cc; report = λ e. absurd cc; notes = λ e. (λ none. no_notes o (Err f) r0 r1 n0 n1 l e none done, notes.1) }
+  ]
+]
+
+texts_come : (c : Command) (o : OutcomeOf) (i0 i1 : SourceSays) (r0 r1 n0 n1 : SinkSays) (r : Result (Unit {0}) Failure) (P Q : Type 0) → Ends c i0 o → o.status ≡ statuses.Done → (report_of o ≡ [] → ⊥)
+    → (ReadsScene c → IfBytes i0 (λ bytes. i1.left ≡ Some [])) → (o.notes ≡ [] → Q) → LeavesTexts o r r0 r1 n0 n1
+    → Comes c (status_by r) (streams i0 r0 n0) (streams i1 r1 n1) (AwaitsNote r) P Q
+texts_come c o i0 i1 r0 r1 n0 n1 r P Q ends done some taken quiet l = record {
+  outcome = o;
   ends = ends;
-  leaves = inl (refl, record { reported = w.ok; noted_is = nothing_awaits n (Ok x) [] refl });
-  causes = record { read = λ is. absurd cc; report = λ is. absurd cc; notes = λ is. absurd cc };
-  untouched = λ is. absurd (not_empty head (joined frames) some is);
-  unnoted = λ is. q;
+  leaves = l.leaves;
+  causes = texts_causes o r i0 i1 r0 r1 n0 n1 done l;
+  untouched = λ is. absurd (some is);
+  unnoted = quiet;
   taken = λ is. taken;
 }
-reports_come c head frames i0 i1 r0 r1 n (Err Memory) P Q ends some taken q w = record {
-  outcome = record { status = statuses.Done; note = []; head = head; frames = frames; notes = [] };
-  ends = ends;
-  leaves = inr (
-    inr (inr refl),
-    quiet_front statuses.Done statuses.Memory [] head frames r0 r1 (AwaitsNote (Err Memory) n n) (λ is. absurd cc) w.err (nothing_awaits n (Err Memory) (status_text statuses.Memory) refl),
-  );
-  causes = record { read = λ is. absurd cc; report = λ is. absurd cc; notes = λ is. absurd cc };
-  untouched = λ is. absurd (not_empty head (joined frames) some is);
-  unnoted = λ is. q;
-  taken = λ is. absurd cc;
-}
-reports_come c head frames i0 i1 r0 r1 n (Err ReportFault) P Q ends some taken q w =
-    let rose : Rose r0.faults r1.faults = elim w.cause [ inl m ↦ absurd cc | inr x ↦ x.1 ] in
-    record {
-      outcome = record { status = statuses.Done; note = []; head = head; frames = frames; notes = [] };
-      ends = ends;
-      leaves = inr (
-        inl refl,
-        quiet_front statuses.Done statuses.ReportFault [] head frames r0 r1 (AwaitsNote (Err ReportFault) n n) (λ is. absurd cc) w.err (nothing_awaits n (Err ReportFault) (status_text statuses.ReportFault) refl),
-      );
-      causes = record { read = λ is. absurd cc; report = λ is. (not_empty head (joined frames) some, rose); notes = λ is. absurd cc };
-      untouched = λ is. absurd (not_empty head (joined frames) some is);
-      unnoted = λ is. q;
-      taken = λ is. absurd cc;
-    }
-reports_come c head frames i0 i1 r0 r1 n (Err ReadFault) P Q ends some taken q w = absurd (elim w.cause [ inl m ↦ absurd cc | inr x ↦ let y = x.0 in absurd cc ])
-reports_come c head frames i0 i1 r0 r1 n (Err NotesFault) P Q ends some taken q w = absurd (elim w.cause [ inl m ↦ absurd cc | inr x ↦ let y = x.0 in absurd cc ])
-reports_come c head frames i0 i1 r0 r1 n (Err (Scene e)) P Q ends some taken q w = absurd (elim w.cause [ inl m ↦ absurd cc | inr x ↦ let y = x.0 in absurd cc ])
 
 has_scene : (source after : SourceSays) (s : Parts) → IsScene s → TakesLayout source after s → HasScene source s
 has_scene source after s scene takes = record { scene = scene; spelled = by source.left takes }
@@ -215,62 +191,46 @@ none_left source after s takes = by source.left takes
     by None takes = tt
     by (Some bytes) takes = takes.1
 
-pub cull_comes : (settings : Settings) (s : Parts) (i0 i1 : SourceSays) (r0 r1 n : SinkSays) (r : Result (Unit {0}) Failure) (P Q : Type 0) → IsScene s → TakesLayout i0 i1 s → Q
-    → Reports r0 r1 r (report_text s) → Comes (Cull settings) (status_by r) (streams i0 r0 n) (streams i1 r1 n) (AwaitsNote r) P Q
-cull_comes settings s i0 i1 r0 r1 n r P Q scene takes q w =
+pub cull_comes : (settings : Settings) (s : Parts) (i0 i1 : SourceSays) (r0 r1 n0 n1 : SinkSays) (r : Result (Unit {0}) Failure) (P Q : Type 0) → IsScene s → TakesLayout i0 i1 s → Q
+    → LeavesFrames (scene_header s) Report Nothing s 0 (length s.cameras) r r0 r1 n0 n1 → Comes (Cull settings) (status_by r) (streams i0 r0 n0) (streams i1 r1 n1) (AwaitsNote r) P Q
+cull_comes settings s i0 i1 r0 r1 n0 n1 r P Q scene takes q w =
     let o = report_and s [] in
-    reports_come (Cull settings) (scene_header s) o.frames i0 i1 r0 r1 n r P Q (inl (s, has_scene i0 i1 s scene takes, refl)) (header_some s) (λ reads. none_left i0 i1 s takes) q
-    (subst (λ (t : List ℕ). Reports r0 r1 r t) (sym (report_is s [])) w)
-
-pub demo_comes : (settings : Settings) (seed m : ℕ) (i : SourceSays) (r0 r1 n : SinkSays) (r : Result (Unit {0}) Failure) (P Q : Type 0) → Q
-    → Reports r0 r1 r (summary_text seed m) → Comes (Demo settings seed m) (status_by r) (streams i r0 n) (streams i r1 n) (AwaitsNote r) P Q
-demo_comes settings seed m i r0 r1 n r P Q q w =
-    reports_come (Demo settings seed m) (summary_text seed m) [] i i r0 r1 n r P Q refl (summary_some seed m) (λ reads. absurd reads) q
-    (subst (λ (t : List ℕ). Reports r0 r1 r t) (sym (append-nil (summary_text seed m))) w)
-
--- ---- `live`
+    texts_come (Cull settings) o i0 i1 r0 r1 n0 n1 r P Q (inl (s, has_scene i0 i1 s scene takes, refl)) refl (not_empty (scene_header s) (joined o.frames) (header_some s))
+    (λ reads. none_left i0 i1 s takes) (λ none. q)
+    (without_notes (scene_header s) o.frames (map (λ (frame : ℕ). []) (range_with_len 0 (length s.cameras))) r r0 r1 n0 n1 (are_empty 0 (length s.cameras)) w.texts)
 
 live_noted : (s : Parts) (rounds watch : ℕ) (counts : Counts) → IsScene s → live_frames s rounds watch counts ≡ [] → ⊥
 live_noted s rounds watch counts scene is = omega (arith, ap length is, live_frames_are s rounds watch counts, scene.some_frames)
 
--- what it comes to, by the causes of its failures
-of_live : (settings : Settings) (s : Parts) (rounds watch : ℕ) (i0 i1 : SourceSays) (r0 r1 n0 n1 : SinkSays) (r : Result (Unit {0}) Failure) (P Q : Type 0) → IsScene s → TakesLayout i0 i1 s
-    → (rep : ReportsLive s rounds watch r0 r1 n0 n1 r) → HasCause (report_and s (live_frames s rounds watch rep.counts)) (status_by r) (streams i0 r0 n0) (streams i1 r1 n1)
-    → Comes (Live settings rounds watch) (status_by r) (streams i0 r0 n0) (streams i1 r1 n1) (AwaitsNote r) P Q
-of_live settings s rounds watch i0 i1 r0 r1 n0 n1 r P Q scene takes rep causes =
-    let o = report_and s (live_frames s rounds watch rep.counts) in
-    record {
-      outcome = o;
-      ends = inl (s, has_scene i0 i1 s scene takes, (rep.counts, rep.rising, refl));
-      leaves = rep.leaves;
-      causes = causes;
-      untouched = λ is. absurd (not_empty (scene_header s) (joined o.frames) (header_some s) is);
-      unnoted = λ is. absurd (live_noted s rounds watch rep.counts scene is);
-      taken = λ is reads. none_left i0 i1 s takes;
-    }
-
 pub live_comes : (settings : Settings) (s : Parts) (rounds watch : ℕ) (i0 i1 : SourceSays) (r0 r1 n0 n1 : SinkSays) (r : Result (Unit {0}) Failure) (P Q : Type 0) → IsScene s → TakesLayout i0 i1 s
-    → ReportsLive s rounds watch r0 r1 n0 n1 r → Comes (Live settings rounds watch) (status_by r) (streams i0 r0 n0) (streams i1 r1 n1) (AwaitsNote r) P Q
-live_comes settings s rounds watch i0 i1 r0 r1 n0 n1 (Ok x) P Q scene takes rep =
-    of_live settings s rounds watch i0 i1 r0 r1 n0 n1 (Ok x) P Q scene takes rep (record { read = λ is. absurd cc; report = λ is. absurd cc; notes = λ is. absurd cc })
-live_comes settings s rounds watch i0 i1 r0 r1 n0 n1 (Err Memory) P Q scene takes rep =
-    of_live settings s rounds watch i0 i1 r0 r1 n0 n1 (Err Memory) P Q scene takes rep (record { read = λ is. absurd cc; report = λ is. absurd cc; notes = λ is. absurd cc })
-live_comes settings s rounds watch i0 i1 r0 r1 n0 n1 (Err ReportFault) P Q scene takes rep =
-    let rose : Rose r0.faults r1.faults = elim rep.cause [ inl m ↦ absurd cc | inr rest ↦ elim rest [ inl w ↦ w.1 | inr n ↦ let y = n.0 in absurd cc ] ] in
-    of_live settings s rounds watch i0 i1 r0 r1 n0 n1 (Err ReportFault) P Q scene takes rep
-    (record { read = λ is. absurd cc; report = λ is. (not_empty (scene_header s) (joined (report_and s []).frames) (header_some s), rose); notes = λ is. absurd cc })
-live_comes settings s rounds watch i0 i1 r0 r1 n0 n1 (Err NotesFault) P Q scene takes rep =
-    let rose : Rose n0.faults n1.faults = elim rep.cause [ inl m ↦ absurd cc | inr rest ↦ elim rest [ inl w ↦ let y = w.0 in absurd cc | inr n ↦ n.1 ] ] in
-    of_live settings s rounds watch i0 i1 r0 r1 n0 n1 (Err NotesFault) P Q scene takes rep
-    (record { read = λ is. absurd cc; report = λ is. absurd cc; notes = λ is. (live_noted s rounds watch rep.counts scene, rose) })
-live_comes settings s rounds watch i0 i1 r0 r1 n0 n1 (Err ReadFault) P Q scene takes rep = absurd (elim rep.cause [
-  | inl m ↦ absurd cc
-  | inr rest ↦ elim rest [ inl w ↦ let y = w.0 in absurd cc | inr n ↦ let y = n.0 in absurd cc ]
-])
-live_comes settings s rounds watch i0 i1 r0 r1 n0 n1 (Err (Scene e)) P Q scene takes rep = absurd (elim rep.cause [
-  | inl m ↦ absurd cc
-  | inr rest ↦ elim rest [ inl w ↦ let y = w.0 in absurd cc | inr n ↦ let y = n.0 in absurd cc ]
-])
+    → LeavesFrames (scene_header s) Report (Looks rounds watch) s 0 (length s.cameras) r r0 r1 n0 n1 → Comes (Live settings rounds watch) (status_by r) (streams i0 r0 n0) (streams i1 r1 n1) (AwaitsNote r) P Q
+live_comes settings s rounds watch i0 i1 r0 r1 n0 n1 r P Q scene takes w =
+    let o = report_and s (live_frames s rounds watch w.counts) in
+    texts_come (Live settings rounds watch) o i0 i1 r0 r1 n0 n1 r P Q (inl (s, has_scene i0 i1 s scene takes, (w.counts, (λ frame lt. w.rising frame), refl))) refl
+    (not_empty (scene_header s) (joined o.frames) (header_some s)) (λ reads. none_left i0 i1 s takes) (λ none. absurd (live_noted s rounds watch w.counts scene none)) w.texts
+
+-- ---- `demo`
+
+demo_frames : (seed m : ℕ) → length (demo_of seed m).cameras ≡ frame_count
+unfolding demo_of
+demo_frames seed m = refl
+
+summary_is : (seed m : ℕ) → demo_line seed m ++ joined (map (lines_of Summary (demo_of seed m)) (range_with_len 0 (length (demo_of seed m).cameras))) ≡ summary_text seed m
+unfolding summary_text frames_summary
+summary_is seed m =
+    ap (λ (t : List ℕ). demo_line seed m ++ t) (joined_is (lines_of Summary (demo_of seed m)) (length (demo_of seed m).cameras)
+    ∙ ap (λ n. flat_map (lines_of Summary (demo_of seed m)) (range_with_len 0 n)) (demo_frames seed m))
+
+pub demo_comes : (settings : Settings) (seed m : ℕ) (s : Parts) (i : SourceSays) (r0 r1 n0 n1 : SinkSays) (r : Result (Unit {0}) Failure) (P Q : Type 0) → s ≡ demo_of seed m → Q
+    → LeavesFrames (demo_line seed m) Summary Nothing s 0 (length s.cameras) r r0 r1 n0 n1 → Comes (Demo settings seed m) (status_by r) (streams i r0 n0) (streams i r1 n1) (AwaitsNote r) P Q
+demo_comes settings seed m s i r0 r1 n0 n1 r P Q is q w =
+    let d = demo_of seed m in
+    let head = demo_line seed m in
+    let frames = map (lines_of Summary d) (range_with_len 0 (length d.cameras)) in
+    let drawn = subst (λ (p : Parts). LeavesFrames head Summary Nothing p 0 (length p.cameras) r r0 r1 n0 n1) is w in
+    let silent = without_notes head frames (map (λ (frame : ℕ). []) (range_with_len 0 (length d.cameras))) r r0 r1 n0 n1 (are_empty 0 (length d.cameras)) drawn.texts in
+    texts_come (Demo settings seed m) (text_alone (summary_text seed m)) i i r0 r1 n0 n1 r P Q refl refl (not_empty (summary_text seed m) [] (summary_some seed m)) (λ reads. absurd reads) (λ none. q)
+    (subst (λ (t : List ℕ). LeavesTexts (text_alone t) r r0 r1 n0 n1) (summary_is seed m) (as_one_text head frames r r0 r1 n0 n1 silent))
 
 -- ---- the status's note
 
@@ -425,13 +385,6 @@ refused_noted (refusals.Words text) status n0 n1 is words memory = inl (is, subs
 pub refused_is : (refusal : Refusal) → (refusal_status refusal ≡ statuses.Usage) ⊎ (refusal_status refusal ≡ statuses.Memory)
 refused_is refusals.Memory = inr refl
 refused_is (refusals.Words text) = inl refl
-
-never_done : (f : Failure) → status_of f ≡ statuses.Done → ⊥
-never_done (Scene e) is = absurd cc
-never_done ReadFault is = absurd cc
-never_done ReportFault is = absurd cc
-never_done NotesFault is = absurd cc
-never_done Memory is = absurd cc
 
 -- by the status that a failure was told as
 pub failed_as : (c : Command) (f : Failure) (status : Status) (before after : Streams) (P Q R : Type 0) → status ≡ status_of f → Comes c (status_of f) before after IsNotedBehind P (status_of f ≡ statuses.Done → Q)

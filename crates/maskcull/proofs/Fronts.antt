@@ -13,11 +13,7 @@ nothing_appended says = by says.holding
     by None = refl
     by (Some h) = ap Some (sym (append-nil h))
 
--- a whole text is a beginning of a longer one
-pub whole_is_front : (s0 s1 : SinkSays) (a b : List ℕ) → Appends s0 s1 a → AppendsPrefix s0 s1 (a ++ b)
-whole_is_front s0 s1 a b h = (length a, omega (arith, length-append a b), rw (take-append-le (length a) a b (omega arith), take-length a) h)
-
--- and of itself
+-- a whole text is a beginning of itself
 pub all_is_front : (s0 s1 : SinkSays) (a : List ℕ) → Appends s0 s1 a → AppendsPrefix s0 s1 a
 all_is_front s0 s1 a h = (length a, omega arith, rw (take-length a) h)
 

@@ -1,4 +1,3 @@
-pub mod FrameByFrame
 pub mod ClosedCells
 pub mod LiveLooks
 pub mod Marks
@@ -7,6 +6,7 @@ pub mod ScenePieces
 pub mod Shares
 pub mod Fronts
 pub mod OutcomeTexts
-pub mod LiveEnds
+pub mod FrameTexts
+pub mod FrameByFrame
 pub mod Comings
 pub mod Corollaries

@@ -1,25 +1,11 @@
--- What is drawn of a frame, and how a text is reported.
-use Rattle.std.specs.Prelude.{ℕ, Bool, ◌≡◌, ◌<◌, ◌≤◌, List, length, Result, OnOk, OnErr, IfErr, ◌⊎◌}
-use Rattle.cull_base.specs.Stream.{SinkSays, Rose, Appends, AppendsPrefix}
+-- What is drawn of a frame.
+use Rattle.std.specs.Prelude.{ℕ, Bool, ◌≡◌, ◌<◌, List, length}
 use Rattle.scene_reader.specs.Layout.{Parts}
 use Rattle.cull_base.specs.Screen.{tile_count_of}
 use Rattle.cull_base.specs.Tiles.{ArePieces, tile_after}
 use Rattle.masked_update.specs.TileOf.{TileOf}
 use Rattle.cull_base.specs.Fold.{after}
 use Rattle.cull_report.specs.Scene.{IsMarkedRight, size_of, frame_pieces, object_verdict}
-use Rattle.maskcull.specs.declared.failure.Failure.{Failure}
-use Rattle.maskcull.specs.declared.failure.Failure.TheVariants.{ReportFault, Memory}
-
--- memory ran out, or the report's count of faults rose
-abbrev pub IsReportFailure : Failure → SinkSays → SinkSays → Type 0
-IsReportFailure f before after = (f ≡ Memory) ⊎ ((f ≡ ReportFault) × Rose before.faults after.faults)
-
--- The text was appended, or after a failure a beginning of it; memory ran out, or the count of faults rose.
-pub record Reports (before after : SinkSays) (result : Result (Unit {0}) Failure) (text : List ℕ) : Type 0 where
-  pub ok : OnOk result (Appends before after text)
-  pub err : OnErr result (AppendsPrefix before after text)
-  pub cause : IfErr result (λ f. IsReportFailure f before after)
-  pub faults_stay : before.faults ≤ after.faults
 
 -- the tiles took the whole list of a frame
 abbrev pub TookFrame : Parts → ℕ → (ℕ → TileOf) → Type 0

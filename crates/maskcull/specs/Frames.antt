@@ -1,12 +1,14 @@
--- What is written of the frames of a scene: the lines of the report, or those of the summary.
-use Rattle.std.specs.Prelude.{ℕ, ◌+◌, ◌<◌, List, length}
-use Rattle.std.specs.List.{flat_map, range_with_len}
-use Rattle.cull_base.specs.Tiles.{ArePieces}
+-- What is written of the frames of a scene, the lines of the report or those of the summary, and what is noted beside.
+use Rattle.std.specs.Prelude.{ℕ, ◌≤◌, List, [], length}
 use Rattle.cull_base.specs.declared.scene_types.Verdict.{Verdict}
 use Rattle.scene_reader.specs.Layout.{Parts}
+use Rattle.cull_report.specs.Live.{IsRisingIn, LiveLineOf, frame_live}
 use Rattle.cull_report.specs.Scene.{frame_pieces, frame_verdicts}
 use Rattle.cull_report.specs.Text.{frame_text}
+use Rattle.maskcull.specs.LiveFrames.{AreLive}
 use Rattle.maskcull.specs.Summary.{summary_line}
+use Rattle.maskcull.specs.declared.frames.Beside.{Beside}
+use Rattle.maskcull.specs.declared.frames.Beside.TheVariants.{Nothing, Looks}
 use Rattle.maskcull.specs.declared.frames.FrameLines.{FrameLines}
 use Rattle.maskcull.specs.declared.frames.FrameLines.TheVariants.{Report, Summary}
 
@@ -18,14 +20,21 @@ lines_by Summary frame pieces verdicts = summary_line frame pieces verdicts
 abbrev pub lines_of : FrameLines → Parts → ℕ → List ℕ
 lines_of lines s frame = lines_by lines frame (length (frame_pieces s frame)) (frame_verdicts s frame)
 
--- the lines of the first so many frames
-unfoldable pub frames_lines : FrameLines → Parts → ℕ → List ℕ
-frames_lines lines s count = flat_map (lines_of lines s) (range_with_len 0 count)
+-- there are few looks
+abbrev pub AreFew : Beside → Type 0
+AreFew Nothing = Unit {0}
+AreFew (Looks rounds watch) = (rounds ≤ 8) × (watch ≤ 8)
 
--- the lines of so many frames from a first on
-unfoldable pub lines_from : FrameLines → Parts → ℕ → ℕ → List ℕ
-lines_from lines s first count = flat_map (lines_of lines s) (range_with_len first count)
+-- what is noted of a frame: where it is looked at its live lines, by their counts, which rise
+abbrev pub noted_of : Beside → Parts → (ℕ → ℕ → ℕ → ℕ) → ℕ → List ℕ
+noted_of Nothing s counts frame = []
+noted_of (Looks rounds watch) s counts frame = frame_live s rounds watch counts frame
 
--- each member of the lists of so many frames from a first on is a piece
-abbrev pub AreValidFrom : Parts → ℕ → ℕ → Type 0
-AreValidFrom s first count = (k : ℕ) → k < count → ArePieces (frame_pieces s (first + k))
+abbrev pub IsRisingBeside : Beside → Parts → ℕ → (ℕ → ℕ → ℕ → ℕ) → Type 0
+IsRisingBeside Nothing s frame counts = Unit {0}
+IsRisingBeside (Looks rounds watch) s frame counts = IsRisingIn s rounds watch frame counts
+
+-- the lines to note of a frame, if there are
+abbrev pub AreSeen : Beside → Parts → ℕ → List LiveLineOf → Type 0
+AreSeen Nothing s frame lines = Unit {0}
+AreSeen (Looks rounds watch) s frame lines = AreLive s rounds watch frame lines

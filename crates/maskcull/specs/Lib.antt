@@ -6,7 +6,7 @@ pub mod LiveFrames
 pub mod Notes
 pub mod Outcome
 pub mod Culling
-pub mod LiveRuns
-pub mod LiveScenes
+pub mod NotedLines
 pub mod Outcomes
 pub mod Runs
+pub mod FrameRuns

@@ -2,7 +2,7 @@
 use Rattle.std.specs.Prelude.{ℕ, ◌≡◌, ◌⊎◌, ◌+◌, ◌<◌, ◌≤◌, ◌++◌, List, [], length, take, Some, Result}
 use Rattle.cull_base.specs.Stream.{SourceSays, SinkSays, Rose, Appends, AppendsPrefix, IsNoted}
 use Rattle.command_words.specs.declared.command.Command.{Command}
-use Rattle.maskcull.specs.LiveScenes.{CountsStay}
+use Rattle.maskcull.specs.NotedLines.{CountsStay}
 use Rattle.maskcull.specs.Notes.{IsNotedFirst, note_by, status_text}
 use Rattle.maskcull.specs.Outcomes.{IfBytes, OutcomeOf, Ends, ReadsScene, joined, notes_at, notes_before, report_before, report_of}
 use Rattle.maskcull.specs.declared.failure.Failure.{Failure}

@@ -4,8 +4,9 @@ ghost use Rattle.cull_base.specs.Tiles.{ArePieces};
 ghost use Rattle.cull_report.specs.Scene.{size_of, frame_clips, frame_pieces, frame_verdicts};
 ghost use Rattle.bin_tiles.specs.BinViews.{table_of};
 ghost use Rattle.command_words.specs.Words.{AreInRange};
+ghost use Rattle.maskcull.specs.Frames.{AreFew};
 
-use crate::frames::{Asking, Frame, drawn_pieces, unset_marks, verdicts_by};
+use crate::frames::{Asking, Beside, Frame, FrameLines, drawn_pieces, unset_marks, verdicts_by};
 use binning::batch_size;
 use command_words::Settings;
 use cull_base::{ClipVertex, Memory};
@@ -16,18 +17,28 @@ use std::sync::Wait;
 use std::thread::Threads;
 use tile_queues::{BinTable, BinView, Gate, draw_plain_frame};
 
-/// What all frames of a scene share while they are drawn. Conditions: the settings are in range, and the table is that
-/// of the screen and of the settings' cut.
+/// How frames are drawn, what is written of each, and what is noted beside. Conditions: the settings are in range, and
+/// there are few looks.
+#[derive(Drop)]
+pub struct Plan<'a> {
+    pub settings: &'a Settings,
+    pub lines: FrameLines,
+    pub beside: Beside,
+    ghost in_range: { AreInRange settings.now },
+    ghost few: { AreFew beside },
+}
+
+/// What all frames of a scene share while they are drawn. Condition: the table is that of the screen and of the
+/// settings' cut.
 #[derive(Drop)]
 pub struct Drawing<'a, R, G> {
     pub rt: &'a R,
     pub alloc: Global,
-    pub settings: &'a Settings,
+    pub plan: &'a Plan<'a>,
     pub table: &'a BinTable,
     pub scene: &'a Scene,
     pub gate: &'a G,
-    ghost in_range: { AreInRange settings.now },
-    ghost is_table: { table.now ≡ table_of (size_of scene.now) settings.now.cut },
+    ghost is_table: { table.now ≡ table_of (size_of scene.now) plan.now.settings.now.cut },
 }
 
 /// Draws a frame and then tests the objects, by workers as the settings ask: what each tile takes, and in which order,
@@ -46,7 +57,7 @@ pub fn draw_plainly<R: Threads + Wait + Sync, G: Gate>(
     ensures valid { OnOk result (ArePieces (frame_pieces drawing.now.scene.now frame)) }
 {
     let (rt, alloc, scene) = (drawing.rt, drawing.alloc, drawing.scene);
-    let settings = drawing.settings;
+    let settings = drawing.plan.settings;
     let drawn = drawn_pieces(rt, alloc, scene, frame, clips, settings)?;
     let list = &drawn.list;
     let batch = batch_size(list.len(), settings.batch);

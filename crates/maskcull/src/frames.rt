@@ -28,6 +28,14 @@ pub enum FrameLines {
     Summary,
 }
 
+/// What is noted of a frame beside its lines.
+#[derive(Clone, Copy)]
+pub enum Beside {
+    Nothing,
+    /// The lines of looks while the frame is drawn: so many rounds of them, each at the first objects, of so many.
+    Looks { rounds: u32, watch: u32 },
+}
+
 /// Who tests a frame's objects.
 #[derive(Clone, Copy)]
 pub enum Asking {

@@ -9,49 +9,23 @@ ghost use Rattle.cull_report.specs.Scene.{frame_clips, frame_list, frame_pieces,
 ghost use Rattle.tile_cells.specs.Cells.{Reading};
 ghost use Rattle.tile_queues.specs.Frames.{HaveStates};
 ghost use Rattle.maskcull.specs.LiveFrames.{AreLive, HaveRoom, IsReady, IsWatching, RoomFor};
-ghost use Rattle.maskcull.specs.LiveScenes.{NotesLines, ReportsFrame};
-ghost use Rattle.command_words.specs.Words.{AreInRange};
+ghost use Rattle.maskcull.specs.NotedLines.{NotesLines};
 
+use crate::drawing::Drawing;
 use crate::failure::Failure;
-use crate::frames::{
-    Asking, Frame, FrameLines, clip_frame, pieces_of, unset_marks, verdicts_by, write_lines,
-};
+use crate::frames::{Asking, Frame, pieces_of, unset_marks, verdicts_by};
 use crate::live_caller::{LiveCaller, Watched};
 use binning::batch_size;
-use command_words::Settings;
 use cull_base::{ClipVertex, FrameList, Memory, Sink, SinkError, TileSpan};
 use cull_report::{Asked, LiveLine, object_area, write_live};
 use masked_update::{PlainView, TileState};
-use scene_reader::Scene;
 use std::alloc::Global;
 use std::sync::Wait;
 use std::thread::Threads;
 use tile_cells::{Snapshot, TileCells};
 use tile_queues::{Caller, Gate, draw_frame};
 
-/// How frames are drawn, and how many looks each gets: so many rounds, each at the first objects, of so many. Conditions:
-/// the settings are in range, and there are at most 8 rounds and 8 objects.
-#[derive(Drop)]
-pub struct Looks<'a> {
-    pub settings: &'a Settings,
-    pub rounds: u32,
-    pub watch: u32,
-    ghost in_range: { AreInRange settings.now },
-    ghost few_rounds: { rounds ≤ 8 },
-    ghost few_objects: { watch ≤ 8 },
-}
-
-/// What all frames of a scene share while they are drawn and looked at.
-#[derive(Drop)]
-pub struct LiveDrawing<'a, R, G> {
-    pub rt: &'a R,
-    pub alloc: Global,
-    pub looks: &'a Looks<'a>,
-    pub scene: &'a Scene,
-    pub gate: &'a G,
-}
-
-/// What was drawn and seen of a frame.
+/// What was drawn of a frame, and what was seen of it meanwhile.
 #[derive(Drop)]
 pub struct Seen {
     pub frame: Frame,
@@ -88,7 +62,7 @@ fn make_lines(alloc: Global, watched: &Watched, rounds: u32) -> Result<Vec<LiveL
 
 // Draws a list through cells of its own, while the caller reads them.
 fn draw_in_cells<R: Threads + Wait + Sync, G: Gate, C: Caller>(
-    drawing: &LiveDrawing<R, G>,
+    drawing: &Drawing<R, G>,
     list: &FrameList,
     caller: &mut C,
 ) -> Result<Vec<TileState>, Memory>
@@ -101,7 +75,7 @@ fn draw_in_cells<R: Threads + Wait + Sync, G: Gate, C: Caller>(
 {
     // accessors tell what is held of a size and of a list
     let (_width, _len) = (list.size().width(), list.len());
-    let (rt, alloc, settings) = (drawing.rt, drawing.alloc, drawing.looks.settings);
+    let (rt, alloc, settings) = (drawing.rt, drawing.alloc, drawing.plan.settings);
     let batch = batch_size(list.len(), settings.batch);
     let (cells, writers, mut readers) = TileCells::make(rt, alloc, list, 1)?;
     let writers = draw_frame(
@@ -122,31 +96,34 @@ fn draw_in_cells<R: Threads + Wait + Sync, G: Gate, C: Caller>(
 
 // A caller with a line for each look, and a mark for each object, of which none is set.
 fn make_caller<'a, R, G: Gate>(
-    drawing: &LiveDrawing<'a, R, G>,
+    drawing: &Drawing<'a, R, G>,
+    rounds: u32,
+    watch: u32,
     frame: u32,
     clips: &'a [ClipVertex],
 ) -> Result<LiveCaller<'a, G>, Memory>
+    requires rounds { rounds ≤ 8 }
+    requires objects { watch ≤ 8 }
     requires frame { frame < length drawing.now.scene.now.cameras }
     requires clips { clips.now ≡ frame_clips drawing.now.scene.now frame }
     ensures ready { IfOk result (λ c. IsReady c.watched.scene.now c.watched.frame c.watched.objects c.watched.clips.now
         c.snapshot.size c.lines.items c.settled.items (frame_list drawing.now.scene.now frame)) }
     ensures scene { IfOk result (λ c. c.watched.scene.now ≡ drawing.now.scene.now) }
     ensures frame { IfOk result (λ c. c.watched.frame ≡ frame) }
-    ensures objects { IfOk result (λ c. c.watched.objects ≡ watched drawing.now.scene.now drawing.now.looks.now.watch) }
-    ensures lines { IfOk result (λ c. length c.lines.items
-        ≡ drawing.now.looks.now.rounds * watched drawing.now.scene.now drawing.now.looks.now.watch) }
+    ensures objects { IfOk result (λ c. c.watched.objects ≡ watched drawing.now.scene.now watch) }
+    ensures lines { IfOk result (λ c. length c.lines.items ≡ rounds * watched drawing.now.scene.now watch) }
     ensures marks { IfOk result (λ c. length c.settled.items ≡ length drawing.now.scene.now.objects) }
 {
-    let (alloc, scene, looks) = (drawing.alloc, drawing.scene, drawing.looks);
+    let (alloc, scene) = (drawing.alloc, drawing.scene);
     // an accessor tells what is held of a scene
     let _near = scene.near();
     let watched = Watched {
         scene,
         frame,
         clips,
-        objects: looks.watch.min(scene.objects().len() as u32),
+        objects: watch.min(scene.objects().len() as u32),
     };
-    let lines = make_lines(alloc, &watched, looks.rounds)?;
+    let lines = make_lines(alloc, &watched, rounds)?;
     let snapshot = Snapshot::with_room(alloc, scene.size())?;
     let settled = unset_marks(alloc, scene.objects().len())?;
     Ok(LiveCaller {
@@ -154,30 +131,34 @@ fn make_caller<'a, R, G: Gate>(
         gate: drawing.gate,
         snapshot,
         lines,
-        early: looks.settings.early,
+        early: drawing.plan.settings.early,
         settled,
     })
 }
 
-/// Draws a frame, looks at its first objects meanwhile, and tests all of them at its end. Where the settings ask for it
-/// those that were settled meanwhile aren't tested. Conditions: there is such a frame, and the clip vertices are its own.
+/// Draws a frame, looks at its first objects meanwhile, in so many rounds at so many, and tests all objects at its end.
+/// Where the settings ask for it those that were settled meanwhile aren't tested. Conditions: at most 8 rounds and 8
+/// objects, there is such a frame, and the clip vertices are its own.
 pub fn draw_live<R: Threads + Wait + Sync, G: Gate>(
-    drawing: &LiveDrawing<R, G>,
+    drawing: &Drawing<R, G>,
+    rounds: u32,
+    watch: u32,
     frame: u32,
     clips: &[ClipVertex],
 ) -> Result<Seen, Memory>
+    requires rounds { rounds ≤ 8 }
+    requires objects { watch ≤ 8 }
     requires frame { frame < length drawing.now.scene.now.cameras }
     requires clips { clips.now ≡ frame_clips drawing.now.scene.now frame }
     ensures pieces { IfOk result (λ f. f.frame.pieces ≡ length (frame_pieces drawing.now.scene.now frame)) }
     ensures verdicts { IfOk result (λ f. f.frame.verdicts ≡ frame_verdicts drawing.now.scene.now frame) }
     ensures valid { OnOk result (ArePieces (frame_pieces drawing.now.scene.now frame)) }
-    ensures live { IfOk result (λ f. AreLive drawing.now.scene.now
-        drawing.now.looks.now.rounds drawing.now.looks.now.watch frame f.lines.items) }
+    ensures live { IfOk result (λ f. AreLive drawing.now.scene.now rounds watch frame f.lines.items) }
 {
     let (rt, alloc, scene) = (drawing.rt, drawing.alloc, drawing.scene);
-    let workers = drawing.looks.settings.workers;
+    let workers = drawing.plan.settings.workers;
     let list = pieces_of(rt, alloc, scene, frame, clips, workers)?;
-    let mut caller = make_caller(drawing, frame, clips)?;
+    let mut caller = make_caller(drawing, rounds, watch, frame, clips)?;
     let states = draw_in_cells(drawing, &list, &mut caller)?;
     let view = PlainView::new(&states);
     let asked = Asked {
@@ -208,8 +189,8 @@ fn write_all<E: Sink>(notes: &mut E, lines: &[LiveLine]) -> Result<(), SinkError
     Ok(())
 }
 
-// Notes each line.
-fn note_lines<E: Sink>(notes: &mut E, lines: &[LiveLine]) -> Result<(), Failure>
+/// Notes each line. NotesFault where that fails, and Memory where the sink is out of it.
+pub fn note_lines<E: Sink>(notes: &mut E, lines: &[LiveLine]) -> Result<(), Failure>
     ensures { NotesLines (E.says notes.old) (E.says notes.new) result (flat_map text_of_line lines.now) }
 {
     match write_all(notes, lines) {
@@ -217,27 +198,4 @@ fn note_lines<E: Sink>(notes: &mut E, lines: &[LiveLine]) -> Result<(), Failure>
         Err(SinkError::Failed) => Err(Failure::NotesFault),
         Err(SinkError::Memory) => Err(Failure::Memory),
     }
-}
-
-/// Draws a frame and looks at its first objects meanwhile; then writes its lines and notes what was seen. Conditions:
-/// there is such a frame, and a place for each vertex.
-pub fn live_frame<R: Threads + Wait + Sync, W: Sink, E: Sink, G: Gate>(
-    drawing: &LiveDrawing<R, G>,
-    frame: u32,
-    clips: &mut [ClipVertex],
-    report: &mut W,
-    notes: &mut E,
-) -> Result<(), Failure>
-    requires frame { frame < length drawing.now.scene.now.cameras }
-    requires places { length clips.old ≡ length drawing.now.scene.now.vertices }
-    ensures reported { ReportsFrame drawing.now.scene.now
-        drawing.now.looks.now.rounds drawing.now.looks.now.watch frame
-        (W.says report.old) (W.says report.new) (E.says notes.old) (E.says notes.new) result }
-    ensures valid { OnOk result (ArePieces (frame_pieces drawing.now.scene.now frame)) }
-    ensures places { length clips.new ≡ length clips.old }
-{
-    clip_frame(drawing.rt, drawing.scene, frame, clips);
-    let seen = draw_live(drawing, frame, clips)?;
-    write_lines(report, FrameLines::Report, frame, &seen.frame)?;
-    note_lines(notes, &seen.lines)
 }

@@ -7,10 +7,9 @@ ghost use Rattle.maskcull.specs.Outcomes.{Asks, IfAsked, IsTrue, ReadsScene};
 ghost use Rattle.maskcull.specs.Runs.{AwaitsNote, Comes, IsComplete, IsUnasked, WithoutFault, streams};
 
 use crate::cull::cull;
-use crate::demo::demo;
+use crate::demo::{Seeded, demo};
 use crate::failure::{Failure, Status, end_refused};
-use crate::live::live;
-use crate::live_frame::Looks;
+use crate::live::{Looks, live};
 use command_words::{Command, command_of};
 use cull_base::{Sink, Source};
 use std::alloc::Global;
@@ -36,7 +35,7 @@ fn perform<R: Threads + Wait + Sync, S: Source, W: Sink, E: Sink, G: Gate>(
     ensures unread { (ReadsScene command.now → ⊥) → input.new ≡ input.old }
 {
     match command {
-        Command::Cull { settings } => cull(rt, alloc, settings, input, report, gate),
+        Command::Cull { settings } => cull(rt, alloc, settings, input, report, notes, gate),
         Command::Live {
             settings,
             rounds,
@@ -53,7 +52,14 @@ fn perform<R: Threads + Wait + Sync, S: Source, W: Sink, E: Sink, G: Gate>(
             settings,
             seed,
             triangles,
-        } => demo(rt, alloc, settings, *seed, *triangles, report, gate),
+        } => {
+            let seeded = Seeded {
+                settings,
+                seed: *seed,
+                triangles: *triangles,
+            };
+            demo(rt, alloc, &seeded, report, notes, gate)
+        }
     }
 }
 

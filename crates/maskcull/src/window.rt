@@ -1,16 +1,15 @@
 //! Frames side by side: in a window each worker has a slot, in which one thread makes some frames that follow on one
 //! another.
 ghost use Rattle.std.specs.Prelude.{◌≡◌, ◌<◌, ◌≤◌, ◌+◌, ◌*◌, ◌^◌, length, IfOk, IfSome, OnOk};
-ghost use Rattle.cull_base.specs.Tiles.{ArePieces};
-ghost use Rattle.cull_report.specs.Scene.{frame_clips, frame_pieces};
-ghost use Rattle.maskcull.specs.Culling.{Reports};
-ghost use Rattle.maskcull.specs.Frames.{AreValidFrom, lines_from, lines_of};
+ghost use Rattle.cull_report.specs.Scene.{frame_clips};
+ghost use Rattle.maskcull.specs.FrameRuns.{LeavesQuiet};
+ghost use Rattle.maskcull.specs.declared.frames.Beside.TheVariants.{Nothing};
 ghost use Rattle.command_words.specs.Words.{AreInRange};
 ghost use Rattle.maskcull.specs.Windows.{AreDrawnFrom, AreMadeFrom, HavePlaces, IsDrawn, IsMade, HasPlaces};
 
-use crate::drawing::{Drawing, draw_plainly};
+use crate::drawing::{Drawing, Plan, draw_plainly};
 use crate::failure::Failure;
-use crate::frames::{Asking, Frame, FrameLines, write_lines};
+use crate::frames::{Asking, Beside, Frame, FrameLines, write_lines};
 use binning::Cut;
 use camera_path::Camera;
 use command_words::Settings;
@@ -62,13 +61,14 @@ fn frame_size(scene: &Scene) -> u64 {
         .saturating_add(REST)
 }
 
-/// How many frames each worker has of a scene's windows. None where a worker is alone, where objects are settled while
-/// a frame is drawn, and where a frame for each worker would take too much memory.
-pub fn round_count(settings: &Settings, scene: &Scene) -> u32
-    ensures { result * settings.now.workers ≤ length scene.now.cameras }
+/// How many frames each worker has of a scene's windows. None where a worker is alone, where a frame is looked at or
+/// objects are settled while it is drawn, and where a frame for each worker would take too much memory.
+pub fn round_count(plan: &Plan, scene: &Scene) -> u32
+    ensures within { result * plan.now.settings.now.workers ≤ length scene.now.cameras }
+    ensures quiet { (plan.now.beside ≡ Nothing → ⊥) → result ≡ 0 }
 {
-    let workers = settings.workers;
-    if workers < 2 || settings.early {
+    let workers = plan.settings.workers;
+    if workers < 2 || plan.settings.early || matches!(plan.beside, Beside::Looks { .. }) {
         return 0;
     }
     if frame_size(scene).saturating_mul(u64::from(workers)) > MOST {
@@ -234,8 +234,7 @@ fn write_drawn<W: Sink>(
     drawn: &Option<Frame>,
 ) -> Result<(), Failure>
     requires { IfSome drawn.now (IsDrawn _scene.now frame) }
-    ensures reported { Reports (W.says report.old) (W.says report.new) result (lines_of lines _scene.now frame) }
-    ensures valid { OnOk result (ArePieces (frame_pieces _scene.now frame)) }
+    ensures { LeavesQuiet lines _scene.now frame 1 result (W.says report.old) (W.says report.new) }
 {
     match drawn {
         Some(drawn) => {
@@ -258,8 +257,7 @@ fn write_frames<W: Sink>(
     requires within { first + count ≤ length scene.now.cameras }
     requires room { count ≤ length frames.now }
     requires drawn { AreDrawnFrom scene.now first count frames.now }
-    ensures reported { Reports (W.says report.old) (W.says report.new) result (lines_from lines scene.now first count) }
-    ensures valid { OnOk result (AreValidFrom scene.now first count) }
+    ensures { LeavesQuiet lines scene.now first count result (W.says report.old) (W.says report.new) }
 {
     // an accessor tells what is held of a scene
     let _frames = scene.cameras().len();
@@ -281,8 +279,7 @@ fn write_slot<W: Sink>(
     requires within { first + count ≤ length scene.now.cameras }
     requires few { count ≤ 8 }
     requires made { IsMade scene.now first count slot.now }
-    ensures reported { Reports (W.says report.old) (W.says report.new) result (lines_from lines scene.now first count) }
-    ensures valid { OnOk result (AreValidFrom scene.now first count) }
+    ensures { LeavesQuiet lines scene.now first count result (W.says report.old) (W.says report.new) }
 {
     write_frames(report, lines, scene, first, count, slot.drawn.as_slice())
 }
@@ -300,9 +297,8 @@ fn write_window<W: Sink>(
     requires few { count ≤ 8 }
     requires workers { length slots.now ≤ 64 }
     requires made { AreMadeFrom scene.now first count slots.now }
-    ensures reported { Reports (W.says report.old) (W.says report.new) result
-        (lines_from lines scene.now first (length slots.now * count)) }
-    ensures valid { OnOk result (AreValidFrom scene.now first (length slots.now * count)) }
+    ensures { LeavesQuiet lines scene.now first (length slots.now * count) result
+        (W.says report.old) (W.says report.new) }
 {
     // an accessor tells what is held of a scene
     let _frames = scene.cameras().len();
@@ -317,7 +313,6 @@ fn write_window<W: Sink>(
 fn report_window<R: Threads + Wait + Sync, W: Sink, G: Gate>(
     drawing: &Drawing<R, G>,
     asking: Asking,
-    lines: FrameLines,
     first: u32,
     count: u32,
     slots: &mut [Slot],
@@ -327,13 +322,19 @@ fn report_window<R: Threads + Wait + Sync, W: Sink, G: Gate>(
     requires few { count ≤ 8 }
     requires workers { length slots.old ≤ 64 }
     requires places { HavePlaces drawing.now.scene.now slots.old }
-    ensures reported { Reports (W.says report.old) (W.says report.new) result
-        (lines_from lines drawing.now.scene.now first (length slots.old * count)) }
-    ensures valid { OnOk result (AreValidFrom drawing.now.scene.now first (length slots.old * count)) }
+    ensures reported { LeavesQuiet drawing.now.plan.now.lines drawing.now.scene.now first (length slots.old * count)
+        result (W.says report.old) (W.says report.new) }
     ensures places { HavePlaces drawing.now.scene.now slots.new }
 {
     make_window(drawing, asking, first, count, slots);
-    write_window(report, lines, drawing.scene, first, count, slots)
+    write_window(
+        report,
+        drawing.plan.lines,
+        drawing.scene,
+        first,
+        count,
+        slots,
+    )
 }
 
 // Makes window after window in these slots, of so many frames a slot at most, until each slot had so many as there are
@@ -341,7 +342,6 @@ fn report_window<R: Threads + Wait + Sync, W: Sink, G: Gate>(
 fn report_in_slots<R: Threads + Wait + Sync, W: Sink, G: Gate>(
     drawing: &Drawing<R, G>,
     asking: Asking,
-    lines: FrameLines,
     rounds: u32,
     depth: u32,
     slots: &mut [Slot],
@@ -352,9 +352,8 @@ fn report_in_slots<R: Threads + Wait + Sync, W: Sink, G: Gate>(
     requires workers { length slots.old ≤ 64 }
     requires within { rounds * length slots.old ≤ length drawing.now.scene.now.cameras }
     requires places { HavePlaces drawing.now.scene.now slots.old }
-    ensures reported { Reports (W.says report.old) (W.says report.new) result
-        (lines_from lines drawing.now.scene.now 0 (rounds * length slots.old)) }
-    ensures valid { OnOk result (AreValidFrom drawing.now.scene.now 0 (rounds * length slots.old)) }
+    ensures { LeavesQuiet drawing.now.plan.now.lines drawing.now.scene.now 0 (rounds * length slots.old) result
+        (W.says report.old) (W.says report.new) }
 {
     // an accessor tells what is held of a scene
     let _frames = drawing.scene.cameras().len();
@@ -362,7 +361,7 @@ fn report_in_slots<R: Threads + Wait + Sync, W: Sink, G: Gate>(
     while done < rounds {
         let count = depth.min(rounds - done);
         let first = done * slots.len() as u32;
-        report_window(drawing, asking, lines, first, count, slots, report)?;
+        report_window(drawing, asking, first, count, slots, report)?;
         done += count;
     }
     Ok(())
@@ -397,37 +396,38 @@ fn asking_for(lines: FrameLines, workers: u32) -> Asking {
 /// Condition: there are so many frames.
 pub fn report_windows<R: Threads + Wait + Sync, W: Sink, G: Gate>(
     drawing: &Drawing<R, G>,
-    lines: FrameLines,
     rounds: u32,
     report: &mut W,
 ) -> Result<(), Failure>
-    requires { rounds * drawing.now.settings.now.workers ≤ length drawing.now.scene.now.cameras }
-    ensures reported { Reports (W.says report.old) (W.says report.new) result
-        (lines_from lines drawing.now.scene.now 0 (rounds * drawing.now.settings.now.workers)) }
-    ensures valid { OnOk result
-        (AreValidFrom drawing.now.scene.now 0 (rounds * drawing.now.settings.now.workers)) }
+    requires { rounds * drawing.now.plan.now.settings.now.workers ≤ length drawing.now.scene.now.cameras }
+    ensures { LeavesQuiet drawing.now.plan.now.lines drawing.now.scene.now
+        0 (rounds * drawing.now.plan.now.settings.now.workers) result (W.says report.old) (W.says report.new) }
 {
     if rounds == 0 {
         return Ok(());
     }
     let (alloc, scene) = (drawing.alloc, drawing.scene);
-    let workers = drawing.settings.workers;
+    let workers = drawing.plan.settings.workers;
     let mut slots = empty_slots(alloc, scene, workers)?;
-    let settings = alone(drawing.settings);
+    let settings = alone(drawing.plan.settings);
+    let plan = Plan {
+        settings: &settings,
+        lines: drawing.plan.lines,
+        beside: Beside::Nothing,
+    };
     let table = BinTable::of(alloc, scene.size(), &settings.cut)?;
     let in_slot = Drawing {
         rt: drawing.rt,
         alloc,
-        settings: &settings,
+        plan: &plan,
         table: &table,
         scene,
         gate: drawing.gate,
     };
-    let asking = asking_for(lines, workers);
+    let asking = asking_for(plan.lines, workers);
     report_in_slots(
         &in_slot,
         asking,
-        lines,
         rounds,
         depth_for(scene, workers),
         slots.as_mut_slice(),

@@ -10,12 +10,13 @@ returns-in_err-scene g c =
     let read = c.in_err-scene.ensures in
     rw (p.1, p.2)
     (record {
-      outcome = λ n. failed_read (Cull c.args.settings.now) (g.S.Source.says c.args.input.now) (g.S.Source.says c.read_scene.new.source) (g.W.Sink.says c.args.report.now) n c.in_err-scene.field-0.0 _ _
-          tt read.refused (λ is. read.read (ap Err is)) refl tt;
+      outcome = failed_read (Cull c.args.settings.now) (g.S.Source.says c.args.input.now) (g.S.Source.says c.read_scene.new.source) (g.W.Sink.says c.args.report.now)
+          (g.E.Sink.says c.args.notes.now) c.in_err-scene.field-0.0 _ _ tt read.refused (λ is. read.read (ap Err is)) refl refl;
     })
 
 pub returns : goal.returns
 returns g c = record {
-  outcome = λ n. cull_comes c.args.settings.now c.in_ok-scene.scene (g.S.Source.says c.args.input.now) (g.S.Source.says c.read_scene.new.source)
-      (g.W.Sink.says c.args.report.now) (g.W.Sink.says c.report_scene.new.report) n c.report_scene.result _ _ c.in_ok-scene.ensures.ok c.in_ok-scene.ensures.layout tt c.report_scene.ensures.reported;
+  outcome = cull_comes c.args.settings.now c.in_ok-scene.scene (g.S.Source.says c.args.input.now) (g.S.Source.says c.read_scene.new.source)
+      (g.W.Sink.says c.args.report.now) (g.W.Sink.says c.report_scene.new.report) (g.E.Sink.says c.args.notes.now) (g.E.Sink.says c.report_scene.new.notes) c.report_scene.result _ _
+      c.in_ok-scene.ensures.ok c.in_ok-scene.ensures.layout (c.report_scene.ensures.quiet refl) c.report_scene.ensures.reported;
 }

@@ -1,31 +1,53 @@
-use Rattle.std.proofs.Common.{◌≡◌, ℕ, length, subst, ap, ◌∙◌}
+use Rattle.std.proofs.Common.{◌≡◌, ℕ, length, arith, refl, sym, subst, ap, ◌∙◌}
+use Rattle.std.proofs.lemmas.List.{append-nil}
 use Rattle.std.proofs.lemmas.Result.{err_from_is_err_and}
-use Rattle.scene_reader.specs.Layout.{Parts}
-use Rattle.maskcull.specs.declared.frames.FrameLines.TheVariants.{Summary}
-use Rattle.maskcull.specs.Culling.{Reports}
-use Rattle.demo_scene.specs.Demo.{demo_of, frame_count}
-use Rattle.maskcull.specs.Frames.{frames_lines}
+use Rattle.cull_base.specs.Stream.{Appends}
+use Rattle.demo_scene.specs.Demo.{demo_of}
 use Rattle.maskcull.specs.Outcome.{sink_failure}
-use Rattle.maskcull.specs.Summary.{demo_line, frames_summary, summary_text}
-use Rattle.maskcull.proofs.FrameByFrame.{demo_frames, frames_summary_are_lines, reports_then, reports_no_more, reports_written}
+use Rattle.maskcull.specs.Summary.{demo_line}
+use Rattle.maskcull.specs.declared.failure.Failure.TheVariants as failures
+use Rattle.maskcull.specs.declared.frames.Beside.TheVariants.{Nothing}
+use Rattle.maskcull.specs.declared.frames.FrameLines.TheVariants.{Summary}
+use Rattle.std.specs.Result.TheVariants.{Err}
+use Rattle.maskcull.proofs.Comings.{demo_comes}
+use Rattle.maskcull.proofs.FrameByFrame.{frames_no_memory, head_unwritten, wrote_head, wrote_then}
 use Rattle.maskcull.proofs.demo.demo.Goals as goal
 
+pub returns-in_err-scene : goal.returns-in_err-scene
+returns-in_err-scene g c =
+    let seeded = c.args.seeded.now in
+    let s = demo_of seeded.seed seeded.triangles in
+    let r = g.W.Sink.says c.args.report.now in let n = g.E.Sink.says c.args.notes.now in
+    let p = err_from_is_err_and c.from_residual.result c.from_residual.ensures.1 in
+    rw (p.1, p.2)
+    (record {
+      outcome = λ input. demo_comes seeded.settings.now seeded.seed seeded.triangles s input r r n n (Err failures.Memory) _ _ refl refl
+          (frames_no_memory (demo_line seeded.seed seeded.triangles) Summary Nothing s 0 (length s.cameras) r n);
+    })
+
 pub returns-in_err-write_demo_line : goal.returns-in_err-write_demo_line
-unfolding summary_text
 returns-in_err-write_demo_line g c =
-    let seed = c.args.seed in let m = c.args.triangles in
+    let seeded = c.args.seeded.now in
+    let s = demo_of seeded.seed seeded.triangles in
     let e = c.in_err-write_demo_line.field-0.0 in
-    let s0 = g.W.Sink.says c.args.report.now in let s1 = g.W.Sink.says c.write_demo_line.new.sink in
+    let r0 = g.W.Sink.says c.args.report.now in let r1 = g.W.Sink.says c.write_demo_line.new.sink in let n = g.E.Sink.says c.args.notes.now in
     let p = err_from_is_err_and c.from_residual-in_err-write_demo_line.result c.from_residual-in_err-write_demo_line.ensures.1 in
-    rw (p.1, p.2) (record { reported = reports_no_more s0 s1 (sink_failure e) (demo_line seed m) (frames_summary (demo_of seed m) frame_count) (reports_written s0 s1 e (demo_line seed m) c.in_err-write_demo_line.ensures) })
+    rw (p.1, p.2)
+    (record {
+      outcome = λ input. demo_comes seeded.settings.now seeded.seed seeded.triangles s input r0 r1 n n (Err (sink_failure e)) _ _ refl refl
+          (head_unwritten (demo_line seeded.seed seeded.triangles) Summary Nothing s (length s.cameras) e r0 r1 n c.in_err-write_demo_line.ensures);
+    })
 
 pub returns : goal.returns
-unfolding summary_text
 returns g c =
-    let seed = c.args.seed in let m = c.args.triangles in let r = c.report_frames.result in
-    let s0 = g.W.Sink.says c.args.report.now in let s1 = g.W.Sink.says c.write_demo_line.new.sink in let s2 = g.W.Sink.says c.report_frames.new.report in
-    let is = c.in_ok-scene.ensures ∙ ap (λ (n : ℕ). demo_of n m) c.from.ensures in
-    let drawn = subst (λ (s : Parts). Reports s1 s2 r (frames_lines Summary s (length s.cameras))) is c.report_frames.ensures.reported in
-    let frames = subst (λ (n : ℕ). Reports s1 s2 r (frames_lines Summary (demo_of seed m) n)) (demo_frames seed m) drawn in
-    rw (frames_summary_are_lines (demo_of seed m) frame_count)
-    (record { reported = reports_then s0 s1 s2 r (demo_line seed m) (frames_lines Summary (demo_of seed m) frame_count) c.in_ok-write_demo_line.ensures.ok c.write_demo_line.ensures.faults_stay frames })
+    let seeded = c.args.seeded.now in
+    let s = c.in_ok-scene.scene in
+    let head = demo_line seeded.seed seeded.triangles in
+    let r0 = g.W.Sink.says c.args.report.now in let r1 = g.W.Sink.says c.write_demo_line.new.sink in let r2 = g.W.Sink.says c.report_frames.new.report in
+    let n0 = g.E.Sink.says c.args.notes.now in let n1 = g.E.Sink.says c.report_frames.new.notes in
+    let is = c.in_ok-scene.ensures ∙ ap (λ (n : ℕ). demo_of n seeded.triangles) c.from.ensures in
+    let whole = subst (Appends r0 r1) (sym (append-nil head)) c.in_ok-write_demo_line.ensures.ok in
+    record {
+      outcome = λ input. demo_comes seeded.settings.now seeded.seed seeded.triangles s input r0 r2 n0 n1 c.report_frames.result _ _ is (c.report_frames.ensures.quiet refl)
+          (wrote_then c.report_frames.result refl refl (wrote_head head Summary Nothing s 0 r0 r1 n0 whole c.write_demo_line.ensures.faults_stay) c.report_frames.ensures.reported);
+    }

@@ -20,6 +20,6 @@ returns g c =
     let looks = c.args.looks.now in
     record {
       outcome = live_comes looks.settings.now c.in_ok-scene.scene looks.rounds looks.watch (g.S.Source.says c.args.input.now) (g.S.Source.says c.read_scene.new.source)
-          (g.W.Sink.says c.args.report.now) (g.W.Sink.says c.live_scene.new.report) (g.E.Sink.says c.args.notes.now) (g.E.Sink.says c.live_scene.new.notes) c.live_scene.result _ _
-          c.in_ok-scene.ensures.ok c.in_ok-scene.ensures.layout c.live_scene.ensures.reported;
+          (g.W.Sink.says c.args.report.now) (g.W.Sink.says c.report_scene.new.report) (g.E.Sink.says c.args.notes.now) (g.E.Sink.says c.report_scene.new.notes) c.report_scene.result _ _
+          c.in_ok-scene.ensures.ok c.in_ok-scene.ensures.layout c.report_scene.ensures.reported;
     }
