@@ -1,4 +1,4 @@
-use Rattle.std.proofs.Common.{◌≡◌, ℕ, length, arith, refl, sym, subst, ap, ◌∙◌}
+use Rattle.std.proofs.Common.{◌≡◌, ℕ, length, refl, sym, subst, ap, ◌∙◌, Err}
 use Rattle.std.proofs.lemmas.List.{append-nil}
 use Rattle.std.proofs.lemmas.Result.{err_from_is_err_and}
 use Rattle.cull_base.specs.Stream.{Appends}
@@ -8,7 +8,6 @@ use Rattle.maskcull.specs.Summary.{demo_line}
 use Rattle.maskcull.specs.declared.failure.Failure.TheVariants as failures
 use Rattle.maskcull.specs.declared.frames.Beside.TheVariants.{Nothing}
 use Rattle.maskcull.specs.declared.frames.FrameLines.TheVariants.{Summary}
-use Rattle.std.specs.Result.TheVariants.{Err}
 use Rattle.maskcull.proofs.Comings.{demo_comes}
 use Rattle.maskcull.proofs.FrameByFrame.{frames_no_memory, head_unwritten, wrote_head, wrote_then}
 use Rattle.maskcull.proofs.demo.demo.Goals as goal

@@ -15,7 +15,7 @@ returns-clause-live g c =
     let new = c.draw_in_cells.new.caller in
     let kept = c.in_ok-states.ensures.keeps in
     let made = c.in_ok-caller.ensures in
-    kept_is_live c.args.drawing.now.scene.now c.args.drawing.now.looks.now.rounds c.args.drawing.now.looks.now.watch c.args.frame new.watched.scene.now new.watched.frame new.watched.objects new.lines.items c.in_ok-states.ensures.done.1.0
+    kept_is_live c.args.drawing.now.scene.now c.args.rounds c.args.watch c.args.frame new.watched.scene.now new.watched.frame new.watched.objects new.lines.items c.in_ok-states.ensures.done.1.0
     (kept.0 ∙ made.scene) (kept.1 ∙ made.frame) (kept.2 ∙ made.objects) (kept.3 ∙ made.lines)
 
 pub invariant_of-asked-clause-holds : goal.invariant_of-asked-clause-holds

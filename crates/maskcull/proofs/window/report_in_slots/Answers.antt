@@ -1,5 +1,6 @@
 use Rattle.std.proofs.Common.{◌≡◌, ℕ, ◌+◌, ◌*◌, ◌≤◌, length, arith, ap}
 use Rattle.std.proofs.lemmas.Result.{err_from_is_err_and}
+use Rattle.maskcull.specs.declared.frames.Beside.TheVariants.{Nothing}
 use Rattle.maskcull.proofs.FrameByFrame.{wrote_all, wrote_front, wrote_more, wrote_none}
 use Rattle.maskcull.proofs.Shares.{ends_within, part_within}
 use Rattle.maskcull.proofs.window.report_in_slots.Goals as goal
@@ -19,51 +20,38 @@ report_window-requires-clause-within g c =
 
 pub loop-done-init : goal.loop-done-init
 loop-done-init g c = record {
-  wrote = wrote_none c.args.lines c.args.drawing.now.scene.now 0 _ (g.W.Sink.says c.args.report.now) (omega arith);
+  wrote = λ n. wrote_none c.args.drawing.now.plan.now.lines Nothing c.args.drawing.now.scene.now 0 _ (g.W.Sink.says c.args.report.now) n (omega arith);
   places = c.requires.places;
   within = omega arith;
 }
 
 pub loop-done-preserved : goal.loop-done-preserved
 loop-done-preserved g c =
-    let s = c.args.drawing.now.scene.now in let lines = c.args.lines in let size = length c.args.slots.now in
+    let size = length c.args.slots.now in
     let done = c.loop-done.done in let count = c.min-count.result in let here = length c.loop-done.slots in
-    let s0 = g.W.Sink.says c.args.report.now in let s1 = g.W.Sink.says c.loop-done.report in let s2 = g.W.Sink.says c.report_window.new.report in
     let same : here ≡ size = omega arith in
     let at : done * here ≡ 0 + done * size = omega (arith, ap (λ (n : ℕ). done * n) same) in
     let next : (done + count) * size ≡ done * size + here * count = omega (arith, ap (λ (n : ℕ). n * count) same) in
     record {
-      wrote = wrote_more lines s 0 (done * size) (here * count) (done * here) ((done + count) * size) s0 s1 s2 _ at next c.loop-done.invariant.wrote
-          c.in_ok-report_window.ensures.reported c.in_ok-report_window.ensures.valid;
+      wrote = λ n. wrote_more tt at next (c.loop-done.invariant.wrote n) (c.in_ok-report_window.ensures.reported n);
       places = c.in_ok-report_window.ensures.places;
       within = omega (arith, c.min-count.ensures, c.loop-done-test.true);
     }
 
-pub returns-in_err-report_window-clause-reported : goal.returns-in_err-report_window-clause-reported
-returns-in_err-report_window-clause-reported g c =
-    let s = c.args.drawing.now.scene.now in let lines = c.args.lines in let size = length c.args.slots.now in
+pub returns-in_err-report_window : goal.returns-in_err-report_window
+returns-in_err-report_window g c n =
+    let size = length c.args.slots.now in
     let done = c.loop-done.done in let count = c.min-count.result in let here = length c.loop-done.slots in
-    let s0 = g.W.Sink.says c.args.report.now in let s1 = g.W.Sink.says c.loop-done.report in let s2 = g.W.Sink.says c.report_window.new.report in
-    let e = c.in_err-report_window.field-0.0 in
     let p = err_from_is_err_and c.from_residual.result c.from_residual.ensures.1 in
     let same : here ≡ size = omega arith in
     let at : done * here ≡ 0 + done * size = omega (arith, ap (λ (n : ℕ). done * n) same) in
     let more : done + count ≤ c.args.rounds = omega (arith, c.min-count.ensures, c.loop-done-test.true) in
     let within : done * size + here * count ≤ c.args.rounds * size = omega (arith, part_within done count c.args.rounds size more, ap (λ (n : ℕ). n * count) same) in
-    rw (p.1, p.2) (wrote_front lines s 0 (done * size) (here * count) (done * here) (c.args.rounds * size) s0 s1 s2 e at within c.loop-done.invariant.wrote
-    c.in_err-report_window.ensures.reported)
+    rw (p.1, p.2) (wrote_front c.in_err-report_window.field-0.0 at within (c.loop-done.invariant.wrote n) (c.in_err-report_window.ensures.reported n))
 
 -- behind the last window
 all_rounds : (done rounds size : ℕ) → done ≤ rounds → rounds ≤ done → done * size ≡ rounds * size
 all_rounds done rounds size most least = let same : done ≡ rounds = omega arith in ap (λ (n : ℕ). n * size) same
 
-pub returns-clause-reported : goal.returns-clause-reported
-returns-clause-reported g c =
-    let size = length c.args.slots.now in
-    wrote_all c.args.lines c.args.drawing.now.scene.now 0 (c.loop-done.done * size) (c.args.rounds * size) (g.W.Sink.says c.args.report.now) (g.W.Sink.says c.loop-done.report) tt
-    (all_rounds c.loop-done.done c.args.rounds size c.loop-done.invariant.within (omega arith)) c.loop-done.invariant.wrote
-
-pub returns-clause-valid : goal.returns-clause-valid
-returns-clause-valid g c k lt =
-    let size = length c.args.slots.now in
-    c.loop-done.invariant.wrote.valid k (omega (arith, lt, all_rounds c.loop-done.done c.args.rounds size c.loop-done.invariant.within (omega arith)))
+pub returns : goal.returns
+returns g c n = wrote_all tt (all_rounds c.loop-done.done c.args.rounds (length c.args.slots.now) c.loop-done.invariant.within (omega arith)) (c.loop-done.invariant.wrote n)

@@ -1,11 +1,13 @@
-use Rattle.std.proofs.Common.{◌*◌, ◌-◌, ◌≤◌, length}
+use Rattle.std.proofs.Common.{[], ◌*◌, ◌-◌, ◌≤◌, length}
+use Rattle.cull_base.specs.Stream.{SinkSays}
 use Rattle.maskcull.specs.Windows.{HavePlaces}
+use Rattle.maskcull.specs.declared.frames.Beside.TheVariants.{Nothing}
 use Rattle.maskcull.proofs.FrameByFrame.{Wrote}
 use Rattle.maskcull.proofs.window.report_in_slots.Given as goal
 
 abbrev pub invariant-loop-done : goal.invariant-loop-done
 invariant-loop-done g l = record {
-  wrote : Wrote l.lines l.drawing.scene.now 0 (l.done * length l.fn.slots) (g.W.Sink.says l.fn.report) (g.W.Sink.says l.report);
+  wrote : (notes : SinkSays) → Wrote [] l.drawing.plan.now.lines Nothing l.drawing.scene.now 0 (l.done * length l.fn.slots) (g.W.Sink.says l.fn.report) (g.W.Sink.says l.report) notes notes;
   places : HavePlaces l.drawing.scene.now l.slots;
   within : l.done ≤ l.rounds;
 }

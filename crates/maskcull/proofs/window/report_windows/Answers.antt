@@ -1,20 +1,11 @@
-use Rattle.std.proofs.Common.{◌≡◌, ℕ, ◌*◌, length, arith, refl, ap, subst, ◌∙◌}
-use Rattle.std.specs.Prelude.{OnOk}
-use Rattle.maskcull.specs.Frames.{AreValidFrom}
-use Rattle.maskcull.proofs.FrameByFrame.{wrote_all, wrote_none}
+use Rattle.std.proofs.Common.{◌≡◌, ℕ, ◌*◌, arith, refl, ap}
+use Rattle.maskcull.specs.declared.frames.Beside.TheVariants.{Nothing}
+use Rattle.maskcull.proofs.FrameByFrame.{frames_no_memory, wrote_all, wrote_none}
 use Rattle.maskcull.proofs.window.report_windows.Goals as goal
 
-pub returns-then-rounds-eq0-clause-reported : goal.returns-then-rounds-eq0-clause-reported
-returns-then-rounds-eq0-clause-reported g c =
-    let s = c.args.drawing.now.scene.now in
-    let workers = c.args.drawing.now.settings.now.workers in
-    let count = c.args.rounds * workers in
-    let says = g.W.Sink.says c.args.report.now in
-    let none : count ≡ 0 = omega (arith, ap (λ (n : ℕ). n * workers) c.if-rounds-eq0.true) in
-    wrote_all c.args.lines s 0 count count says says tt refl (wrote_none c.args.lines s 0 count says none)
-
-pub returns-clause-valid : goal.returns-clause-valid
-returns-clause-valid g c =
-    let s = c.args.drawing.now.scene.now in
-    let count : length c.as_mut_slice.result.now ≡ c.args.drawing.now.settings.now.workers = ap length c.as_mut_slice.ensures.value ∙ c.in_ok-slots.ensures.count in
-    subst (λ n. OnOk c.report_in_slots.result (AreValidFrom s 0 (c.args.rounds * n))) count c.report_in_slots.ensures.valid
+pub returns-then-rounds-eq0 : goal.returns-then-rounds-eq0
+returns-then-rounds-eq0 g c n =
+    let plan = c.args.drawing.now.plan.now in
+    let workers = plan.settings.now.workers in
+    let none : c.args.rounds * workers ≡ 0 = omega (arith, ap (λ (n : ℕ). n * workers) c.if-rounds-eq0.true) in
+    wrote_all tt refl (wrote_none plan.lines Nothing c.args.drawing.now.scene.now 0 (c.args.rounds * workers) (g.W.Sink.says c.args.report.now) n none)

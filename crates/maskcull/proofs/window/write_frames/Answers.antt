@@ -2,13 +2,14 @@ use Rattle.std.proofs.Common.{◌+◌, arith, sym, subst}
 use Rattle.std.specs.Prelude.{IfSome}
 use Rattle.std.specs.declared.option.Option.{Option}
 use Rattle.std.proofs.lemmas.Result.{err_from_is_err_and}
+use Rattle.maskcull.specs.declared.frames.Beside.TheVariants.{Nothing}
 use Rattle.maskcull.specs.declared.frames.Frame.{Frame}
 use Rattle.maskcull.specs.Windows.{IsDrawn}
-use Rattle.maskcull.proofs.FrameByFrame.{one_reported, one_valid, wrote_all, wrote_front, wrote_more, wrote_none}
+use Rattle.maskcull.proofs.FrameByFrame.{wrote_all, wrote_front, wrote_more, wrote_none}
 use Rattle.maskcull.proofs.window.write_frames.Goals as goal
 
 pub loop-k-init : goal.loop-k-init
-loop-k-init g c = wrote_none c.args.lines c.args.scene.now c.args.first 0 (g.W.Sink.says c.args.report.now) (omega arith)
+loop-k-init g c n = wrote_none c.args.lines Nothing c.args.scene.now c.args.first 0 (g.W.Sink.says c.args.report.now) n (omega arith)
 
 pub write_drawn-requires : goal.write_drawn-requires
 write_drawn-requires g c =
@@ -17,24 +18,12 @@ write_drawn-requires g c =
     subst (λ (x : Option Frame). IfSome x (IsDrawn c.args.scene.now (c.args.first + k))) (sym at.is) (c.requires.drawn k at.result (omega arith))
 
 pub loop-k-preserved : goal.loop-k-preserved
-loop-k-preserved g c =
-    let s = c.args.scene.now in let lines = c.args.lines in let first = c.args.first in let k = c.loop-k.k in
-    let s0 = g.W.Sink.says c.args.report.now in let s1 = g.W.Sink.says c.loop-k.report in let s2 = g.W.Sink.says c.write_drawn.new.report in
-    wrote_more lines s first k 1 (first + k) (k + 1) s0 s1 s2 _ (omega arith) (omega arith) c.loop-k.invariant
-    (one_reported lines s (first + k) s1 s2 _ c.in_ok-write_drawn.ensures.reported) (one_valid s (first + k) c.in_ok-write_drawn.ensures.valid)
+loop-k-preserved g c n = wrote_more tt (omega arith) (omega arith) (c.loop-k.invariant n) (c.in_ok-write_drawn.ensures n)
 
-pub returns-in_err-write_drawn-clause-reported : goal.returns-in_err-write_drawn-clause-reported
-returns-in_err-write_drawn-clause-reported g c =
-    let s = c.args.scene.now in let lines = c.args.lines in let first = c.args.first in let k = c.loop-k.k in
-    let s0 = g.W.Sink.says c.args.report.now in let s1 = g.W.Sink.says c.loop-k.report in let s2 = g.W.Sink.says c.write_drawn.new.report in
-    let e = c.in_err-write_drawn.field-0.0 in
+pub returns-in_err-write_drawn : goal.returns-in_err-write_drawn
+returns-in_err-write_drawn g c n =
     let p = err_from_is_err_and c.from_residual.result c.from_residual.ensures.1 in
-    rw (p.1, p.2) (wrote_front lines s first k 1 (first + k) c.args.count s0 s1 s2 e (omega arith) (omega arith) c.loop-k.invariant
-    (one_reported lines s (first + k) s1 s2 _ c.in_err-write_drawn.ensures.reported))
+    rw (p.1, p.2) (wrote_front c.in_err-write_drawn.field-0.0 (omega arith) (omega arith) (c.loop-k.invariant n) (c.in_err-write_drawn.ensures n))
 
-pub returns-clause-reported : goal.returns-clause-reported
-returns-clause-reported g c =
-    wrote_all c.args.lines c.args.scene.now c.args.first c.loop-k.k c.args.count (g.W.Sink.says c.args.report.now) (g.W.Sink.says c.loop-k.report) tt (omega arith) c.loop-k.invariant
-
-pub returns-clause-valid : goal.returns-clause-valid
-returns-clause-valid g c k lt = c.loop-k.invariant.valid k (omega (arith, lt))
+pub returns : goal.returns
+returns g c n = wrote_all tt (omega arith) (c.loop-k.invariant n)

@@ -1,12 +1,13 @@
 use Rattle.std.proofs.Common.{◌≡◌, ◌+◌, ◌*◌, length, arith, sym, subst, ap}
 use Rattle.std.proofs.lemmas.Result.{err_from_is_err_and}
+use Rattle.maskcull.specs.declared.frames.Beside.TheVariants.{Nothing}
 use Rattle.maskcull.specs.Windows.{IsMade}
 use Rattle.maskcull.proofs.FrameByFrame.{wrote_all, wrote_front, wrote_more, wrote_none}
 use Rattle.maskcull.proofs.Shares.{ends_within}
 use Rattle.maskcull.proofs.window.write_window.Goals as goal
 
 pub loop-k-init : goal.loop-k-init
-loop-k-init g c = wrote_none c.args.lines c.args.scene.now c.args.first _ (g.W.Sink.says c.args.report.now) (omega arith)
+loop-k-init g c n = wrote_none c.args.lines Nothing c.args.scene.now c.args.first _ (g.W.Sink.says c.args.report.now) n (omega arith)
 
 pub overflow_mul-place : goal.overflow_mul-place
 overflow_mul-place g c = omega (arith, ends_within c.loop-k.k (length c.args.slots.now) c.args.count c.loop-k-test.true)
@@ -24,30 +25,16 @@ write_slot-requires-clause-made g c =
     subst (IsMade c.args.scene.now (c.args.first + k * count) count) (sym at.is) (c.requires.made k at.result (omega arith))
 
 pub loop-k-preserved : goal.loop-k-preserved
-loop-k-preserved g c =
-    let s = c.args.scene.now in let lines = c.args.lines in let first = c.args.first in let k = c.loop-k.k in let count = c.args.count in
-    let s0 = g.W.Sink.says c.args.report.now in let s1 = g.W.Sink.says c.loop-k.report in let s2 = g.W.Sink.says c.write_slot.new.report in
-    wrote_more lines s first (k * count) count (first + k * count) ((k + 1) * count) s0 s1 s2 _ (omega arith) (omega arith) c.loop-k.invariant
-    c.in_ok-write_slot.ensures.reported c.in_ok-write_slot.ensures.valid
+loop-k-preserved g c n = wrote_more tt (omega arith) (omega arith) (c.loop-k.invariant n) (c.in_ok-write_slot.ensures n)
 
-pub returns-in_err-write_slot-clause-reported : goal.returns-in_err-write_slot-clause-reported
-returns-in_err-write_slot-clause-reported g c =
-    let s = c.args.scene.now in let lines = c.args.lines in let first = c.args.first in let k = c.loop-k.k in let count = c.args.count in
-    let s0 = g.W.Sink.says c.args.report.now in let s1 = g.W.Sink.says c.loop-k.report in let s2 = g.W.Sink.says c.write_slot.new.report in
-    let e = c.in_err-write_slot.field-0.0 in
+pub returns-in_err-write_slot : goal.returns-in_err-write_slot
+returns-in_err-write_slot g c n =
     let p = err_from_is_err_and c.from_residual.result c.from_residual.ensures.1 in
-    rw (p.1, p.2) (wrote_front lines s first (k * count) count (first + k * count) (length c.args.slots.now * count) s0 s1 s2 e (omega arith)
-    (ends_within k (length c.args.slots.now) count c.loop-k-test.true) c.loop-k.invariant c.in_err-write_slot.ensures.reported)
+    rw (p.1, p.2)
+    (wrote_front c.in_err-write_slot.field-0.0 (omega arith) (ends_within c.loop-k.k (length c.args.slots.now) c.args.count c.loop-k-test.true) (c.loop-k.invariant n) (c.in_err-write_slot.ensures n))
 
-pub returns-clause-reported : goal.returns-clause-reported
-returns-clause-reported g c =
+pub returns : goal.returns
+returns g c n =
     let size = length c.args.slots.now in let count = c.args.count in
     let all : c.loop-k.k ≡ size = omega arith in
-    wrote_all c.args.lines c.args.scene.now c.args.first (c.loop-k.k * count) (size * count) (g.W.Sink.says c.args.report.now) (g.W.Sink.says c.loop-k.report) tt
-    (ap (λ n. n * count) all) c.loop-k.invariant
-
-pub returns-clause-valid : goal.returns-clause-valid
-returns-clause-valid g c k lt =
-    let size = length c.args.slots.now in let count = c.args.count in
-    let all : c.loop-k.k ≡ size = omega arith in
-    c.loop-k.invariant.valid k (omega (arith, lt, ap (λ n. n * count) all))
+    wrote_all tt (ap (λ n. n * count) all) (c.loop-k.invariant n)
