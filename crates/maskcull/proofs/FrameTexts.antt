@@ -235,8 +235,7 @@ nothing_left f r0 r1 n0 n1 l = elim l.leaves [
       let no_text : take n (joined (take (w.frame + 1) [])) ≡ [] = take_none n (joined (take (w.frame + 1) [])) (none_before (w.frame + 1)) in
       let no_line : notes_at (texts_told [] [] []) w.frame ≡ [] = none_at (texts_told [] [] []) w.frame refl in
       let no_lines : joined (take w.frame []) ++ take w.size (notes_at (texts_told [] [] []) w.frame) ≡ [] =
-      ap (λ (t : List ℕ). t ++ take w.size (notes_at (texts_told [] [] []) w.frame)) (none_before w.frame) ∙ take_none w.size (notes_at (texts_told [] [] []) w.frame) no_line in
-      (
+      ap (λ (t : List ℕ). t ++ take w.size (notes_at (texts_told [] [] []) w.frame)) (none_before w.frame) ∙ take_none w.size (notes_at (texts_told [] [] []) w.frame) no_line in (
         elim l.cause [
           | inl memory ↦ memory
           | inr rest ↦ elim rest [
