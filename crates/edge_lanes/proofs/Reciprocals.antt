@@ -27,8 +27,8 @@ pub fit : (d m r : ℕ) → d < 2 ^ 16 → Divides d m r → Fit d m r
 fit d m r small h =
     let w = h.whole in let s = h.some in let rest = h.rest in
     let a : m * r ≤ m * d = mul-le-mul_left m rest in
-    let b : r * r ≤ 65536 * 65536 = mul-le-mul (omega (arith, rest, small)) (omega (arith, rest, small)) in
-    let c : r * r ≤ 65535 * 65535 = mul-le-mul (omega (arith, rest, small)) (omega (arith, rest, small)) in
+    let b : r ≤ 65535 = omega (arith, rest, small) in
+    let c : r * r ≤ 65535 * 65535 = mul-le-mul b b in
     let e : r * (m * r) ≤ r * 4294967296 = mul-le-mul_left r (omega (arith, a, w)) in
     record {
       first = omega (arith, a, w, s);
@@ -55,7 +55,8 @@ is_short d m r v p small h ev =
     let low : d * (t * 4294967296) ≤ d * (r * r * m) = mul-le-mul_left d (omega arith) in
     let high : d * (r * r * m + 1) ≤ d * ((t + 1) * 4294967296) = mul-le-mul_left d (omega arith) in
     let positive = cube r some in
-    let square : r * r ≤ 65536 * 65536 = mul-le-mul (omega (arith, rest, small)) (omega (arith, rest, small)) in
+    let short : r ≤ 65536 = omega (arith, rest, small) in
+    let square : r * r ≤ 65536 * 65536 = mul-le-mul short short in
     let third : r * (r * r) ≤ d * (65536 * 65536) = mul-le-mul rest square in
     let less : t * d < r * r = below t low twice positive in
     let more : r * r ≤ t * d + 2 * d = above t high twice third p in

@@ -26,6 +26,5 @@ pub mod SampleBoxes
 pub mod SampledLists
 pub mod Marks
 pub mod SmallSteps
-pub mod LeastTables
 pub mod EightOf
 pub mod Canvases

@@ -247,7 +247,7 @@ fn there_may_be_more_vertices_than_corners(rt: HostRuntime) -> Result<(), Fail> 
 
 // The vertex that comes to a place on a screen of 32 by 8 pixels, in sixteenths of a pixel.
 fn vertex_at(x: i32, y: i32) -> ClipVertex {
-    vertex(i64::from(x) - 256, 256 - 4 * i64::from(y), 256)
+    at(i64::from(x) - 256, 256 - 4 * i64::from(y), 256)
 }
 
 // How many pieces of a triangle may cover a sample of that screen, and how many it has.

@@ -4,8 +4,8 @@ use Rattle.masked_update.proofs.Marks.{cleared_less, lowest_within}
 use Rattle.masked_update.proofs.SmallSteps.{all_merged, none_merged, one_merged, references_kept}
 use Rattle.masked_update.proofs.small_piece.SmallPiece.merge_into.Goals as goal
 
-pub merge_at-requires-clause-j : goal.merge_at-requires-clause-j
-merge_at-requires-clause-j c = (lowest_within c.loop-left.left c.loop-left-test.true c.loop-left.invariant.merged.byte).0
+pub merge_at-raised-requires-clause-j : goal.merge_at-raised-requires-clause-j
+merge_at-raised-requires-clause-j c = (lowest_within c.loop-left.left c.loop-left-test.true c.loop-left.invariant.merged.byte).0
 
 pub loop-left-init : goal.loop-left-init
 loop-left-init c = record {
@@ -23,8 +23,8 @@ loop-left-preserved c =
     let inv = c.loop-left.invariant in
     let lowest = lowest_within c.loop-left.left c.loop-left-test.true inv.merged.byte in
     record {
-      merged = one_merged c.args.self.now c.args.place c.wanted-wanted.result c.loop-left.left (trailing_zeros w32 c.loop-left.left) c.args.layers.now c.loop-left.layers c.merge_at.new.layers lowest.0 lowest.1 inv.merged c.merge_at.ensures.merged;
-      same = references_kept c.loop-left.raised c.merge_at.result c.args.layers.now c.loop-left.layers c.merge_at.new.layers inv.same c.merge_at.ensures.same;
+      merged = one_merged c.args.self.now c.args.place c.wanted-wanted.result c.loop-left.left (trailing_zeros w32 c.loop-left.left) c.args.layers.now c.loop-left.layers c.merge_at-raised.new.layers lowest.0 lowest.1 inv.merged c.merge_at-raised.ensures.merged;
+      same = references_kept c.loop-left.raised c.merge_at-raised.result c.args.layers.now c.loop-left.layers c.merge_at-raised.new.layers inv.same c.merge_at-raised.ensures.same;
     }
 
 pub returns-clause-merged : goal.returns-clause-merged
