@@ -1,5 +1,5 @@
 -- What is left of frames, one after the other.
-use Rattle.std.proofs.Common.{◌≡◌, ℕ, zero, suc, ◌+◌, ◌-◌, ◌<◌, ◌≤◌, ◌++◌, List, [], ◌∷◌, length, map, take, true, false, nat_lt, Bool, arith, refl, sym, ap, ◌∙◌, subst, inl, inr, Result, Ok, Err, ◌⊎◌}
+use Rattle.std.proofs.Common.{◌≡◌, ℕ, zero, suc, ◌+◌, ◌-◌, ◌<◌, ◌≤◌, ◌++◌, List, [], ◌∷◌, length, map, take, true, false, nat_lt, Bool, cond, arith, refl, sym, ap, ◌∙◌, subst, inl, inr, Result, Ok, Err, ◌⊎◌}
 use Rattle.std.specs.Prelude.{slice_index_or}
 use Rattle.std.specs.List.{range_with_len}
 use Rattle.std.proofs.lemmas.Bool.{cases_lt}

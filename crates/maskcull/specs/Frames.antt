@@ -1,5 +1,5 @@
 -- What is written of the frames of a scene, the lines of the report or those of the summary, and what is noted beside.
-use Rattle.std.specs.Prelude.{ℕ, ◌≤◌, List, [], length}
+use Rattle.std.specs.Prelude.{ℕ, List, [], length}
 use Rattle.cull_base.specs.declared.scene_types.Verdict.{Verdict}
 use Rattle.scene_reader.specs.Layout.{Parts}
 use Rattle.cull_report.specs.Live.{IsRisingIn, LiveLineOf, frame_live}
@@ -20,10 +20,14 @@ lines_by Summary frame pieces verdicts = summary_line frame pieces verdicts
 abbrev pub lines_of : FrameLines → Parts → ℕ → List ℕ
 lines_of lines s frame = lines_by lines frame (length (frame_pieces s frame)) (frame_verdicts s frame)
 
--- there are few looks
-abbrev pub AreFew : Beside → Type 0
-AreFew Nothing = Unit {0}
-AreFew (Looks rounds watch) = (rounds ≤ 8) × (watch ≤ 8)
+-- how many rounds of looks there are, and at how many objects
+abbrev pub rounds_of : Beside → ℕ
+rounds_of Nothing = 0
+rounds_of (Looks rounds watch) = rounds
+
+abbrev pub watch_of : Beside → ℕ
+watch_of Nothing = 0
+watch_of (Looks rounds watch) = watch
 
 -- what is noted of a frame: where it is looked at its live lines, by their counts, which rise
 abbrev pub noted_of : Beside → Parts → (ℕ → ℕ → ℕ → ℕ) → ℕ → List ℕ

@@ -1,10 +1,10 @@
 //! The drawing of a frame, and its objects tested over what was drawn.
-ghost use Rattle.std.specs.Prelude.{◌≡◌, ◌<◌, length, IfOk, OnOk};
+ghost use Rattle.std.specs.Prelude.{◌≡◌, ◌<◌, ◌≤◌, length, IfOk, OnOk};
 ghost use Rattle.cull_base.specs.Tiles.{ArePieces};
 ghost use Rattle.cull_report.specs.Scene.{size_of, frame_clips, frame_pieces, frame_verdicts};
 ghost use Rattle.bin_tiles.specs.BinViews.{table_of};
 ghost use Rattle.command_words.specs.Words.{AreInRange};
-ghost use Rattle.maskcull.specs.Frames.{AreFew};
+ghost use Rattle.maskcull.specs.Frames.{rounds_of, watch_of};
 
 use crate::frames::{Asking, Beside, Frame, FrameLines, drawn_pieces, unset_marks, verdicts_by};
 use binning::batch_size;
@@ -18,14 +18,15 @@ use std::thread::Threads;
 use tile_queues::{BinTable, BinView, Gate, draw_plain_frame};
 
 /// How frames are drawn, what is written of each, and what is noted beside. Conditions: the settings are in range, and
-/// there are few looks.
+/// there are at most 8 rounds of looks, at 8 objects.
 #[derive(Drop)]
 pub struct Plan<'a> {
     pub settings: &'a Settings,
     pub lines: FrameLines,
     pub beside: Beside,
     ghost in_range: { AreInRange settings.now },
-    ghost few: { AreFew beside },
+    ghost few_rounds: { rounds_of beside ≤ 8 },
+    ghost few_objects: { watch_of beside ≤ 8 },
 }
 
 /// What all frames of a scene share while they are drawn. Condition: the table is that of the screen and of the
