@@ -157,7 +157,7 @@ texts_causes o (Err f) i0 i1 r0 r1 n0 n1 done l = elim l.cause [
   | inr rest ↦ elim rest [
     | inl report ↦
         let is : status_of f ≡ statuses.ReportFault = ap status_of report.0 in
-        record { read = λ e. absurd cc; report = λ e. report.1; notes = λ e. absurd cc }
+        record { read = λ e. absurd cc; report = λ e. (report.1, report.2); notes = λ e. absurd cc }
     | inr notes ↦
         let is : status_of f ≡ statuses.NotesFault = ap status_of notes.0 in
         record { read = λ e. absurd cc; report = λ e. absurd cc; notes = λ e. (λ none. no_notes o (Err f) r0 r1 n0 n1 l e none done, notes.1) }

@@ -232,7 +232,7 @@ frames_no_memory head lines beside s first count r n =
 -- the head couldn't be written
 pub head_unwritten : (head : List ℕ) (lines : FrameLines) (beside : Beside) (s : Parts) (count : ℕ) (e : SinkError) (r0 r1 n : SinkSays) → Writes r0 r1 (Err e) head
     → LeavesFrames head lines beside s 0 count (Err (sink_failure e)) r0 r1 n n
-head_unwritten head lines beside s count e r0 r1 n w = front_of_frames {head} {lines} {beside} {s} {0} {0} {count} {r0} {r1} {n} {n} (sink_failure e) (omega arith)
+head_unwritten head lines beside s count e r0 r1 n w = front_of_frames {head = head} {lines = lines} {beside = beside} {s = s} {first = 0} {k = 0} {count = count} {r0 = r0} {r1 = r1} {n0 = n} {n1 = n} (sink_failure e) (omega arith)
     (record { counts = unseen; rising = unseen_rises beside s; texts = unwritten head head [] [] e r0 r1 n (append-nil head) (append-nil head) w })
 
 -- ---- a frame

@@ -93,7 +93,7 @@ cause_later : (o o' : OutcomeOf) (f : Failure) (r0 r1 r2 n0 n1 n2 : SinkSays) �
 cause_later o o' f r0 r1 r2 n0 n1 n2 some le le' h = elim h [
   | inl memory ↦ inl memory
   | inr rest ↦ elim rest [
-    | inl report ↦ inr (inl (report.0, some report.1.0, rose_later r0.faults r1.faults r2.faults le report.1.1))
+    | inl report ↦ inr (inl (report.0, some report.1, rose_later r0.faults r1.faults r2.faults le report.2))
     | inr notes ↦ inr (inr (notes.0, rose_later n0.faults n1.faults n2.faults le' notes.1))
   ]
 ]
@@ -239,7 +239,7 @@ nothing_left f r0 r1 n0 n1 l = elim l.leaves [
         elim l.cause [
           | inl memory ↦ memory
           | inr rest ↦ elim rest [
-            | inl report ↦ absurd (report.1.0 refl)
+            | inl report ↦ absurd (report.1 refl)
             | inr notes ↦ let x = w.of_notes (ap status_of notes.0) in absurd (omega (arith, x.1, ap length no_line))
           ]
         ],

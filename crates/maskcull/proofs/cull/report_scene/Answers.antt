@@ -1,4 +1,4 @@
-use Rattle.std.proofs.Common.{◌≡◌, ◌++◌, length, arith, refl, sym, subst}
+use Rattle.std.proofs.Common.{◌≡◌, ◌+◌, ◌++◌, length, arith, refl, sym, subst}
 use Rattle.std.proofs.lemmas.List.{append-nil}
 use Rattle.std.proofs.lemmas.Result.{err_from_is_err_and}
 use Rattle.cull_base.specs.Stream.{Appends}
@@ -18,4 +18,5 @@ returns-clause-reported g c =
     let s = c.args.scene.now in let plan = c.args.plan.now in
     let r0 = g.W.Sink.says c.args.report.now in let r1 = g.W.Sink.says c.write_header.new.sink in
     let whole = subst (Appends r0 r1) (sym (append-nil (scene_header s))) c.in_ok-write_header.ensures.ok in
-    wrote_then c.report_frames.result refl refl (wrote_head (scene_header s) plan.lines plan.beside s 0 r0 r1 (g.E.Sink.says c.args.notes.now) whole c.write_header.ensures.faults_stay) c.report_frames.ensures.reported
+    let all : length s.cameras ≡ 0 + length s.cameras = omega arith in
+    wrote_then c.report_frames.result refl all (wrote_head (scene_header s) plan.lines plan.beside s 0 r0 r1 (g.E.Sink.says c.args.notes.now) whole c.write_header.ensures.faults_stay) c.report_frames.ensures.reported

@@ -1,4 +1,4 @@
-use Rattle.std.proofs.Common.{◌≡◌, ℕ, length, refl, sym, subst, ap, ◌∙◌, Err}
+use Rattle.std.proofs.Common.{◌≡◌, ℕ, ◌+◌, length, arith, refl, sym, subst, ap, ◌∙◌, Err}
 use Rattle.std.proofs.lemmas.List.{append-nil}
 use Rattle.std.proofs.lemmas.Result.{err_from_is_err_and}
 use Rattle.cull_base.specs.Stream.{Appends}
@@ -46,7 +46,8 @@ returns g c =
     let n0 = g.E.Sink.says c.args.notes.now in let n1 = g.E.Sink.says c.report_frames.new.notes in
     let is = c.in_ok-scene.ensures ∙ ap (λ (n : ℕ). demo_of n seeded.triangles) c.from.ensures in
     let whole = subst (Appends r0 r1) (sym (append-nil head)) c.in_ok-write_demo_line.ensures.ok in
+    let all : length s.cameras ≡ 0 + length s.cameras = omega arith in
     record {
       outcome = λ input. demo_comes seeded.settings.now seeded.seed seeded.triangles s input r0 r2 n0 n1 c.report_frames.result _ _ is (c.report_frames.ensures.quiet refl)
-          (wrote_then c.report_frames.result refl refl (wrote_head head Summary Nothing s 0 r0 r1 n0 whole c.write_demo_line.ensures.faults_stay) c.report_frames.ensures.reported);
+          (wrote_then c.report_frames.result refl all (wrote_head head Summary Nothing s 0 r0 r1 n0 whole c.write_demo_line.ensures.faults_stay) c.report_frames.ensures.reported);
     }
