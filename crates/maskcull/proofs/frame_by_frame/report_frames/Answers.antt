@@ -21,13 +21,14 @@ returns-in_err-report_windows-clause-reported g c =
     let plan = c.args.plan.now in let rounds = c.round_count-rounds.result in
     let e = c.in_err-report_windows.field-0.0 in
     let p = err_from_is_err_and c.from_residual-in_err-report_windows.result c.from_residual-in_err-report_windows.ensures.1 in
-    let none : (plan.beside ≡ Nothing → ⊥) → rounds * plan.settings.now.workers ≡ 0 = λ looks. ap (λ (n : ℕ). n * plan.settings.now.workers) (c.round_count-rounds.ensures.quiet looks) in
+    let none : (plan.beside ≡ Nothing → ⊥) → rounds * plan.settings.now.workers ≡ 0 = λ looks. omega (arith, ap (λ (n : ℕ). n * plan.settings.now.workers) (c.round_count-rounds.ensures.quiet looks)) in
     rw (p.1, p.2) (front_of_frames e c.round_count-rounds.ensures.within (windows_beside plan.beside (Err e) none (c.in_err-report_windows.ensures (g.E.Sink.says c.args.notes.now))))
 
 pub returns-clause-reported : goal.returns-clause-reported
 returns-clause-reported g c =
     let s = c.args.scene.now in let plan = c.args.plan.now in let rounds = c.round_count-rounds.result in
-    let none : (plan.beside ≡ Nothing → ⊥) → rounds * plan.settings.now.workers ≡ 0 = λ looks. ap (λ (n : ℕ). n * plan.settings.now.workers) (c.round_count-rounds.ensures.quiet looks) in
+    let none : (plan.beside ≡ Nothing → ⊥) → rounds * plan.settings.now.workers ≡ 0 = λ looks. omega (arith, ap (λ (n : ℕ). n * plan.settings.now.workers) (c.round_count-rounds.ensures.quiet looks)) in
     let windows = written tt (windows_beside plan.beside (Ok tt) none (c.in_ok-report_windows.ensures (g.E.Sink.says c.args.notes.now))) in
     let split : length s.cameras ≡ rounds * plan.settings.now.workers + (length s.cameras - rounds * plan.settings.now.workers) = omega (arith, c.round_count-rounds.ensures.within) in
-    wrote_then c.report_rest.result refl split windows c.report_rest.ensures.reported
+    let at : rounds * plan.settings.now.workers ≡ 0 + rounds * plan.settings.now.workers = omega arith in
+    wrote_then c.report_rest.result at split windows c.report_rest.ensures.reported

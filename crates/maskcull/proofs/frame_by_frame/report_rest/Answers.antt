@@ -1,5 +1,6 @@
 use Rattle.std.proofs.Common.{◌≡◌, [], ◌+◌, ◌-◌, ◌≤◌, length, arith, rules, refl, ap, ◌∙◌}
 use Rattle.std.proofs.lemmas.Result.{err_from_is_err_and}
+use Rattle.maskcull.specs.declared.failure.Failure.TheVariants.{Memory}
 use Rattle.maskcull.proofs.FrameByFrame.{frames_no_memory, wrote_all, wrote_front, wrote_more, wrote_none}
 use Rattle.maskcull.proofs.frame_by_frame.report_rest.Goals as goal
 
@@ -7,7 +8,8 @@ pub returns-in_err-room-clause-reported : goal.returns-in_err-room-clause-report
 returns-in_err-room-clause-reported g c =
     let s = c.args.drawing.now.scene.now in let plan = c.args.drawing.now.plan.now in
     let p = err_from_is_err_and c.from_residual.result c.from_residual.ensures.1 in
-    rw (p.1, p.2) (frames_no_memory [] plan.lines plan.beside s c.args.first (length s.cameras - c.args.first) (g.W.Sink.says c.args.report.now) (g.E.Sink.says c.args.notes.now))
+    let is : c.in_err-room.field-0.0 ≡ Memory = search rules in
+    rw (p.1, p.2, is) (frames_no_memory [] plan.lines plan.beside s c.args.first (length s.cameras - c.args.first) (g.W.Sink.says c.args.report.now) (g.E.Sink.says c.args.notes.now))
 
 pub loop-frame-init : goal.loop-frame-init
 loop-frame-init g c =
