@@ -1,0 +1,7 @@
+mod coverage;
+mod depth_bounds;
+mod packed_subtiles;
+mod sample_boxes;
+mod set_up;
+mod small_pieces;
+mod updates;
