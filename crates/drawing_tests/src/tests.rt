@@ -1,5 +1,6 @@
 mod coverage;
 mod depth_bounds;
+mod numbers;
 mod packed_subtiles;
 mod sample_boxes;
 mod set_up;

@@ -1,25 +1,13 @@
 //! Masks with their numbers written out, and a plain loop over the samples beside the lanes.
 ghost use Rattle.std.specs.Prelude.{◌<◌, ◌^◌, ◌≤ℤ◌, pos, negsuc};
 
+use crate::tests::numbers::{after, number};
 use cull_base::{ScreenTri, Side, Sub, Tile};
 use edge_lanes::{Edges, RowEdges, shared_edge};
 use std::process::Abort;
 
 // The greatest coordinate of a piece.
 const GUARD: i32 = 536_870_911;
-
-fn number(state: u64, below: u64) -> u64
-    requires { 0 < below }
-    ensures { result < below }
-{
-    state / 0x1_0000_0000 % below
-}
-
-fn after(state: u64) -> u64 {
-    state
-        .wrapping_mul(6364136223846793005)
-        .wrapping_add(1442695040888963407)
-}
 
 // Three coordinates from `low` on, within a span, so many times as large.
 fn coordinates(state: u64, low: i32, span: u64, scale: i32) -> [i32; 3]

@@ -1,6 +1,7 @@
 //! Bounds with their numbers written out, and a plain loop over the samples beside the corner.
 ghost use Rattle.std.specs.Prelude.{◌<◌};
 
+use crate::tests::numbers::{after, number};
 use cull_base::{HELD_TOP, Sample, ScreenTri, Sub, Tile};
 use depth_plane::{Plane, SmallPlane};
 use std::process::Abort;
@@ -195,19 +196,6 @@ fn nearer_is_strict_and_sees_remainders(rt: HostRuntime) {
     assert!(rt; above.nearer(&sloping, sample));
     assert!(rt; !sloping.nearer(&above, sample));
     assert!(rt; !sloping.nearer(&sloping, sample));
-}
-
-fn number(state: u64, below: u64) -> u64
-    requires { 0 < below }
-    ensures { result < below }
-{
-    state / 0x1_0000_0000 % below
-}
-
-fn after(state: u64) -> u64 {
-    state
-        .wrapping_mul(6364136223846793005)
-        .wrapping_add(1442695040888963407)
 }
 
 // Three coordinates from -4,000 on.
