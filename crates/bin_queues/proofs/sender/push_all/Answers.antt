@@ -1,6 +1,6 @@
 use Rattle.std.proofs.Common.{◌≡◌, ◌+◌, length, arith, ap, sym, ◌∙◌, subst, rules}
 use Rattle.crossbeam_queue.specs.Passes.{view, ruled_capacity}
-use Rattle.bin_queues.proofs.Lists.{turn}
+use Rattle.cull_base.proofs.Lists.{turn}
 use Rattle.bin_queues.specs.Intakes.{QueueToken}
 use Rattle.bin_queues.specs.QueueRule.{submitter}
 use Rattle.bin_queues.specs.QueueParts.{BatchedFrame}
