@@ -30,10 +30,9 @@ pub struct Intake {
 
 impl Model for Intake {
     ghost use Rattle.bin_queues.specs.Tasks.{Tasking};
+    ghost use Rattle.bin_queues.specs.Intakes.{tasking, IsIntake};
 
     ghost Value = { Tasking };
-
-    ghost use Rattle.bin_queues.specs.Intakes.{tasking, IsIntake};
 
     ghost view = { λ s. tasking s.taken s.pass s.number };
 

@@ -1,6 +1,5 @@
 //! The size of a screen, and the tiles and subtiles that it is divided into.
 ghost use Rattle.std.specs.Prelude.{◌≡◌, ℕ, ◌<◌, ◌≤◌, MatchOption, IsSome};
-ghost use Rattle.cull_base.specs.Screen.{Dimensions, IsSize};
 
 use crate::place::{Sub, Tile};
 use crate::rect::Rect;
@@ -19,6 +18,8 @@ pub struct Size {
 }
 
 impl Model for Size {
+    ghost use Rattle.cull_base.specs.Screen.{Dimensions, IsSize};
+
     ghost Value = { Dimensions };
 
     ghost view = { λ s. record { width = s.width; height = s.height } };
@@ -29,7 +30,7 @@ impl Model for Size {
 }
 
 impl Size {
-    ghost use Rattle.cull_base.specs.Screen.{dimensions, screen_of, is_on_screen};
+    ghost use Rattle.cull_base.specs.Screen.{IsSize, dimensions, screen_of, is_on_screen};
     ghost use Rattle.cull_base.specs.Screen.{tile_columns_of, tile_rows_of, tile_count_of};
     ghost use Rattle.cull_base.specs.Screen.{tile_place, tile_rect_of, tile_sub};
 
