@@ -63,10 +63,7 @@ fn the_first_scene_is_read_and_written_back(rt: HostRuntime) -> Result<(), Fail>
 }
 
 // What the first scene is refused for after these edits.
-fn refusal_after(
-    alloc: Global,
-    edits: &[(usize, u8)],
-) -> Result<Option<SceneError>, AllocError> {
+fn refusal_after(alloc: Global, edits: &[(usize, u8)]) -> Result<Option<SceneError>, AllocError> {
     let mut bytes = Vec::from_slice(alloc, &FIRST_SCENE)?;
     edit(&mut bytes, edits);
     Ok(refusal_of(alloc, bytes))

@@ -9,6 +9,6 @@ use Rattle.plain_turns.proofs.plain_tasks.first_tasks.Given as goal
 abbrev pub invariant-loop-intake : goal.invariant-loop-intake
 invariant-loop-intake l =
     GoesOver ((goal.iterator-loop-intake).can_next l.intake-iterator) ((goal.iterator-loop-intake).is_finite l.intake-iterator)
-      l.fn.intakes.items (length l.slots.items) (into_iter_items l.intake-iterator) (into_iter_len l.intake-iterator)
-      (AreFirst (IsWaitingTask l._queues (over l.frame [])) l.slots.items)
-      (l.count ≤ vec_capacity l.slots)
+    l.fn.intakes.items (length l.slots.items) (into_iter_items l.intake-iterator) (into_iter_len l.intake-iterator)
+    (AreFirst (IsWaitingTask l._queues (over l.frame [])) l.slots.items)
+    (l.count ≤ vec_capacity l.slots)
