@@ -223,7 +223,7 @@ fn closed<R: Wait>(
     cells.close(rt, writers, readers)
 }
 
-// One thread draws the first members, and each reader looks in a thread of its own.
+// One thread draws five members, and each reader looks in a thread of its own.
 fn draw_and_look<R: Threads + Wait + Sync>(
     rt: &R,
     alloc: Global,
@@ -232,23 +232,22 @@ fn draw_and_look<R: Threads + Wait + Sync>(
     readers: &mut [TileReader],
     list: &FrameList,
     steady: &AtomicBool,
-    to: u32,
 )
     requires whole { length cells.now ≡ tile_count_of list.now.list.size }
-    requires to { to ≤ length list.now.list.members }
+    requires five { 5 ≤ length list.now.list.members }
     requires stand { AreStanding cells.now list.now.list 0 writers.old.items }
     requires read { All (IsReading cells.now list.now.list) readers.old }
-    ensures stand { AreStanding cells.now list.now.list to writers.new.items }
+    ensures stand { AreStanding cells.now list.now.list 5 writers.new.items }
     ensures read { All (IsReading cells.now list.now.list) readers.new }
 {
     join_mut(
         rt,
         &mut ||
             requires { (length cells.now ≡ tile_count_of list.now.list.size)
-                × (to ≤ length list.now.list.members)
+                × (5 ≤ length list.now.list.members)
                 × AreStanding cells.now list.now.list 0 writers.now.items }
-            ensures { AreStanding cells.entry.now list.entry.now.list to writers.exit.now.items }
-        { draw(rt, cells, writers, list, 0, to) },
+            ensures { AreStanding cells.entry.now list.entry.now.list 5 writers.exit.now.items }
+        { draw(rt, cells, writers, list, 0, 5) },
         &mut ||
             requires { All (IsReading cells.now list.now.list) readers.now }
             ensures { All (IsReading cells.entry.now list.entry.now.list) readers.exit.now }
@@ -298,7 +297,6 @@ fn two_look_while_one_draws<R: Threads + Wait + Sync>(
         readers.as_mut_slice(),
         list,
         steady,
-        5,
     );
     Ok(closed(rt, cells, writers, readers, list, 5))
 }

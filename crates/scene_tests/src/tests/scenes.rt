@@ -63,12 +63,16 @@ fn the_first_scene_is_read_and_written_back(rt: HostRuntime) -> Result<(), Fail>
     Ok(())
 }
 
+// What the first scene is refused for after these edits.
+fn refusal_after(alloc: Global, edits: &[(usize, u8)]) -> Result<Option<SceneError>, AllocError> {
+    let mut bytes = Vec::from_slice(alloc, &FIRST_SCENE)?;
+    edit(&mut bytes, edits);
+    Ok(refusal_of(alloc, bytes))
+}
+
 #[test]
-fn each_step_holds_from_its_edge_on(rt: HostRuntime) -> Result<(), Fail> {
-    let alloc = rt.alloc();
-    let short = |need| { Some(SceneError::Truncated { need, have: 177 }) };
-    let count = |field, value| Some(SceneError::BadCount { field, value });
-    let table: [(&[(usize, u8)], Option<SceneError>); 44] = [
+fn each_field_of_the_header_holds_from_its_edge_on(rt: HostRuntime) -> Result<(), Fail> {
+    let table: [(&[(usize, u8)], Option<SceneError>); 20] = [
         (&[], None),
         (&[(3, 0x44)], Some(SceneError::BadMagic)),
         (&[(4, 2)], Some(SceneError::BadVersion(2))),
@@ -89,6 +93,18 @@ fn each_step_holds_from_its_edge_on(rt: HostRuntime) -> Result<(), Fail> {
         (&[(12, 2)], None),
         (&[(12, 3)], Some(SceneError::BadWinding(3))),
         (&[(13, 1)], Some(SceneError::BadReserved(1))),
+    ];
+    for (edits, want) in table {
+        assert_eq!(rt; refusal_after(rt.alloc(), edits)?, want, "after {edits:?}");
+    }
+    Ok(())
+}
+
+#[test]
+fn each_count_holds_from_its_edge_on(rt: HostRuntime) -> Result<(), Fail> {
+    let short = |need| { Some(SceneError::Truncated { need, have: 177 }) };
+    let count = |field, value| Some(SceneError::BadCount { field, value });
+    let table: [(&[(usize, u8)], Option<SceneError>); 11] = [
         (&[(14, 0)], count(0, 0)),
         (&[(14, 0), (15, 1)], short(12417)),
         (&[(14, 1), (15, 1)], count(0, 257)),
@@ -100,6 +116,16 @@ fn each_step_holds_from_its_edge_on(rt: HostRuntime) -> Result<(), Fail> {
         (&[(24, 1), (26, 4)], count(3, 262145)),
         (&[(28, 0), (30, 1)], short(1638552)),
         (&[(28, 1), (30, 1)], count(4, 65537)),
+    ];
+    for (edits, want) in table {
+        assert_eq!(rt; refusal_after(rt.alloc(), edits)?, want, "after {edits:?}");
+    }
+    Ok(())
+}
+
+#[test]
+fn each_entry_holds_from_its_edge_on(rt: HostRuntime) -> Result<(), Fail> {
+    let table: [(&[(usize, u8)], Option<SceneError>); 13] = [
         (&[(68, 0), (69, 0), (70, 0), (71, 1)], None),
         (
             &[(68, 1), (69, 0), (70, 0), (71, 1)],
@@ -127,9 +153,7 @@ fn each_step_holds_from_its_edge_on(rt: HostRuntime) -> Result<(), Fail> {
         ),
     ];
     for (edits, want) in table {
-        let mut bytes = Vec::from_slice(alloc, &FIRST_SCENE)?;
-        edit(&mut bytes, edits);
-        assert_eq!(rt; refusal_of(alloc, bytes), want, "after {edits:?}");
+        assert_eq!(rt; refusal_after(rt.alloc(), edits)?, want, "after {edits:?}");
     }
     Ok(())
 }
@@ -244,7 +268,12 @@ fn parts_are_refused_by_their_first_fault(rt: HostRuntime) -> Result<(), Fail> {
             "for {object:?}"
         );
     }
-    let mut parts = parts_with(alloc, Object::Mesh { first: 2, count: 0 })?;
+    Ok(())
+}
+
+#[test]
+fn parts_without_a_camera_are_refused_for_that_first(rt: HostRuntime) -> Result<(), Fail> {
+    let mut parts = parts_with(rt.alloc(), Object::Mesh { first: 2, count: 0 })?;
     parts.cameras.clear();
     assert_eq!(rt;
         Scene::new(parts).err(),

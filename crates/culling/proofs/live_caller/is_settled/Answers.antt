@@ -17,10 +17,9 @@ snapshot-requires-clause-size g c =
 pub returns-clause-value : goal.returns-clause-value
 returns-clause-value g c =
     let s = c.args.watched.now.scene.now in let frame = c.args.watched.now.frame in let o = c.args.object in
-    let area = c.object_area-area.result in
     let view = c.snapshot.new.into in
-    seen_settles s frame o area c.args.reader.now c.snapshot.new.self c.args.snapshot.now view c.object_settled.result c.requires.reader.list_is c.requires.size
-    (from_place (λ (x : Object). area ≡ object_area s frame x) s.objects o (Mesh 0 0) c.requires.object c.object_area-area.ensures) c.snapshot.ensures.held c.snapshot.ensures.read
+    seen_settles s frame o c.object_area-area.result c.args.reader.now c.snapshot.new.self c.args.snapshot.now view c.object_settled.result c.requires.reader.list_is c.requires.size
+    (from_place (λ (x : Object). c.object_area-area.result ≡ object_area s frame x) s.objects o (Mesh 0 0) c.requires.object c.object_area-area.ensures) c.snapshot.ensures.held c.snapshot.ensures.read
     (from_place (λ (x : Object). c.object_settled.result ≡ settled_in s frame (λ t. tile_at view.tiles t) x) s.objects o (Mesh 0 0) c.requires.object c.object_settled.ensures.settled)
 
 pub returns-clause-settled : goal.returns-clause-settled

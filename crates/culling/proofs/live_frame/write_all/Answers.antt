@@ -12,12 +12,11 @@ returns-in_err-write_live g c =
     let lines = c.args.lines.now in
     let k = c.loop-line.line-index in
     let line = c.line-item.result in
-    let so_far = c.loop-line.invariant in
     let e = c.in_err-write_live.field-0.0 in
     let p = err_from_is_err_and c.from_residual.result c.from_residual.ensures.1 in
     let s0 = g.E.Sink.says c.args.notes.now in
     let s1 = g.E.Sink.says c.loop-line.notes in
     let s2 = g.E.Sink.says c.write_live.new.sink in
     let (rest, split) = texts_begin text_of_line lines k line (omega arith) c.line-item.is in
-    let whole = writes_then s0 s1 s2 (Err e) (flat_map text_of_line (take k lines)) _ so_far.written so_far.faults so_far.refusals (writes_no_more s1 s2 e (text_of_line line) rest c.in_err-write_live.ensures) in
+    let whole = writes_then s0 s1 s2 (Err e) (flat_map text_of_line (take k lines)) _ c.loop-line.invariant.written c.loop-line.invariant.faults c.loop-line.invariant.refusals (writes_no_more s1 s2 e (text_of_line line) rest c.in_err-write_live.ensures) in
     rw (p.1, p.2) (subst (λ (t : List ℕ). Writes s0 s2 (Err e) t) (sym split) whole)
