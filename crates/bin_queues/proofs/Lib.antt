@@ -1,4 +1,3 @@
-pub mod Lists
 pub mod QueueKeeps
 pub mod NumberKeeps
 pub mod Intaking

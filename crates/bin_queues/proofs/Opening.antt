@@ -10,7 +10,7 @@ use Rattle.bin_queues.specs.QueueParts.{BatchedFrame, bin_of_frame}
 use Rattle.bin_queues.specs.QueueRule.{submitter}
 use Rattle.bin_queues.specs.Submitters.{AreOpenedTo, HavePushed}
 use Rattle.bin_queues.specs.Tasks.{AreFirstTasks, IsAt, QueuesOf, Tasking, first_task}
-use Rattle.bin_queues.proofs.Lists.{get_last, get_pushed, pushed_at}
+use Rattle.cull_base.proofs.Lists.{get_last, get_pushed, pushed_at}
 
 pub opened_none : (frame : BatchedFrame) (number : TableId) → AreOpenedTo frame number 0 [] [] []
 opened_none frame number = record {

@@ -9,7 +9,7 @@ use Rattle.crossbeam_queue.specs.Passes.{view, IsSamePass}
 use Rattle.crossbeam_utils.specs.Seq.{cell_view}
 use Rattle.binning.specs.Cut.{IsCut, bin_count_of}
 use Rattle.binning.specs.Parts.{PartOf, part, part_of, parts_of}
-use Rattle.bin_queues.proofs.Lists.{set_each, turn}
+use Rattle.cull_base.proofs.Lists.{set_each, turn}
 use Rattle.bin_queues.specs.declared.queue_rule.View.{View}
 use Rattle.bin_queues.specs.declared.number_rule.NumberView.{NumberView}
 use Rattle.bin_queues.specs.NumberRule.{publisher}

@@ -21,7 +21,8 @@ pub(crate) fn draw_next<B, K: Keeper<B>, G: Gate>(
     taken: u32,
 )
     requires index { index < length screen.now.list.now.list.members }
-    requires window { let s = screen.now in IsSpan s.list.now.list.size (bin_span_of s.list.now.list.size s.cut.now bin) }
+    requires window { let s = screen.now in
+        IsSpan s.list.now.list.size (bin_span_of s.list.now.list.size s.cut.now bin) }
     requires taken { let s = screen.now in taken ≡ drawn_of s.list.now.list s.cut.now index bin }
     requires stands { let s = screen.now in
         IsBinAt K.stands s.beside.now s.list.now.list s.cut.now index bin keeper.old }

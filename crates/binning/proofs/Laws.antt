@@ -30,6 +30,10 @@ batch_begins len size i some lt = elim (cases_lt (i * size) len) [
 pub batches_end : (len size : ℕ) → 0 < size → min (batch_count_of len size * size) len ≡ len
 batches_end len size some = let t = div_ceil_times len size some in omega (arith, t.0)
 
+-- a walk over all batches has passed all places
+pub all_batches : (len size count end batch from : ℕ) → 0 < size → end ≡ batch_count_of count size → count ≡ len → batch ≡ end → from ≡ min (batch * size) len → from ≡ len
+all_batches len size count end batch from some e c last f = f ∙ ap (λ n. min (n * size) len) (last ∙ e ∙ ap (λ n. batch_count_of n size) c) ∙ batches_end len size some
+
 -- the members of a bin's first parts are those of the batches' places
 pub members_in-is : (list : PieceList) (cut : CutOf) (size bin n : ℕ) → 0 < size → n ≤ batch_count_of (length list.members) size
     → members_in list cut size bin n ≡ members_at list.members (indices_in list cut 0 (min (n * size) (length list.members)) bin)

@@ -1,5 +1,6 @@
 //! How a screen is cut into bins.
 ghost use Rattle.std.specs.Prelude.{◌≡◌, MatchOption, IsSome, ◌≤◌};
+ghost use Rattle.binning.specs.Cut.{CutOf, IsCut, cut_into, bin_count_of};
 
 use std::marker::Model;
 
@@ -11,8 +12,6 @@ pub struct Cut {
 }
 
 impl Model for Cut {
-    ghost use Rattle.binning.specs.Cut.{CutOf, IsCut};
-
     ghost Value = { CutOf };
 
     ghost view = { λ c. record { columns = c.columns; rows = c.rows } };
@@ -23,8 +22,6 @@ impl Model for Cut {
 }
 
 impl Cut {
-    ghost use Rattle.binning.specs.Cut.{IsCut, cut_into, bin_count_of};
-
     /// None exactly where one of the two isn't 1 to 8.
     pub fn new(columns: u8, rows: u8) -> Option<Cut>
         ensures value { MatchOption result (IsCut columns rows → ⊥) (λ c. c ≡ cut_into columns rows) }

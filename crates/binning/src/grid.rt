@@ -51,7 +51,8 @@ impl Reach {
     pub(crate) fn is_one(self) -> bool
         requires columns { self.columns.first ≤ 8 }
         requires rows { self.rows.first ≤ 8 }
-        ensures { result ≡ (nat_eq self.columns.end (self.columns.first + 1) && nat_eq self.rows.end (self.rows.first + 1)) }
+        ensures { result
+            ≡ (nat_eq self.columns.end (self.columns.first + 1) && nat_eq self.rows.end (self.rows.first + 1)) }
     {
         self.columns.end == self.columns.first + 1 && self.rows.end == self.rows.first + 1
     }

@@ -3,7 +3,7 @@ ghost use Rattle.std.specs.Prelude.{◌≡◌, [], ◌<◌, ◌≤◌, ◌&&◌,
 ghost use Rattle.cull_base.specs.Rectangle.{meets};
 ghost use Rattle.binning.specs.Bins.{bin_rect_of};
 ghost use Rattle.binning.specs.Cut.{bin_count_of};
-ghost use Rattle.binning.specs.Rooms.{ChangedEach, IsAround, emptied, filled, offered, room};
+ghost use Rattle.binning.specs.Rooms.{ChangedEach, IsAround, RoomOf, emptied, filled, offered, room};
 
 use crate::bins::bin_rect;
 use crate::cut::Cut;
@@ -19,8 +19,6 @@ pub struct BinRoom {
 }
 
 impl Model for BinRoom {
-    ghost use Rattle.binning.specs.Rooms.{RoomOf};
-
     ghost Value = { RoomOf };
 
     ghost view = { λ r. record { rect = r.rect; indices = r.indices.items } };

@@ -13,6 +13,3 @@ pub use words::{Refusal, command_of};
 
 /// The version of the program and of the library for C.
 pub const VERSION: &str = "0.1.0";
-
-#[cfg(test)]
-mod tests;

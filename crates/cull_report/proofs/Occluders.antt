@@ -48,20 +48,24 @@ verdict_there f [] o x v e g = absurd cc
 verdict_there f (y ∷ ys) zero x v e g = let is : y ≡ x = cc in rw (← is) (cc)
 verdict_there f (y ∷ ys) (suc o) x v e g = verdict_there f ys o x v e g
 
--- a shape that is occluded where a subtile has the state after a list has a piece of it strictly nearer at each sample there
-pub shape_hides : (size : Dimensions) (f : Sub → State) (pieces : List Piece) (shape : Shape) (px py : ℕ) → HasPieces shape → ArePieces pieces → f (sub_of_pixel px py) ≡ after (sub_of_pixel px py) pieces
+-- a shape that is occluded where a subtile is sound for a list has a piece of it strictly nearer at each sample there
+pub sound_hides : (size : Dimensions) (f : Sub → State) (pieces : List Piece) (shape : Shape) (px py : ℕ) → HasPieces shape → ArePieces pieces → IsSound (sub_of_pixel px py) pieces (f (sub_of_pixel px py))
     → verdict_of size f shape ≡ Occluded → px < size.width → py < size.height → has_sample shape px py ≡ true → HasNearerPiece pieces (middle px py) (near_at shape px py)
-shape_hides size f pieces AlwaysOutside px py good all is occluded x y has = absurd cc
-shape_hides size f pieces AlwaysVisible px py good all is occluded x y has = absurd cc
-shape_hides size f pieces (Flat r q) px py good all is occluded x y has =
+sound_hides size f pieces AlwaysOutside px py good all sound occluded x y has = absurd cc
+sound_hides size f pieces AlwaysVisible px py good all sound occluded x y has = absurd cc
+sound_hides size f pieces (Flat r q) px py good all sound occluded x y has =
     let u = sub_of_pixel px py in
     let h = hidden_each size f (Flat r q) (occluded_is_hidden size f (Flat r q) occluded) px py x y has in
-    let sound = subst (IsSound u pieces) (sym is) (after_is_sound u pieces all) in
     nearer_piece pieces u (f u) (sample_of_pixel px py) q (middle px py) all sound (sample_below px py) (sample_is_middle px py) h
-shape_hides size f pieces (Pieces ts hull) px py good all is occluded x y has =
-    let u = sub_of_pixel px py in
-    let sound = subst (IsSound u pieces) (sym is) (after_is_sound u pieces all) in
+sound_hides size f pieces (Pieces ts hull) px py good all sound occluded x y has =
     pieces_nearer size f pieces ts hull px py (λ t m. (good t m).0) all sound (occluded_is_hidden size f (Pieces ts hull) occluded) x y has
+
+-- and so has one where the subtile has the state after the list
+pub shape_hides : (size : Dimensions) (f : Sub → State) (pieces : List Piece) (shape : Shape) (px py : ℕ) → HasPieces shape → ArePieces pieces → f (sub_of_pixel px py) ≡ after (sub_of_pixel px py) pieces
+    → verdict_of size f shape ≡ Occluded → px < size.width → py < size.height → has_sample shape px py ≡ true → HasNearerPiece pieces (middle px py) (near_at shape px py)
+shape_hides size f pieces shape px py good all is occluded x y has =
+    let u = sub_of_pixel px py in
+    sound_hides size f pieces shape px py good all (subst (IsSound u pieces) (sym is) (after_is_sound u pieces all)) occluded x y has
 
 pub rectangle_has_pieces : (top near : ℕ) (size : Dimensions) (r : Rect) (w : ℤ) → HasPieces (rectangle_shape top near size r w)
 rectangle_has_pieces top near size r w = by (int_lt w (pos near)) (meets r (screen_of size))

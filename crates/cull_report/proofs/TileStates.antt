@@ -21,7 +21,7 @@ abbrev pub place_in_tile : ℕ → ℕ → ℕ
 place_in_tile px py = 4 * (py / 4 % 2) + px / 8 % 4
 
 -- the subtile of a pixel, as that of its tile
-sub_is : (size : Dimensions) (px py : ℕ) → px < size.width → py < size.height → tile_sub size (tile_of_pixel size px py) (place_in_tile px py) ≡ sub_of_pixel px py
+pub sub_is : (size : Dimensions) (px py : ℕ) → px < size.width → py < size.height → tile_sub size (tile_of_pixel size px py) (place_in_tile px py) ≡ sub_of_pixel px py
 sub_is size px py x y =
     let tile = tile_of_pixel-is size px py x y in
     let c : 4 * (px / 32) + (4 * (py / 4 % 2) + px / 8 % 4) % 4 ≡ px / 8 = omega arith in
@@ -31,7 +31,7 @@ sub_is size px py x y =
     of_place : Tile → Sub
     of_place p = record { column = 4 * p.column + place_in_tile px py % 4; row = 2 * p.row + place_in_tile px py / 4 }
 
-on_screen : (size : Dimensions) (px py : ℕ) → px < size.width → py < size.height → is_on_screen size (sub_of_pixel px py) ≡ true
+pub on_screen : (size : Dimensions) (px py : ℕ) → px < size.width → py < size.height → is_on_screen size (sub_of_pixel px py) ≡ true
 on_screen size px py x y =
     let a : nat_lt (8 * (px / 8)) size.width ≡ true = grind (arith, nat_tests) in
     let b : nat_lt (4 * (py / 4)) size.height ≡ true = grind (arith, nat_tests) in

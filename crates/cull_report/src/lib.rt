@@ -12,8 +12,6 @@ mod objects;
 mod report;
 mod run_pool;
 mod runs;
-#[cfg(test)]
-mod tests;
 
 pub use asked::Asked;
 pub use by_workers::{verdicts_by_workers, verdicts_with_lines};

@@ -34,7 +34,14 @@ impl Model for LiveLine {
 
     ghost Value = { LiveLineOf };
 
-    ghost view = { λ s. record { frame = s.frame; round = s.round; object = s.object; verdict = s.verdict; counts = s.counts.items; room = s.room } };
+    ghost view = { λ s. record {
+      frame = s.frame;
+      round = s.round;
+      object = s.object;
+      verdict = s.verdict;
+      counts = s.counts.items;
+      room = s.room;
+    } };
 
     ghost invariant = { λ s. (length s.counts.items ≤ s.room) × (s.room ≤ vec_capacity s.counts) };
 }
@@ -95,7 +102,14 @@ impl LiveLine {
     /// of what it told before. Condition: these tiles are no more than there is room for.
     pub fn fill(&mut self, frame: u32, round: u32, object: u32, verdict: Verdict, view: &Snapshot)
         requires { length (counts_held view.now) ≤ self.old.room }
-        ensures { self.new ≡ record { frame = frame; round = round; object = object; verdict = verdict; counts = counts_held view.now; room = self.old.room } }
+        ensures { self.new ≡ record {
+          frame = frame;
+          round = round;
+          object = object;
+          verdict = verdict;
+          counts = counts_held view.now;
+          room = self.old.room;
+        } }
     {
         self.frame = frame;
         self.round = round;

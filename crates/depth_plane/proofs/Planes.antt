@@ -1,14 +1,16 @@
 -- The plane of a piece has the piece's depth at each point.
-use Rattle.std.proofs.Common.{◌≡◌, ℕ, ℤ, pos, ◌+ℤ◌, ◌-ℤ◌, ◌*ℤ◌, ◌∙◌, arith, refl}
+use Rattle.std.proofs.Common.{◌≡◌, ℕ, ℤ, pos, negsuc, ◌<ℤ◌, ◌≤ℤ◌, ◌^◌, ◌+ℤ◌, ◌-ℤ◌, ◌*ℤ◌, ◌∙◌, ap, arith, refl, subst, sym}
+use Rattle.std.specs.Int.RustNames.{unsigned_abs}
 use Rattle.std.proofs.lemmas.Int.{ints}
-use Rattle.cull_base.specs.Piece.{Piece, Point, vertex, nearness, sample, each_sample}
+use Rattle.cull_base.specs.Bounds.{Bounded}
+use Rattle.cull_base.specs.Piece.{IsPiece, Piece, Point, vertex, nearness, sample, each_sample}
 use Rattle.cull_base.specs.Depth.{numerator, denominator}
 use Rattle.cull_base.proofs.Masks.{each_sample-same}
 use Rattle.cull_base.proofs.Ring.{diff, diff-add, diff-sub, diff-mul, diff-same, pos_is, over2, over3, over4}
 use Rattle.cull_base.specs.declared.place.Sub.{Sub}
 use Rattle.depth_plane.specs.Vertices.{AreVertices, across_of, down_of, level_of, area_of}
 use Rattle.depth_plane.specs.declared.vertices.Vertices.{Vertices}
-use Rattle.depth_plane.specs.Plane.{plane_of, numerator_at}
+use Rattle.depth_plane.specs.Plane.{Coefficients, IsPlane, coefficients, plane_of, numerator_at}
 use Rattle.depth_plane.proofs.Mean.{edge}
 
 abbrev by_edges : ℕ → ℕ → ℕ → ℤ → ℤ → ℤ → ℤ → ℤ → ℤ → ℤ → ℤ → ℤ
@@ -75,6 +77,27 @@ plane_of-computed t v a d l n h ea ed en el =
     let u = down_from (pos (nearness t 0)) (pos (nearness t 1)) (pos (nearness t 2)) (vertex t 0).x (vertex t 1).x (vertex t 2).x in
     let w = level_from (nearness t 0) (nearness t 1) (nearness t 2) (vertex t 0).x (vertex t 0).y (vertex t 1).x (vertex t 1).y (vertex t 2).x (vertex t 2).y in
     rw (el, en, ea, ed, x, y, q, bx, by, bq, cx, cy, cq, s, u, w) refl
+
+-- a plane whose area is told by the size of a number: the number is positive, and its size is the number
+pub positive : (t : Piece) (v : Vertices) (n : ℤ) → IsPiece t → AreVertices v t → n ≡ area_of v → pos 0 <ℤ n
+positive t v n h a e = let f = area_of-vertices t v a in let p = h.positive_area in rw (e, f) p
+
+pub size_is : (n : ℤ) (u : ℕ) → pos 0 <ℤ n → u ≡ unsigned_abs n → pos u ≡ n
+size_is (pos k) u h e = ap pos e
+size_is (negsuc k) u h e = absurd (omega (arith, ints, h))
+
+same_area : (a d l m n : ℤ) (v : Coefficients) → m ≡ n → record { across = a; down = d; level = l; area = n } ≡ v → record { across = a; down = d; level = l; area = m } ≡ v
+same_area a d l m n v e h = rw e h
+
+pub plane_of-sized : (t : Piece) (v : Vertices) (a d l n m : ℤ) → m ≡ n → AreVertices v t → a ≡ across_of v → d ≡ down_of v → n ≡ area_of v → l ≡ level_of v a d n →
+    record { across = a; down = d; level = l; area = m } ≡ plane_of t
+plane_of-sized t v a d l n m e h ea ed en el = same_area a d l m n (plane_of t) e (plane_of-computed t v a d l n h ea ed en el)
+
+within : (n m : ℤ) → Bounded (2 ^ 61) n → m ≡ n → m ≤ℤ pos (2 ^ 61)
+within n m h e = omega (arith, ints, h, e)
+
+pub plane-bounded : (a d l n m : ℤ) → m ≡ n → pos 0 <ℤ n → Bounded (2 ^ 56) a → Bounded (2 ^ 56) d → Bounded (2 ^ 87) l → Bounded (2 ^ 61) n → IsPlane (coefficients a d l m)
+plane-bounded a d l n m e p across down level area = record { across = across; down = down; level = level; positive_area = subst (λ (z : ℤ). pos 0 <ℤ z) (sym e) p; area_within = within n m area e }
 
 pub each_sample-plane_of : (t : Piece) (u : Sub) → each_sample (λ k. numerator_at (plane_of t) (sample u k)) ≡ each_sample (λ k. numerator t (sample u k))
 each_sample-plane_of t u = each_sample-same (λ k. numerator_at (plane_of t) (sample u k)) (λ k. numerator t (sample u k)) (λ k l. numerator_at-plane_of t (sample u k))

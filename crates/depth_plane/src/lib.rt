@@ -6,8 +6,6 @@ mod floor_lanes;
 mod plane;
 mod quotient;
 mod small_plane;
-#[cfg(test)]
-mod tests;
 mod vertices;
 
 pub use plane::Plane;

@@ -14,8 +14,6 @@ mod shared;
 mod slant;
 mod small_edges;
 mod spans;
-#[cfg(test)]
-mod tests;
 mod tile_edges;
 mod tile_row;
 mod turned;

@@ -2,24 +2,10 @@
 #![tactic(auto)]
 
 mod adapters;
-mod cull;
-mod demo;
-mod drawing;
-mod failure;
-mod frame_by_frame;
-mod frames;
-mod live;
-mod live_caller;
-mod live_frame;
-mod run;
-mod summary;
-mod window;
 
 use adapters::{Input, Output};
 use cull_base::Memory;
-use failure::Failure;
-pub use failure::Status;
-pub use run::run;
+use culling::{Failure, run};
 use std::alloc::Global;
 use std::env;
 use std::io::{BufReader, ErrorKind, Stdin};
@@ -71,6 +57,3 @@ fn main(rt: HostRuntime) -> ExitCode {
     };
     ExitCode::from(status.code())
 }
-
-#[cfg(test)]
-mod tests;

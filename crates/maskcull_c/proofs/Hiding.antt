@@ -1,47 +1,25 @@
 -- What is called occluded has at each of its samples a drawn piece strictly nearer.
-use Rattle.std.proofs.Common.{◌≡◌, ℕ, ◌+◌, ◌*◌, ◌/◌, ◌%◌, ◌<◌, true, cond, nat_lt, List, length, get_or, arith, refl, ap, ◌∙◌, sym, subst}
+use Rattle.std.proofs.Common.{◌≡◌, ℕ, ◌/◌, ◌<◌, true, cond, List, length, get_or, arith, refl, ap, ◌∙◌, sym, subst}
 use Rattle.std.proofs.Math.Nat.{zero-add}
-use Rattle.std.proofs.lemmas.Bool.Decides.{nat_tests}
 use Rattle.cull_base.specs.declared.place.Sub.{Sub}
-use Rattle.cull_base.specs.declared.place.Tile.{Tile}
 use Rattle.cull_base.specs.declared.scene_types.Verdict.{Verdict}
-use Rattle.cull_base.specs.declared.scene_types.Verdict.TheVariants.{Occluded}
 use Rattle.cull_base.specs.Fold.{IsSound, after}
-use Rattle.cull_base.specs.Nearer.{HasNearerPiece}
-use Rattle.cull_base.specs.Piece.{Piece, middle}
-use Rattle.cull_base.specs.Pixels.{sample_of_pixel, sub_of_pixel, tile_of_pixel}
+use Rattle.cull_base.specs.Piece.{Piece}
+use Rattle.cull_base.specs.Pixels.{sub_of_pixel, tile_of_pixel}
 use Rattle.cull_base.specs.Screen.{Dimensions, is_on_screen, tile_columns_of, tile_sub}
-use Rattle.cull_base.specs.Shape.{Shape, AlwaysOutside, AlwaysVisible, Flat, Pieces, has_sample, near_at, verdict_of}
+use Rattle.cull_base.specs.Shape.{Shape, verdict_of}
 use Rattle.cull_base.specs.State.{State, empty_state}
 use Rattle.cull_base.specs.Tiles.{ArePieces, tile_after}
-use Rattle.cull_base.proofs.HiddenObjects.{hidden_each, occluded_is_hidden}
-use Rattle.cull_base.proofs.Nearer.{nearer_piece}
-use Rattle.cull_base.proofs.Pixels.{sample_below, sample_is_middle, tile_is, tile_of_pixel-is}
+use Rattle.cull_base.proofs.Pixels.{tile_is}
 use Rattle.masked_update.specs.TileOf.{TileOf, sub_at, tile_at}
 use Rattle.masked_update.specs.Views.{state_in}
 use Rattle.masked_update.proofs.Drawing.{after_is_sound}
 use Rattle.masked_update.proofs.Merging.{one_of_eight}
-use Rattle.mesh_query.proofs.Occluders.{HasPieces, pieces_nearer}
-use Rattle.cull_report.proofs.TileStates.{place_in_tile}
+use Rattle.mesh_query.proofs.Occluders.{HasPieces}
+use Rattle.cull_report.proofs.Occluders.{sound_hides}
+use Rattle.cull_report.proofs.TileStates.{on_screen, place_in_tile, sub_is}
 use Rattle.maskcull_c.specs.Tiles.{Hides, IsAfter, IsSoundFor, code_of}
 use Rattle.maskcull_c.proofs.Codes.{occluded_by_code}
-
--- the subtile of a pixel, as that of its tile
-sub_is : (size : Dimensions) (px py : ℕ) → px < size.width → py < size.height → tile_sub size (tile_of_pixel size px py) (place_in_tile px py) ≡ sub_of_pixel px py
-sub_is size px py x y =
-    let tile = tile_of_pixel-is size px py x y in
-    let c : 4 * (px / 32) + (4 * (py / 4 % 2) + px / 8 % 4) % 4 ≡ px / 8 = omega arith in
-    let r : 2 * (py / 8) + (4 * (py / 4 % 2) + px / 8 % 4) / 4 ≡ py / 4 = omega arith in
-    ap (λ (p : Tile). of_place p) tile.place ∙ rw (c, r) refl
-  where
-    of_place : Tile → Sub
-    of_place p = record { column = 4 * p.column + place_in_tile px py % 4; row = 2 * p.row + place_in_tile px py / 4 }
-
-on_screen : (size : Dimensions) (px py : ℕ) → px < size.width → py < size.height → is_on_screen size (sub_of_pixel px py) ≡ true
-on_screen size px py x y =
-    let a : nat_lt (8 * (px / 8)) size.width ≡ true = grind (arith, nat_tests) in
-    let b : nat_lt (4 * (py / 4)) size.height ≡ true = grind (arith, nat_tests) in
-    rw (a, b) refl
 
 -- where a tile is sound for some pieces, so is the subtile of each of its pixels
 sound_at : (size : Dimensions) (pieces : List Piece) (tiles : List TileOf) (px py : ℕ) → px < size.width → py < size.height
@@ -54,23 +32,11 @@ sound_at size pieces tiles px py x y s =
     subst (λ (n : ℕ). IsSound u pieces (sub_at (tile_at tiles n) j)) (sym number)
     (subst (λ (v : Sub). IsSound v pieces (sub_at (tile_at tiles t) j)) is here)
 
--- a shape that is occluded where a subtile is sound for a list has a piece of it strictly nearer at each sample there
-shape_hides : (size : Dimensions) (f : Sub → State) (pieces : List Piece) (shape : Shape) (px py : ℕ) → HasPieces shape → ArePieces pieces → IsSound (sub_of_pixel px py) pieces (f (sub_of_pixel px py))
-    → verdict_of size f shape ≡ Occluded → px < size.width → py < size.height → has_sample shape px py ≡ true → HasNearerPiece pieces (middle px py) (near_at shape px py)
-shape_hides size f pieces AlwaysOutside px py good all sound occluded x y has = absurd cc
-shape_hides size f pieces AlwaysVisible px py good all sound occluded x y has = absurd cc
-shape_hides size f pieces (Flat r q) px py good all sound occluded x y has =
-    let u = sub_of_pixel px py in
-    let h = hidden_each size f (Flat r q) (occluded_is_hidden size f (Flat r q) occluded) px py x y has in
-    nearer_piece pieces u (f u) (sample_of_pixel px py) q (middle px py) all sound (sample_below px py) (sample_is_middle px py) h
-shape_hides size f pieces (Pieces ts hull) px py good all sound occluded x y has =
-    pieces_nearer size f pieces ts hull px py (λ t m. (good t m).0) all sound (occluded_is_hidden size f (Pieces ts hull) occluded) x y has
-
 pub hides_by_verdict : (size : Dimensions) (tiles : List TileOf) (shape : Shape) (v : Verdict) (code : ℕ) → HasPieces shape
     → v ≡ verdict_of size (state_in size (tile_at tiles)) shape → code ≡ code_of v → Hides size tiles shape code
 hides_by_verdict size tiles shape v code good is number lists px py sound occluded x y has =
     let pieces = lists (tile_of_pixel size px py) in
-    shape_hides size (state_in size (tile_at tiles)) pieces shape px py good sound.valid (sound_at size pieces tiles px py x y sound)
+    sound_hides size (state_in size (tile_at tiles)) pieces shape px py good sound.valid (sound_at size pieces tiles px py x y sound)
     (sym is ∙ occluded_by_code v (sym number ∙ occluded)) x y has
 
 -- a tile after its list is sound for it

@@ -165,7 +165,8 @@ pub extern "C" fn maskcull_draw_band(
     ensures bad_tiles { result ≡ BAD_TILES → AreRows (size_of setup.now) first_row tiles.old → ⊥ }
     ensures bad_index { result ≡ BAD_INDEX → All (IsAmong (length vertices.now)) triangles.now → ⊥ }
     ensures refuses_setup { (IsSetup setup.now → ⊥) → result ≡ BAD_SETUP }
-    ensures refuses_tiles { IsSetup setup.now → (AreRows (size_of setup.now) first_row tiles.old → ⊥) → result ≡ BAD_TILES }
+    ensures refuses_tiles { IsSetup setup.now → (AreRows (size_of setup.now) first_row tiles.old → ⊥)
+        → result ≡ BAD_TILES }
     ensures refuses_index { IsSetup setup.now → AreRows (size_of setup.now) first_row tiles.old
         → (All (IsAmong (length vertices.now)) triangles.now → ⊥) → result ≡ BAD_INDEX }
     ensures most { result ≤ BAD_INDEX }

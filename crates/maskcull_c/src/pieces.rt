@@ -111,7 +111,8 @@ pub extern "C" fn maskcull_draw_pieces(
     ensures bad_setup { result ≡ BAD_SETUP → IsSetup setup.now → ⊥ }
     ensures bad_tiles { result ≡ BAD_TILES → AreRows (size_of setup.now) first_row tiles.old → ⊥ }
     ensures refuses_setup { (IsSetup setup.now → ⊥) → result ≡ BAD_SETUP }
-    ensures refuses_tiles { IsSetup setup.now → (AreRows (size_of setup.now) first_row tiles.old → ⊥) → result ≡ BAD_TILES }
+    ensures refuses_tiles { IsSetup setup.now → (AreRows (size_of setup.now) first_row tiles.old → ⊥)
+        → result ≡ BAD_TILES }
     ensures most { result ≤ BAD_TILES }
     ensures refused { result ≢ DONE → tiles.new ≡ tiles.old }
 {

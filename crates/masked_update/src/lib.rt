@@ -8,20 +8,12 @@ mod cut;
 mod draw;
 mod member;
 mod packing;
-#[cfg(test)]
-mod packing_tests;
 mod piece_setup;
 mod sample_box;
-#[cfg(test)]
-mod sample_box_tests;
 mod small_piece;
-#[cfg(test)]
-mod small_piece_tests;
 mod small_walk;
 mod sub_span;
 mod sub_tile;
-#[cfg(test)]
-mod tests;
 mod tile_layers;
 mod tile_state;
 mod tile_view;

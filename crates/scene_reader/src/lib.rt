@@ -21,6 +21,3 @@ pub use parts::SceneParts;
 pub use reading::read_scene;
 pub use scene::Scene;
 pub use writing::write_scene;
-
-#[cfg(test)]
-mod tests;

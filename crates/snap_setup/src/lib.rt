@@ -21,6 +21,3 @@ pub use runs::frame_list_by_workers;
 pub use sampled::{KeptList, sampled_list};
 pub use snapping::{Place, Snapped, place_of, snap};
 pub use triangle::set_up;
-
-#[cfg(test)]
-mod tests;

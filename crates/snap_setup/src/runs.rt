@@ -59,8 +59,8 @@ fn run(tris: &[Tri], share: usize, k: usize) -> &[Tri]
     &tris[start..end]
 }
 
-// As `push_all`, where each piece is kept. Meanwhile the list stands apart from those of other threads: side by side these are on one cache line,
-// which each piece would take from the others.
+// As `push_all`, where each piece is kept. Meanwhile the list stands apart from those of other threads: side by side
+// these are on one cache line, which each piece would take from the others.
 fn push_all_apart(
     alloc: Global,
     occluders: &Occluders,

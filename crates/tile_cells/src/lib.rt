@@ -12,8 +12,6 @@ mod reading;
 mod rule;
 mod snapshot;
 mod steps;
-#[cfg(test)]
-mod tests;
 mod words;
 mod writer;
 
@@ -21,4 +19,5 @@ pub use cells::TileCells;
 pub use note::Note;
 pub use reader::TileReader;
 pub use snapshot::Snapshot;
+pub use words::{tile_of, words_of};
 pub use writer::TileWriter;

@@ -1,7 +1,8 @@
 //! What a writer tells of its tile.
 ghost use Rattle.std.specs.Prelude.{◌≡◌, []};
 ghost use Rattle.crossbeam_utils.specs.Seq.{cell_view};
-ghost use Rattle.tile_cells.specs.Passes.{list_at};
+ghost use Rattle.tile_cells.specs.Cells.{Noted};
+ghost use Rattle.tile_cells.specs.Passes.{IsNote, list_at};
 ghost use Rattle.tile_cells.specs.Rule.{reader};
 
 use crate::rule::CellPass;
@@ -16,9 +17,6 @@ pub struct Note {
 }
 
 impl Model for Note {
-    ghost use Rattle.tile_cells.specs.Cells.{Noted};
-    ghost use Rattle.tile_cells.specs.Passes.{IsNote, list_at};
-
     ghost Value = { Noted };
 
     ghost view = { λ s. record { cell = s.pass.table_id; list = list_at s.pass; tile = s.tile; count = s.count } };
@@ -27,8 +25,6 @@ impl Model for Note {
 }
 
 impl Note {
-    ghost use Rattle.tile_cells.specs.Cells.{Noted};
-
     /// Condition: the pass has seen so many members of the tile's list.
     pub(crate) fn of(pass: CellPass, tile: u32, count: u32) -> Note
         requires joinable { pass.me.1 ≡ [] }

@@ -3,7 +3,7 @@ ghost use Rattle.std.specs.Prelude.{◌≡◌, ℕ, ◌<◌, true, false, length
 ghost use Rattle.cull_base.specs.Screen.{tile_count_of};
 ghost use Rattle.cull_base.specs.Span.{HasTilesOf, IsSpan, has_tile};
 ghost use Rattle.masked_update.specs.TileOf.{tile_at};
-ghost use Rattle.tile_cells.specs.Snapshots.{is_held};
+ghost use Rattle.tile_cells.specs.Snapshots.{SnapshotOf, is_held};
 
 use cull_base::{Memory, Rect, Size, Tile, TileSpan};
 use masked_update::{TileState, TileView};
@@ -28,11 +28,6 @@ pub struct Snapshot {
 }
 
 impl Model for Snapshot {
-    ghost use Rattle.std.specs.Prelude.{◌≡◌, length};
-    ghost use Rattle.cull_base.specs.Screen.{tile_count_of};
-    ghost use Rattle.cull_base.specs.Span.{IsSpan};
-    ghost use Rattle.tile_cells.specs.Snapshots.{SnapshotOf};
-
     ghost Value = { SnapshotOf };
 
     ghost view = { λ s. record { size = s.size; span = s.span; tiles = s.tiles.items } };

@@ -20,7 +20,7 @@ fn paired(first: u32, second: u32) -> u64
 
 /// The count, then the layers of the eight subtiles, then their masks, two in a word.
 #[inline(always)]
-pub(crate) fn words_of(state: &TileState) -> [u64; 13]
+pub fn words_of(state: &TileState) -> [u64; 13]
     ensures value { result ≡ words_of state.now }
     ensures possible { IsTile state.now }
 {
@@ -85,7 +85,7 @@ fn subtile_at(words: &[u64; 13], j: usize) -> SubTile
 
 /// The tile that has these words. Condition: there is one.
 #[inline(always)]
-pub(crate) fn tile_of(words: &[u64; 13]) -> TileState
+pub fn tile_of(words: &[u64; 13]) -> TileState
     requires { AreTileWords words.now }
     ensures { (t : TileOf) → IsTile t → words.now ≡ words_of t → result ≡ t }
 {

@@ -3,8 +3,8 @@ ghost use Rattle.std.specs.Prelude.{◌≡◌, ◌+◌, ◌<◌, ◌≤◌, [], 
 ghost use Rattle.crossbeam_utils.specs.Seq.{cell_view};
 ghost use Rattle.cull_base.specs.Screen.{tile_count_of};
 ghost use Rattle.masked_update.specs.Taken.{IsMember, standing_at};
-ghost use Rattle.tile_cells.specs.Cells.{IsAt, first_at, note_of};
-ghost use Rattle.tile_cells.specs.Passes.{Reads, heard_at, list_at, number_at};
+ghost use Rattle.tile_cells.specs.Cells.{IsAt, Writing, first_at, note_of};
+ghost use Rattle.tile_cells.specs.Passes.{IsWriting, Reads, heard_at, list_at, number_at, writing};
 ghost use Rattle.tile_cells.specs.Rule.{reader, writer};
 
 use crate::cells::TileCells;
@@ -29,9 +29,6 @@ pub struct TileWriter {
 }
 
 impl Model for TileWriter {
-    ghost use Rattle.tile_cells.specs.Cells.{Writing};
-    ghost use Rattle.tile_cells.specs.Passes.{IsWriting, writing};
-
     ghost Value = { Writing };
 
     ghost view = { λ s. writing s.tile s.pass };

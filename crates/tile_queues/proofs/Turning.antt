@@ -1,7 +1,7 @@
 -- A list whose elements change one after another.
 use Rattle.std.proofs.Common.{◌≡◌, ℕ, ◌+◌, ◌<◌, ◌≤◌, List, length, get_or, set, length-set, arith, refl, sym, subst, ◌∙◌, below_more}
 use Rattle.std.proofs.lemmas.List.{get_or-set_same, get_or-set_other}
-use Rattle.bin_queues.proofs.Lists.{set_each}
+use Rattle.cull_base.proofs.Lists.{set_each}
 
 -- the first n elements changed so, and the others are as they were
 pub record IsTurnedTo {X : Type 0} (P : X → Type 0) (R : X → X → Type 0) (old new : List X) (n : ℕ) : Type 0 where

@@ -21,8 +21,3 @@ pub use frame::draw_frame;
 pub use plain_turns::draw_plain_frame;
 pub use queues::BinQueues;
 pub use submitter::Submitter;
-
-#[cfg(test)]
-mod queue_tests;
-#[cfg(test)]
-mod tests;

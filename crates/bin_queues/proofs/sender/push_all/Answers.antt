@@ -1,6 +1,6 @@
 use Rattle.std.proofs.Common.{◌≡◌, ◌+◌, length, arith, ap, sym, ◌∙◌, subst, rules}
 use Rattle.crossbeam_queue.specs.Passes.{view, ruled_capacity}
-use Rattle.bin_queues.proofs.Lists.{turn}
+use Rattle.cull_base.proofs.Lists.{turn}
 use Rattle.bin_queues.specs.Intakes.{QueueToken}
 use Rattle.bin_queues.specs.QueueRule.{submitter}
 use Rattle.bin_queues.specs.QueueParts.{BatchedFrame}
@@ -28,31 +28,11 @@ index_mut-requires g c =
     let same : c.loop-part.passes.len ≡ length c.loop-part.passes.items = search rules in
     omega (arith, lt, same)
 
-pub push-requires-clause-own : goal.push-requires-clause-own
-push-requires-clause-own g c =
+pub push-requires : goal.push-requires
+push-requires g c =
     let i = c.loop-part.invariant in
     let m = may_push (λ q. q.table.shared.table_id) (λ q. ruled_capacity q) c.args.queues.now c.loop-part.passes.items c.args.passes.now.items c.args.parts.items _ (frame_of c.args.passes.now.items) c.args._batch c.loop-part.bin c.in-Some.part _ c.index_mut.result.now c.index-queues-bin.result c.requires.batched c.requires.own c.requires.room c.requires.short c.requires.parts i.2 c.in-Some.ensures.steps.0 i.4 i.5 c.index_mut.ensures.value c.index-queues-bin.is in
-    (m.own, m.free)
-
-pub push-requires-clause-submits : goal.push-requires-clause-submits
-push-requires-clause-submits g c =
-    let i = c.loop-part.invariant in
-    (may_push (λ q. q.table.shared.table_id) (λ q. ruled_capacity q) c.args.queues.now c.loop-part.passes.items c.args.passes.now.items c.args.parts.items _ (frame_of c.args.passes.now.items) c.args._batch c.loop-part.bin c.in-Some.part _ c.index_mut.result.now c.index-queues-bin.result c.requires.batched c.requires.own c.requires.room c.requires.short c.requires.parts i.2 c.in-Some.ensures.steps.0 i.4 i.5 c.index_mut.ensures.value c.index-queues-bin.is).submits
-
-pub push-requires-clause-next : goal.push-requires-clause-next
-push-requires-clause-next g c =
-    let i = c.loop-part.invariant in
-    (may_push (λ q. q.table.shared.table_id) (λ q. ruled_capacity q) c.args.queues.now c.loop-part.passes.items c.args.passes.now.items c.args.parts.items _ (frame_of c.args.passes.now.items) c.args._batch c.loop-part.bin c.in-Some.part _ c.index_mut.result.now c.index-queues-bin.result c.requires.batched c.requires.own c.requires.room c.requires.short c.requires.parts i.2 c.in-Some.ensures.steps.0 i.4 i.5 c.index_mut.ensures.value c.index-queues-bin.is).next
-
-pub push-requires-clause-short : goal.push-requires-clause-short
-push-requires-clause-short g c =
-    let i = c.loop-part.invariant in
-    (may_push (λ q. q.table.shared.table_id) (λ q. ruled_capacity q) c.args.queues.now c.loop-part.passes.items c.args.passes.now.items c.args.parts.items _ (frame_of c.args.passes.now.items) c.args._batch c.loop-part.bin c.in-Some.part _ c.index_mut.result.now c.index-queues-bin.result c.requires.batched c.requires.own c.requires.room c.requires.short c.requires.parts i.2 c.in-Some.ensures.steps.0 i.4 i.5 c.index_mut.ensures.value c.index-queues-bin.is).short
-
-pub push-requires-clause-room : goal.push-requires-clause-room
-push-requires-clause-room g c =
-    let i = c.loop-part.invariant in
-    (may_push (λ q. q.table.shared.table_id) (λ q. ruled_capacity q) c.args.queues.now c.loop-part.passes.items c.args.passes.now.items c.args.parts.items _ (frame_of c.args.passes.now.items) c.args._batch c.loop-part.bin c.in-Some.part _ c.index_mut.result.now c.index-queues-bin.result c.requires.batched c.requires.own c.requires.room c.requires.short c.requires.parts i.2 c.in-Some.ensures.steps.0 i.4 i.5 c.index_mut.ensures.value c.index-queues-bin.is).roomy
+    record { own = (m.own, m.free); submits = m.submits; next = m.next; short = m.short; room = m.roomy }
 
 pub loop-part-preserved : goal.loop-part-preserved
 loop-part-preserved g c =

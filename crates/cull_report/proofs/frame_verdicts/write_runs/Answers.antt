@@ -31,7 +31,6 @@ returns-in_err-write_whole g c =
     let verdicts = c.args._verdicts.now in
     let size = c.args._size in
     let k = c.loop-run.run-index in
-    let so_far = c.loop-run.invariant in
     let e = c.in_err-write_whole.field-0.0 in
     let p = err_from_is_err_and c.from_residual.result c.from_residual.ensures.1 in
     let s0 = g.W.Sink.says c.args.sink.now in
@@ -42,5 +41,5 @@ returns-in_err-write_whole g c =
     let (others, split) = verdict_lines-batches verdicts (size * k) size in
     let text = c.as_slice.ensures.value ∙ made.lines_are in
     let failed : Writes s1 s2 (Err e) lines = subst (λ (t : List ℕ). Writes s1 s2 (Err e) t) text c.in_err-write_whole.ensures in
-    let whole = writes_then s0 s1 s2 (Err e) (verdict_lines 0 (take (size * k) verdicts)) (lines ++ others) so_far.written so_far.faults so_far.refusals (writes_no_more s1 s2 e lines others failed) in
+    let whole = writes_then s0 s1 s2 (Err e) (verdict_lines 0 (take (size * k) verdicts)) (lines ++ others) c.loop-run.invariant.written c.loop-run.invariant.faults c.loop-run.invariant.refusals (writes_no_more s1 s2 e lines others failed) in
     rw (p.1, p.2) (subst (λ (t : List ℕ). Writes s0 s2 (Err e) t) (sym split) whole)

@@ -30,7 +30,6 @@ returns-in_err-write_to g c =
     let verdicts = c.args.verdicts.now in
     let first = 128 * c.loop-batch.batch in
     let count = (first + c.min.result) - first in
-    let so_far = c.loop-batch.invariant in
     let e = c.in_err-write_to.field-0.0 in
     let p = err_from_is_err_and c.from_residual.result c.from_residual.ensures.1 in
     let s0 = g.W.Sink.says c.args.sink.now in
@@ -39,5 +38,5 @@ returns-in_err-write_to g c =
     let batch = verdict_lines first (take count (drop first verdicts)) in
     let (others, split) = verdict_lines-batches verdicts first count in
     let failed : Writes s1 s2 (Err e) batch = rw (← c.lines_from.ensures) c.in_err-write_to.ensures in
-    let whole = writes_then s0 s1 s2 (Err e) (verdict_lines 0 (take first verdicts)) (batch ++ others) so_far.written so_far.faults so_far.refusals (writes_no_more s1 s2 e batch others failed) in
+    let whole = writes_then s0 s1 s2 (Err e) (verdict_lines 0 (take first verdicts)) (batch ++ others) c.loop-batch.invariant.written c.loop-batch.invariant.faults c.loop-batch.invariant.refusals (writes_no_more s1 s2 e batch others failed) in
     rw (p.1, p.2) (subst (λ (t : List ℕ). Writes s0 s2 (Err e) t) (sym split) whole)

@@ -2,7 +2,7 @@ use Rattle.std.proofs.Common.{◌∷◌, [], List, length, get_or, arith, sym, s
 use Rattle.std.proofs.lemmas.List.{length-append}
 use Rattle.masked_update.specs.Canvas.{CanvasOf}
 use Rattle.seats.proofs.First.{there_at}
-use Rattle.bin_queues.proofs.Lists.{turn}
+use Rattle.cull_base.proofs.Lists.{turn}
 use Rattle.bin_tiles.specs.Bins.{IsBinAt}
 use Rattle.bin_tiles.specs.Plain.{StandsPlain}
 use Rattle.bin_queues.specs.Frames.{over}

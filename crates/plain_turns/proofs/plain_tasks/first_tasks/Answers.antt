@@ -4,7 +4,7 @@ use Rattle.std.specs.declared.option.Option.{Option}
 use Rattle.masked_update.specs.Canvas.{CanvasOf}
 use Rattle.seats.specs.declared.seats.Loan.{Loan}
 use Rattle.seats.proofs.First.{AreFirst, BeginsWith, all_seated, first_pushed}
-use Rattle.bin_queues.proofs.Lists.{turn}
+use Rattle.cull_base.proofs.Lists.{turn}
 use Rattle.bin_queues.specs.Frames.{over}
 use Rattle.plain_turns.specs.Waiting.{IsWaitingTask}
 use Rattle.bin_tasks.specs.declared.task.Task.{Task}

@@ -12,12 +12,10 @@ pub returns-then-is_area_hiding : goal.returns-then-is_area_hiding
 returns-then-is_area_hiding g c =
     let states = state_in c.args.size (g.V.TileView.tile_of c.args.view.now) in
     let m = met c.meets.result true c.args.rect c.screen-screen.result c.args.size c.meets.ensures.value c.screen-screen.ensures c.if-not-meets.false in
-    let h = area_hidden c.is_area_hiding.result c.of.result c.args.rect c.args.size c.args.q states c.of.ensures.pixels c.is_area_hiding.ensures.0 c.is_area_hiding.ensures.1 in
-    sym (flat_tested c.args.size c.args.rect c.args.q states true m (h ∙ c.if-is_area_hiding.true))
+    sym (flat_tested c.args.size c.args.rect c.args.q states true m (area_hidden c.is_area_hiding.result c.of.result c.args.rect c.args.size c.args.q states c.of.ensures.pixels c.is_area_hiding.ensures.0 c.is_area_hiding.ensures.1 ∙ c.if-is_area_hiding.true))
 
 pub returns-else-is_area_hiding : goal.returns-else-is_area_hiding
 returns-else-is_area_hiding g c =
     let states = state_in c.args.size (g.V.TileView.tile_of c.args.view.now) in
     let m = met c.meets.result true c.args.rect c.screen-screen.result c.args.size c.meets.ensures.value c.screen-screen.ensures c.if-not-meets.false in
-    let h = area_hidden c.is_area_hiding.result c.of.result c.args.rect c.args.size c.args.q states c.of.ensures.pixels c.is_area_hiding.ensures.0 c.is_area_hiding.ensures.1 in
-    sym (flat_tested c.args.size c.args.rect c.args.q states false m (h ∙ c.if-is_area_hiding.false))
+    sym (flat_tested c.args.size c.args.rect c.args.q states false m (area_hidden c.is_area_hiding.result c.of.result c.args.rect c.args.size c.args.q states c.of.ensures.pixels c.is_area_hiding.ensures.0 c.is_area_hiding.ensures.1 ∙ c.if-is_area_hiding.false))

@@ -13,16 +13,14 @@ store-requires-clause-met g c =
     let n = c.row_start-start.result + (c.loop-column.column - c.args.window.first_column) in
     let is = row_number c.args.window c.args.window c.args.row c.loop-column.column c.row_start-start.result refl c.row_start-start.ensures in
     let w = c.index-writers-number.result in
-    let e = c.index-writers-number.is in
-    subst (λ (z : Writing). meets (box_of c.args.member.now.piece.now) (tile_rect_of c.args.member.now.list.now.list.size z.tile) ≡ true) e (met_here c.args.member.now.cells.now c.args.member.now.list.now.list c.args.window c.args.span c.args.member.now.index c.args.row c.loop-column.column n c.loop-column.writers c.requires.window c.requires.part c.requires.row.0 c.requires.row.1 c.loop-column.auto.column c.loop-column-test.true is c.loop-column.invariant c.args.member.now.piece.now w e c.requires.met)
+    subst (λ (z : Writing). meets (box_of c.args.member.now.piece.now) (tile_rect_of c.args.member.now.list.now.list.size z.tile) ≡ true) c.index-writers-number.is (met_here c.args.member.now.cells.now c.args.member.now.list.now.list c.args.window c.args.span c.args.member.now.index c.args.row c.loop-column.column n c.loop-column.writers c.requires.window c.requires.part c.requires.row.0 c.requires.row.1 c.loop-column.auto.column c.loop-column-test.true is c.loop-column.invariant c.args.member.now.piece.now w c.index-writers-number.is c.requires.met)
 
 pub store-requires-clause-stands : goal.store-requires-clause-stands
 store-requires-clause-stands g c =
     let n = c.row_start-start.result + (c.loop-column.column - c.args.window.first_column) in
     let is = row_number c.args.window c.args.window c.args.row c.loop-column.column c.row_start-start.result refl c.row_start-start.ensures in
     let w = c.index-writers-number.result in
-    let e = c.index-writers-number.is in
-    subst (Stands c.args.member.now.cells.now c.args.member.now.list.now.list c.args.member.now.index) e (stands_here c.args.member.now.cells.now c.args.member.now.list.now.list c.args.window c.args.span c.args.member.now.index c.args.row c.loop-column.column n c.loop-column.writers c.requires.window c.requires.part c.requires.row.0 c.requires.row.1 c.loop-column.auto.column c.loop-column-test.true is c.loop-column.invariant w e)
+    subst (Stands c.args.member.now.cells.now c.args.member.now.list.now.list c.args.member.now.index) c.index-writers-number.is (stands_here c.args.member.now.cells.now c.args.member.now.list.now.list c.args.window c.args.span c.args.member.now.index c.args.row c.loop-column.column n c.loop-column.writers c.requires.window c.requires.part c.requires.row.0 c.requires.row.1 c.loop-column.auto.column c.loop-column-test.true is c.loop-column.invariant w c.index-writers-number.is)
 
 pub loop-column-preserved : goal.loop-column-preserved
 loop-column-preserved g c =

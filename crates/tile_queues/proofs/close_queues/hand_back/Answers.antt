@@ -30,7 +30,6 @@ empty_slots-requires-clause-full g c t lt =
 
 pub returns : goal.returns
 returns g c =
-    let tasks = c.args.tasks.items in
     let slots = c.into_room-slots.result.0 in
     let new = c.put_tasks.new.slots in
     let kept : length new ≡ length slots.items = c.put_tasks.ensures.whole ∙ ap length c.as_mut_slice.ensures.value in
@@ -40,8 +39,8 @@ returns g c =
     record {
       whole = c.empty_slots.ensures.whole ∙ all;
       each = λ t d lt.
-          let there = all_back c.args._queues.now g.frame tasks c.as_mut_slice.result.now new (subst IsBatched c.requires.0 c.into_room-slots.ensures.batched) c.requires.1 c.put_tasks.ensures.back t None lt in
-          match_at (slice_index_or c.as_mut_slice-2.result.now t None) (IsHandedBack g.frame tasks t) (slice_index_or c.empty_slots.result.items t d)
-          (subst (λ (l : List (Option Writing)). IsBack g.frame tasks t (slice_index_or l t None)) (sym at) there)
+          let there = all_back c.args._queues.now g.frame c.args.tasks.items c.as_mut_slice.result.now new (subst IsBatched c.requires.0 c.into_room-slots.ensures.batched) c.requires.1 c.put_tasks.ensures.back t None lt in
+          match_at (slice_index_or c.as_mut_slice-2.result.now t None) (IsHandedBack g.frame c.args.tasks.items t) (slice_index_or c.empty_slots.result.items t d)
+          (subst (λ (l : List (Option Writing)). IsBack g.frame c.args.tasks.items t (slice_index_or l t None)) (sym at) there)
           (c.empty_slots.ensures.each t d (omega (arith, lt, all)));
     }

@@ -29,14 +29,13 @@ loop-share-preserved g c =
     let n = c.loop-share.done in
     let workers = length c.args.shares.items in
     let t = turn c.args.shares.items n x _ (sym i.2 ∙ s.0) in
-    let share = subst (λ (s : Share). IsShare (IsDrawnAt c.args._queues.now g.frame) workers (bin_count_of g.frame.cut) n s.tasks.items) (sym t.1) (c.requires.1.1.each n x t.2) in
-    let put = c.put_tasks.ensures in (
+    let share = subst (λ (s : Share). IsShare (IsDrawnAt c.args._queues.now g.frame) workers (bin_count_of g.frame.cut) n s.tasks.items) (sym t.1) (c.requires.1.1.each n x t.2) in (
       tt,
       tt,
       t.0,
       omega (arith, i.3, s.1),
-      put.whole ∙ i.4,
-      share_back c.args._queues.now g.frame c.requires.0 workers n x.tasks.items share c.loop-share.slots c.put_tasks.new.slots c.requires.1.1.some put.back i.5,
+      c.put_tasks.ensures.whole ∙ i.4,
+      share_back c.args._queues.now g.frame c.requires.0 workers n x.tasks.items share c.loop-share.slots c.put_tasks.new.slots c.requires.1.1.some c.put_tasks.ensures.back i.5,
     )
 
 pub returns-clause-back : goal.returns-clause-back

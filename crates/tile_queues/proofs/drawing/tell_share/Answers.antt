@@ -18,12 +18,11 @@ tell-requires-clause-frame g c κs within = ap (λ (s : Submitting). s.frame) c.
 
 pub loop-j-preserved : goal.loop-j-preserved
 loop-j-preserved g c =
-    let xs = c.loop-j.tasks in
     let task = c.tell.new.self in
     record {
       same = c.tell.ensures.same ∙ c.loop-j.invariant.same;
-      told = turned_more (MayDraw c.args.drawing.now) (WasTold c.args.sender.now.batches) c.args.tasks.now xs c.loop-j.j task c.loop-j.invariant.told (omega arith) c.tell.ensures.may
-          (λ d. subst (λ (s : Submitting). WasTold s.batches (get_or xs c.loop-j.j d) task) c.loop-j.invariant.same (subst (λ x. WasTold c.loop-j.sender.batches x task) (get_or_default xs c.loop-j.j _ d (omega arith)) c.tell.ensures.told));
+      told = turned_more (MayDraw c.args.drawing.now) (WasTold c.args.sender.now.batches) c.args.tasks.now c.loop-j.tasks c.loop-j.j task c.loop-j.invariant.told (omega arith) c.tell.ensures.may
+          (λ d. subst (λ (s : Submitting). WasTold s.batches (get_or c.loop-j.tasks c.loop-j.j d) task) c.loop-j.invariant.same (subst (λ x. WasTold c.loop-j.sender.batches x task) (get_or_default c.loop-j.tasks c.loop-j.j _ d (omega arith)) c.tell.ensures.told));
     }
 
 pub returns-clause-told : goal.returns-clause-told

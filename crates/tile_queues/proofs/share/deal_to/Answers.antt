@@ -13,7 +13,7 @@ use Rattle.tile_queues.proofs.share.deal_to.Goals as goal
 
 pub loop-intake-init : goal.loop-intake-init
 loop-intake-init g c =
-    (tt, tt, search rules, search rules, refl, c.requires.1.1.1.1, dealt_none (IsFirstAt c.args._queues.now (over c.args.frame.now g.cells)) c.args.workers c.args.shares.now c.requires.0 c.requires.1.0)
+    (tt, tt, search rules, search rules, refl, (c.requires.1.1.1.1, dealt_none (IsFirstAt c.args._queues.now (over c.args.frame.now g.cells)) c.args.workers c.args.shares.now c.requires.0 c.requires.1.0))
 
 pub take_bin-requires-clause-list : goal.take_bin-requires-clause-list
 take_bin-requires-clause-list g c =
@@ -41,11 +41,11 @@ take_bin-requires-clause-left g c =
     let frame = over c.args.frame.now g.cells in
     let t = turn c.args.intakes.items c.loop-intake.bin c.in-Some.intake _ (sym c.loop-intake.invariant.2 ∙ c.in-Some.ensures.steps.0) in
     let at = first_task_at c.args._queues.now frame c.args.intakes.items c.loop-intake.bin c.in-Some.intake t.1 t.2 c.requires.1.1.0 in
-    subst (λ (b : BinOfFrame). AreLeft b.frame b.bin 0 c.loop-intake.slots) (sym (ap (λ (k : Tasking). k.of) at.1)) c.loop-intake.invariant.5
+    subst (λ (b : BinOfFrame). AreLeft b.frame b.bin 0 c.loop-intake.slots) (sym (ap (λ (k : Tasking). k.of) at.1)) c.loop-intake.invariant.5.0
 
 pub give-requires : goal.give-requires
 give-requires g c =
-    let count = c.loop-intake.invariant.6.count in
+    let count = c.loop-intake.invariant.5.1.count in
     let below = mod_below c.loop-intake.bin c.args.workers c.requires.0 in
     omega (arith, count, below)
 
@@ -63,8 +63,10 @@ loop-intake-preserved g c =
       t.0,
       omega (arith, i.3, s.1),
       c.in_ok-keeper.ensures.whole ∙ i.4,
-      subst (λ (b : BinOfFrame). AreLeft b.frame (b.bin + 1) 0 c.take_bin.new.slots) (ap (λ (k : Tasking). k.of) at.1) c.in_ok-keeper.ensures.left,
-      dealt_more (IsFirstAt c.args._queues.now frame) c.args.workers bin c.requires.0 c.of.result c.loop-intake.shares c.give.new.shares c.in_ok-give.ensures i.6 holds,
+      (
+        subst (λ (b : BinOfFrame). AreLeft b.frame (b.bin + 1) 0 c.take_bin.new.slots) (ap (λ (k : Tasking). k.of) at.1) c.in_ok-keeper.ensures.left,
+        dealt_more (IsFirstAt c.args._queues.now frame) c.args.workers bin c.requires.0 c.of.result c.loop-intake.shares c.give.new.shares c.in_ok-give.ensures i.5.1 holds,
+      ),
     )
 
 pub returns-clause-dealt : goal.returns-clause-dealt
@@ -74,4 +76,4 @@ returns-clause-dealt g c =
     let none = c.in-None.ensures.steps.0 in
     let count = c.requires.1.1.0.count in
     let last : c.loop-intake.bin ≡ length c.args.intakes.items = omega (arith, i.3, none) in
-    subst (λ n. AreDealt (IsFirstAt c.args._queues.now frame) c.args.workers n c.loop-intake.shares) (last ∙ count) i.6
+    subst (λ n. AreDealt (IsFirstAt c.args._queues.now frame) c.args.workers n c.loop-intake.shares) (last ∙ count) i.5.1

@@ -1,0 +1,3 @@
+mod cells;
+mod frames;
+mod queues;

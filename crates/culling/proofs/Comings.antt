@@ -1,0 +1,394 @@
+-- How commands come to their outcomes.
+use Rattle.std.proofs.Common.{◌≡◌, ℕ, zero, suc, ◌+◌, ◌<◌, ◌≤◌, ◌++◌, List, [], length, map, take, arith, refl, sym, ap, ◌∙◌, subst, inl, inr, Option, Some, None, Result, Ok, Err, ◌⊎◌}
+use Rattle.std.specs.Prelude.{IfSome, IsErrOf, slice_index_or}
+use Rattle.std.specs.List.{flat_map, range_with_len}
+use Rattle.std.proofs.lemmas.List.{append-nil}
+use Rattle.clap.specs.Words.{Text}
+use Rattle.cull_base.specs.Stream.{SinkSays, SourceSays, Appends, AppendsPrefix, IsNoted, Rose}
+use Rattle.cull_base.proofs.Streams.{appends_then}
+use Rattle.scene_reader.specs.Layout.{Parts, IsScene, layout}
+use Rattle.scene_reader.specs.Fault.{IsRefusal}
+use Rattle.scene_reader.specs.Reading.{HasFirstFault, TakesLayout}
+use Rattle.scene_reader.specs.declared.error.SceneError.{SceneError}
+use Rattle.scene_reader.specs.declared.error.SceneError.TheVariants as errors
+use Rattle.cull_report.proofs.Occluders.{hides_truly}
+use Rattle.cull_report.specs.Live.{Counts}
+use Rattle.cull_report.specs.Scene.{scene_header}
+use Rattle.command_words.specs.Words.{AreWords, IsWithinLimits, command_of}
+use Rattle.command_words.specs.declared.command.Command.{Command}
+use Rattle.command_words.specs.declared.command.Command.TheVariants.{Cull, Live, Demo}
+use Rattle.command_words.specs.declared.settings.Settings.{Settings}
+use Rattle.command_words.specs.declared.words.Refusal.{Refusal}
+use Rattle.command_words.specs.declared.words.Refusal.TheVariants as refusals
+use Rattle.demo_scene.proofs.DemoScene.{demo_is_scene}
+use Rattle.demo_scene.specs.Demo.{demo_of, frame_count}
+use Rattle.culling.specs.declared.failure.Failure.{Failure}
+use Rattle.culling.specs.declared.failure.Failure.TheVariants.{Scene, ReadFault, ReportFault, NotesFault, Memory}
+use Rattle.culling.specs.declared.failure.Status.{Status}
+use Rattle.culling.specs.declared.failure.Status.TheVariants as statuses
+use Rattle.culling.specs.FrameRuns.{LeavesFrames, LeavesTexts}
+use Rattle.culling.specs.Frames.{lines_of}
+use Rattle.culling.specs.NotedLines.{CountsStay}
+use Rattle.culling.specs.Notes.{IsNotedBehind, IsNotedFirst, note_by, note_text, refusal_text, status_text, usage_text}
+use Rattle.culling.specs.Outcome.{failure_of, refusal_status, status_by, status_of}
+use Rattle.culling.specs.Outcomes.{Ends, HasFault, HasScene, IfAsked, IfBytes, IsTrue, ReadsScene, OutcomeOf, joined, live_frames, note_alone, notes_at, notes_before, report_and, report_before, report_of, text_alone}
+use Rattle.culling.specs.Runs.{AwaitsNote, Comes, HasCause, IsComplete, IsCut, IsUnasked, Leaves, LeavesFront, LeavesWhole, Streams, WithoutFault, streams}
+use Rattle.culling.specs.Summary.{demo_line, frames_summary, summary_text}
+use Rattle.culling.specs.declared.frames.Beside.TheVariants.{Nothing, Looks}
+use Rattle.culling.specs.declared.frames.FrameLines.TheVariants.{Report, Summary}
+use Rattle.culling.proofs.Fronts.{nothing_appended, rose_later}
+use Rattle.culling.proofs.FrameByFrame.{are_empty}
+use Rattle.culling.proofs.FrameTexts.{as_one_text, counts_same, never_done, none_at, without_notes}
+use Rattle.culling.proofs.OutcomeTexts.{header_some, joined_is, live_frames_are, not_empty, summary_some}
+use Rattle.culling.proofs.ScenePieces.{all_are_pieces, lines_hide}
+
+-- ---- what waits for its note
+
+nothing_awaits : (n : SinkSays) (r : Result (Unit {0}) Failure) (note : List ℕ) → note ≡ note_by r → AwaitsNote r n n [] note
+nothing_awaits n r note is = record { gained = nothing_appended n; note_is = is; stay = counts_same n }
+
+-- ---- nothing is left
+
+nothing_front : (before : SinkSays) (text : List ℕ) → AppendsPrefix before before text
+nothing_front before text = (0, omega arith, nothing_appended before)
+
+-- ---- a scene that couldn't be read
+
+ends_refused : (c : Command) (source : SourceSays) (e : SceneError) → ReadsScene c → IsRefusal e → HasFault source e → Ends c source (note_alone statuses.Scene (refusal_text e))
+ends_refused (Cull settings) source e reads refusal fault = inr (inl (e, refusal, fault, refl))
+ends_refused (Live settings rounds watch) source e reads refusal fault = inr (inl (e, refusal, fault, refl))
+ends_refused (Demo settings seed m) source e reads refusal fault = absurd reads
+
+ends_unread : (c : Command) (source : SourceSays) → ReadsScene c → Ends c source (note_alone statuses.ReadFault (status_text statuses.ReadFault))
+ends_unread (Cull settings) source reads = inr (inr refl)
+ends_unread (Live settings rounds watch) source reads = inr (inr refl)
+ends_unread (Demo settings seed m) source reads = absurd reads
+
+comes_refused : (c : Command) (i0 i1 : SourceSays) (r n : SinkSays) (e : SceneError) (P Q : Type 0) → ReadsScene c → IsRefusal e → HasFault i0 e → P → Q
+    → Comes c statuses.Scene (streams i0 r n) (streams i1 r n) (AwaitsNote (Err (Scene e))) P Q
+comes_refused c i0 i1 r n e P Q reads refusal fault p q = record {
+  outcome = note_alone statuses.Scene (refusal_text e);
+  ends = ends_refused c i0 e reads refusal fault;
+  leaves = inl (refl, record { reported = nothing_appended r; noted_is = nothing_awaits n (Err (Scene e)) (refusal_text e) refl });
+  causes = record { read = λ is. absurd cc; report = λ is. absurd cc; notes = λ is. absurd cc };
+  untouched = λ is. p;
+  unnoted = λ is. q;
+  taken = λ is. absurd cc;
+}
+
+comes_unread : (c : Command) (i0 i1 : SourceSays) (r n : SinkSays) (P Q : Type 0) → ReadsScene c → Rose i0.faults i1.faults → P → Q
+    → Comes c statuses.ReadFault (streams i0 r n) (streams i1 r n) (AwaitsNote (Err ReadFault)) P Q
+comes_unread c i0 i1 r n P Q reads rose p q = record {
+  outcome = note_alone statuses.ReadFault (status_text statuses.ReadFault);
+  ends = ends_unread c i0 reads;
+  leaves = inl (refl, record { reported = nothing_appended r; noted_is = nothing_awaits n (Err ReadFault) (status_text statuses.ReadFault) refl });
+  causes = record { read = λ is. rose; report = λ is. absurd cc; notes = λ is. absurd cc };
+  untouched = λ is. p;
+  unnoted = λ is. q;
+  taken = λ is. absurd cc;
+}
+
+-- memory ran out before anything was written
+early_memory : (o : OutcomeOf) (r : SinkSays) (noted : List ℕ → List ℕ → Type 0) → noted [] (status_text statuses.Memory) → Leaves o statuses.Memory r r noted
+early_memory o r noted none = inr (
+  inr (inr refl),
+  record {
+    frame = 0;
+    is_frame = λ some. some;
+    reported = nothing_front r (report_before o (0 + 1));
+    earlier = λ lt. absurd (omega arith);
+    size = 0;
+    within = omega arith;
+    whole = λ lt. absurd (omega arith);
+    noted_is = none;
+    of_report = λ is. refl;
+    of_notes = λ is. absurd cc;
+  },
+)
+
+comes_early : (c : Command) (o : OutcomeOf) (i0 i1 : SourceSays) (r n0 n1 : SinkSays) (noted : SinkSays → SinkSays → List ℕ → List ℕ → Type 0) (P Q : Type 0) → Ends c i0 o
+    → noted n0 n1 [] (status_text statuses.Memory) → P → Q → Comes c statuses.Memory (streams i0 r n0) (streams i1 r n1) noted P Q
+comes_early c o i0 i1 r n0 n1 noted P Q ends none p q = record {
+  outcome = o;
+  ends = ends;
+  leaves = early_memory o r (noted n0 n1) none;
+  causes = record { read = λ is. absurd cc; report = λ is. absurd cc; notes = λ is. absurd cc };
+  untouched = λ is. p;
+  unnoted = λ is. q;
+  taken = λ is. absurd cc;
+}
+
+pub failed_read : (c : Command) (i0 i1 : SourceSays) (r n : SinkSays) (e : SceneError) (P Q : Type 0) → ReadsScene c → (IsRefusal e → HasFault i0 e) → (e ≡ errors.Read → Rose i0.faults i1.faults) → P → Q
+    → Comes c (status_of (failure_of e)) (streams i0 r n) (streams i1 r n) (AwaitsNote (Err (failure_of e))) P Q
+failed_read c i0 i1 r n errors.Read P Q reads fault rose p q = comes_unread c i0 i1 r n P Q reads (rose refl) p q
+failed_read c i0 i1 r n errors.Memory P Q reads fault rose p q =
+    comes_early c (note_alone statuses.ReadFault (status_text statuses.ReadFault)) i0 i1 r n n (AwaitsNote (Err Memory)) P Q (ends_unread c i0 reads) (nothing_awaits n (Err Memory) (status_text statuses.Memory) refl) p q
+failed_read c i0 i1 r n (errors.Truncated need have) P Q reads fault rose p q = comes_refused c i0 i1 r n (errors.Truncated need have) P Q reads tt (fault tt) p q
+failed_read c i0 i1 r n errors.BadMagic P Q reads fault rose p q = comes_refused c i0 i1 r n errors.BadMagic P Q reads tt (fault tt) p q
+failed_read c i0 i1 r n (errors.BadVersion v) P Q reads fault rose p q = comes_refused c i0 i1 r n (errors.BadVersion v) P Q reads tt (fault tt) p q
+failed_read c i0 i1 r n (errors.BadSize w h) P Q reads fault rose p q = comes_refused c i0 i1 r n (errors.BadSize w h) P Q reads tt (fault tt) p q
+failed_read c i0 i1 r n (errors.BadNear near) P Q reads fault rose p q = comes_refused c i0 i1 r n (errors.BadNear near) P Q reads tt (fault tt) p q
+failed_read c i0 i1 r n (errors.BadWinding w) P Q reads fault rose p q = comes_refused c i0 i1 r n (errors.BadWinding w) P Q reads tt (fault tt) p q
+failed_read c i0 i1 r n (errors.BadReserved b) P Q reads fault rose p q = comes_refused c i0 i1 r n (errors.BadReserved b) P Q reads tt (fault tt) p q
+failed_read c i0 i1 r n (errors.BadCount f v) P Q reads fault rose p q = comes_refused c i0 i1 r n (errors.BadCount f v) P Q reads tt (fault tt) p q
+failed_read c i0 i1 r n errors.Trailing P Q reads fault rose p q = comes_refused c i0 i1 r n errors.Trailing P Q reads tt (fault tt) p q
+failed_read c i0 i1 r n (errors.BadVertex i) P Q reads fault rose p q = comes_refused c i0 i1 r n (errors.BadVertex i) P Q reads tt (fault tt) p q
+failed_read c i0 i1 r n (errors.BadIndex t i) P Q reads fault rose p q = comes_refused c i0 i1 r n (errors.BadIndex t i) P Q reads tt (fault tt) p q
+failed_read c i0 i1 r n (errors.BadKind i) P Q reads fault rose p q = comes_refused c i0 i1 r n (errors.BadKind i) P Q reads tt (fault tt) p q
+failed_read c i0 i1 r n (errors.BadObject i) P Q reads fault rose p q = comes_refused c i0 i1 r n (errors.BadObject i) P Q reads tt (fault tt) p q
+failed_read c i0 i1 r n (errors.BadCamera i) P Q reads fault rose p q = comes_refused c i0 i1 r n (errors.BadCamera i) P Q reads tt (fault tt) p q
+
+-- ---- a scene's frames
+
+-- a failure's cause, by its status
+no_notes : (o : OutcomeOf) (r : Result (Unit {0}) Failure) (r0 r1 n0 n1 : SinkSays) → LeavesTexts o r r0 r1 n0 n1 → status_by r ≡ statuses.NotesFault → o.notes ≡ [] → o.status ≡ statuses.Done → ⊥
+no_notes o r r0 r1 n0 n1 l is none done = elim l.leaves [
+  | inl whole ↦ let other : statuses.NotesFault ≡ statuses.Done = sym is ∙ whole.0 ∙ done in absurd cc
+  | inr front ↦ let x = front.1.of_notes is in absurd (omega (arith, x.1, ap length (none_at o front.1.frame none)))
+]
+
+texts_causes : (o : OutcomeOf) (r : Result (Unit {0}) Failure) (i0 i1 : SourceSays) (r0 r1 n0 n1 : SinkSays) → o.status ≡ statuses.Done → LeavesTexts o r r0 r1 n0 n1
+    → HasCause o (status_by r) (streams i0 r0 n0) (streams i1 r1 n1)
+texts_causes o (Ok x) i0 i1 r0 r1 n0 n1 done l = record { read = λ is. absurd cc; report = λ is. absurd cc; notes = λ is. absurd cc }
+texts_causes o (Err f) i0 i1 r0 r1 n0 n1 done l = elim l.cause [
+  | inl memory ↦
+      let is : status_of f ≡ statuses.Memory = ap status_of memory in
+      record { read = λ e. absurd cc; report = λ e. absurd cc; notes = λ e. absurd cc }
+  | inr rest ↦ elim rest [
+    | inl report ↦
+        let is : status_of f ≡ statuses.ReportFault = ap status_of report.0 in
+        record { read = λ e. absurd cc; report = λ e. (report.1, report.2); notes = λ e. absurd cc }
+    | inr notes ↦
+        let is : status_of f ≡ statuses.NotesFault = ap status_of notes.0 in
+        record { read = λ e. absurd cc; report = λ e. absurd cc; notes = λ e. (λ none. no_notes o (Err f) r0 r1 n0 n1 l e none done, notes.1) }
+  ]
+]
+
+texts_come : (c : Command) (o : OutcomeOf) (i0 i1 : SourceSays) (r0 r1 n0 n1 : SinkSays) (r : Result (Unit {0}) Failure) (P Q : Type 0) → Ends c i0 o → o.status ≡ statuses.Done → (report_of o ≡ [] → ⊥)
+    → (ReadsScene c → IfBytes i0 (λ bytes. i1.left ≡ Some [])) → (o.notes ≡ [] → Q) → LeavesTexts o r r0 r1 n0 n1
+    → Comes c (status_by r) (streams i0 r0 n0) (streams i1 r1 n1) (AwaitsNote r) P Q
+texts_come c o i0 i1 r0 r1 n0 n1 r P Q ends done some taken quiet l = record {
+  outcome = o;
+  ends = ends;
+  leaves = l.leaves;
+  causes = texts_causes o r i0 i1 r0 r1 n0 n1 done l;
+  untouched = λ is. absurd (some is);
+  unnoted = quiet;
+  taken = λ is. taken;
+}
+
+has_scene : (source after : SourceSays) (s : Parts) → IsScene s → TakesLayout source after s → HasScene source s
+has_scene source after s scene takes = record { scene = scene; spelled = by source.left takes }
+  where
+    by : (left : Option (List ℕ)) → IfSome left (λ bytes. (bytes ≡ layout s) × (after.left ≡ Some [])) → IfSome left (λ bytes. bytes ≡ layout s)
+    by None takes = tt
+    by (Some bytes) takes = takes.0
+
+none_left : (source after : SourceSays) (s : Parts) → TakesLayout source after s → IfBytes source (λ bytes. after.left ≡ Some [])
+none_left source after s takes = by source.left takes
+  where
+    by : (left : Option (List ℕ)) → IfSome left (λ bytes. (bytes ≡ layout s) × (after.left ≡ Some [])) → IfSome left (λ bytes. after.left ≡ Some [])
+    by None takes = tt
+    by (Some bytes) takes = takes.1
+
+pub cull_comes : (settings : Settings) (s : Parts) (i0 i1 : SourceSays) (r0 r1 n0 n1 : SinkSays) (r : Result (Unit {0}) Failure) (P Q : Type 0) → IsScene s → TakesLayout i0 i1 s → Q
+    → LeavesFrames (scene_header s) Report Nothing s 0 (length s.cameras) r r0 r1 n0 n1 → Comes (Cull settings) (status_by r) (streams i0 r0 n0) (streams i1 r1 n1) (AwaitsNote r) P Q
+cull_comes settings s i0 i1 r0 r1 n0 n1 r P Q scene takes q w =
+    let o = report_and s [] in
+    texts_come (Cull settings) o i0 i1 r0 r1 n0 n1 r P Q (inl (s, has_scene i0 i1 s scene takes, refl)) refl (not_empty (scene_header s) (joined o.frames) (header_some s))
+    (λ reads. none_left i0 i1 s takes) (λ none. q)
+    (without_notes (scene_header s) o.frames (map (λ (frame : ℕ). []) (range_with_len 0 (length s.cameras))) r r0 r1 n0 n1 (are_empty 0 (length s.cameras)) w.texts)
+
+live_noted : (s : Parts) (rounds watch : ℕ) (counts : Counts) → IsScene s → live_frames s rounds watch counts ≡ [] → ⊥
+live_noted s rounds watch counts scene is = omega (arith, ap length is, live_frames_are s rounds watch counts, scene.some_frames)
+
+pub live_comes : (settings : Settings) (s : Parts) (rounds watch : ℕ) (i0 i1 : SourceSays) (r0 r1 n0 n1 : SinkSays) (r : Result (Unit {0}) Failure) (P Q : Type 0) → IsScene s → TakesLayout i0 i1 s
+    → LeavesFrames (scene_header s) Report (Looks rounds watch) s 0 (length s.cameras) r r0 r1 n0 n1 → Comes (Live settings rounds watch) (status_by r) (streams i0 r0 n0) (streams i1 r1 n1) (AwaitsNote r) P Q
+live_comes settings s rounds watch i0 i1 r0 r1 n0 n1 r P Q scene takes w =
+    let o = report_and s (live_frames s rounds watch w.counts) in
+    texts_come (Live settings rounds watch) o i0 i1 r0 r1 n0 n1 r P Q (inl (s, has_scene i0 i1 s scene takes, (w.counts, (λ frame lt. w.rising frame), refl))) refl
+    (not_empty (scene_header s) (joined o.frames) (header_some s)) (λ reads. none_left i0 i1 s takes) (λ none. absurd (live_noted s rounds watch w.counts scene none)) w.texts
+
+-- ---- `demo`
+
+demo_frames : (seed m : ℕ) → length (demo_of seed m).cameras ≡ frame_count
+unfolding demo_of
+demo_frames seed m = refl
+
+summary_is : (seed m : ℕ) → demo_line seed m ++ joined (map (lines_of Summary (demo_of seed m)) (range_with_len 0 (length (demo_of seed m).cameras))) ≡ summary_text seed m
+unfolding summary_text frames_summary
+summary_is seed m =
+    ap (λ (t : List ℕ). demo_line seed m ++ t) (joined_is (lines_of Summary (demo_of seed m)) (length (demo_of seed m).cameras)
+    ∙ ap (λ n. flat_map (lines_of Summary (demo_of seed m)) (range_with_len 0 n)) (demo_frames seed m))
+
+pub demo_comes : (settings : Settings) (seed m : ℕ) (s : Parts) (i : SourceSays) (r0 r1 n0 n1 : SinkSays) (r : Result (Unit {0}) Failure) (P Q : Type 0) → s ≡ demo_of seed m → Q
+    → LeavesFrames (demo_line seed m) Summary Nothing s 0 (length s.cameras) r r0 r1 n0 n1 → Comes (Demo settings seed m) (status_by r) (streams i r0 n0) (streams i r1 n1) (AwaitsNote r) P Q
+demo_comes settings seed m s i r0 r1 n0 n1 r P Q is q w =
+    let d = demo_of seed m in
+    let head = demo_line seed m in
+    let frames = map (lines_of Summary d) (range_with_len 0 (length d.cameras)) in
+    let drawn = subst (λ (p : Parts). LeavesFrames head Summary Nothing p 0 (length p.cameras) r r0 r1 n0 n1) is w in
+    let silent = without_notes head frames (map (λ (frame : ℕ). []) (range_with_len 0 (length d.cameras))) r r0 r1 n0 n1 (are_empty 0 (length d.cameras)) drawn.texts in
+    texts_come (Demo settings seed m) (text_alone (summary_text seed m)) i i r0 r1 n0 n1 r P Q refl refl (not_empty (summary_text seed m) [] (summary_some seed m)) (λ reads. absurd reads) (λ none. q)
+    (subst (λ (t : List ℕ). LeavesTexts (text_alone t) r r0 r1 n0 n1) (summary_is seed m) (as_one_text head frames r r0 r1 n0 n1 silent))
+
+-- ---- the status's note
+
+rose_of_either : (n0 n1 n2 : SinkSays) → CountsStay n0 n1 → Rose n1.faults n2.faults ⊎ Rose n1.refusals n2.refusals → Rose n0.faults n2.faults ⊎ Rose n0.refusals n2.refusals
+rose_of_either n0 n1 n2 stay h = elim h [
+  | inl f ↦ inl (rose_later n0.faults n1.faults n2.faults stay.faults f)
+  | inr r ↦ inr (rose_later n0.refusals n1.refusals n2.refusals stay.refusals r)
+]
+
+-- a note behind a text
+noted_behind : (n0 n1 n2 : SinkSays) (front note : List ℕ) → Appends n0 n1 front → CountsStay n0 n1 → IsNoted n1 n2 note → IsNotedBehind n0 n2 front note
+noted_behind n0 n1 n2 front note h stay noted = elim noted [
+  | inl whole ↦ inl (appends_then n0 n1 n2 front note h whole)
+  | inr part ↦ let (m, le, f) = part.0 in inr (m, le, appends_then n0 n1 n2 front (take m note) h f, rose_of_either n0 n1 n2 stay part.1)
+]
+
+leaves_map : (o : OutcomeOf) (status : Status) (before after : SinkSays) (P Q : List ℕ → List ℕ → Type 0) → ((text note : List ℕ) → P text note → Q text note) → Leaves o status before after P → Leaves o status before after Q
+leaves_map o status before after P Q f leaves = elim leaves [
+  | inl whole ↦ let w = whole.1 in inl (whole.0, record { reported = w.reported; noted_is = f (joined o.notes) o.note w.noted_is })
+  | inr front ↦
+      let w = front.1 in
+      inr (
+        front.0,
+        record {
+          frame = w.frame;
+          is_frame = w.is_frame;
+          reported = w.reported;
+          earlier = w.earlier;
+          size = w.size;
+          within = w.within;
+          whole = w.whole;
+          noted_is = f (notes_before o w.frame ++ take w.size (notes_at o w.frame)) (status_text status) w.noted_is;
+          of_report = w.of_report;
+          of_notes = w.of_notes;
+        },
+      )
+]
+
+rose_on : (a b c : ℕ) → Rose a b → b ≤ c → Rose a c
+rose_on a b c rose le = let x : Rose a c = omega (arith, rose, le) in x
+
+-- the failure is noted behind what was gained
+pub comes_noted : (c : Command) (f : Failure) (i0 i1 : SourceSays) (r0 r1 n0 n1 n2 : SinkSays) (P Q : Type 0)
+    → Comes c (status_of f) (streams i0 r0 n0) (streams i1 r1 n1) (AwaitsNote (Err f)) P Q → IsNoted n1 n2 (note_text f) → n1.faults ≤ n2.faults
+    → Comes c (status_of f) (streams i0 r0 n0) (streams i1 r1 n2) IsNotedBehind P (status_of f ≡ statuses.Done → Q)
+comes_noted c f i0 i1 r0 r1 n0 n1 n2 P Q h noted le = record {
+  outcome = h.outcome;
+  ends = h.ends;
+  leaves = leaves_map h.outcome (status_of f) r0 r1 (AwaitsNote (Err f) n0 n1) (IsNotedBehind n0 n2)
+      (λ text note awaits. noted_behind n0 n1 n2 text note awaits.gained awaits.stay (subst (IsNoted n1 n2) (sym awaits.note_is) noted)) h.leaves;
+  causes = record {
+    read = h.causes.read;
+    report = h.causes.report;
+    notes = λ is. let x = h.causes.notes is in (x.0, rose_on n0.faults n1.faults n2.faults x.1 le);
+  };
+  untouched = h.untouched;
+  unnoted = λ is done. h.unnoted is;
+  taken = h.taken;
+}
+
+-- there is nothing to note
+pub comes_done : (c : Command) (x : Unit {0}) (i0 i1 : SourceSays) (r0 r1 n0 n1 : SinkSays) (P Q : Type 0)
+    → Comes c statuses.Done (streams i0 r0 n0) (streams i1 r1 n1) (AwaitsNote (Ok x)) P Q
+    → Comes c statuses.Done (streams i0 r0 n0) (streams i1 r1 n1) IsNotedBehind P (statuses.Done ≡ statuses.Done → Q)
+comes_done c x i0 i1 r0 r1 n0 n1 P Q h = record {
+  outcome = h.outcome;
+  ends = h.ends;
+  leaves = leaves_map h.outcome statuses.Done r0 r1 (AwaitsNote (Ok x) n0 n1) (IsNotedBehind n0 n1)
+      (λ text note awaits. inl (subst (λ (t : List ℕ). Appends n0 n1 (text ++ t)) (sym awaits.note_is) (subst (Appends n0 n1) (sym (append-nil text)) awaits.gained))) h.leaves;
+  causes = record { read = h.causes.read; report = h.causes.report; notes = h.causes.notes };
+  untouched = h.untouched;
+  unnoted = λ is done. h.unnoted is;
+  taken = h.taken;
+}
+
+-- memory ran out before the command was known
+some_ends : (c : Command) (source : SourceSays) → (o : OutcomeOf) × Ends c source o
+some_ends (Cull settings) source = (note_alone statuses.ReadFault (status_text statuses.ReadFault), inr (inr refl))
+some_ends (Live settings rounds watch) source = (note_alone statuses.ReadFault (status_text statuses.ReadFault), inr (inr refl))
+some_ends (Demo settings seed m) source = (text_alone (summary_text seed m), refl)
+
+pub memory_comes : (c : Command) (i : SourceSays) (r n0 n1 : SinkSays) (P Q : Type 0) → P → IsNoted n0 n1 (status_text statuses.Memory)
+    → Comes c statuses.Memory (streams i r n0) (streams i r n1) IsNotedBehind P (statuses.Memory ≡ statuses.Done → Q)
+memory_comes c i r n0 n1 P Q p noted =
+    let (o, ends) = some_ends c i in
+    comes_early c o i i r n0 n1 IsNotedBehind P (statuses.Memory ≡ statuses.Done → Q) ends (noted_behind n0 n0 n1 [] (status_text statuses.Memory) (nothing_appended n0) (counts_same n0) noted) p (λ is. absurd cc)
+
+-- ---- what follows
+
+pub complete : (c : Command) (status : Status) (before after : Streams) (noted : SinkSays → SinkSays → List ℕ → List ℕ → Type 0) (P Q : Type 0) → Comes c status before after noted P Q → WithoutFault before after
+    → IsComplete c before.input status
+complete c status before after noted P Q h sound = elim h.leaves [
+  | inl whole ↦ inr (h.outcome, h.ends, whole.0, λ is. sound.input (h.causes.read (whole.0 ∙ is)))
+  | inr front ↦ elim front.0 [
+    | inl report ↦ absurd (sound.report (h.causes.report report).1)
+    | inr rest ↦ elim rest [ inl notes ↦ absurd (sound.notes (h.causes.notes notes).1) | inr memory ↦ inl memory ]
+  ]
+]
+
+pub truth : (c : Command) (source : SourceSays) → IsTrue c source
+truth (Cull settings) source = λ s has. hides_truly s has.scene (all_are_pieces s has.scene)
+truth (Live settings rounds watch) source = λ s has. (hides_truly s has.scene (all_are_pieces s has.scene), λ counts. lines_hide s rounds watch counts has.scene)
+truth (Demo settings seed m) source = λ few. let scene = demo_is_scene seed m few in hides_truly (demo_of seed m) scene (all_are_pieces (demo_of seed m) scene)
+
+-- ---- what words ask for
+
+pub asked_by : (words : List Text) (c : Command) (P : Command → Type 0) → command_of words ≡ Some c → P c → IfAsked words P
+asked_by words c P e p = subst (λ (o : Option Command). IfSome o P) (sym e) p
+
+pub asked_all : (words : List Text) (P : Command → Type 0) → ((c : Command) → P c) → IfAsked words P
+asked_all words P f = by (command_of words)
+  where
+    by : (o : Option Command) → IfSome o P
+    by None = tt
+    by (Some q) = f q
+
+pub asked_none : (words : List Text) (P : Command → Type 0) → command_of words ≡ None → IfAsked words P
+asked_none words P e = subst (λ (o : Option Command). IfSome o P) (sym e) tt
+
+-- ---- words that are refused
+
+pub comes_as : (c : Command) (status : Status) (before after : Streams) (noted : SinkSays → SinkSays → List ℕ → List ℕ → Type 0) (P Q R : Type 0) → (Q → R) → Comes c status before after noted P Q → Comes c status before after noted P R
+comes_as c status before after noted P Q R f h = record {
+  outcome = h.outcome;
+  ends = h.ends;
+  leaves = h.leaves;
+  causes = h.causes;
+  untouched = h.untouched;
+  unnoted = λ is. f (h.unnoted is);
+  taken = h.taken;
+}
+
+pub refused_comes : (words : List Text) (refusal : Refusal) (status : Status) (i : SourceSays) (r n0 n1 : SinkSays) (P Q : Type 0) → status ≡ refusal_status refusal → (AreWords refusal → command_of words ≡ None)
+    → ((AreWords refusal → ⊥) → IsNoted n0 n1 (status_text statuses.Memory)) → P
+    → IfAsked words (λ c. Comes c status (streams i r n0) (streams i r n1) IsNotedBehind P (status ≡ statuses.Done → Q))
+refused_comes words refusals.Memory status i r n0 n1 P Q is none noted p =
+    subst (λ (s : Status). IfAsked words (λ c. Comes c s (streams i r n0) (streams i r n1) IsNotedBehind P (s ≡ statuses.Done → Q))) (sym is)
+    (asked_all words (λ c. Comes c statuses.Memory (streams i r n0) (streams i r n1) IsNotedBehind P (statuses.Memory ≡ statuses.Done → Q)) (λ c. memory_comes c i r n0 n1 P Q p (noted (λ are. are))))
+refused_comes words (refusals.Words text) status i r n0 n1 P Q is none noted p =
+    asked_none words (λ c. Comes c status (streams i r n0) (streams i r n1) IsNotedBehind P (status ≡ statuses.Done → Q)) (none tt)
+
+pub refused_complete : (words : List Text) (refusal : Refusal) (status : Status) (source : SourceSays) → status ≡ refusal_status refusal → (AreWords refusal → command_of words ≡ None)
+    → IfAsked words (λ c. IsComplete c source status)
+refused_complete words refusals.Memory status source is none = asked_all words (λ c. IsComplete c source status) (λ c. inl is)
+refused_complete words (refusals.Words text) status source is none = asked_none words (λ c. IsComplete c source status) (none tt)
+
+pub refused_noted : (refusal : Refusal) (status : Status) (n0 n1 : SinkSays) → status ≡ refusal_status refusal → (AreWords refusal → IsNotedFirst n0 n1 usage_text)
+    → ((AreWords refusal → ⊥) → IsNoted n0 n1 (status_text statuses.Memory)) → IsUnasked status n0 n1
+refused_noted refusals.Memory status n0 n1 is words memory = inr (is, subst (λ (s : Status). IsNoted n0 n1 (status_text s)) (sym is) (memory (λ are. are)))
+refused_noted (refusals.Words text) status n0 n1 is words memory = inl (is, subst (λ (s : Status). IsNotedFirst n0 n1 (status_text s)) (sym is) (words tt))
+
+pub refused_is : (refusal : Refusal) → (refusal_status refusal ≡ statuses.Usage) ⊎ (refusal_status refusal ≡ statuses.Memory)
+refused_is refusals.Memory = inr refl
+refused_is (refusals.Words text) = inl refl
+
+-- by the status that a failure was told as
+pub failed_as : (c : Command) (f : Failure) (status : Status) (before after : Streams) (P Q R : Type 0) → status ≡ status_of f → Comes c (status_of f) before after IsNotedBehind P (status_of f ≡ statuses.Done → Q)
+    → Comes c status before after IsNotedBehind P (status ≡ statuses.Done → R)
+failed_as c f status before after P Q R is h =
+    subst (λ (s : Status). Comes c s before after IsNotedBehind P (s ≡ statuses.Done → R)) (sym is)
+    (comes_as c (status_of f) before after IsNotedBehind P (status_of f ≡ statuses.Done → Q) (status_of f ≡ statuses.Done → R) (λ q done. absurd (never_done f done)) h)

@@ -1,0 +1,160 @@
+-- What follows for a user of `run` from what its command comes to: each lemma has a promise by its short name.
+use Rattle.std.proofs.Common.{◌≡◌, ℕ, ◌+◌, ◌<◌, ◌≤◌, ◌++◌, List, [], length, take, arith, refl, sym, ap, ◌∙◌, subst, inl, inr, Option, Some, None, ◌⊎◌}
+use Rattle.std.specs.Prelude.{IfSome}
+use Rattle.std.proofs.lemmas.List.{append-nil, length-append}
+use Rattle.cull_base.specs.Stream.{SinkSays, SourceSays, Appends, AppendsPrefix, Rose}
+use Rattle.scene_reader.specs.Layout.{Parts, IsScene, layout}
+use Rattle.scene_reader.specs.Fault.{IsRefusal, first_fault}
+use Rattle.scene_reader.specs.declared.error.SceneError.{SceneError}
+use Rattle.scene_reader.proofs.LayoutFirst.{scene_first}
+use Rattle.cull_report.specs.Hiding.{HidesTruly}
+use Rattle.cull_report.specs.Live.{Counts, HidesLive, IsRising, live_text}
+use Rattle.cull_report.specs.Scene.{report_text}
+use Rattle.command_words.specs.declared.command.Command.{Command}
+use Rattle.command_words.specs.declared.command.Command.TheVariants.{Cull, Live, Demo}
+use Rattle.command_words.specs.declared.settings.Settings.{Settings}
+use Rattle.culling.specs.Notes.{IsNotedBehind, refusal_text, status_text}
+use Rattle.culling.specs.Outcomes.{Ends, EndsByScene, HasFault, HasScene, IfBytes, OutcomeOf, ReadsScene, joined, live_frames, note_alone, report_and, report_of, text_alone}
+use Rattle.culling.specs.Runs.{Comes, IsCut, Leaves, LeavesWhole, Streams, WithoutFault}
+use Rattle.culling.specs.Summary.{summary_text}
+use Rattle.culling.specs.declared.failure.Status.{Status}
+use Rattle.culling.specs.declared.failure.Status.TheVariants as statuses
+use Rattle.culling.proofs.Fronts.{front_of_more}
+use Rattle.culling.proofs.OutcomeTexts.{live_is, report_is}
+use Rattle.culling.proofs.ScenePieces.{all_are_pieces, lines_hide}
+use Rattle.cull_report.proofs.Occluders.{hides_truly}
+
+-- ---- by the status
+
+cut_not_done : IsCut statuses.Done → ⊥
+cut_not_done cut = elim cut [ inl a ↦ absurd cc | inr rest ↦ elim rest [ inl b ↦ absurd cc | inr c ↦ absurd cc ] ]
+
+done_whole : (o : OutcomeOf) (r0 r1 : SinkSays) (noted : List ℕ → List ℕ → Type 0) → Leaves o statuses.Done r0 r1 noted → (statuses.Done ≡ o.status) × LeavesWhole o r0 r1 noted
+done_whole o r0 r1 noted leaves = elim leaves [ inl whole ↦ whole | inr front ↦ absurd (cut_not_done front.0) ]
+
+-- Done comes of a scene
+done_scene : (source : SourceSays) (o : OutcomeOf) (made : Parts → Type 0) → EndsByScene source o made → statuses.Done ≡ o.status → (s : Parts) × HasScene source s × made s
+done_scene source o made ends is = elim ends [
+  | inl scene ↦ scene
+  | inr rest ↦ elim rest [
+    | inl refused ↦ let (e, refusal, fault, same) = refused in let bad : statuses.Done ≡ statuses.Scene = is ∙ ap (λ (x : OutcomeOf). x.status) same in absurd cc
+    | inr unread ↦ let bad : statuses.Done ≡ statuses.ReadFault = is ∙ ap (λ (x : OutcomeOf). x.status) unread in absurd cc
+  ]
+]
+
+-- the notes' text and no note
+noted_exactly : (n0 n1 : SinkSays) (text : List ℕ) → IsNotedBehind n0 n1 text [] → Appends n0 n1 text
+noted_exactly n0 n1 text h = elim h [
+  | inl whole ↦ subst (Appends n0 n1) (append-nil text) whole
+  | inr part ↦ let (n, le, gained, rose) = part in let none : n ≡ 0 = omega (arith, le) in
+      subst (Appends n0 n1) (append-nil text) (subst (λ (k : ℕ). Appends n0 n1 (text ++ take k [])) none gained)
+]
+
+-- ---- done: the whole report of a scene, and what it calls occluded is hidden; of `live` its live text too; of `demo` the summary
+
+pub done_cull : (settings : Settings) (before after : Streams) (P Q : Type 0) → Comes (Cull settings) statuses.Done before after IsNotedBehind P Q
+    → (s : Parts) × HasScene before.input s × IfBytes before.input (λ bytes. after.input.left ≡ Some []) × Appends before.report after.report (report_text s) × HidesTruly s
+done_cull settings before after P Q h =
+    let w = done_whole h.outcome before.report after.report (IsNotedBehind before.notes after.notes) h.leaves in
+    let (s, has, is) = done_scene before.input h.outcome (λ s. h.outcome ≡ report_and s []) h.ends w.0 in
+    (s, has, h.taken refl tt, subst (Appends before.report after.report) (ap report_of is ∙ report_is s []) w.1.reported, hides_truly s has.scene (all_are_pieces s has.scene))
+
+pub done_live : (settings : Settings) (rounds watch : ℕ) (before after : Streams) (P Q : Type 0) → Comes (Live settings rounds watch) statuses.Done before after IsNotedBehind P Q
+    → (s : Parts) × HasScene before.input s × IfBytes before.input (λ bytes. after.input.left ≡ Some []) × Appends before.report after.report (report_text s) × HidesTruly s
+    × ((counts : Counts) × IsRising s rounds watch counts × Appends before.notes after.notes (live_text s rounds watch counts) × HidesLive s rounds watch counts)
+done_live settings rounds watch before after P Q h =
+    let r0 = before.report in let r1 = after.report in let n0 = before.notes in let n1 = after.notes in
+    let w = done_whole h.outcome r0 r1 (IsNotedBehind n0 n1) h.leaves in
+    let (s, has, made) = done_scene before.input h.outcome (λ s. (counts : Counts) × IsRising s rounds watch counts × (h.outcome ≡ report_and s (live_frames s rounds watch counts))) h.ends w.0 in
+    let (counts, rising, is) = made in
+    let notes = live_frames s rounds watch counts in
+    let noted : IsNotedBehind n0 n1 (joined notes) [] = subst (λ (o : OutcomeOf). IsNotedBehind n0 n1 (joined o.notes) o.note) is w.1.noted_is in (
+      s,
+      has,
+      h.taken refl tt,
+      subst (Appends r0 r1) (ap report_of is ∙ report_is s notes) w.1.reported,
+      hides_truly s has.scene (all_are_pieces s has.scene),
+      (counts, rising, subst (Appends n0 n1) (live_is s rounds watch counts) (noted_exactly n0 n1 (joined notes) noted), lines_hide s rounds watch counts has.scene),
+    )
+
+pub done_demo : (settings : Settings) (seed m : ℕ) (before after : Streams) (P Q : Type 0) → Comes (Demo settings seed m) statuses.Done before after IsNotedBehind P Q → Appends before.report after.report (summary_text seed m)
+done_demo settings seed m before after P Q h =
+    let w = done_whole h.outcome before.report after.report (IsNotedBehind before.notes after.notes) h.leaves in
+    subst (Appends before.report after.report) (ap report_of h.ends ∙ append-nil (summary_text seed m)) w.1.reported
+
+-- ---- refused: bytes with a first fault end as Scene, ReadFault or Memory
+
+no_scene_at_fault : (source : SourceSays) (s : Parts) (bytes : List ℕ) (e : SceneError) → source.left ≡ Some bytes → first_fault bytes ≡ Some e → HasScene source s → ⊥
+no_scene_at_fault source s bytes e left fault has =
+    let spelled : bytes ≡ layout s = subst (λ (l : Option (List ℕ)). IfSome l (λ b. b ≡ layout s)) left has.spelled in
+    let none : Some e ≡ None = sym fault ∙ ap first_fault spelled ∙ scene_first s has.scene in
+    absurd cc
+
+-- a command without text for the report and the notes isn't cut by a sink
+silent_ends : (c : Command) (status : Status) (before after : Streams) (P Q : Type 0) (h : Comes c status before after IsNotedBehind P Q) → report_of h.outcome ≡ [] → h.outcome.notes ≡ []
+    → (status ≡ h.outcome.status) ⊎ (status ≡ statuses.Memory)
+silent_ends c status before after P Q h no_report no_notes = elim h.leaves [
+  | inl whole ↦ inl whole.0
+  | inr front ↦ elim front.0 [
+    | inl report ↦ absurd ((h.causes.report report).0 no_report)
+    | inr rest ↦ elim rest [ inl notes ↦ absurd ((h.causes.notes notes).0 no_notes) | inr memory ↦ inr memory ]
+  ]
+]
+
+by_scene : (source : SourceSays) (o : OutcomeOf) (made : Parts → Type 0) (bytes : List ℕ) (e : SceneError) → source.left ≡ Some bytes → first_fault bytes ≡ Some e → EndsByScene source o made
+    → (report_of o ≡ []) × (o.notes ≡ []) × ((o.status ≡ statuses.Scene) ⊎ (o.status ≡ statuses.ReadFault))
+by_scene source o made bytes e left fault ends = elim ends [
+  | inl scene ↦ let (s, has, is) = scene in absurd (no_scene_at_fault source s bytes e left fault has)
+  | inr rest ↦ elim rest [
+    | inl refused ↦ let (f, refusal, first, same) = refused in (ap report_of same, ap (λ (x : OutcomeOf). x.notes) same, inl (ap (λ (x : OutcomeOf). x.status) same))
+    | inr unread ↦ (ap report_of unread, ap (λ (x : OutcomeOf). x.notes) unread, inr (ap (λ (x : OutcomeOf). x.status) unread))
+  ]
+]
+
+ends_silent : (c : Command) (source : SourceSays) (o : OutcomeOf) (bytes : List ℕ) (e : SceneError) → ReadsScene c → source.left ≡ Some bytes → first_fault bytes ≡ Some e → Ends c source o
+    → (report_of o ≡ []) × (o.notes ≡ []) × ((o.status ≡ statuses.Scene) ⊎ (o.status ≡ statuses.ReadFault))
+ends_silent (Cull settings) source o bytes e reads left fault ends = by_scene source o (λ s. o ≡ report_and s []) bytes e left fault ends
+ends_silent (Live settings rounds watch) source o bytes e reads left fault ends =
+    by_scene source o (λ s. (counts : Counts) × IsRising s rounds watch counts × (o ≡ report_and s (live_frames s rounds watch counts))) bytes e left fault ends
+ends_silent (Demo settings seed m) source o bytes e reads left fault ends = absurd reads
+
+pub refused : (c : Command) (status : Status) (before after : Streams) (P Q : Type 0) (bytes : List ℕ) (e : SceneError) → ReadsScene c → before.input.left ≡ Some bytes → first_fault bytes ≡ Some e
+    → Comes c status before after IsNotedBehind P Q → ((status ≡ statuses.Scene) ⊎ (status ≡ statuses.ReadFault) ⊎ (status ≡ statuses.Memory)) × P
+refused c status before after P Q bytes e reads left fault h =
+    let (no_report, no_notes, which) = ends_silent c before.input h.outcome bytes e reads left fault h.ends in (
+      elim (silent_ends c status before after P Q h no_report no_notes) [
+        | inl same ↦ elim which [ inl scene ↦ inl (same ∙ scene) | inr unread ↦ inr (inl (same ∙ unread)) ]
+        | inr memory ↦ inr (inr memory)
+      ],
+      h.untouched no_report,
+    )
+
+-- ---- complete: a scene, and no fault of the input or the report: `cull` ends as Done, or memory ran out
+
+pub complete_cull : (settings : Settings) (status : Status) (before after : Streams) (P Q : Type 0) (s : Parts) (bytes : List ℕ) → before.input.left ≡ Some bytes → bytes ≡ layout s → IsScene s
+    → (Rose before.input.faults after.input.faults → ⊥) → (Rose before.report.faults after.report.faults → ⊥) → Comes (Cull settings) status before after IsNotedBehind P Q
+    → (status ≡ statuses.Done) ⊎ (status ≡ statuses.Memory)
+complete_cull settings status before after P Q s bytes left spelled scene no_read no_report h =
+    let first : first_fault bytes ≡ None = ap first_fault spelled ∙ scene_first s scene in
+    let (no_notes, which) = by_layout before.input h.outcome bytes left first h.ends in
+    elim h.leaves [
+      | inl whole ↦ elim which [ inl done ↦ inl (whole.0 ∙ done) | inr unread ↦ absurd (no_read (h.causes.read (whole.0 ∙ unread))) ]
+      | inr front ↦ elim front.0 [
+        | inl report ↦ absurd (no_report (h.causes.report report).1)
+        | inr rest ↦ elim rest [ inl notes ↦ absurd ((h.causes.notes notes).0 no_notes) | inr memory ↦ inr memory ]
+      ]
+    ]
+  where
+    by_layout : (source : SourceSays) (o : OutcomeOf) (b : List ℕ) → source.left ≡ Some b → first_fault b ≡ None → EndsByScene source o (λ t. o ≡ report_and t [])
+        → (o.notes ≡ []) × ((o.status ≡ statuses.Done) ⊎ (o.status ≡ statuses.ReadFault))
+    by_layout source o b is none ends = elim ends [
+      | inl made ↦ let (t, has, same) = made in (ap (λ (x : OutcomeOf). x.notes) same, inl (ap (λ (x : OutcomeOf). x.status) same))
+      | inr rest ↦ elim rest [
+        | inl bad ↦
+            let (e, refusal, fault, same) = bad in
+            let some : first_fault b ≡ Some e = subst (λ (l : Option (List ℕ)). IfSome l (λ x. first_fault x ≡ Some e)) is fault in
+            let no : Some e ≡ None = sym some ∙ none in
+            absurd cc
+        | inr unread ↦ (ap (λ (x : OutcomeOf). x.notes) unread, inr (ap (λ (x : OutcomeOf). x.status) unread))
+      ]
+    ]

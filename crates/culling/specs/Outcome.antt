@@ -1,0 +1,55 @@
+-- How a run ends, and the causes of its ends.
+use Rattle.std.specs.Prelude.{ℕ, Result, Ok, Err}
+use Rattle.scene_reader.specs.declared.error.SceneError.{SceneError}
+use Rattle.scene_reader.specs.declared.error.SceneError.TheVariants as errors
+use Rattle.cull_base.specs.declared.memory.SinkError.{SinkError}
+use Rattle.cull_base.specs.declared.memory.SinkError.TheVariants as sink
+use Rattle.command_words.specs.declared.words.Refusal.{Refusal}
+use Rattle.command_words.specs.declared.words.Refusal.TheVariants as refusals
+use Rattle.culling.specs.declared.failure.Failure.{Failure}
+use Rattle.culling.specs.declared.failure.Failure.TheVariants as failures
+use Rattle.culling.specs.declared.failure.Status.{Status}
+use Rattle.culling.specs.declared.failure.Status.TheVariants as statuses
+
+-- what becomes of a scene that couldn't be read
+abbrev pub failure_of : SceneError → Failure
+failure_of errors.Read = failures.ReadFault
+failure_of errors.Memory = failures.Memory
+failure_of e = failures.Scene e
+
+-- what becomes of a report that couldn't be written
+abbrev pub sink_failure : SinkError → Failure
+sink_failure sink.Failed = failures.ReportFault
+sink_failure sink.Memory = failures.Memory
+
+abbrev pub status_of : Failure → Status
+status_of (failures.Scene e) = statuses.Scene
+status_of failures.ReadFault = statuses.ReadFault
+status_of failures.ReportFault = statuses.ReportFault
+status_of failures.NotesFault = statuses.NotesFault
+status_of failures.Memory = statuses.Memory
+
+-- the status of a command's result
+abbrev pub status_by : Result (Unit {0}) Failure → Status
+status_by (Ok x) = statuses.Done
+status_by (Err f) = status_of f
+
+-- what becomes of lines that couldn't be noted
+abbrev pub notes_failure : SinkError → Failure
+notes_failure sink.Failed = failures.NotesFault
+notes_failure sink.Memory = failures.Memory
+
+-- the process's exit status
+abbrev pub code_of : Status → ℕ
+code_of statuses.Done = 0
+code_of statuses.Usage = 2
+code_of statuses.Scene = 3
+code_of statuses.ReadFault = 4
+code_of statuses.ReportFault = 5
+code_of statuses.NotesFault = 6
+code_of statuses.Memory = 7
+
+-- the status of a run whose words ask for nothing
+abbrev pub refusal_status : Refusal → Status
+refusal_status refusals.Memory = statuses.Memory
+refusal_status (refusals.Words text) = statuses.Usage

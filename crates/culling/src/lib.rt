@@ -1,0 +1,20 @@
+//! The program's commands: from the words of a command line and the bytes of a scene to a report, over any source, any
+//! sinks and any gate.
+#![tactic(auto)]
+
+mod cull;
+mod demo;
+mod drawing;
+mod failure;
+mod frame_by_frame;
+mod frames;
+mod live;
+mod live_caller;
+mod live_frame;
+mod run;
+mod summary;
+mod window;
+
+pub use failure::{Failure, Status};
+pub use frames::{clip_frame, pieces_of};
+pub use run::run;

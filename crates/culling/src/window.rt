@@ -1,0 +1,436 @@
+//! Frames side by side: in a window each worker has a slot, in which one thread makes some frames that follow on one
+//! another.
+ghost use Rattle.std.specs.Prelude.{◌≡◌, ◌<◌, ◌≤◌, ◌+◌, ◌*◌, ◌^◌, length, IfOk, IfSome, OnOk};
+ghost use Rattle.cull_report.specs.Scene.{frame_clips};
+ghost use Rattle.culling.specs.FrameRuns.{LeavesQuiet};
+ghost use Rattle.culling.specs.declared.frames.Beside.TheVariants.{Nothing};
+ghost use Rattle.command_words.specs.Words.{AreInRange};
+ghost use Rattle.culling.specs.Windows.{AreDrawnFrom, AreMadeFrom, HavePlaces, IsDrawn, IsMade, HasPlaces};
+
+use crate::drawing::{Drawing, Plan, draw_plainly};
+use crate::failure::Failure;
+use crate::frames::{Asking, Beside, Frame, FrameLines, write_lines};
+use binning::Cut;
+use camera_path::Camera;
+use command_words::Settings;
+use cull_base::{ClipVertex, Memory, Sink};
+use scene_reader::Scene;
+use side_by_side::for_each_share;
+use std::alloc::Global;
+use std::sync::Wait;
+use std::thread::Threads;
+use tile_queues::{BinTable, Gate};
+
+/// At most so many frames of a window are a slot's. A path's frames cost more here and less there, and all slots wait
+/// for the last one: with several frames each they come out more alike. And threads are started once for all of them.
+const DEPTH: u32 = 8;
+
+/// In bytes, at most what the slots of a window take together.
+const MOST: u64 = 0x4000_0000;
+
+// In bytes, at least what a frame takes for each: a clip vertex, and what it is on the screen; the two pieces of a
+// triangle; a tile with its number in the table of least references; a verdict with its mark and its line; and for all
+// that doesn't grow with the scene.
+const VERTEX: u64 = 40;
+
+const TRIANGLE: u64 = 72;
+
+const TILE: u64 = 128;
+
+const OBJECT: u64 = 64;
+
+const REST: u64 = 0x10_0000;
+
+/// The clip vertices of a frame, and the frames of a window as they were drawn: none where memory gave out.
+#[derive(Drop)]
+pub struct Slot {
+    pub clips: Vec<ClipVertex>,
+    pub drawn: Vec<Option<Frame>>,
+}
+
+// In bytes, what a frame of a scene takes at most.
+fn frame_size(scene: &Scene) -> u64 {
+    let vertices = VERTEX.saturating_mul(scene.vertices().len() as u64);
+    let triangles = TRIANGLE.saturating_mul(scene.occluders().len() as u64);
+    let tiles = TILE.saturating_mul(u64::from(scene.size().tile_count()));
+    let objects = OBJECT.saturating_mul(scene.objects().len() as u64);
+    vertices
+        .saturating_add(triangles)
+        .saturating_add(tiles)
+        .saturating_add(objects)
+        .saturating_add(REST)
+}
+
+/// How many frames each worker has of a scene's windows. None where a worker is alone, where a frame is looked at or
+/// objects are settled while it is drawn, and where a frame for each worker would take too much memory.
+pub fn round_count(plan: &Plan, scene: &Scene) -> u32
+    ensures within { result * plan.now.settings.now.workers ≤ length scene.now.cameras }
+    ensures quiet { (plan.now.beside ≡ Nothing → ⊥) → result ≡ 0 }
+{
+    let workers = plan.settings.workers;
+    if workers < 2 || plan.settings.early || matches!(plan.beside, Beside::Looks { .. }) {
+        return 0;
+    }
+    if frame_size(scene).saturating_mul(u64::from(workers)) > MOST {
+        return 0;
+    }
+    scene.cameras().len() as u32 / workers
+}
+
+// At most so many frames are a slot's in a window, so that what is kept of them until it is written isn't too much.
+fn depth_for(scene: &Scene, workers: u32) -> u32
+    ensures some { 1 ≤ result }
+    ensures few { result ≤ 8 }
+{
+    let share = MOST / u64::from(workers.max(1));
+    let left = share.saturating_sub(frame_size(scene));
+    let kept = OBJECT.saturating_mul(scene.objects().len() as u64).max(1);
+    (left / kept).saturating_add(1).clamp(1, u64::from(DEPTH)) as u32
+}
+
+// A slot with a place for each vertex and for the frames of a window.
+fn empty_slot(alloc: Global, scene: &Scene) -> Result<Slot, Memory>
+    ensures { IfOk result (HasPlaces scene.now) }
+{
+    let nowhere = ClipVertex { x: 0, y: 0, w: 0 };
+    let clips = vec![in alloc; nowhere; scene.vertices().len()].map_err(|_| Memory)?;
+    let mut drawn = Vec::with_capacity(alloc, DEPTH as usize).map_err(|_| Memory)?;
+    for _ in 0..DEPTH {
+        drawn.push_reserved(None);
+    }
+    Ok(Slot { clips, drawn })
+}
+
+// So many slots.
+fn empty_slots(alloc: Global, scene: &Scene, count: u32) -> Result<Vec<Slot>, Memory>
+    ensures count { IfOk result (λ v. length v.items ≡ count) }
+    ensures places { IfOk result (λ v. HavePlaces scene.now v.items) }
+{
+    let mut slots = Vec::with_capacity(alloc, count as usize).map_err(|_| Memory)?;
+    for _ in 0..count {
+        let slot = empty_slot(alloc, scene)?;
+        slots.push_reserved(slot);
+    }
+    Ok(slots)
+}
+
+// The scene's vertices through a frame's camera, by the caller's thread alone.
+fn clip_alone(scene: &Scene, frame: u32, clips: &mut [ClipVertex])
+    requires frame { frame < length scene.now.cameras }
+    requires places { length clips.old ≡ length scene.now.vertices }
+    ensures clips { clips.new ≡ frame_clips scene.now frame }
+    ensures places { length clips.new ≡ length clips.old }
+{
+    let camera = Camera(scene.cameras()[frame as usize]);
+    let vertices = scene.vertices();
+    for i in 0..clips.len() {
+        clips[i] = camera.clip(&vertices[i]);
+    }
+}
+
+// A frame, drawn by the caller's thread alone; none where memory gave out.
+fn drawn_alone<R: Threads + Wait + Sync, G: Gate>(
+    drawing: &Drawing<R, G>,
+    asking: Asking,
+    frame: u32,
+    clips: &mut [ClipVertex],
+) -> Option<Frame>
+    requires frame { frame < length drawing.now.scene.now.cameras }
+    requires places { length clips.old ≡ length drawing.now.scene.now.vertices }
+    ensures drawn { IfSome result (IsDrawn drawing.now.scene.now frame) }
+    ensures places { length clips.new ≡ length clips.old }
+{
+    clip_alone(drawing.scene, frame, clips);
+    match draw_plainly(drawing, asking, frame, clips) {
+        Ok(drawn) => Some(drawn),
+        Err(Memory) => None,
+    }
+}
+
+// Makes so many frames from a first on, one after another.
+fn make_frames<R: Threads + Wait + Sync, G: Gate>(
+    drawing: &Drawing<R, G>,
+    asking: Asking,
+    first: u32,
+    count: u32,
+    clips: &mut [ClipVertex],
+    frames: &mut [Option<Frame>],
+)
+    requires within { first + count ≤ length drawing.now.scene.now.cameras }
+    requires room { count ≤ length frames.old }
+    requires places { length clips.old ≡ length drawing.now.scene.now.vertices }
+    ensures drawn { AreDrawnFrom drawing.now.scene.now first count frames.new }
+    ensures room { length frames.new ≡ length frames.old }
+    ensures places { length clips.new ≡ length clips.old }
+{
+    // an accessor tells what is held of a scene
+    let _frames = drawing.scene.cameras().len();
+    for k in 0..count {
+        frames[k as usize] = drawn_alone(drawing, asking, first + k, clips);
+    }
+}
+
+// Makes so many frames from a first on in a slot.
+fn make<R: Threads + Wait + Sync, G: Gate>(
+    drawing: &Drawing<R, G>,
+    asking: Asking,
+    first: u32,
+    count: u32,
+    slot: &mut Slot,
+)
+    requires within { first + count ≤ length drawing.now.scene.now.cameras }
+    requires few { count ≤ 8 }
+    requires places { HasPlaces drawing.now.scene.now slot.old }
+    ensures { IsMade drawing.now.scene.now first count slot.new }
+{
+    make_frames(
+        drawing,
+        asking,
+        first,
+        count,
+        slot.clips.as_mut_slice(),
+        slot.drawn.as_mut_slice(),
+    );
+}
+
+// Makes the frames of a window from a first on: so many in each slot, by a thread of its own.
+fn make_window<R: Threads + Wait + Sync, G: Gate>(
+    drawing: &Drawing<R, G>,
+    asking: Asking,
+    first: u32,
+    count: u32,
+    slots: &mut [Slot],
+)
+    requires within { first + length slots.old * count ≤ length drawing.now.scene.now.cameras }
+    requires few { count ≤ 8 }
+    requires workers { length slots.old ≤ 64 }
+    requires places { HavePlaces drawing.now.scene.now slots.old }
+    ensures { AreMadeFrom drawing.now.scene.now first count slots.new }
+{
+    // an accessor tells what is held of a scene
+    let _frames = drawing.scene.cameras().len();
+    let threads = slots.len();
+    for_each_share(
+        drawing.rt,
+        slots,
+        threads,
+        &|k: usize, slot: &mut Slot|
+            requires few { count ≤ 8 }
+            requires workers { k < 64 }
+            requires small { first < 2 ^ 31 }
+            requires within { first + k * count + count ≤ length drawing.now.scene.now.cameras }
+            requires places { HasPlaces drawing.now.scene.now slot.old }
+            ensures { IsMade drawing.entry.now.scene.now (first + k * count) count slot.new }
+        { make(drawing, asking, first + k as u32 * count, count, slot) },
+    );
+}
+
+// Writes the lines of a frame that was drawn, if it was.
+fn write_drawn<W: Sink>(
+    report: &mut W,
+    lines: FrameLines,
+    _scene: &Scene,
+    frame: u32,
+    drawn: &Option<Frame>,
+) -> Result<(), Failure>
+    requires { IfSome drawn.now (IsDrawn _scene.now frame) }
+    ensures { LeavesQuiet lines _scene.now frame 1 result (W.says report.old) (W.says report.new) }
+{
+    match drawn {
+        Some(drawn) => {
+            write_lines(report, lines, frame, drawn)?;
+            Ok(())
+        }
+        None => Err(Failure::Memory),
+    }
+}
+
+// Writes the lines of so many frames from a first on, up to the first that memory gave out for.
+fn write_frames<W: Sink>(
+    report: &mut W,
+    lines: FrameLines,
+    scene: &Scene,
+    first: u32,
+    count: u32,
+    frames: &[Option<Frame>],
+) -> Result<(), Failure>
+    requires within { first + count ≤ length scene.now.cameras }
+    requires room { count ≤ length frames.now }
+    requires drawn { AreDrawnFrom scene.now first count frames.now }
+    ensures { LeavesQuiet lines scene.now first count result (W.says report.old) (W.says report.new) }
+{
+    // an accessor tells what is held of a scene
+    let _frames = scene.cameras().len();
+    for k in 0..count as usize {
+        write_drawn(report, lines, scene, first + k as u32, &frames[k])?;
+    }
+    Ok(())
+}
+
+// Writes the lines of so many frames of a slot.
+fn write_slot<W: Sink>(
+    report: &mut W,
+    lines: FrameLines,
+    scene: &Scene,
+    first: u32,
+    count: u32,
+    slot: &Slot,
+) -> Result<(), Failure>
+    requires within { first + count ≤ length scene.now.cameras }
+    requires few { count ≤ 8 }
+    requires made { IsMade scene.now first count slot.now }
+    ensures { LeavesQuiet lines scene.now first count result (W.says report.old) (W.says report.new) }
+{
+    write_frames(report, lines, scene, first, count, slot.drawn.as_slice())
+}
+
+// Writes the lines of the frames of a window in order: so many of each slot.
+fn write_window<W: Sink>(
+    report: &mut W,
+    lines: FrameLines,
+    scene: &Scene,
+    first: u32,
+    count: u32,
+    slots: &[Slot],
+) -> Result<(), Failure>
+    requires within { first + length slots.now * count ≤ length scene.now.cameras }
+    requires few { count ≤ 8 }
+    requires workers { length slots.now ≤ 64 }
+    requires made { AreMadeFrom scene.now first count slots.now }
+    ensures { LeavesQuiet lines scene.now first (length slots.now * count) result
+        (W.says report.old) (W.says report.new) }
+{
+    // an accessor tells what is held of a scene
+    let _frames = scene.cameras().len();
+    for k in 0..slots.len() {
+        let place = first + k as u32 * count;
+        write_slot(report, lines, scene, place, count, &slots[k])?;
+    }
+    Ok(())
+}
+
+// Makes the frames of a window from a first on, so many in each slot, and writes their lines.
+fn report_window<R: Threads + Wait + Sync, W: Sink, G: Gate>(
+    drawing: &Drawing<R, G>,
+    asking: Asking,
+    first: u32,
+    count: u32,
+    slots: &mut [Slot],
+    report: &mut W,
+) -> Result<(), Failure>
+    requires within { first + length slots.old * count ≤ length drawing.now.scene.now.cameras }
+    requires few { count ≤ 8 }
+    requires workers { length slots.old ≤ 64 }
+    requires places { HavePlaces drawing.now.scene.now slots.old }
+    ensures reported { LeavesQuiet drawing.now.plan.now.lines drawing.now.scene.now first (length slots.old * count)
+        result (W.says report.old) (W.says report.new) }
+    ensures places { HavePlaces drawing.now.scene.now slots.new }
+{
+    make_window(drawing, asking, first, count, slots);
+    write_window(
+        report,
+        drawing.plan.lines,
+        drawing.scene,
+        first,
+        count,
+        slots,
+    )
+}
+
+// Makes window after window in these slots, of so many frames a slot at most, until each slot had so many as there are
+// rounds, and writes the lines of each before the next begins.
+fn report_in_slots<R: Threads + Wait + Sync, W: Sink, G: Gate>(
+    drawing: &Drawing<R, G>,
+    asking: Asking,
+    rounds: u32,
+    depth: u32,
+    slots: &mut [Slot],
+    report: &mut W,
+) -> Result<(), Failure>
+    requires some { 1 ≤ depth }
+    requires few { depth ≤ 8 }
+    requires workers { length slots.old ≤ 64 }
+    requires within { rounds * length slots.old ≤ length drawing.now.scene.now.cameras }
+    requires places { HavePlaces drawing.now.scene.now slots.old }
+    ensures { LeavesQuiet drawing.now.plan.now.lines drawing.now.scene.now 0 (rounds * length slots.old) result
+        (W.says report.old) (W.says report.new) }
+{
+    // an accessor tells what is held of a scene
+    let _frames = drawing.scene.cameras().len();
+    let mut done = 0u32;
+    while done < rounds {
+        let count = depth.min(rounds - done);
+        let first = done * slots.len() as u32;
+        report_window(drawing, asking, first, count, slots, report)?;
+        done += count;
+    }
+    Ok(())
+}
+
+// How one worker draws into one bin.
+fn alone(settings: &Settings) -> Settings
+    requires { AreInRange settings.now }
+    ensures { AreInRange result }
+{
+    let Some(cut) = Cut::new(1, 1) else {
+        unreachable!()
+    };
+    Settings {
+        workers: 1,
+        cut,
+        batch: settings.batch,
+        early: false,
+    }
+}
+
+// Who asks the objects of a frame in a slot: the lines of the report are made there too.
+fn asking_for(lines: FrameLines, workers: u32) -> Asking {
+    match lines {
+        FrameLines::Report => Asking::Caller(workers),
+        FrameLines::Summary => Asking::Workers(1),
+    }
+}
+
+/// Draws so many frames for each worker, side by side, and writes their lines in order. A frame of a window is made by
+/// one thread, as one worker makes it in one bin; where its memory gave out, the run ends behind the frames before it.
+/// Condition: there are so many frames.
+pub fn report_windows<R: Threads + Wait + Sync, W: Sink, G: Gate>(
+    drawing: &Drawing<R, G>,
+    rounds: u32,
+    report: &mut W,
+) -> Result<(), Failure>
+    requires { rounds * drawing.now.plan.now.settings.now.workers ≤ length drawing.now.scene.now.cameras }
+    ensures { LeavesQuiet drawing.now.plan.now.lines drawing.now.scene.now
+        0 (rounds * drawing.now.plan.now.settings.now.workers) result (W.says report.old) (W.says report.new) }
+{
+    if rounds == 0 {
+        return Ok(());
+    }
+    let (alloc, scene) = (drawing.alloc, drawing.scene);
+    let workers = drawing.plan.settings.workers;
+    let mut slots = empty_slots(alloc, scene, workers)?;
+    let settings = alone(drawing.plan.settings);
+    let plan = Plan {
+        settings: &settings,
+        lines: drawing.plan.lines,
+        beside: Beside::Nothing,
+    };
+    let table = BinTable::of(alloc, scene.size(), &settings.cut)?;
+    let in_slot = Drawing {
+        rt: drawing.rt,
+        alloc,
+        plan: &plan,
+        table: &table,
+        scene,
+        gate: drawing.gate,
+    };
+    let asking = asking_for(plan.lines, workers);
+    report_in_slots(
+        &in_slot,
+        asking,
+        rounds,
+        depth_for(scene, workers),
+        slots.as_mut_slice(),
+        report,
+    )
+}

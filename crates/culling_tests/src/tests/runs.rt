@@ -1,0 +1,115 @@
+//! Runs of a command over bytes in memory, and what comes of them.
+ghost use Rattle.std.specs.Prelude.{◌≤◌};
+
+use cull_base::{BytesSink, BytesSource};
+use culling::{Status, run};
+use std::alloc::{AllocError, Global};
+use std::process::Abort;
+use std::sync::Wait;
+use std::test::*;
+use std::thread::Threads;
+use tile_queues::{Gate, OpenGate};
+
+/// The command line that culls a scene by one worker.
+pub const CULL: &str = "maskcull cull";
+
+/// The number of no call: calls are numbered from 1.
+pub const NEVER: u64 = 0;
+
+/// In bytes, more than any text of a test is long.
+pub const LARGE: usize = 100_000;
+
+/// How a run ended, and what stands on its report and on its notes.
+#[derive(Drop)]
+pub struct Ended {
+    pub status: Status,
+    pub report: String,
+    pub notes: String,
+}
+
+/// A sink that takes so many bytes at most in a write; the write of that number fails.
+pub fn sink(alloc: Global, most: usize, call: u64) -> Result<BytesSink, AllocError>
+    requires { 1 ≤ most }
+{
+    Ok(BytesSink::new(alloc, most, Vec::from_slice(alloc, &[call])?))
+}
+
+// The words of a command line, parted by one space each; none of an empty one.
+fn words_of(alloc: Global, line: &str) -> Result<Vec<String>, AllocError> {
+    let mut words = Vec::new(alloc);
+    if line.is_empty() {
+        return Ok(words);
+    }
+    for word in line.split(' ') {
+        words.push(String::from_str(alloc, word)?)?;
+    }
+    Ok(words)
+}
+
+fn text_of(alloc: Global, bytes: &[u8]) -> Result<String, Fail> {
+    match str::from_utf8(bytes) {
+        Ok(text) => Ok(String::from_str(alloc, text)?),
+        Err(_) => Err(Fail::from("a text")),
+    }
+}
+
+/// What comes of a command line over a source and two sinks, with a gate.
+pub fn run_over<R: Threads + Wait + Sync, G: Gate>(
+    rt: &R,
+    alloc: Global,
+    line: &str,
+    input: &mut BytesSource,
+    mut report: BytesSink,
+    mut notes: BytesSink,
+    gate: &G,
+) -> Result<Ended, Fail> {
+    let words = words_of(alloc, line)?;
+    let status = run(rt, alloc, &words, input, &mut report, &mut notes, gate);
+    Ok(Ended {
+        status,
+        report: text_of(alloc, report.held())?,
+        notes: text_of(alloc, notes.held())?,
+    })
+}
+
+/// The same over bytes that come in pieces of at most seven, with sinks that never fail.
+pub fn run_gated<R: Threads + Wait + Sync, G: Gate>(
+    rt: &R,
+    alloc: Global,
+    line: &str,
+    bytes: Vec<u8>,
+    gate: &G,
+) -> Result<Ended, Fail> {
+    let mut input = BytesSource::new(bytes, 7, Vec::new(alloc));
+    let (report, notes) = (sink(alloc, LARGE, NEVER)?, sink(alloc, LARGE, NEVER)?);
+    run_over(rt, alloc, line, &mut input, report, notes, gate)
+}
+
+/// The same with a gate that holds nobody up.
+pub fn run_with<R: Threads + Wait + Sync>(
+    rt: &R,
+    alloc: Global,
+    line: &str,
+    bytes: Vec<u8>,
+) -> Result<Ended, Fail> {
+    run_gated(rt, alloc, line, bytes, &OpenGate)
+}
+
+/// A run ended with a status and left these texts.
+pub fn assert_ended<R: Abort>(rt: &R, ended: &Ended, status: Status, report: &str, notes: &str) {
+    assert_eq!(rt; ended.notes.as_str(), notes);
+    assert_eq!(rt; ended.status, status);
+    assert_eq!(rt; ended.report.as_str(), report);
+}
+
+/// The scene of some bytes is culled, with this report.
+pub fn assert_reports<R: Threads + Wait + Sync + Abort>(
+    rt: &R,
+    alloc: Global,
+    bytes: Vec<u8>,
+    report: &str,
+) -> Result<(), Fail> {
+    let ended = run_with(rt, alloc, CULL, bytes)?;
+    assert_ended(rt, &ended, Status::Done, report, "");
+    Ok(())
+}

@@ -1,0 +1,154 @@
+//! The command line: which is refused, and that settings change no byte of the report.
+use crate::tests::runs::{LARGE, NEVER, assert_ended, run_over, run_with, sink};
+use crate::tests::scenes::{OCCLUDED, first_scene};
+use cull_base::{BytesSource, Source};
+use culling::Status;
+use std::alloc::Global;
+use std::process::Abort;
+use std::sync::Wait;
+use std::test::*;
+use std::thread::Threads;
+use tile_queues::OpenGate;
+
+// The command line is refused: a note tells it, nothing is read and nothing written.
+fn refused<R: Threads + Wait + Sync + Abort>(
+    rt: &R,
+    alloc: Global,
+    line: &str,
+) -> Result<String, Fail> {
+    let fails = Vec::from_slice(alloc, &[1])?;
+    let mut input = BytesSource::new(first_scene(alloc)?, 7, fails);
+    let (report, notes) = (sink(alloc, LARGE, NEVER)?, sink(alloc, LARGE, NEVER)?);
+    let ended = run_over(rt, alloc, line, &mut input, report, notes, &OpenGate)?;
+    assert_ended(rt, &ended, Status::Usage, "", ended.notes.as_str());
+    assert!(rt; ended.notes.starts_with("usage refused\n"));
+    // the input's first call fails, and it is still to come
+    assert!(rt; input.read(&mut [0]).is_err());
+    Ok(ended.notes)
+}
+
+#[test]
+fn words_that_are_no_command_are_refused(rt: HostRuntime) -> Result<(), Fail> {
+    let alloc = rt.alloc();
+    for line in [
+        "",
+        "maskcull",
+        "maskcull draw",
+        "maskcull live x",
+        "maskcull cull x",
+        "maskcull cull --version",
+        "maskcull --early cull",
+        "maskcull cull --early 1",
+        "maskcull cull --seed 1",
+        "maskcull --workers 1 cull",
+        "maskcull cull --workers",
+        "maskcull cull --workers=1 --workers=1",
+        "maskcull demo --triangles 65537",
+        "maskcull demo --seed=4294967296",
+        "maskcull demo --watch 1",
+        "maskcull cull --rounds 2",
+        "maskcull live --seed 1",
+        "maskcull live --rounds 0",
+        "maskcull live --rounds 9",
+        "maskcull live --watch 0",
+        "maskcull live --watch=9",
+        "maskcull cull --workers 0",
+        "maskcull cull --workers 65",
+        "maskcull cull --bins-x 9",
+        "maskcull cull --bins-y 0",
+        "maskcull cull --batch 4097",
+        "maskcull cull --batch ",
+    ] {
+        let _ = refused(&rt, alloc, line)?;
+    }
+    Ok(())
+}
+
+// What is refused of a command line, and what help tells.
+#[test]
+fn a_refusal_tells_why_and_help_tells_all(rt: HostRuntime) -> Result<(), Fail> {
+    let alloc = rt.alloc();
+    for (line, wanted) in [
+        (
+            "maskcull cull --early --early",
+            "the argument '--early' cannot be used multiple times",
+        ),
+        (
+            "maskcull live --early=1 --rounds=2",
+            "unexpected value '1' for '--early' found; no more were expected",
+        ),
+        ("maskcull --help", "cull"),
+        ("maskcull --help", "live"),
+        ("maskcull --help", "demo"),
+        ("maskcull --help", "--version"),
+        ("maskcull --help", "6  the notes couldn't be written"),
+        ("maskcull --help", "7  out of memory"),
+        ("maskcull cull --help", "--workers <workers>"),
+        ("maskcull cull --help", "[default: 64]"),
+        ("maskcull cull --help", "--early"),
+        ("maskcull cull --help", "3  the input is no scene"),
+        ("maskcull live --help", "--rounds <rounds>"),
+        ("maskcull live --help", "--watch <watch>"),
+        ("maskcull live --help", "--early"),
+        ("maskcull live --help", "TILE:COUNT"),
+        ("maskcull live --help", "6  the notes couldn't be written"),
+        ("maskcull demo --help", "--triangles <triangles>"),
+        ("maskcull demo --help", "[default: 20000]"),
+        ("maskcull demo --help", "--early"),
+        (
+            "maskcull demo --help",
+            "2  the command line was refused, or help was printed",
+        ),
+    ] {
+        let notes = refused(&rt, alloc, line)?;
+        assert!(rt; notes.contains(wanted), "no {wanted}");
+    }
+    Ok(())
+}
+
+#[test]
+fn the_version_is_told(rt: HostRuntime) -> Result<(), Fail> {
+    for line in ["maskcull --version", "maskcull -V"] {
+        let notes = refused(&rt, rt.alloc(), line)?;
+        assert_eq!(rt; notes.as_str(), "usage refused\nmaskcull 0.1.0\n");
+    }
+    Ok(())
+}
+
+// The command line makes the whole report of the first scene, and nothing is noted.
+fn assert_same_report<R: Threads + Wait + Sync + Abort>(
+    rt: &R,
+    alloc: Global,
+    line: &str,
+) -> Result<(), Fail> {
+    let ended = run_with(rt, alloc, line, first_scene(alloc)?)?;
+    assert_ended(rt, &ended, Status::Done, OCCLUDED, "");
+    Ok(())
+}
+
+// One bin has the tile; of sixty-four all others have none.
+#[test]
+fn settings_change_no_byte(rt: HostRuntime) -> Result<(), Fail> {
+    let alloc = rt.alloc();
+    for workers in [1u32, 7, 64] {
+        for bins in [1u32, 8] {
+            let line = format!(in alloc;
+                "maskcull cull --workers {workers} --bins-x {bins} --bins-y {bins} --batch 1"
+            )?;
+            assert_same_report(&rt, alloc, line.as_str())?;
+        }
+    }
+    Ok(())
+}
+
+#[test]
+fn some_options_and_large_batches_change_no_byte(rt: HostRuntime) -> Result<(), Fail> {
+    for line in [
+        "maskcull cull --workers=64",
+        "maskcull cull --batch 1 --bins-y=8 --workers 2",
+        "maskcull cull --workers 64 --bins-x 8 --bins-y 8 --batch 4096",
+    ] {
+        assert_same_report(&rt, rt.alloc(), line)?;
+    }
+    Ok(())
+}

@@ -1,0 +1,159 @@
+//! What some command lines name, and what is said of those that are refused.
+use command_words::{Command, Refusal, Settings, VERSION, command_of};
+use std::alloc::Global;
+use std::process::Abort;
+use std::test::*;
+
+fn words(alloc: Global, given: &[&str]) -> Result<Vec<String>, Fail> {
+    let mut words = Vec::new(alloc);
+    for word in given {
+        words.push(String::from_str(alloc, word)?)?;
+    }
+    Ok(words)
+}
+
+// What a command line names.
+fn command_for(rt: &impl Abort, alloc: Global, given: &[&str]) -> Result<Command, Fail> {
+    let words = words(alloc, given)?;
+    Ok(
+        command_of(alloc, &words)
+            .ok()
+            .expect(rt, "words are refused"),
+    )
+}
+
+// The settings of a command, its name, and the two numbers of its own.
+fn parts(command: Command) -> (Settings, &'static str, Option<(u32, u32)>) {
+    match command {
+        Command::Cull { settings } => (settings, "cull", None),
+        Command::Live {
+            settings,
+            rounds,
+            watch,
+        } => (settings, "live", Some((rounds, watch))),
+        Command::Demo {
+            settings,
+            seed,
+            triangles,
+        } => (settings, "demo", Some((seed, triangles))),
+    }
+}
+
+// The workers, columns, rows and batch that a command line names, the command, and the two numbers of its own.
+fn asked(
+    rt: &impl Abort,
+    alloc: Global,
+    given: &[&str],
+) -> Result<([u32; 4], &'static str, Option<(u32, u32)>), Fail> {
+    let (settings, command, own) = parts(command_for(rt, alloc, given)?);
+    let (columns, rows) = (settings.cut.columns(), settings.cut.rows());
+    let sharing = [settings.workers, columns, rows, settings.batch];
+    Ok((sharing, command, own))
+}
+
+#[test]
+fn defaults_stand_where_no_option_is_given(rt: HostRuntime) -> Result<(), Fail> {
+    let alloc = rt.alloc();
+    for (command, own) in [
+        ("cull", None),
+        ("live", Some((1, 1))),
+        ("demo", Some((1, 20000))),
+    ] {
+        assert_eq!(rt;
+            asked(&rt, alloc, &["maskcull", command])?,
+            ([1, 1, 1, 64], command, own)
+        );
+    }
+    Ok(())
+}
+
+#[test]
+fn live_asks_for_rounds_and_watched_objects(rt: HostRuntime) -> Result<(), Fail> {
+    let alloc = rt.alloc();
+    for (given, workers, own) in [
+        (["--rounds=8", "--watch", "8", "--workers", "2"], 2, (8, 8)),
+        (
+            ["--watch=2", "--workers", "64", "--rounds", "5"],
+            64,
+            (5, 2),
+        ),
+    ] {
+        let [first, second, third, fourth, fifth] = given;
+        let given = ["maskcull", "live", first, second, third, fourth, fifth];
+        assert_eq!(rt;
+            asked(&rt, alloc, &given)?,
+            ([workers, 1, 1, 64], "live", Some(own))
+        );
+    }
+    Ok(())
+}
+
+#[test]
+fn the_flag_stands_anywhere_among_the_options(rt: HostRuntime) -> Result<(), Fail> {
+    let alloc = rt.alloc();
+    for (given, workers, is_early) in [
+        (["maskcull", "cull", "--workers", "3"].as_slice(), 3, false),
+        (&["maskcull", "cull", "--early"], 1, true),
+        (&["maskcull", "live", "--early", "--workers", "3"], 3, true),
+        (
+            &["maskcull", "demo", "--seed", "5", "--early", "--workers=3"],
+            3,
+            true,
+        ),
+        (&["maskcull", "cull", "--workers", "3", "--early"], 3, true),
+    ] {
+        let (settings, _, _) = parts(command_for(&rt, alloc, given)?);
+        assert_eq!(rt; (settings.workers, settings.early), (workers, is_early));
+    }
+    Ok(())
+}
+
+#[test]
+fn options_come_in_any_order_and_in_both_spellings(rt: HostRuntime) -> Result<(), Fail> {
+    let alloc = rt.alloc();
+    let given = [
+        "maskcull",
+        "demo",
+        "--triangles=0",
+        "--bins-y",
+        "3",
+        "--seed",
+        "4294967295",
+        "--batch=5",
+        "--workers",
+        "9",
+    ];
+    assert_eq!(rt;
+        asked(&rt, alloc, &given)?,
+        ([9, 1, 3, 5], "demo", Some((4294967295, 0)))
+    );
+    Ok(())
+}
+
+// What is said of words that are refused.
+fn said(rt: &impl Abort, alloc: Global, given: &[&str]) -> Result<String, Fail> {
+    let words = words(alloc, given)?;
+    let refusal = command_of(alloc, &words).err();
+    match refusal.expect(rt, "words are taken") {
+        Refusal::Words(Some(text)) => Ok(text),
+        _ => Ok(String::from_str(alloc, "nothing")?),
+    }
+}
+
+#[test]
+fn ranges_and_defaults_stand_on_the_help_page(rt: HostRuntime) -> Result<(), Fail> {
+    let alloc = rt.alloc();
+    let page = said(&rt, alloc, &["maskcull", "demo", "--help"])?;
+    for wanted in [
+        "How many pieces a batch has at least, for a frame that threads share, 1 to 4096 [default: 64]",
+        "How many triangles the scene has, 0 to 65536 [default: 20000]",
+        "The number that makes the scene, 0 to 4294967295 [default: 1]",
+    ] {
+        assert!(rt; page.contains(wanted), "no {wanted}");
+    }
+    assert_eq!(rt;
+        said(&rt, alloc, &["maskcull", "--version"])?,
+        format!(in alloc; "maskcull {VERSION}\n")?
+    );
+    Ok(())
+}

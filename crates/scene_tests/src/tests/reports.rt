@@ -1,0 +1,270 @@
+//! Lines that are filled from snapshots, and their texts. Objects that are settled over a tile.
+ghost use Rattle.std.specs.Prelude.{◌≡◌, ◌<◌, length, All, IfOk};
+ghost use Rattle.cull_base.specs.Screen.{tile_count_of};
+ghost use Rattle.tile_cells.specs.Standing.{AreStanding, IsReading, StandsAt};
+
+use cull_base::{
+    BytesSink, FrameList, Memory, NO_PIXELS, Object, Rect, ScreenTri, SinkError, Size, SureSink,
+    Verdict, Winding,
+};
+use cull_report::{Asked, LiveLine, object_settled, verdicts_by_workers, write_live};
+use masked_update::{PlainView, SubTile, TileState};
+use scene_reader::{Scene, SceneParts};
+use std::alloc::Global;
+use std::sync::Wait;
+use std::test::Fail;
+use std::thread::Threads;
+use tile_cells::{Snapshot, TileCells, TileReader, TileWriter};
+
+// One piece on a screen of this size, with corners in sixteenths of a pixel.
+fn one_piece(
+    alloc: Global,
+    width: u16,
+    height: u16,
+    xs: [i32; 3],
+    ys: [i32; 3],
+) -> Result<FrameList, Fail>
+    ensures { IfOk result (λ l. 0 < length l.list.members) }
+{
+    let size = Size::new(width, height).ok_or("a size")?;
+    let piece = ScreenTri::new(xs, ys, [32767, 32767, 32767]).ok_or("a piece")?;
+    let mut list = FrameList::with_room(alloc, size, 1)?;
+    list.push(piece);
+    Ok(list)
+}
+
+// Cells of a list with their writers and one reader.
+#[tactic(auto, using(tile_cells::proofs::Standing::new_reads))]
+fn opened<R: Wait>(
+    rt: &R,
+    alloc: Global,
+    list: &FrameList,
+) -> Result<(TileCells, Vec<TileWriter>, Vec<TileReader>), Memory>
+    ensures cells { IfOk result (λ r. length r.0 ≡ tile_count_of list.now.list.size) }
+    ensures writers { IfOk result (λ r. AreStanding r.0 list.now.list 0 r.1.items) }
+    ensures count { IfOk result (λ r. length r.2.items ≡ 1) }
+    ensures readers { IfOk result (λ r. All (IsReading r.0 list.now.list) r.2.items) }
+{
+    let (cells, writers, readers) = TileCells::make(rt, alloc, list, 1)?;
+    Ok((cells, writers, readers))
+}
+
+// Lets a writer take the first member if it is its tile's.
+fn offer<R: Wait>(rt: &R, cells: &TileCells, writer: &mut TileWriter, list: &FrameList, _tile: u32)
+    requires tile { _tile < tile_count_of list.now.list.size }
+    requires some { 0 < length list.now.list.members }
+    requires stands { StandsAt cells.now list.now.list 0 _tile writer.old }
+{
+    let piece = list.get(0);
+    if piece.boxed().meets(&list.size().tile_rect(writer.tile())) {
+        writer.take_next(rt, cells, piece);
+    }
+}
+
+// What the first reader sees of an area.
+fn look<R: Wait>(
+    rt: &R,
+    alloc: Global,
+    cells: &TileCells,
+    readers: &mut Vec<TileReader>,
+    list: &FrameList,
+    area: Rect,
+) -> Result<Snapshot, Memory>
+    requires some { 0 < length readers.old.items }
+    requires read { All (IsReading cells.now list.now.list) readers.old.items }
+{
+    let mut snapshot = Snapshot::with_room(alloc, list.size())?;
+    readers[0].snapshot(rt, cells, area, &mut snapshot);
+    Ok(snapshot)
+}
+
+// A snapshot of an area, once the list's piece is drawn into one tile.
+fn seen<R: Wait>(
+    rt: &R,
+    alloc: Global,
+    list: &FrameList,
+    tile: u32,
+    area: Rect,
+) -> Result<Snapshot, Memory>
+    requires { 0 < length list.now.list.members }
+{
+    let (cells, mut writers, mut readers) = opened(rt, alloc, list)?;
+    if tile < list.size().tile_count() {
+        offer(rt, &cells, &mut writers[tile as usize], list, tile);
+    }
+    look(rt, alloc, &cells, &mut readers, list, area)
+}
+
+// A line of a snapshot.
+#[tactic(auto, using(cull_report::proofs::LineRoom::few_on_screen))]
+fn line_of(
+    alloc: Global,
+    frame: u32,
+    round: u32,
+    object: u32,
+    verdict: Verdict,
+    view: &Snapshot,
+) -> Result<LiveLine, Memory> {
+    let mut line = LiveLine::with_room(alloc, view.size().tile_count())?;
+    line.fill(frame, round, object, verdict, view);
+    Ok(line)
+}
+
+// The text of a line.
+fn written(alloc: Global, line: &LiveLine) -> Result<SureSink, SinkError> {
+    let mut sink = SureSink::new(alloc);
+    write_live(&mut sink, line)?;
+    Ok(sink)
+}
+
+fn pixels(x0: i32, y0: i32, x1: i32, y1: i32) -> Rect {
+    Rect { x0, y0, x1, y1 }
+}
+
+#[test]
+fn one_tile_after_one_piece(rt: HostRuntime) -> Result<(), Fail> {
+    let list = one_piece(rt.alloc(), 32, 8, [0, 512, 512], [0, 0, 128])?;
+    let view = seen(&rt, rt.alloc(), &list, 0, pixels(0, 0, 32, 8))?;
+    let line = line_of(rt.alloc(), 0, 1, 0, Verdict::Visible, &view)?;
+    assert_eq!(rt; (line.round(), line.len()), (1, 1));
+    let text = written(rt.alloc(), &line)?;
+    assert_eq!(rt; text.held(), b"live 0 1 0 visible 0:1\n".as_slice());
+    // a write that fails leaves a front
+    let mut sink = BytesSink::new(rt.alloc(), 7, Vec::from_slice(rt.alloc(), &[2u64])?);
+    assert_eq!(rt; write_live(&mut sink, &line), Err(SinkError::Failed));
+    assert_eq!(rt; sink.held(), b"live 0 ".as_slice());
+    Ok(())
+}
+
+// Two columns and two rows of tiles, and a piece in the last of them; without tiles a line ends after its verdict.
+#[test]
+fn tiles_of_the_area_in_order(rt: HostRuntime) -> Result<(), Fail> {
+    let list = one_piece(rt.alloc(), 40, 12, [512, 640, 640], [128, 128, 192])?;
+    let (whole, corner) = (pixels(0, 0, 40, 12), pixels(32, 8, 64, 64));
+    for (frame, object, verdict, area, wanted) in [
+        (
+            12,
+            5,
+            Verdict::Occluded,
+            whole,
+            "live 12 0 5 occluded 0:0 1:0 2:0 3:1\n",
+        ),
+        (0, 1, Verdict::Occluded, corner, "live 0 0 1 occluded 3:1\n"),
+        (0, 2, Verdict::Outside, NO_PIXELS, "live 0 0 2 outside\n"),
+    ] {
+        let view = seen(&rt, rt.alloc(), &list, 3, area)?;
+        let line = line_of(rt.alloc(), frame, 0, object, verdict, &view)?;
+        assert_eq!(rt; written(rt.alloc(), &line)?.held(), wanted.as_bytes());
+    }
+    Ok(())
+}
+
+// A scene of one tile without vertices, with one frame and these objects.
+fn scene_of(alloc: Global, objects: Vec<Object>) -> Result<Scene, Fail> {
+    let parts = SceneParts {
+        width: 32,
+        height: 8,
+        near: 1,
+        winding: Winding::DropCounter,
+        vertices: Vec::new(alloc),
+        occluders: Vec::new(alloc),
+        object_tris: Vec::new(alloc),
+        objects,
+        cameras: Vec::from_slice(alloc, &[[0; 12]])?,
+    };
+    Ok(Scene::new(parts).ok().ok_or("a scene")?)
+}
+
+// The rectangle of the whole screen at two distances.
+fn rectangles_at(alloc: Global, near: i32, far: i32) -> Result<Scene, Fail> {
+    let rect = pixels(0, 0, 32, 8);
+    let objects = Vec::from_slice(
+        alloc,
+        &[
+            Object::Area { rect, w: near },
+            Object::Area { rect, w: far },
+        ],
+    )?;
+    scene_of(alloc, objects)
+}
+
+// Whether an object of a scene without vertices is settled over the scene's only tile.
+fn is_settled(scene: &Scene, object: u32, tile: TileState) -> Result<bool, &'static str> {
+    if scene.size().tile_count() != 1 || scene.cameras().is_empty() {
+        return Err("a scene of one tile");
+    }
+    if !scene.vertices().is_empty() || object as usize >= scene.objects().len() {
+        return Err("an object of a scene without vertices");
+    }
+    let tiles = [tile];
+    Ok(object_settled(scene, 0, &[], object, &PlainView::new(&tiles)))
+}
+
+// Each subtile of the first scene's tile ends with its reference at half of 65535.
+#[test]
+fn rectangle_behind_the_quad_is_settled_and_one_at_its_distance_is_not(
+    rt: HostRuntime,
+) -> Result<(), Fail> {
+    let mut sub = SubTile::empty();
+    sub.merge(32767, 0xFFFF_FFFF);
+    let tile = TileState::of([sub; 8], 2);
+    let scene = rectangles_at(rt.alloc(), 2, 3)?;
+    assert!(rt; !is_settled(&scene, 0, tile)?);
+    assert!(rt; is_settled(&scene, 1, tile)?);
+    Ok(())
+}
+
+// So many such rectangles, of which each third is far.
+fn many_rectangles(alloc: Global, count: u32, near: i32, far: i32) -> Result<Scene, Fail> {
+    let rect = pixels(0, 0, 32, 8);
+    let mut objects = Vec::new(alloc);
+    for k in 0..count {
+        let w = if k % 3 == 0 { far } else { near };
+        objects.push(Object::Area { rect, w })?;
+    }
+    scene_of(alloc, objects)
+}
+
+// A frame's lines, by so many workers, of a scene without vertices over the scene's only tile.
+fn lines_by<R: Threads + Wait + Sync>(
+    rt: &R,
+    alloc: Global,
+    scene: &Scene,
+    tile: TileState,
+    workers: u32,
+) -> Result<SureSink, Fail> {
+    if scene.size().tile_count() != 1 || scene.cameras().is_empty() {
+        return Err(Fail::new("a scene of one tile"));
+    }
+    if !scene.vertices().is_empty() {
+        return Err(Fail::new("a scene without vertices"));
+    }
+    let tiles = [tile];
+    let view = PlainView::new(&tiles);
+    let settled = vec![in alloc; false; scene.objects().len()]?;
+    let asked = Asked {
+        scene,
+        frame: 0,
+        clips: &[],
+        view: &view,
+        settled: settled.as_slice(),
+    };
+    let verdicts = verdicts_by_workers(rt, alloc, &asked, workers)?;
+    let mut sink = SureSink::new(alloc);
+    verdicts.write_frame(&mut sink, 0, 2)?;
+    Ok(sink)
+}
+
+#[test]
+fn lines_of_two_workers_are_those_of_one(rt: HostRuntime) -> Result<(), Fail> {
+    let mut sub = SubTile::empty();
+    sub.merge(32767, 0xFFFF_FFFF);
+    let tile = TileState::of([sub; 8], 2);
+    let scene = many_rectangles(rt.alloc(), 1500, 2, 3)?;
+    let one = lines_by(&rt, rt.alloc(), &scene, tile, 1)?;
+    let two = lines_by(&rt, rt.alloc(), &scene, tile, 2)?;
+    assert!(rt; one.held() == two.held());
+    let last = b"end 0 visible 1000 occluded 500 outside 0\n".as_slice();
+    assert!(rt; two.held().ends_with(last));
+    Ok(())
+}

@@ -1,0 +1,299 @@
+//! Scenes that are read, refused and written, byte by byte.
+use cull_base::{BytesSink, BytesSource, Object, SinkError, SureSink, SureSource, Tri, Winding};
+use scene_reader::{Scene, SceneError, SceneParts, read_scene, write_scene};
+use std::alloc::{AllocError, Global};
+use std::test::Fail;
+
+/// A screen of 32 by 8, a quad at distance 2 and a rectangle at distance 3 that covers the screen.
+const FIRST_SCENE: [u8; 177] = [
+    0x4d, 0x53, 0x4f, 0x43, 1, 0, 32, 0, 8, 0, 1, 0, 0, 0, 1, 0, 4, 0, 0, 0, 2, 0, 0, 0, 0, 0, 0,
+    0, 1, 0, 0, 0, 0xfe, 0xff, 0xff, 0xff, 2, 0, 0, 0, 2, 0, 0, 0, 2, 0, 0, 0, 2, 0, 0, 0, 2, 0, 0,
+    0, 2, 0, 0, 0, 0xfe, 0xff, 0xff, 0xff, 2, 0, 0, 0, 0xfe, 0xff, 0xff, 0xff, 0xfe, 0xff, 0xff,
+    0xff, 2, 0, 0, 0, 0, 0, 0, 0, 1, 0, 0, 0, 2, 0, 0, 0, 0, 0, 0, 0, 2, 0, 0, 0, 3, 0, 0, 0, 0, 0,
+    0, 0, 0, 0, 0, 0, 0, 32, 0, 0, 0, 8, 0, 0, 0, 3, 0, 0, 0, 0, 0, 0, 0, 0, 0, 1, 0, 0, 0, 0, 0,
+    0, 0, 0, 0, 0, 0, 0, 0, 0, 0, 0, 0, 0, 0, 1, 0, 0, 0, 0, 0, 0, 0, 0, 0, 0, 0, 0, 0, 0, 0, 0, 0,
+    0, 0, 1, 0, 0, 0, 0, 0,
+];
+
+/// Where the object and the camera begin; the last vertex begins at 68, the last index of the second triangle at 100.
+const OBJECT: usize = 104;
+
+const CAMERA: usize = 129;
+
+fn edit(bytes: &mut Vec<u8>, edits: &[(usize, u8)]) {
+    for (place, value) in edits {
+        if let Some(byte) = bytes.get_mut(*place) {
+            *byte = *value;
+        }
+    }
+}
+
+fn refusal_of(alloc: Global, bytes: Vec<u8>) -> Option<SceneError> {
+    read_scene(alloc, &mut BytesSource::new(bytes, 7, Vec::new(alloc))).err()
+}
+
+#[test]
+fn the_first_scene_is_read_and_written_back(rt: HostRuntime) -> Result<(), Fail> {
+    let alloc = rt.alloc();
+    let mut source = SureSource::new(Vec::from_slice(alloc, &FIRST_SCENE)?);
+    let scene = read_scene(alloc, &mut source)?;
+    assert_eq!(rt; scene.size().width(), 32);
+    assert_eq!(rt; scene.size().height(), 8);
+    assert_eq!(rt; scene.near(), 1);
+    assert_eq!(rt; scene.winding(), Winding::Both);
+    assert_eq!(rt;
+        scene.vertices(),
+        [[-2, 2, 2], [2, 2, 2], [2, -2, 2], [-2, -2, 2]].as_slice()
+    );
+    assert_eq!(rt;
+        scene.occluders(),
+        [Tri([0, 1, 2]), Tri([0, 2, 3])].as_slice()
+    );
+    assert_eq!(rt; scene.object_tris().len(), 0);
+    assert_eq!(rt; scene.objects().len(), 1);
+    assert_eq!(rt;
+        scene.cameras(),
+        [[65536, 0, 0, 0, 0, 65536, 0, 0, 0, 0, 65536, 0]].as_slice()
+    );
+    let mut sink = SureSink::new(alloc);
+    write_scene(&scene, &mut sink)
+        .ok()
+        .ok_or("memory for 177 bytes")?;
+    assert_eq!(rt; sink.held(), FIRST_SCENE.as_slice());
+    Ok(())
+}
+
+// What the first scene is refused for after these edits.
+fn refusal_after(alloc: Global, edits: &[(usize, u8)]) -> Result<Option<SceneError>, AllocError> {
+    let mut bytes = Vec::from_slice(alloc, &FIRST_SCENE)?;
+    edit(&mut bytes, edits);
+    Ok(refusal_of(alloc, bytes))
+}
+
+#[test]
+fn each_field_of_the_header_holds_from_its_edge_on(rt: HostRuntime) -> Result<(), Fail> {
+    let table: [(&[(usize, u8)], Option<SceneError>); 20] = [
+        (&[], None),
+        (&[(3, 0x44)], Some(SceneError::BadMagic)),
+        (&[(4, 2)], Some(SceneError::BadVersion(2))),
+        (&[(4, 0)], Some(SceneError::BadVersion(0))),
+        (&[(6, 33)], Some(SceneError::BadSize(33, 8))),
+        (&[(6, 0)], Some(SceneError::BadSize(0, 8))),
+        (&[(6, 8)], None),
+        (&[(6, 0), (7, 8)], None),
+        (&[(6, 8), (7, 8)], Some(SceneError::BadSize(2056, 8))),
+        (&[(8, 0)], Some(SceneError::BadSize(32, 0))),
+        (&[(8, 4)], None),
+        (&[(8, 6)], Some(SceneError::BadSize(32, 6))),
+        (&[(8, 0), (9, 8)], None),
+        (&[(8, 4), (9, 8)], Some(SceneError::BadSize(32, 2052))),
+        (&[(10, 0)], Some(SceneError::BadNear(0))),
+        (&[(10, 0), (11, 4)], None),
+        (&[(10, 1), (11, 4)], Some(SceneError::BadNear(1025))),
+        (&[(12, 2)], None),
+        (&[(12, 3)], Some(SceneError::BadWinding(3))),
+        (&[(13, 1)], Some(SceneError::BadReserved(1))),
+    ];
+    for (edits, want) in table {
+        assert_eq!(rt; refusal_after(rt.alloc(), edits)?, want, "after {edits:?}");
+    }
+    Ok(())
+}
+
+#[test]
+fn each_count_holds_from_its_edge_on(rt: HostRuntime) -> Result<(), Fail> {
+    let short = |need| { Some(SceneError::Truncated { need, have: 177 }) };
+    let count = |field, value| Some(SceneError::BadCount { field, value });
+    let table: [(&[(usize, u8)], Option<SceneError>); 11] = [
+        (&[(14, 0)], count(0, 0)),
+        (&[(14, 0), (15, 1)], short(12417)),
+        (&[(14, 1), (15, 1)], count(0, 257)),
+        (&[(16, 0), (18, 4)], short(3145857)),
+        (&[(16, 1), (18, 4)], count(1, 262145)),
+        (&[(20, 0), (22, 1)], short(786585)),
+        (&[(20, 1), (22, 1)], count(2, 65537)),
+        (&[(24, 0), (26, 4)], short(3145905)),
+        (&[(24, 1), (26, 4)], count(3, 262145)),
+        (&[(28, 0), (30, 1)], short(1638552)),
+        (&[(28, 1), (30, 1)], count(4, 65537)),
+    ];
+    for (edits, want) in table {
+        assert_eq!(rt; refusal_after(rt.alloc(), edits)?, want, "after {edits:?}");
+    }
+    Ok(())
+}
+
+#[test]
+fn each_entry_holds_from_its_edge_on(rt: HostRuntime) -> Result<(), Fail> {
+    let table: [(&[(usize, u8)], Option<SceneError>); 13] = [
+        (&[(68, 0), (69, 0), (70, 0), (71, 1)], None),
+        (
+            &[(68, 1), (69, 0), (70, 0), (71, 1)],
+            Some(SceneError::BadVertex(3)),
+        ),
+        (&[(68, 0), (69, 0), (70, 0), (71, 0xff)], None),
+        (
+            &[(68, 0xff), (69, 0xff), (70, 0xff), (71, 0xfe)],
+            Some(SceneError::BadVertex(3)),
+        ),
+        (&[(100, 4)], Some(SceneError::BadIndex { table: 0, i: 1 })),
+        (&[(OBJECT, 3)], Some(SceneError::BadKind(0))),
+        (
+            &[(OBJECT, 3), (68, 1), (69, 0), (70, 0), (71, 1)],
+            Some(SceneError::BadVertex(3)),
+        ),
+        (&[(OBJECT + 1, 32)], None),
+        (&[(OBJECT + 1, 33)], Some(SceneError::BadObject(0))),
+        (&[(OBJECT + 21, 1)], Some(SceneError::BadObject(0))),
+        (&[(OBJECT, 2)], Some(SceneError::BadObject(0))),
+        (&[(CAMERA + 2, 0), (CAMERA + 3, 1)], None),
+        (
+            &[(CAMERA, 1), (CAMERA + 2, 0), (CAMERA + 3, 1)],
+            Some(SceneError::BadCamera(0)),
+        ),
+    ];
+    for (edits, want) in table {
+        assert_eq!(rt; refusal_after(rt.alloc(), edits)?, want, "after {edits:?}");
+    }
+    Ok(())
+}
+
+#[test]
+fn the_length_is_that_of_the_counts(rt: HostRuntime) -> Result<(), Fail> {
+    let alloc = rt.alloc();
+    let cut = |need, have| Some(SceneError::Truncated { need, have });
+    let table = [
+        (0, cut(32, 0)),
+        (31, cut(32, 31)),
+        (32, cut(177, 32)),
+        (176, cut(177, 176)),
+        (177, None),
+    ];
+    for (length, want) in table {
+        let bytes = Vec::from_slice(alloc, &FIRST_SCENE[..length])?;
+        assert_eq!(rt; refusal_of(alloc, bytes), want, "of {length} bytes");
+    }
+    let mut longer = Vec::from_slice(alloc, &FIRST_SCENE)?;
+    longer.push(0)?;
+    assert_eq!(rt; refusal_of(alloc, longer), Some(SceneError::Trailing));
+    Ok(())
+}
+
+#[test]
+fn an_object_triangle_names_a_vertex(rt: HostRuntime) -> Result<(), Fail> {
+    let alloc = rt.alloc();
+    let table = [
+        (3, None),
+        (4, Some(SceneError::BadIndex { table: 1, i: 0 })),
+    ];
+    for (last, want) in table {
+        let mut bytes = Vec::from_slice(alloc, &FIRST_SCENE[..OBJECT])?;
+        edit(&mut bytes, &[(24, 1)]);
+        bytes.extend_from_slice(&[0, 0, 0, 0, 1, 0, 0, 0, last, 0, 0, 0])?;
+        bytes.extend_from_slice(&FIRST_SCENE[OBJECT..])?;
+        assert_eq!(rt; refusal_of(alloc, bytes), want, "with index {last}");
+    }
+    Ok(())
+}
+
+#[test]
+fn a_failure_is_told_as_such(rt: HostRuntime) -> Result<(), Fail> {
+    let alloc = rt.alloc();
+    for call in [1, 2, 9, 26] {
+        let bytes = Vec::from_slice(alloc, &FIRST_SCENE)?;
+        let mut source = BytesSource::new(bytes, 7, Vec::from_slice(alloc, &[call])?);
+        assert_eq!(rt;
+            read_scene(alloc, &mut source).err(),
+            Some(SceneError::Read),
+            "in call {call}"
+        );
+    }
+    let mut source = SureSource::new(Vec::from_slice(alloc, &FIRST_SCENE)?);
+    let scene = read_scene(alloc, &mut source)?;
+    let mut sink = BytesSink::new(alloc, 5, Vec::from_slice(alloc, &[8])?);
+    assert_eq!(rt; write_scene(&scene, &mut sink), Err(SinkError::Failed));
+    assert_eq!(rt; sink.held(), &FIRST_SCENE[..32]);
+    Ok(())
+}
+
+fn parts_with(alloc: Global, object: Object) -> Result<SceneParts, AllocError> {
+    Ok(SceneParts {
+        width: 32,
+        height: 8,
+        near: 1,
+        winding: Winding::DropCounter,
+        vertices: Vec::from_slice(alloc, &[[0, 0, 1]])?,
+        occluders: Vec::new(alloc),
+        object_tris: Vec::from_slice(alloc, &[Tri([0, 0, 0])])?,
+        objects: Vec::from_slice(alloc, &[object])?,
+        cameras: Vec::from_slice(alloc, &[[0; 12]])?,
+    })
+}
+
+#[test]
+fn parts_are_refused_by_their_first_fault(rt: HostRuntime) -> Result<(), Fail> {
+    let alloc = rt.alloc();
+    let table = [
+        (Object::Mesh { first: 1, count: 0 }, None),
+        (
+            Object::Mesh { first: 2, count: 0 },
+            Some(SceneError::BadObject(0)),
+        ),
+        (
+            Object::Mesh {
+                first: 1,
+                count: 4294967295,
+            },
+            Some(SceneError::BadObject(0)),
+        ),
+        (
+            Object::Block {
+                low: [1, 2, 3],
+                high: [1, 2, 3],
+            },
+            None,
+        ),
+        (
+            Object::Block {
+                low: [1, 2, 3],
+                high: [1, 2, 2],
+            },
+            Some(SceneError::BadObject(0)),
+        ),
+    ];
+    for (object, want) in table {
+        assert_eq!(rt;
+            Scene::new(parts_with(alloc, object)?).err(),
+            want,
+            "for {object:?}"
+        );
+    }
+    Ok(())
+}
+
+#[test]
+fn parts_without_a_camera_are_refused_for_that_first(rt: HostRuntime) -> Result<(), Fail> {
+    let mut parts = parts_with(rt.alloc(), Object::Mesh { first: 2, count: 0 })?;
+    parts.cameras.clear();
+    assert_eq!(rt;
+        Scene::new(parts).err(),
+        Some(SceneError::BadCount { field: 0, value: 0 })
+    );
+    Ok(())
+}
+
+#[test]
+fn a_refusal_reads_as_a_sentence(rt: HostRuntime) -> Result<(), Fail> {
+    let told = format!(in rt.alloc();
+        "{}",
+        SceneError::Truncated {
+            need: 177,
+            have: 176
+        }
+    )?;
+    assert_eq!(rt;
+        told.as_str(),
+        "the input has 176 bytes, and 177 are needed"
+    );
+    Ok(())
+}

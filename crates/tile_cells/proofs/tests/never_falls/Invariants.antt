@@ -1,6 +1,0 @@
-use Rattle.std.proofs.Common.{◌≡◌}
-use Rattle.tile_cells.specs.Standing.{IsReading}
-use Rattle.tile_cells.proofs.tests.never_falls.Given as goal
-
-abbrev pub invariant-loop : goal.invariant-loop
-invariant-loop g l = IsReading l.cells l.list.list l.reader × (l.snapshot.size ≡ l.list.list.size)
