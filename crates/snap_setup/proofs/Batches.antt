@@ -183,9 +183,9 @@ module _ (o : Occluders) (keeping : Keeping) (f : FrameListOf) (whole : List Pie
       let back = sym eb in
       let behind_these : ℕ → List Piece = λ k. list_of_batches clips (drop k rest) top near o.size (without (before - b.count) (drop (i + 1) batches)) in
       let here : list_of_clips clips (take (b.count - before) rest) top near o.size b.winding ≡ these =
-          ap (λ (k : ℕ). list_of_clips clips (take k rest) top near o.size b.winding) (sym et) ∙ ap (λ (ts : List Tri). list_of_clips clips ts top near o.size b.winding) (sym is) in
+      ap (λ (k : ℕ). list_of_clips clips (take k rest) top near o.size b.winding) (sym et) ∙ ap (λ (ts : List Tri). list_of_clips clips ts top near o.size b.winding) (sym is) in
       let others : behind_these (b.count - before) ≡ list_of_batches clips (drop (done + length part) tris) top near o.size (without behind (drop (i + 1) batches)) =
-          ap behind_these (sym et) ∙ (λ j. list_of_batches clips (behind_part tris part done there is j) top near o.size (without (back j) (drop (i + 1) batches))) in
+      ap behind_these (sym et) ∙ (λ j. list_of_batches clips (behind_part tris part done there is j) top near o.size (without (back j) (drop (i + 1) batches))) in
       record {
         pieces = has.pieces ++ these;
         took = took_more keeping f g h n m has.pieces these (has.pieces ++ these) has.took took refl;

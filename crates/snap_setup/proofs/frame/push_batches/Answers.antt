@@ -1,6 +1,10 @@
-use Rattle.std.proofs.Common.{arith}
+use Rattle.std.proofs.Common.{length, drop, sym, subst, arith}
+use Rattle.std.specs.List.{All}
+use Rattle.std.proofs.lemmas.List.Elements.{All-take, All-drop}
+use Rattle.cull_base.specs.declared.scene_types.Tri.{Tri}
 use Rattle.snap_setup.specs.Batches.{without}
 use Rattle.snap_setup.specs.Occluders.{list_of_some}
+use Rattle.snap_setup.specs.Pieces.{HasClips}
 use Rattle.snap_setup.proofs.Batches.{taken_none, taken_more, taken_all, room_for_part, part_within}
 use Rattle.snap_setup.proofs.frame.push_batches.Goals as goal
 
@@ -51,3 +55,9 @@ returns c =
     let tris = c.args.tris.now in
     let l = c.loop-batch in
     taken_all o c.args.keeping c.args.list.now (list_of_some o tris c.args.skipped) tris o.batches.now l.list l.count l.done l.before l.batch-index c.loop-batch-test.false l.invariant.taken
+
+pub push_all-count-requires-clause-indices : goal.push_all-count-requires-clause-indices
+push_all-count-requires-clause-indices c =
+    let P : Tri → Type 0 = HasClips (length c.args.occluders.now.clips.now) in
+    let rest = drop c.loop-batch.done c.args.tris.now in
+    subst (All P) (sym c.next_of-part.ensures) (All-take P _ rest (All-drop P c.loop-batch.done c.args.tris.now c.requires.indices))
