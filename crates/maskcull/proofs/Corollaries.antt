@@ -3,7 +3,7 @@ use Rattle.std.proofs.Common.{◌≡◌, ℕ, ◌+◌, ◌<◌, ◌≤◌, ◌++
 use Rattle.std.specs.Prelude.{IfSome}
 use Rattle.std.proofs.lemmas.List.{append-nil, length-append}
 use Rattle.cull_base.specs.Stream.{SinkSays, SourceSays, Appends, AppendsPrefix, Rose}
-use Rattle.scene_reader.specs.Layout.{Parts, IsScene, layout}
+use Rattle.scene_reader.specs.Layout.{Parts, IsScene, layout, upgraded}
 use Rattle.scene_reader.specs.Fault.{IsRefusal, first_fault}
 use Rattle.scene_reader.specs.declared.error.SceneError.{SceneError}
 use Rattle.scene_reader.proofs.LayoutFirst.{scene_first}

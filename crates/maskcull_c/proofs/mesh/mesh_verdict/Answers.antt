@@ -1,7 +1,7 @@
 use Rattle.std.proofs.Common.{◌≡◌, ℕ, Bool, List, true, false, cond, Some, None, map, refl, sym, ap, ◌∙◌}
 use Rattle.std.specs.List.{list_all, list_any}
 use Rattle.std.proofs.lemmas.Bool.{not-true, not-false}
-use Rattle.cull_base.specs.declared.nearness.TheConstants.{GRADE_TOP}
+use Rattle.cull_base.specs.Grade.{top_of}
 use Rattle.cull_base.specs.declared.scene_types.Verdict.{Verdict}
 use Rattle.cull_base.specs.declared.scene_types.Verdict.TheVariants.{Visible, Occluded, Outside}
 use Rattle.cull_base.specs.Guard.{is_past_guard}
@@ -25,7 +25,7 @@ returns-then-are_all_behind c =
     let clips = map clip_of c.args.vertices.now in let tris = map tri_of c.args.triangles.now in
     let behind = sym (all_behind c.args.near c.args.vertices.now c.args.triangles.now) ∙ sym c.are_all_behind.ensures ∙ c.if-are_all_behind.true in
     let early = ap (λ (b : Bool). cond b (Some Outside) (cond (at_some_vertex clips (λ v. is_past_guard v c.args.near) tris) (Some Visible) None)) behind in
-    sym (early_decides c.args.near c.args.size clips tris (state_in c.args.size (tile_at c.args.tiles.now)) Outside early)
+    sym (early_decides (top_of c.args.grade) c.args.near c.args.size clips tris (state_in c.args.size (tile_at c.args.tiles.now)) Outside early)
 
 pub returns-then-is_one_past_guard : goal.returns-then-is_one_past_guard
 returns-then-is_one_past_guard c =
@@ -34,7 +34,7 @@ returns-then-is_one_past_guard c =
     let past = sym (one_past_guard c.args.near c.args.vertices.now c.args.triangles.now) ∙ sym c.is_one_past_guard.ensures ∙ c.if-is_one_past_guard.true in
     let early = ap (λ (b : Bool). cond b (Some Outside) (cond (at_some_vertex clips (λ v. is_past_guard v c.args.near) tris) (Some Visible) None)) front
     ∙ ap (λ (b : Bool). cond b (Some Visible) None) past in
-    sym (early_decides c.args.near c.args.size clips tris (state_in c.args.size (tile_at c.args.tiles.now)) Visible early)
+    sym (early_decides (top_of c.args.grade) c.args.near c.args.size clips tris (state_in c.args.size (tile_at c.args.tiles.now)) Visible early)
 
 pub ask_triangles-requires-clause-guarded : goal.ask_triangles-requires-clause-guarded
 ask_triangles-requires-clause-guarded c = sym (one_past_guard c.args.near c.args.vertices.now c.args.triangles.now) ∙ sym c.is_one_past_guard.ensures ∙ c.if-is_one_past_guard.false
@@ -43,7 +43,7 @@ pub returns-in-None : goal.returns-in-None
 returns-in-None c =
     let clips = map clip_of c.args.vertices.now in let tris = map tri_of c.args.triangles.now in
     let left = left_open c.args.near c.args.vertices.now c.args.triangles.now (sym c.are_all_behind.ensures ∙ c.if-are_all_behind.false) (sym c.is_one_past_guard.ensures ∙ c.if-is_one_past_guard.false) in
-    sym (shown_verdict (state_in c.args.size (tile_at c.args.tiles.now)) c.args.near c.args.size clips tris c.width-width.ensures.valid c.requires.least c.requires.most left c.in-None.ensures)
+    sym (shown_verdict (state_in c.args.size (tile_at c.args.tiles.now)) c.args.grade c.args.near c.args.size clips tris c.width-width.ensures.valid c.requires.least c.requires.most left c.in-None.ensures)
 
 -- the verdict by what was found
 by_found : (met touched : Bool) (v : Verdict) (m t : Bool) → v ≡ cond met (cond touched Occluded Visible) Outside → met ≡ m → touched ≡ t → cond m (cond t Occluded Visible) Outside ≡ v
