@@ -28,7 +28,7 @@ pub use extent::Extent;
 pub use frame_list::FrameList;
 pub use memory::{Failed, Memory, SinkError};
 pub use near::Near;
-pub use nearness::{GRADE_TOP, Grade, HELD_TOP, tops};
+pub use nearness::{Grade, HELD_TOP, held_top};
 pub use place::{Sample, Sub, Tile};
 pub use rect::{NO_PIXELS, Rect};
 pub use sample_box::samples_between;

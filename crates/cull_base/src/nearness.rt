@@ -1,17 +1,13 @@
 //! How far nearness goes: by a scene's grade, and in pieces, subtiles and cells, which are the same for both grades.
 ghost use Rattle.std.specs.Prelude.{◌≡◌, ◌≤◌};
-ghost use Rattle.cull_base.specs.declared.nearness.TheConstants.{GRADE_TOP, HELD_TOP};
+ghost use Rattle.cull_base.specs.declared.nearness.TheConstants.{HELD_TOP};
 
 /// The greatest nearness that pieces and subtiles hold.
 pub const HELD_TOP: u32 = 16777215;
 
-/// The top of the narrow grade: the nearness of the near distance, by which quotients are scaled.
-pub const GRADE_TOP: u32 = 65535;
-
-/// The two tops as numbers. Definitions read them by name, so a changed constant would change these too.
-pub fn tops()
-    ensures held { HELD_TOP ≡ 16777215 }
-    ensures grade { GRADE_TOP ≡ 65535 }
+/// The top as a number. Definitions read it by name, so a changed constant would change these too.
+pub fn held_top()
+    ensures { HELD_TOP ≡ 16777215 }
 {}
 
 /// How finely a scene tells distances apart: its nearness goes to 65535 or to 16777215.

@@ -1,6 +1,7 @@
 use Rattle.std.proofs.Common.{◌≡◌, ℕ, Bool, List, true, false, cond, Some, None, map, refl, sym, ap, ◌∙◌}
 use Rattle.std.specs.List.{list_all, list_any}
 use Rattle.std.proofs.lemmas.Bool.{not-true, not-false}
+use Rattle.cull_base.specs.declared.nearness.Grade.{Grade}
 use Rattle.cull_base.specs.Grade.{top_of}
 use Rattle.cull_base.specs.declared.scene_types.Verdict.{Verdict}
 use Rattle.cull_base.specs.declared.scene_types.Verdict.TheVariants.{Visible, Occluded, Outside}
@@ -50,20 +51,20 @@ by_found : (met touched : Bool) (v : Verdict) (m t : Bool) → v ≡ cond met (c
 by_found met touched v m t e em et = sym (e ∙ ap (λ (b : Bool). cond b (cond touched Occluded Visible) Outside) em ∙ ap (λ (b : Bool). cond m (cond b Occluded Visible) Outside) et)
 
 -- where neither test decides
-by_asked : (near : ℕ) (size : Dimensions) (tiles : List TileOf) (vertices : List Vertex) (ts : List Triangle) (now : Progress) (m t : Bool) → list_all (is_all_behind near vertices) ts ≡ false → list_any (is_part_past_guard near vertices) ts ≡ false
-    → HasAsked (state_in size (tile_at tiles)) size (object_pieces GRADE_TOP near size (map clip_of vertices) (map tri_of ts)) (near_boxes near size (map clip_of vertices) (map tri_of ts)) at_first now → now.met ≡ m → now.touched ≡ t
-    → cond m (cond t Occluded Visible) Outside ≡ verdict_of size (state_in size (tile_at tiles)) (mesh_shape GRADE_TOP near size (map clip_of vertices) (map tri_of ts))
-by_asked near size tiles vertices ts now m t front guarded asked met touched =
-    by_found now.met now.touched _ m t (found_verdict (state_in size (tile_at tiles)) near size (map clip_of vertices) (map tri_of ts) now (left_open near vertices ts front guarded) asked) met touched
+by_asked : (grade : Grade) (near : ℕ) (size : Dimensions) (tiles : List TileOf) (vertices : List Vertex) (ts : List Triangle) (now : Progress) (m t : Bool) → list_all (is_all_behind near vertices) ts ≡ false → list_any (is_part_past_guard near vertices) ts ≡ false
+    → HasAsked (state_in size (tile_at tiles)) size (object_pieces (top_of grade) near size (map clip_of vertices) (map tri_of ts)) (near_boxes near size (map clip_of vertices) (map tri_of ts)) at_first now → now.met ≡ m → now.touched ≡ t
+    → cond m (cond t Occluded Visible) Outside ≡ verdict_of size (state_in size (tile_at tiles)) (mesh_shape (top_of grade) near size (map clip_of vertices) (map tri_of ts))
+by_asked grade near size tiles vertices ts now m t front guarded asked met touched =
+    by_found now.met now.touched _ m t (found_verdict (state_in size (tile_at tiles)) (top_of grade) near size (map clip_of vertices) (map tri_of ts) now (left_open near vertices ts front guarded) asked) met touched
 
 pub returns-then-not-found : goal.returns-then-not-found
 returns-then-not-found c =
-    by_asked c.args.near c.args.size c.args.tiles.now c.args.vertices.now c.args.triangles.now c.in-Some.found false c.in-Some.found.touched (sym c.are_all_behind.ensures ∙ c.if-are_all_behind.false) (sym c.is_one_past_guard.ensures ∙ c.if-is_one_past_guard.false) c.in-Some.ensures (not-true c.in-Some.found.met c.if-not-found.true) refl
+    by_asked c.args.grade c.args.near c.args.size c.args.tiles.now c.args.vertices.now c.args.triangles.now c.in-Some.found false c.in-Some.found.touched (sym c.are_all_behind.ensures ∙ c.if-are_all_behind.false) (sym c.is_one_past_guard.ensures ∙ c.if-is_one_past_guard.false) c.in-Some.ensures (not-true c.in-Some.found.met c.if-not-found.true) refl
 
 pub returns-then-found : goal.returns-then-found
 returns-then-found c =
-    by_asked c.args.near c.args.size c.args.tiles.now c.args.vertices.now c.args.triangles.now c.in-Some.found true true (sym c.are_all_behind.ensures ∙ c.if-are_all_behind.false) (sym c.is_one_past_guard.ensures ∙ c.if-is_one_past_guard.false) c.in-Some.ensures (not-false c.in-Some.found.met c.if-not-found.false) c.if-found.true
+    by_asked c.args.grade c.args.near c.args.size c.args.tiles.now c.args.vertices.now c.args.triangles.now c.in-Some.found true true (sym c.are_all_behind.ensures ∙ c.if-are_all_behind.false) (sym c.is_one_past_guard.ensures ∙ c.if-is_one_past_guard.false) c.in-Some.ensures (not-false c.in-Some.found.met c.if-not-found.false) c.if-found.true
 
 pub returns-else-found : goal.returns-else-found
 returns-else-found c =
-    by_asked c.args.near c.args.size c.args.tiles.now c.args.vertices.now c.args.triangles.now c.in-Some.found true false (sym c.are_all_behind.ensures ∙ c.if-are_all_behind.false) (sym c.is_one_past_guard.ensures ∙ c.if-is_one_past_guard.false) c.in-Some.ensures (not-false c.in-Some.found.met c.if-not-found.false) c.if-found.false
+    by_asked c.args.grade c.args.near c.args.size c.args.tiles.now c.args.vertices.now c.args.triangles.now c.in-Some.found true false (sym c.are_all_behind.ensures ∙ c.if-are_all_behind.false) (sym c.is_one_past_guard.ensures ∙ c.if-is_one_past_guard.false) c.in-Some.ensures (not-false c.in-Some.found.met c.if-not-found.false) c.if-found.false
