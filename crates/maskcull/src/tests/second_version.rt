@@ -88,7 +88,7 @@ fn a_scene_without_triangles_is_upgraded(rt: HostRuntime) -> Result<(), Fail> {
     Ok(())
 }
 
-const FIRST_DROPPED: &str =
+const ONE_DROPPED: &str =
     "msoc-report 1 32 8 1 1\nframe 0 pieces 1\n0 visible\nend 0 visible 1 occluded 0 outside 0\n";
 
 #[test]
@@ -97,8 +97,8 @@ fn each_batch_has_its_winding(rt: HostRuntime) -> Result<(), Fail> {
     for (batches, text) in [
         ([(2, 0)].as_slice(), OCCLUDED),
         (&[(2, 1)], UNDRAWN),
-        (&[(1, 1), (1, 0)], FIRST_DROPPED),
-        (&[(1, 2), (1, 1)], FIRST_DROPPED),
+        (&[(1, 1), (1, 0)], ONE_DROPPED),
+        (&[(1, 2), (1, 1)], ONE_DROPPED),
         (&[(0, 0), (2, 0), (0, 2)], OCCLUDED),
         (&[(0, 1), (1, 0), (0, 1), (1, 2)], OCCLUDED),
     ] {
