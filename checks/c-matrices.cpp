@@ -262,7 +262,8 @@ verdict asked_without_margin(const scene &s, const maskcull::frame &frame, const
         return static_cast<std::int32_t>(std::floor(std::min(std::max(number, -1e9), 1e9)));
     };
     const maskcull_area area = {whole(left + 0.5), whole(top + 0.5), whole(right + 0.5), whole(bottom + 0.5)};
-    const maskcull_setup setup = {static_cast<std::uint32_t>(s.width), static_cast<std::uint32_t>(s.height), 1024, 0};
+    const maskcull_setup setup = {static_cast<std::uint32_t>(s.width), static_cast<std::uint32_t>(s.height), 1024,
+                                  MASKCULL_WIDE};
     const auto answer = maskcull_test(&setup, frame.tiles().data(), frame.tiles().size(), &area, whole(nearest));
     return answer == MASKCULL_OCCLUDED ? verdict::occluded : verdict::visible;
 }
