@@ -10,7 +10,7 @@
 // are, and the truth is reckoned in whole numbers of 128 bits, whatever flags this file is compiled with. In the
 // matrix's row for z there is no number: it may not be read. Looked at is
 //
-// - each sample of the screen: what is held there is at most 65535 times 8/7 of the near distance, where the library's
+// - each sample of the screen: what is held there is at most 16777215 times 8/7 of the near distance, where the library's
 //   near plane stands, over the distance at which the true plane, or the nearer of two, is seen through the sample;
 //   and the sample is seen within the true triangle, or one of two, or beside it by no more than the margin that a box
 //   is asked wider by;
@@ -153,7 +153,7 @@ bool is_far_enough(const scene &s, const maskcull_triangle &t, std::int64_t px, 
     wide sum = determinant(ray, v1, v2) + determinant(v0, ray, v2) + determinant(v0, v1, ray);
     if (whole < 0) whole = -whole, sum = -sum;
     // the ray meets the plane at ray * whole / sum, whose w is width * height * whole / sum
-    return whole != 0 && 7 * nearness * whole * (s.width * s.height) <= 65535 * 8 * s.near_w * sum;
+    return whole != 0 && 7 * nearness * whole * (s.width * s.height) <= 16777215 * 8 * s.near_w * sum;
 }
 
 // Whether a pixel's middle sees the triangle, or passes it by at most so many pixels as an edge may move: the ray is a
@@ -262,7 +262,8 @@ verdict asked_without_margin(const scene &s, const maskcull::frame &frame, const
         return static_cast<std::int32_t>(std::floor(std::min(std::max(number, -1e9), 1e9)));
     };
     const maskcull_area area = {whole(left + 0.5), whole(top + 0.5), whole(right + 0.5), whole(bottom + 0.5)};
-    const maskcull_setup setup = {static_cast<std::uint32_t>(s.width), static_cast<std::uint32_t>(s.height), 1024, 0};
+    const maskcull_setup setup = {static_cast<std::uint32_t>(s.width), static_cast<std::uint32_t>(s.height), 1024,
+                                  MASKCULL_WIDE};
     const auto answer = maskcull_test(&setup, frame.tiles().data(), frame.tiles().size(), &area, whole(nearest));
     return answer == MASKCULL_OCCLUDED ? verdict::occluded : verdict::visible;
 }

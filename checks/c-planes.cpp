@@ -7,7 +7,7 @@
 // numbers below 2^24, so floats hold them as they are, and the truth is reckoned in whole numbers of 128 bits, whatever
 // flags this file is compiled with. Looked at is
 //
-// - each sample of the screen: what is held there is at most 65535 times 8/7 of the near distance, where the library's
+// - each sample of the screen: what is held there is at most 16777215 times 8/7 of the near distance, where the library's
 //   near plane stands, over the distance at which the true plane, or the nearer of two, is seen through the sample;
 // - each box that is called hidden: each corner, and so each point, of it has a point of the triangle or parallelogram
 //   strictly in front of it, on the ray from the eye, at the near distance or farther. A corner beside the screen
@@ -92,7 +92,7 @@ bool is_far_enough(const scene &s, const maskcull_triangle &t, std::int64_t px, 
     wide sum = determinant(ray, v1, v2) + determinant(v0, ray, v2) + determinant(v0, v1, ray);
     if (whole < 0) whole = -whole, sum = -sum;
     // the ray meets the plane at ray * whole / sum, whose w is width * height * whole / sum
-    return whole != 0 && 7 * nearness * whole * (s.width * s.height) <= 65535 * 8 * s.near_w * sum;
+    return whole != 0 && 7 * nearness * whole * (s.width * s.height) <= 16777215 * 8 * s.near_w * sum;
 }
 
 void look_at_samples(const scene &s, const maskcull::frame &frame, counts &all) {

@@ -14,7 +14,7 @@
  *
  *     #include "maskcull.h"
  *
- *     maskcull_setup setup = {1280, 720, 64, 0};                                   // near distance 64, both windings
+ *     maskcull_setup setup = {1280, 720, 64, MASKCULL_WIDE};                       // near distance 64, both windings
  *     size_t tile_count;
  *     maskcull_tile *tiles = maskcull_open(setup.width, setup.height, &tile_count);
  *     if (tiles == NULL) return 1;
@@ -36,8 +36,11 @@
  *   - A vertex is given in clip space, before the division by w: x / w runs from -1 at the left edge of the screen to
  *     1 at the right, y / w from -1 at the lower edge to 1 at the upper, and w is the distance along the view. x, y, w
  *     and the near distance are whole numbers of a unit of your own. The view has to be one in perspective.
- *   - Nearness is 65535 near / w: rounded down for what is drawn and up for what is tested. Two distances with one
- *     nearness are equally near, and what is equally near isn't hidden.
+ *   - Nearness is 16777215 near / w in the wide grade, 65535 near / w in the narrow one: rounded down for what is drawn
+ *     and up for what is tested. Two distances with one nearness are equally near, and what is equally near isn't
+ *     hidden. So an object is hidden only where it is farther than an occluder by a step, which at d near distances is
+ *     d / 16777215 of the distance in the wide grade: at 1,000 near distances .006 %, and 1.5 % in the narrow one.
+ *     Take the wide grade, MASKCULL_WIDE in a setup, unless a program's answers are to stay what they were.
  *
  * Preconditions, which no call can check
  *   For safety
@@ -52,11 +55,13 @@
  *      and so may maskcull_draw_band and maskcull_draw_pieces on tiles that don't overlap, and maskcull_set_up into
  *      room that doesn't.
  *   For right answers
- *   5. From one clearing to the next all calls on some tiles have the same width, height and near distance, and so have
- *      the calls that set up the pieces which are drawn. The winding may change from call to call.
+ *   5. From one clearing to the next all calls on some tiles have the same width, height, near distance and grade, and
+ *      so have the calls that set up the pieces which are drawn. The winding may change from call to call. Tiles don't
+ *      know the grade: what was drawn wide hides all that is tested narrow, also what is in sight, and what was drawn
+ *      narrow hides hardly anything that is tested wide.
  *   6. Tiles are copied all together, those of a whole screen, each to the place that it had, and the copy is used with
- *      the width, height and near distance of what it is a copy of. A tile that is copied to another place, or from a
- *      frame of another size or near distance, is safe to read, but what it hides may be in sight. */
+ *      the width, height, near distance and grade of what it is a copy of. A tile that is copied to another place, or
+ *      from a frame of another size, near distance or grade, is safe to read, but what it hides may be in sight. */
 #ifndef MASKCULL_H
 #define MASKCULL_H
 
@@ -76,7 +81,7 @@ extern "C" {
 /* What calls return. With 1 to 5 a call did nothing, and all memory is as it was. */
 enum maskcull_status {
     MASKCULL_DONE = 0,      /* all was drawn */
-    MASKCULL_BAD_SETUP = 1, /* the size, the near distance or the winding isn't one that is allowed */
+    MASKCULL_BAD_SETUP = 1, /* the size, the near distance, the winding or the grade isn't one that is allowed */
     MASKCULL_BAD_TILES = 2, /* there are not as many tiles as the screen has, or as whole rows of it have */
     MASKCULL_BAD_INDEX = 3, /* a triangle names a vertex that isn't there */
     MASKCULL_NULL = 4,      /* a pointer is null: only the maskcull_checked_ forms return this */
@@ -93,12 +98,19 @@ enum maskcull_winding {
     MASKCULL_DROPS_COUNTERCLOCKWISE = 2
 };
 
+/* How finely distances are told apart is said beside it: with this added to the winding, nearness goes to 16777215, and
+ * to 65535 without. A library from before this constant refuses such a setup. */
+enum maskcull_grade {
+    MASKCULL_NARROW = 0,
+    MASKCULL_WIDE = 16
+};
+
 /* The screen and how triangles are taken. With other numbers than these a call returns MASKCULL_BAD_SETUP. */
 typedef struct maskcull_setup {
     uint32_t width;   /* in pixels: a multiple of 8, from 8 to 2048 */
     uint32_t height;  /* in pixels: a multiple of 4, from 4 to 2048 */
     uint32_t near_w;  /* the near distance: 1 to 1024. The part of a triangle with w below it is cut off. */
-    uint32_t winding; /* 0 to 2, as in maskcull_winding; of occluders only */
+    uint32_t winding; /* 0 to 2, as in maskcull_winding, of occluders only; and MASKCULL_WIDE more in the wide grade */
 } maskcull_setup;
 
 /* A vertex in clip space: any numbers. One with x, y or w further than 16384 near_w from 0 is past the guard: an
@@ -147,8 +159,8 @@ typedef struct maskcull_piece {
     uint32_t q[3];
 } maskcull_piece;
 
-/* What a subtile holds, in nearness from 0 to 65535: something drawn is at least so near as `working` at each sample
- * of the mask, and as `reference` at the others; 0 says nothing. Sample (column c, row r) is bit 8 r + c. */
+/* What a subtile holds, in nearness from 0 to the grade's top: something drawn is at least so near as `working` at each
+ * sample of the mask, and as `reference` at the others; 0 says nothing. Sample (column c, row r) is bit 8 r + c. */
 typedef struct maskcull_subtile_state {
     uint32_t reference;
     uint32_t working;
@@ -222,7 +234,8 @@ uint32_t maskcull_test_mesh(const maskcull_setup *setup, const maskcull_tile *ti
 maskcull_subtile_state maskcull_subtile(const maskcull_tile *tiles, size_t tile_count, size_t tile, uint32_t subtile);
 
 /* Writes what the tiles hold as a picture: the element at y * row_stride + x is the nearness, from 0 to 65535, that
- * something drawn has at least at the sample of pixel (x, y), or 0. No other element is written. `out` has out_count
+ * something drawn has at least at the sample of pixel (x, y), or 0; what is nearer, in the wide grade, is written as
+ * 65535. No other element is written. `out` has out_count
  * elements, and row_stride is how many of them lie from one row to the next: the width, or more.
  * BAD_SETUP, BAD_TILES, BAD_ROOM (row_stride below the width, or out_count below (height - 1) * row_stride + width). */
 uint32_t maskcull_nearness(const maskcull_setup *setup, const maskcull_tile *tiles, size_t tile_count,

@@ -136,18 +136,22 @@ public:
             return {};
         }
         std::vector<unsigned char> bytes = {'M', 'S', 'O', 'C'};
-        for (const std::uint32_t number : {std::uint32_t{1}, setup_.width, setup_.height, setup_.near_w}) {
+        for (const std::uint32_t number : {std::uint32_t{2}, setup_.width, setup_.height, setup_.near_w}) {
             put(bytes, number, 2);
         }
-        put(bytes, setup_.winding, 2);
+        bytes.push_back(0);
+        put(bytes, setup_.winding / MASKCULL_WIDE, 1);
         put(bytes, 1, 2);
         for (const std::size_t count : {vertices_.size(), triangles_.size(), std::size_t{0}, areas_.size()}) {
             put(bytes, static_cast<std::uint32_t>(count), 4);
         }
+        put(bytes, 1, 4); // one batch of all triangles
         for (const maskcull_vertex &v : vertices_) put_all(bytes, {v.x, v.y, v.w});
         for (const maskcull_triangle &t : triangles_) {
             for (const std::uint32_t number : {t.a, t.b, t.c}) put(bytes, number, 4);
         }
+        put(bytes, static_cast<std::uint32_t>(triangles_.size()), 4);
+        put(bytes, setup_.winding % MASKCULL_WIDE, 1);
         for (const question &q : areas_) {
             bytes.push_back(0); // a rectangle
             put_all(bytes, {q.area.x0, q.area.y0, q.area.x1, q.area.y1, q.w, 0});
@@ -239,18 +243,21 @@ public:
     /// An empty frame; nothing where the size isn't allowed (see maskcull_setup), or the near distance isn't a finite
     /// number above 0.
     static std::optional<frame> make(std::uint32_t width, std::uint32_t height, const float &near_distance,
-                                     maskcull_winding winding = MASKCULL_KEEPS_BOTH) {
+                                     maskcull_winding winding = MASKCULL_KEEPS_BOTH,
+                                     maskcull_grade grade = MASKCULL_WIDE) {
         options chosen;
         chosen.winding = winding;
-        return make(width, height, near_distance, chosen);
+        return make(width, height, near_distance, chosen, grade);
     }
 
+    /// The narrow grade is for programs whose answers, or whose numbers of tiles(), are to stay what they were.
     static std::optional<frame> make(std::uint32_t width, std::uint32_t height, const float &near_distance,
-                                     const options &chosen) {
+                                     const options &chosen, maskcull_grade grade = MASKCULL_WIDE) {
         const std::uint32_t count = maskcull_tile_count(width, height);
         double distance;
         if (count == 0 || !load(hidden_from_compiler(&near_distance), distance) || !(distance > 0)) return std::nullopt;
-        const maskcull_setup setup{width, height, finest, static_cast<std::uint32_t>(chosen.winding)};
+        const auto drawn = static_cast<std::uint32_t>(chosen.winding) + static_cast<std::uint32_t>(grade);
+        const maskcull_setup setup{width, height, finest, drawn};
         return frame(setup, finest / (beyond_near * distance), chosen, count);
     }
 

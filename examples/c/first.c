@@ -179,6 +179,25 @@ static void show(const maskcull_tile *tiles)
     say_whether("it shows the wall alone", is_right);
 }
 
+/* A wall over the left half at w = 4000, in each grade. Nearness, rounded down of the wall and up of the areas:
+ *
+ *     w           4000               4001
+ *     narrow      262 and 263        263
+ *     wide        67108 and 67109    67093 */
+static void tell_distances_apart(const char *grade, uint32_t winding)
+{
+    const maskcull_setup chosen = {WIDTH, HEIGHT, NEAR, winding};
+    const maskcull_vertex far_wall[4] = {{-4000, 4000, 4000}, {0, 4000, 4000}, {0, -4000, 4000}, {-4000, -4000, 4000}};
+    const maskcull_area over = {4, 4, 28, 28};
+    maskcull_tile tiles[TILES];
+    memset(tiles, 0, sizeof tiles);
+    printf("%s\n", grade);
+    say("a wall far off", maskcull_draw(&chosen, tiles, TILES, far_wall, 4, quad, 2));
+    say_subtile("the first subtile", maskcull_subtile(tiles, TILES, 0, 0));
+    say("an area a little behind it", maskcull_test(&chosen, tiles, TILES, &over, 4001));
+    say("as near as it", maskcull_test(&chosen, tiles, TILES, &over, 4000));
+}
+
 int main(void)
 {
     size_t tile_count;
@@ -203,6 +222,10 @@ int main(void)
     maskcull_clear(tiles, tile_count);
     const maskcull_tile zero_bytes = {{0}, {0}, {0}, 0};
     say_whether("a cleared tile is zero bytes", memcmp(&tiles[0], &zero_bytes, sizeof zero_bytes) == 0);
+    tell_distances_apart("narrow", MASKCULL_KEEPS_BOTH);
+    tell_distances_apart("wide", MASKCULL_KEEPS_BOTH + MASKCULL_WIDE);
+    const maskcull_setup no_winding = {WIDTH, HEIGHT, NEAR, 3 + MASKCULL_WIDE};
+    say("wide, with a winding of 3", maskcull_draw(&no_winding, tiles, tile_count, wall, 4, quad, 2));
     maskcull_close(tiles);
     return 0;
 }

@@ -16,7 +16,7 @@ use Rattle.command_words.specs.App.{the_app}
 use Rattle.command_words.specs.Table.{ACommand, AnOption, batch, bins_x, bins_y, commands, early, rounds, row_by, row_named, row_of, seed, triangles, watch, workers}
 use Rattle.command_words.specs.Words.{ArePlain, AreWords, HaveValues, IsEntered, asked_by, asked_in, command_of, number_of, settings_by, stated, value_in}
 use Rattle.command_words.specs.declared.command.Command.{Command}
-use Rattle.command_words.specs.declared.command.Command.TheVariants.{Cull, Live, Demo}
+use Rattle.command_words.specs.declared.command.Command.TheVariants.{Cull, Live, Demo, Upgrade}
 use Rattle.command_words.specs.declared.table.CommandKind.{CommandKind}
 use Rattle.command_words.specs.declared.table.CommandKind.TheVariants as kinds
 use Rattle.command_words.specs.declared.table.CommandRow.{CommandRow}
@@ -69,6 +69,9 @@ live_same values others same = let all = seven kinds.Live rounds watch refl valu
 demo_same : AsksSame (row_by kinds.Demo)
 demo_same values others same = let all = seven kinds.Demo seed triangles refl values others same in λ i. Demo (all.0 i) (all.1 i) (all.2 i)
 
+upgrade_same : AsksSame (row_by kinds.Upgrade)
+upgrade_same values others same = refl
+
 -- a row of the table is the one of its kind, is found by its name, and asks for what its options say
 record IsOwn (row : ACommand) : Type 0 where
   kind : row_by row.kind ≡ row
@@ -78,7 +81,10 @@ record IsOwn (row : ACommand) : Type 0 where
 are_own : AllByRecursion IsOwn commands
 are_own = (
   record { kind = refl; named = refl; asks = cull_same },
-  (record { kind = refl; named = refl; asks = live_same }, (record { kind = refl; named = refl; asks = demo_same }, tt)),
+  (
+    record { kind = refl; named = refl; asks = live_same },
+    (record { kind = refl; named = refl; asks = demo_same }, (record { kind = refl; named = refl; asks = upgrade_same }, tt)),
+  ),
 )
 
 is_own : (row : ACommand) → Contains commands row → IsOwn row

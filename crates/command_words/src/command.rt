@@ -21,4 +21,6 @@ pub enum Command {
         seed: u32,
         triangles: u32,
     },
+    /// A scene from the input; it is written in version 2.
+    Upgrade,
 }

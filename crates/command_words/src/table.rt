@@ -30,6 +30,7 @@ pub enum CommandKind {
     Cull,
     Live,
     Demo,
+    Upgrade,
 }
 
 /// A command: its name, what help says of it in a line and on its own page, and its options `O` in the page's order.
@@ -157,5 +158,25 @@ Exit status:
     options: &[WORKERS, BINS_X, BINS_Y, BATCH, SEED, TRIANGLES, EARLY],
 };
 
+/// Reads a scene and writes it in the newest version of its layout.
+pub const UPGRADE: ACommand = CommandRow {
+    kind: CommandKind::Upgrade,
+    name: "upgrade",
+    about: "Reads a scene from standard input and writes it in version 2 to standard output",
+    more: "Reads the bytes of a scene of version 1 or 2 from standard input, to their end.
+Writes to standard output the same scene in version 2. Its report stays the same: a scene of version 1 is narrow, and its
+occluder triangles are one batch with its winding. To make it wide set byte 13 to 1.
+Tells on standard error why a run isn't done.
+
+Exit status:
+  0  done: the input was read and the scene written
+  2  the command line was refused, or help was printed
+  3  the input is no scene
+  4  the input couldn't be read
+  5  the scene couldn't be written
+  7  out of memory",
+    options: &[],
+};
+
 /// The commands, in the order of the program's help.
-pub const COMMANDS: &[ACommand] = &[CULL, LIVE, DEMO];
+pub const COMMANDS: &[ACommand] = &[CULL, LIVE, DEMO, UPGRADE];

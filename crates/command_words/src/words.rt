@@ -121,6 +121,7 @@ fn asked_by(kind: CommandKind, matches: &ArgMatches<'_>) -> Command
             seed: number(matches, &SEED),
             triangles: number(matches, &TRIANGLES),
         },
+        CommandKind::Upgrade => Command::Upgrade,
     }
 }
 

@@ -11,3 +11,4 @@ pub mod HeldTiles
 pub mod LiveFields
 pub mod LineRoom
 pub mod Settled
+pub mod Upgraded

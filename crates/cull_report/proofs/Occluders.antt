@@ -4,13 +4,13 @@ use Rattle.std.specs.Prelude.{slice_get}
 use Rattle.std.proofs.lemmas.Bool.{and_parts}
 use Rattle.std.proofs.lemmas.Bool.Decides.{nat_tests}
 use Rattle.std.proofs.lemmas.Int.{ints}
-use Rattle.cull_base.specs.declared.nearness.TheConstants.{GRADE_TOP}
 use Rattle.cull_base.specs.declared.rect.Rect.{Rect}
 use Rattle.cull_base.specs.declared.place.Sub.{Sub}
 use Rattle.cull_base.specs.declared.scene_types.Object.{Object}
 use Rattle.cull_base.specs.declared.scene_types.Object.TheVariants.{Area, Block, Mesh}
 use Rattle.cull_base.specs.declared.scene_types.Verdict.{Verdict}
 use Rattle.cull_base.specs.declared.scene_types.Verdict.TheVariants.{Occluded}
+use Rattle.cull_base.specs.Grade.{top_of}
 use Rattle.cull_base.specs.Screen.{Dimensions, screen_of, tile_rect_of}
 use Rattle.cull_base.specs.Rectangle.{HasPixel, meets}
 use Rattle.cull_base.specs.Piece.{Piece, middle, touches}
@@ -87,9 +87,9 @@ answer_has_pieces size (At r q) = by (meets r (screen_of size))
 
 pub object_has_pieces : (s : Parts) (frame : ℕ) (x : Object) → IsScene s → HasPieces (object_shape s frame x)
 unfolding object_shape
-object_has_pieces s frame (Area r w) scene = rectangle_has_pieces GRADE_TOP s.near (size_of s) r w
-object_has_pieces s frame (Block low high) scene = answer_has_pieces (size_of s) (box_answer GRADE_TOP s.near (size_of s) _)
-object_has_pieces s frame (Mesh first count) scene = mesh_has_pieces s.near (size_of s) (frame_clips s frame) (take count (drop first s.object_tris)) scene.size scene.near_some scene.near_within
+object_has_pieces s frame (Area r w) scene = rectangle_has_pieces (top_of s.grade) s.near (size_of s) r w
+object_has_pieces s frame (Block low high) scene = answer_has_pieces (size_of s) (box_answer (top_of s.grade) s.near (size_of s) _)
+object_has_pieces s frame (Mesh first count) scene = mesh_has_pieces s.grade s.near (size_of s) (frame_clips s frame) (take count (drop first s.object_tris)) scene.size scene.near_some scene.near_within
 
 pub hides_truly : (s : Parts) → IsScene s → ((frame : ℕ) → frame < length s.cameras → ArePieces (frame_pieces s frame)) → HidesTruly s
 unfolding frame_verdicts

@@ -1,7 +1,6 @@
 -- Objects that are settled over tiles after fronts of their lists are occluded in the whole frame.
 use Rattle.std.proofs.Common.{◌≡◌, ℕ, pos, ◌<◌, Bool, true, false, cond, take, arith, ap, refl, sym, ◌∙◌, List}
 use Rattle.cull_base.specs.declared.clip.ClipVertex.{ClipVertex}
-use Rattle.cull_base.specs.declared.nearness.TheConstants.{GRADE_TOP}
 use Rattle.cull_base.specs.declared.place.Sub.{Sub}
 use Rattle.cull_base.specs.declared.rect.Rect.{Rect}
 use Rattle.cull_base.specs.declared.scene_types.Object.{Object}
@@ -40,12 +39,12 @@ flat_settled size f r q = by (meets r (screen_of size)) refl
     by false e = sym (unmet_unsettled size f r q e)
 
 -- no mesh is
-pub mesh_unsettled : (near : ℕ) (size : Dimensions) (f : Sub → State) (clips : List ClipVertex) (tris : List Tri) → false ≡ is_settled_shape size f (mesh_shape GRADE_TOP near size clips tris)
+pub mesh_unsettled : (top near : ℕ) (size : Dimensions) (f : Sub → State) (clips : List ClipVertex) (tris : List Tri) → false ≡ is_settled_shape size f (mesh_shape top near size clips tris)
 unfolding mesh_shape
-mesh_unsettled near size f clips tris = by (at_each_vertex clips (is_behind near) tris) (at_some_vertex clips (λ v. is_past_guard v near) tris) (is_one_on_screen size (near_boxes near size clips tris))
+mesh_unsettled top near size f clips tris = by (at_each_vertex clips (is_behind near) tris) (at_some_vertex clips (λ v. is_past_guard v near) tris) (is_one_on_screen size (near_boxes near size clips tris))
   where
     by : (a b c : Bool)
-        → false ≡ is_settled_shape size f (cond a AlwaysOutside (cond b AlwaysVisible (cond c (Pieces (object_pieces GRADE_TOP near size clips tris) (hull_of (near_boxes near size clips tris))) AlwaysOutside)))
+        → false ≡ is_settled_shape size f (cond a AlwaysOutside (cond b AlwaysVisible (cond c (Pieces (object_pieces top near size clips tris) (hull_of (near_boxes near size clips tris))) AlwaysOutside)))
     by true b c = refl
     by false true c = refl
     by false false true = refl

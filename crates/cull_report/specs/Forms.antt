@@ -1,7 +1,7 @@
 -- What is asked of the tiles for an object.
 use Rattle.std.specs.Prelude.{ℕ, ◌≡◌, ◌+◌, ◌≤◌, List, take, drop}
-use Rattle.cull_base.specs.declared.nearness.TheConstants.{GRADE_TOP}
 use Rattle.cull_base.specs.declared.scene_types.Tri.{Tri}
+use Rattle.cull_base.specs.Grade.{top_of}
 use Rattle.cull_base.specs.Screen.{Dimensions}
 use Rattle.cull_base.specs.Shape.{Shape, AlwaysOutside, AlwaysVisible, flat_shape}
 use Rattle.scene_reader.specs.Layout.{Parts}
@@ -19,7 +19,7 @@ abbrev pub shape_of_form : Parts → ℕ → Form → Shape
 shape_of_form s frame Outside = AlwaysOutside
 shape_of_form s frame Visible = AlwaysVisible
 shape_of_form s frame (Flat rect nearness) = flat_shape (size_of s) rect nearness
-shape_of_form s frame (Mesh first count) = mesh_shape GRADE_TOP s.near (size_of s) (frame_clips s frame) (range_of s.object_tris first count)
+shape_of_form s frame (Mesh first count) = mesh_shape (top_of s.grade) s.near (size_of s) (frame_clips s frame) (range_of s.object_tris first count)
 
 -- a form that is no mesh stands for a shape on a screen
 abbrev pub IsFlatForm : Dimensions → Form → Shape → Type 0

@@ -6,3 +6,4 @@ pub mod Hiding
 pub mod Live
 pub mod LivePieces
 pub mod Settled
+pub mod Upgraded

@@ -2,7 +2,6 @@
 use Rattle.std.specs.Prelude.{ℕ, ℤ, ◌≡◌, List, [], ◌++◌, ◌<◌, Bool, true, false, ◌&&◌, nat_lt, length, map, take, drop, slice_index_or}
 use Rattle.std.specs.List.{flat_map, range_with_len}
 use Rattle.cull_base.specs.declared.clip.ClipVertex.{ClipVertex}
-use Rattle.cull_base.specs.declared.nearness.TheConstants.{GRADE_TOP}
 use Rattle.cull_base.specs.declared.place.Sub.{Sub}
 use Rattle.cull_base.specs.declared.rect.Rect.{Rect}
 use Rattle.cull_base.specs.declared.scene_types.Object.{Object}
@@ -10,6 +9,7 @@ use Rattle.cull_base.specs.declared.scene_types.Object.TheVariants.{Area, Block,
 use Rattle.cull_base.specs.declared.scene_types.Verdict.{Verdict}
 use Rattle.cull_base.specs.declared.scene_types.Verdict.TheVariants.{Occluded}
 use Rattle.cull_base.specs.Fraction.{Fraction}
+use Rattle.cull_base.specs.Grade.{top_of}
 use Rattle.cull_base.specs.Screen.{Dimensions}
 use Rattle.cull_base.specs.Piece.{Piece}
 use Rattle.cull_base.specs.State.{State}
@@ -18,7 +18,7 @@ use Rattle.cull_base.specs.Shape.{Shape, has_sample, near_at, area_of, verdict_o
 use Rattle.cull_base.specs.Tiles.{PieceList}
 use Rattle.scene_reader.specs.Layout.{Parts}
 use Rattle.camera_path.specs.Clip.{clip_of, corners_of}
-use Rattle.snap_setup.specs.Pieces.{list_of_clips}
+use Rattle.snap_setup.specs.Batches.{list_of_batches}
 use Rattle.masked_update.specs.TileOf.{TileOf}
 use Rattle.masked_update.specs.Views.{state_in}
 use Rattle.rect_query.specs.Rectangles.{rectangle_shape}
@@ -36,18 +36,18 @@ camera_at s frame = slice_index_or s.cameras frame []
 unfoldable pub frame_clips : Parts → ℕ → List ClipVertex
 frame_clips s frame = map (clip_of (camera_at s frame)) s.vertices
 
--- the pieces of a frame: those of the occluder triangles in submission order
+-- the pieces of a frame: those of the occluder triangles in submission order, each with the winding of its batch
 unfoldable pub frame_list : Parts → ℕ → PieceList
-frame_list s frame = record { size = size_of s; members = list_of_clips (frame_clips s frame) s.occluders GRADE_TOP s.near (size_of s) s.winding }
+frame_list s frame = record { size = size_of s; members = list_of_batches (frame_clips s frame) s.occluders (top_of s.grade) s.near (size_of s) s.batches }
 
 abbrev pub frame_pieces : Parts → ℕ → List Piece
 frame_pieces s frame = (frame_list s frame).members
 
 -- the shape of an object in a frame: a rectangle doesn't move with the camera
 unfoldable pub object_shape : Parts → ℕ → Object → Shape
-object_shape s frame (Area rect w) = rectangle_shape GRADE_TOP s.near (size_of s) rect w
-object_shape s frame (Block low high) = box_shape GRADE_TOP s.near (size_of s) (map (clip_of (camera_at s frame)) (corners_of low high))
-object_shape s frame (Mesh first count) = mesh_shape GRADE_TOP s.near (size_of s) (frame_clips s frame) (take count (drop first s.object_tris))
+object_shape s frame (Area rect w) = rectangle_shape (top_of s.grade) s.near (size_of s) rect w
+object_shape s frame (Block low high) = box_shape (top_of s.grade) s.near (size_of s) (map (clip_of (camera_at s frame)) (corners_of low high))
+object_shape s frame (Mesh first count) = mesh_shape (top_of s.grade) s.near (size_of s) (frame_clips s frame) (take count (drop first s.object_tris))
 
 -- whether the sample of a pixel of the screen belongs to an object in a frame, the object's nearness there, and its area
 abbrev pub object_samples : Parts → ℕ → Object → ℕ → ℕ → Bool

@@ -1,6 +1,6 @@
 //! What is asked of the tiles for an object.
 ghost use Rattle.std.specs.Prelude.{◌≡◌, ◌≤◌, ◌<◌, ◌^◌, [], ◌∷◌, map, length};
-ghost use Rattle.cull_base.specs.declared.nearness.TheConstants.{GRADE_TOP};
+ghost use Rattle.cull_base.specs.Grade.{top_of};
 ghost use Rattle.camera_path.specs.Clip.{clip_of, corners_of, AreWithin};
 ghost use Rattle.rect_query.specs.Boxes.{box_shape};
 ghost use Rattle.rect_query.specs.Rectangles.{rectangle_shape};
@@ -24,12 +24,12 @@ pub enum Form {
 }
 
 // A rectangle at distance w: visible before the near distance where it has a pixel in the screen.
-fn rectangle_form(size: Size, near: u16, rect: Rect, w: i32) -> Form
+fn rectangle_form(size: Size, near: u16, rect: Rect, w: i32, grade: Grade) -> Form
     requires least { 1 ≤ near }
     requires most { near ≤ 1024 }
-    ensures { IsFlatForm size result (rectangle_shape GRADE_TOP near size rect w) }
+    ensures { IsFlatForm size result (rectangle_shape (top_of grade) near size rect w) }
 {
-    match rect_near(w, near, Grade::Narrow) {
+    match rect_near(w, near, grade) {
         Some(q) => Form::Flat { rect, q },
         None => if rect.meets(&size.screen()) {
             Form::Visible
@@ -40,12 +40,12 @@ fn rectangle_form(size: Size, near: u16, rect: Rect, w: i32) -> Form
 }
 
 // A box, by its eight corners.
-fn box_form(size: Size, near: u16, corners: &[ClipVertex; 8]) -> Form
+fn box_form(size: Size, near: u16, corners: &[ClipVertex; 8], grade: Grade) -> Form
     requires least { 1 ≤ near }
     requires most { near ≤ 1024 }
-    ensures { IsFlatForm size result (box_shape GRADE_TOP near size corners.now) }
+    ensures { IsFlatForm size result (box_shape (top_of grade) near size corners.now) }
 {
-    match box_rect(corners, near, size, Grade::Narrow) {
+    match box_rect(corners, near, size, grade) {
         BoxAnswer::Outside => Form::Outside,
         BoxAnswer::Straddles => Form::Visible,
         BoxAnswer::At { rect, q } => Form::Flat { rect, q },
@@ -69,10 +69,12 @@ pub fn form_of(scene: &Scene, frame: u32, object: &Object) -> Form
     ensures triangles { HasTriangles (length scene.now.object_tris) result }
 {
     match object {
-        Object::Area { rect, w } => rectangle_form(scene.size(), scene.near(), *rect, *w),
+        Object::Area { rect, w } => {
+            rectangle_form(scene.size(), scene.near(), *rect, *w, scene.grade())
+        }
         Object::Block { low, high } => {
             let corners = camera_of(scene, frame).clip_box(low, high);
-            box_form(scene.size(), scene.near(), &corners)
+            box_form(scene.size(), scene.near(), &corners, scene.grade())
         }
         Object::Mesh { first, count } => Form::Mesh {
             first: *first,

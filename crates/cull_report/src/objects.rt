@@ -89,7 +89,7 @@ fn form_verdict<V: TileView>(
         Form::Flat { rect, q } => rect_test(view, scene.size(), rect, q),
         Form::Mesh { first, count } => {
             let tris = triangles(scene, first, count);
-            mesh_test(view, scene.size(), scene.near(), clips, tris)
+            mesh_test(view, scene.size(), scene.near(), clips, tris, scene.grade())
         }
     }
 }

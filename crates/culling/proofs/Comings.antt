@@ -4,9 +4,10 @@ use Rattle.std.specs.Prelude.{IfSome, IsErrOf, slice_index_or}
 use Rattle.std.specs.List.{flat_map, range_with_len}
 use Rattle.std.proofs.lemmas.List.{append-nil}
 use Rattle.clap.specs.Words.{Text}
-use Rattle.cull_base.specs.Stream.{SinkSays, SourceSays, Appends, AppendsPrefix, IsNoted, Rose}
+use Rattle.cull_base.specs.Stream.{SinkSays, SourceSays, Appends, AppendsPrefix, IsNoted, Rose, Writes}
+use Rattle.cull_base.specs.declared.memory.SinkError.{SinkError}
 use Rattle.cull_base.proofs.Streams.{appends_then}
-use Rattle.scene_reader.specs.Layout.{Parts, IsScene, layout}
+use Rattle.scene_reader.specs.Layout.{Parts, IsScene, header_bytes, layout, upgraded}
 use Rattle.scene_reader.specs.Fault.{IsRefusal}
 use Rattle.scene_reader.specs.Reading.{HasFirstFault, TakesLayout}
 use Rattle.scene_reader.specs.declared.error.SceneError.{SceneError}
@@ -16,7 +17,7 @@ use Rattle.cull_report.specs.Live.{Counts}
 use Rattle.cull_report.specs.Scene.{scene_header}
 use Rattle.command_words.specs.Words.{AreWords, IsWithinLimits, command_of}
 use Rattle.command_words.specs.declared.command.Command.{Command}
-use Rattle.command_words.specs.declared.command.Command.TheVariants.{Cull, Live, Demo}
+use Rattle.command_words.specs.declared.command.Command.TheVariants.{Cull, Live, Demo, Upgrade}
 use Rattle.command_words.specs.declared.settings.Settings.{Settings}
 use Rattle.command_words.specs.declared.words.Refusal.{Refusal}
 use Rattle.command_words.specs.declared.words.Refusal.TheVariants as refusals
@@ -30,7 +31,7 @@ use Rattle.culling.specs.FrameRuns.{LeavesFrames, LeavesTexts}
 use Rattle.culling.specs.Frames.{lines_of}
 use Rattle.culling.specs.NotedLines.{CountsStay}
 use Rattle.culling.specs.Notes.{IsNotedBehind, IsNotedFirst, note_by, note_text, refusal_text, status_text, usage_text}
-use Rattle.culling.specs.Outcome.{failure_of, refusal_status, status_by, status_of}
+use Rattle.culling.specs.Outcome.{failure_of, refusal_status, sink_failure, status_by, status_of}
 use Rattle.culling.specs.Outcomes.{Ends, HasFault, HasScene, IfAsked, IfBytes, IsTrue, ReadsScene, OutcomeOf, joined, live_frames, note_alone, notes_at, notes_before, report_and, report_before, report_of, text_alone}
 use Rattle.culling.specs.Runs.{AwaitsNote, Comes, HasCause, IsComplete, IsCut, IsUnasked, Leaves, LeavesFront, LeavesWhole, Streams, WithoutFault, streams}
 use Rattle.culling.specs.Summary.{demo_line, frames_summary, summary_text}
@@ -38,7 +39,7 @@ use Rattle.culling.specs.declared.frames.Beside.TheVariants.{Nothing, Looks}
 use Rattle.culling.specs.declared.frames.FrameLines.TheVariants.{Report, Summary}
 use Rattle.culling.proofs.Fronts.{nothing_appended, rose_later}
 use Rattle.culling.proofs.FrameByFrame.{are_empty}
-use Rattle.culling.proofs.FrameTexts.{as_one_text, counts_same, never_done, none_at, without_notes}
+use Rattle.culling.proofs.FrameTexts.{as_one_text, counts_same, never_done, none_at, unwritten, whole_leaves, without_notes}
 use Rattle.culling.proofs.OutcomeTexts.{header_some, joined_is, live_frames_are, not_empty, summary_some}
 use Rattle.culling.proofs.ScenePieces.{all_are_pieces, lines_hide}
 
@@ -58,11 +59,13 @@ ends_refused : (c : Command) (source : SourceSays) (e : SceneError) → ReadsSce
 ends_refused (Cull settings) source e reads refusal fault = inr (inl (e, refusal, fault, refl))
 ends_refused (Live settings rounds watch) source e reads refusal fault = inr (inl (e, refusal, fault, refl))
 ends_refused (Demo settings seed m) source e reads refusal fault = absurd reads
+ends_refused Upgrade source e reads refusal fault = inr (inl (e, refusal, fault, refl))
 
 ends_unread : (c : Command) (source : SourceSays) → ReadsScene c → Ends c source (note_alone statuses.ReadFault (status_text statuses.ReadFault))
 ends_unread (Cull settings) source reads = inr (inr refl)
 ends_unread (Live settings rounds watch) source reads = inr (inr refl)
 ends_unread (Demo settings seed m) source reads = absurd reads
+ends_unread Upgrade source reads = inr (inr refl)
 
 comes_refused : (c : Command) (i0 i1 : SourceSays) (r n : SinkSays) (e : SceneError) (P Q : Type 0) → ReadsScene c → IsRefusal e → HasFault i0 e → P → Q
     → Comes c statuses.Scene (streams i0 r n) (streams i1 r n) (AwaitsNote (Err (Scene e))) P Q
@@ -137,6 +140,8 @@ failed_read c i0 i1 r n (errors.BadIndex t i) P Q reads fault rose p q = comes_r
 failed_read c i0 i1 r n (errors.BadKind i) P Q reads fault rose p q = comes_refused c i0 i1 r n (errors.BadKind i) P Q reads tt (fault tt) p q
 failed_read c i0 i1 r n (errors.BadObject i) P Q reads fault rose p q = comes_refused c i0 i1 r n (errors.BadObject i) P Q reads tt (fault tt) p q
 failed_read c i0 i1 r n (errors.BadCamera i) P Q reads fault rose p q = comes_refused c i0 i1 r n (errors.BadCamera i) P Q reads tt (fault tt) p q
+failed_read c i0 i1 r n (errors.BadGrade grade) P Q reads fault rose p q = comes_refused c i0 i1 r n (errors.BadGrade grade) P Q reads tt (fault tt) p q
+failed_read c i0 i1 r n (errors.BadBatch i) P Q reads fault rose p q = comes_refused c i0 i1 r n (errors.BadBatch i) P Q reads tt (fault tt) p q
 
 -- ---- a scene's frames
 
@@ -232,6 +237,30 @@ demo_comes settings seed m s i r0 r1 n0 n1 r P Q is q w =
     texts_come (Demo settings seed m) (text_alone (summary_text seed m)) i i r0 r1 n0 n1 r P Q refl refl (not_empty (summary_text seed m) [] (summary_some seed m)) (λ reads. absurd reads) (λ none. q)
     (subst (λ (t : List ℕ). LeavesTexts (text_alone t) r r0 r1 n0 n1) (summary_is seed m) (as_one_text head frames r r0 r1 n0 n1 silent))
 
+-- ---- `upgrade`
+
+layout_some : (s : Parts) → 0 < length (layout s)
+unfolding layout header_bytes
+layout_some s = omega arith
+
+-- the layout stands whole
+pub upgrade_written : (s : Parts) (x : Unit {0}) (r0 r1 n : SinkSays) → Writes r0 r1 (Ok x) (layout s) → LeavesTexts (text_alone (layout s)) (Ok x) r0 r1 n n
+upgrade_written s x r0 r1 n w =
+    let text = layout s in
+    whole_leaves text [] [] r0 r1 n n x
+    (record { reported = subst (Appends r0 r1) (sym (append-nil text)) w.ok; noted = nothing_appended n; report_stays = w.faults_stay; stay = counts_same n })
+
+-- a front of it stands
+pub upgrade_unwritten : (s : Parts) (e : SinkError) (r0 r1 n : SinkSays) → Writes r0 r1 (Err e) (layout s) → LeavesTexts (text_alone (layout s)) (Err (sink_failure e)) r0 r1 n n
+upgrade_unwritten s e r0 r1 n w = let text = layout s in unwritten text text [] [] e r0 r1 n (append-nil text) (append-nil text) w
+
+pub upgrade_comes : (s : Parts) (i0 i1 : SourceSays) (r0 r1 n : SinkSays) (r : Result (Unit {0}) Failure) (P : Type 0) → IsScene s → TakesLayout i0 i1 s
+    → LeavesTexts (text_alone (layout (upgraded s))) r r0 r1 n n → Comes Upgrade (status_by r) (streams i0 r0 n) (streams i1 r1 n) (AwaitsNote r) P (Unit {0})
+upgrade_comes s i0 i1 r0 r1 n r P scene takes l =
+    let text = layout (upgraded s) in
+    texts_come Upgrade (text_alone text) i0 i1 r0 r1 n n r P (Unit {0}) (inl (s, has_scene i0 i1 s scene takes, refl)) refl (not_empty text [] (layout_some (upgraded s)))
+    (λ reads. none_left i0 i1 s takes) (λ none. tt) l
+
 -- ---- the status's note
 
 rose_of_either : (n0 n1 n2 : SinkSays) → CountsStay n0 n1 → Rose n1.faults n2.faults ⊎ Rose n1.refusals n2.refusals → Rose n0.faults n2.faults ⊎ Rose n0.refusals n2.refusals
@@ -311,6 +340,7 @@ some_ends : (c : Command) (source : SourceSays) → (o : OutcomeOf) × Ends c so
 some_ends (Cull settings) source = (note_alone statuses.ReadFault (status_text statuses.ReadFault), inr (inr refl))
 some_ends (Live settings rounds watch) source = (note_alone statuses.ReadFault (status_text statuses.ReadFault), inr (inr refl))
 some_ends (Demo settings seed m) source = (text_alone (summary_text seed m), refl)
+some_ends Upgrade source = (note_alone statuses.ReadFault (status_text statuses.ReadFault), inr (inr refl))
 
 pub memory_comes : (c : Command) (i : SourceSays) (r n0 n1 : SinkSays) (P Q : Type 0) → P → IsNoted n0 n1 (status_text statuses.Memory)
     → Comes c statuses.Memory (streams i r n0) (streams i r n1) IsNotedBehind P (statuses.Memory ≡ statuses.Done → Q)
@@ -334,6 +364,7 @@ pub truth : (c : Command) (source : SourceSays) → IsTrue c source
 truth (Cull settings) source = λ s has. hides_truly s has.scene (all_are_pieces s has.scene)
 truth (Live settings rounds watch) source = λ s has. (hides_truly s has.scene (all_are_pieces s has.scene), λ counts. lines_hide s rounds watch counts has.scene)
 truth (Demo settings seed m) source = λ few. let scene = demo_is_scene seed m few in hides_truly (demo_of seed m) scene (all_are_pieces (demo_of seed m) scene)
+truth Upgrade source = tt
 
 -- ---- what words ask for
 

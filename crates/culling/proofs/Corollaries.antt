@@ -3,7 +3,7 @@ use Rattle.std.proofs.Common.{◌≡◌, ℕ, ◌+◌, ◌<◌, ◌≤◌, ◌++
 use Rattle.std.specs.Prelude.{IfSome}
 use Rattle.std.proofs.lemmas.List.{append-nil, length-append}
 use Rattle.cull_base.specs.Stream.{SinkSays, SourceSays, Appends, AppendsPrefix, Rose}
-use Rattle.scene_reader.specs.Layout.{Parts, IsScene, layout}
+use Rattle.scene_reader.specs.Layout.{Parts, IsScene, layout, upgraded}
 use Rattle.scene_reader.specs.Fault.{IsRefusal, first_fault}
 use Rattle.scene_reader.specs.declared.error.SceneError.{SceneError}
 use Rattle.scene_reader.proofs.LayoutFirst.{scene_first}
@@ -11,7 +11,7 @@ use Rattle.cull_report.specs.Hiding.{HidesTruly}
 use Rattle.cull_report.specs.Live.{Counts, HidesLive, IsRising, live_text}
 use Rattle.cull_report.specs.Scene.{report_text}
 use Rattle.command_words.specs.declared.command.Command.{Command}
-use Rattle.command_words.specs.declared.command.Command.TheVariants.{Cull, Live, Demo}
+use Rattle.command_words.specs.declared.command.Command.TheVariants.{Cull, Live, Demo, Upgrade}
 use Rattle.command_words.specs.declared.settings.Settings.{Settings}
 use Rattle.culling.specs.Notes.{IsNotedBehind, refusal_text, status_text}
 use Rattle.culling.specs.Outcomes.{Ends, EndsByScene, HasFault, HasScene, IfBytes, OutcomeOf, ReadsScene, joined, live_frames, note_alone, report_and, report_of, text_alone}
@@ -82,6 +82,13 @@ done_demo settings seed m before after P Q h =
     let w = done_whole h.outcome before.report after.report (IsNotedBehind before.notes after.notes) h.leaves in
     subst (Appends before.report after.report) (ap report_of h.ends ∙ append-nil (summary_text seed m)) w.1.reported
 
+pub done_upgrade : (before after : Streams) (P Q : Type 0) → Comes Upgrade statuses.Done before after IsNotedBehind P Q
+    → (s : Parts) × HasScene before.input s × IfBytes before.input (λ bytes. after.input.left ≡ Some []) × Appends before.report after.report (layout (upgraded s))
+done_upgrade before after P Q h =
+    let w = done_whole h.outcome before.report after.report (IsNotedBehind before.notes after.notes) h.leaves in
+    let (s, has, is) = done_scene before.input h.outcome (λ s. h.outcome ≡ text_alone (layout (upgraded s))) h.ends w.0 in
+    (s, has, h.taken refl tt, subst (Appends before.report after.report) (ap report_of is ∙ append-nil (layout (upgraded s))) w.1.reported)
+
 -- ---- refused: bytes with a first fault end as Scene, ReadFault or Memory
 
 no_scene_at_fault : (source : SourceSays) (s : Parts) (bytes : List ℕ) (e : SceneError) → source.left ≡ Some bytes → first_fault bytes ≡ Some e → HasScene source s → ⊥
@@ -117,6 +124,7 @@ ends_silent (Cull settings) source o bytes e reads left fault ends = by_scene so
 ends_silent (Live settings rounds watch) source o bytes e reads left fault ends =
     by_scene source o (λ s. (counts : Counts) × IsRising s rounds watch counts × (o ≡ report_and s (live_frames s rounds watch counts))) bytes e left fault ends
 ends_silent (Demo settings seed m) source o bytes e reads left fault ends = absurd reads
+ends_silent Upgrade source o bytes e reads left fault ends = by_scene source o (λ s. o ≡ text_alone (layout (upgraded s))) bytes e left fault ends
 
 pub refused : (c : Command) (status : Status) (before after : Streams) (P Q : Type 0) (bytes : List ℕ) (e : SceneError) → ReadsScene c → before.input.left ≡ Some bytes → first_fault bytes ≡ Some e
     → Comes c status before after IsNotedBehind P Q → ((status ≡ statuses.Scene) ⊎ (status ≡ statuses.ReadFault) ⊎ (status ≡ statuses.Memory)) × P

@@ -3,7 +3,7 @@ use Rattle.std.specs.Prelude.{ℕ, ◌≡◌, ◌<◌}
 use Rattle.cull_base.specs.Screen.{tile_count_of}
 use Rattle.cull_base.specs.Tiles.{PieceList, tile_after}
 use Rattle.snap_setup.specs.declared.occluders.Occluders.{Occluders}
-use Rattle.snap_setup.specs.Occluders.{list_of_some}
+use Rattle.snap_setup.specs.Occluders.{list_of}
 
 -- a list gives each tile the states of another
 pub record DrawsAs (drawn list : PieceList) : Type 0 where
@@ -12,4 +12,4 @@ pub record DrawsAs (drawn list : PieceList) : Type 0 where
 
 -- the pieces of all of a frame's occluder triangles
 abbrev pub listed_by : Occluders → PieceList
-listed_by o = record { size = o.size; members = list_of_some o o.tris.now }
+listed_by o = record { size = o.size; members = list_of o }

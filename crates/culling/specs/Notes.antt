@@ -2,7 +2,7 @@
 use Rattle.std.specs.Prelude.{ℕ, ◌≤◌, ◌⊎◌, List, [], ◌∷◌, ◌++◌, map, length, take, codes, Result, Ok, Err}
 use Rattle.std.specs.Fmt.{decimal}
 use Rattle.scene_reader.specs.declared.error.SceneError.{SceneError}
-use Rattle.scene_reader.specs.declared.error.SceneError.TheVariants.{Truncated, BadMagic, BadVersion, BadSize, BadNear, BadWinding, BadReserved, BadCount, Trailing, BadVertex, BadIndex, BadKind, BadObject, BadCamera}
+use Rattle.scene_reader.specs.declared.error.SceneError.TheVariants.{Truncated, BadMagic, BadVersion, BadSize, BadNear, BadWinding, BadReserved, BadCount, Trailing, BadVertex, BadIndex, BadKind, BadObject, BadCamera, BadGrade, BadBatch}
 use Rattle.scene_reader.specs.declared.error.SceneError.TheVariants as errors
 use Rattle.cull_base.specs.Stream.{SinkSays, Rose, Appends, AppendsPrefix}
 use Rattle.text_lines.specs.Lines.{line}
@@ -27,6 +27,8 @@ refusal_numbers (BadIndex table i) = 11 ∷ table ∷ i ∷ []
 refusal_numbers (BadKind i) = 12 ∷ i ∷ []
 refusal_numbers (BadObject i) = 13 ∷ i ∷ []
 refusal_numbers (BadCamera i) = 14 ∷ i ∷ []
+refusal_numbers (BadGrade grade) = 16 ∷ grade ∷ []
+refusal_numbers (BadBatch i) = 17 ∷ i ∷ []
 refusal_numbers errors.Read = []
 refusal_numbers errors.Memory = []
 

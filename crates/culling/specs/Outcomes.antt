@@ -2,7 +2,7 @@
 use Rattle.std.specs.Prelude.{ℕ, ◌≡◌, ◌⊎◌, ◌≤◌, ◌++◌, List, [], length, map, take, slice_index_or, Some, IfSome}
 use Rattle.std.specs.List.{flat_map, range_with_len}
 use Rattle.cull_base.specs.Stream.{SourceSays}
-use Rattle.scene_reader.specs.Layout.{Parts, IsScene, layout}
+use Rattle.scene_reader.specs.Layout.{Parts, IsScene, layout, upgraded}
 use Rattle.scene_reader.specs.Fault.{IsRefusal, first_fault}
 use Rattle.scene_reader.specs.declared.error.SceneError.{SceneError}
 use Rattle.cull_report.specs.Hiding.{HidesTruly}
@@ -11,7 +11,7 @@ use Rattle.cull_report.specs.Scene.{frame_report, scene_header}
 use Rattle.clap.specs.Words.{Text}
 use Rattle.command_words.specs.Words.{command_of}
 use Rattle.command_words.specs.declared.command.Command.{Command}
-use Rattle.command_words.specs.declared.command.Command.TheVariants.{Cull, Live, Demo}
+use Rattle.command_words.specs.declared.command.Command.TheVariants.{Cull, Live, Demo, Upgrade}
 use Rattle.demo_scene.specs.Demo.{demo_of}
 use Rattle.culling.specs.Notes.{refusal_text, status_text}
 use Rattle.culling.specs.Summary.{summary_text}
@@ -93,6 +93,7 @@ abbrev pub ReadsScene : Command → Type 0
 ReadsScene (Cull settings) = Unit {0}
 ReadsScene (Live settings rounds watch) = Unit {0}
 ReadsScene (Demo settings seed m) = ⊥
+ReadsScene Upgrade = Unit {0}
 
 -- the command comes to this outcome, from what its input says
 abbrev pub Ends : Command → SourceSays → OutcomeOf → Type 0
@@ -100,13 +101,16 @@ Ends (Cull settings) source o = EndsByScene source o (λ s. o ≡ report_and s [
 Ends (Live settings rounds watch) source o =
     EndsByScene source o (λ s. (counts : Counts) × IsRising s rounds watch counts × (o ≡ report_and s (live_frames s rounds watch counts)))
 Ends (Demo settings seed m) source o = o ≡ text_alone (summary_text seed m)
+Ends Upgrade source o = EndsByScene source o (λ s. o ≡ text_alone (layout (upgraded s)))
 
 -- What the command's texts call occluded is hidden: what a live line does, by the members that it states, whatever the counts are.
+-- `upgrade` calls nothing so.
 abbrev pub IsTrue : Command → SourceSays → Type 0
 IsTrue (Cull settings) source = (s : Parts) → HasScene source s → HidesTruly s
 IsTrue (Live settings rounds watch) source =
     (s : Parts) → HasScene source s → HidesTruly s × ((counts : Counts) → HidesLive s rounds watch counts)
 IsTrue (Demo settings seed m) source = m ≤ 65536 → HidesTruly (demo_of seed m)
+IsTrue Upgrade source = Unit {0}
 
 -- ---- what words ask for
 

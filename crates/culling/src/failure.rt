@@ -207,6 +207,8 @@ fn refusal_line(error: &SceneError) -> Line
         SceneError::BadKind(i) => refused_at(12, u64::from(i)),
         SceneError::BadObject(i) => refused_at(13, u64::from(i)),
         SceneError::BadCamera(i) => refused_at(14, u64::from(i)),
+        SceneError::BadGrade(grade) => refused_at(16, u64::from(grade)),
+        SceneError::BadBatch(i) => refused_at(17, u64::from(i)),
         SceneError::Read | SceneError::Memory => line_of(b"scene refused"),
     }
 }

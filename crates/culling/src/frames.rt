@@ -107,7 +107,8 @@ fn occluders_of<'a>(scene: &'a Scene, _frame: u32, clips: &'a [ClipVertex]) -> O
             distance: scene.near(),
         },
         size: scene.size(),
-        winding: scene.winding(),
+        batches: scene.batches(),
+        grade: scene.grade(),
     }
 }
 

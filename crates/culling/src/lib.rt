@@ -13,6 +13,7 @@ mod live_caller;
 mod live_frame;
 mod run;
 mod summary;
+mod upgrade;
 mod window;
 
 pub use failure::{Failure, Status};

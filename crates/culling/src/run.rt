@@ -10,6 +10,7 @@ use crate::cull::cull;
 use crate::demo::{Seeded, demo};
 use crate::failure::{Failure, Status, end_refused};
 use crate::live::{Looks, live};
+use crate::upgrade::write_upgraded;
 use command_words::{Command, command_of};
 use cull_base::{Sink, Source};
 use std::alloc::Global;
@@ -60,12 +61,13 @@ fn perform<R: Threads + Wait + Sync, S: Source, W: Sink, E: Sink, G: Gate>(
             };
             demo(rt, alloc, &seeded, report, notes, gate)
         }
+        Command::Upgrade => write_upgraded(alloc, input, report),
     }
 }
 
 /// Runs a command, whatever its settings: `cull` reads a scene from the input and writes its report, `live` looks at
 /// the scene's first objects too while each frame is drawn, and notes what it saw, `demo` makes a scene and writes its
-/// summary. The gate is asked while frames are drawn. What is said of bytes holds where the input tells its bytes; a
+/// summary, `upgrade` reads a scene and writes it in version 2. The gate is asked while frames are drawn. What is said of bytes holds where the input tells its bytes; a
 /// sink's claim where the sink tells its own.
 pub fn run<R: Threads + Wait + Sync, S: Source, W: Sink, E: Sink, G: Gate>(
     rt: &R,

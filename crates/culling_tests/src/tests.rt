@@ -14,6 +14,7 @@ mod meeting_run;
 mod objects;
 mod runs;
 mod scenes;
+mod second_version;
 mod waiting;
 mod windows;
 mod words;

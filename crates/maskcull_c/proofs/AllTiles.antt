@@ -2,7 +2,6 @@
 use Rattle.std.proofs.Common.{◌≡◌, ℕ, ℤ, pos, ◌<◌, ◌≤ℤ◌, ◌<ℤ◌, List, length, true, false, cond, nat_lt, int_lt, arith, refl, ap, ◌∙◌}
 use Rattle.std.proofs.lemmas.Bool.Decides.{nat_tests}
 use Rattle.std.proofs.lemmas.Int.{ints}
-use Rattle.cull_base.specs.declared.nearness.TheConstants.{GRADE_TOP}
 use Rattle.cull_base.specs.declared.rect.Rect.{Rect}
 use Rattle.cull_base.specs.Screen.{Dimensions, screen_of, tile_count_of}
 use Rattle.cull_base.specs.Rectangle.{meets}
@@ -28,13 +27,13 @@ is_less : (a b : ℤ) → a <ℤ b → int_lt a b ≡ true
 is_less a b lt = grind (arith, ints)
 
 -- a rectangle that isn't before the near distance has one nearness
-pub rectangle_beyond : (size : Dimensions) (near : ℕ) (r : Rect) (w : ℤ) (q : ℕ) → pos near ≤ℤ w → q ≡ nearness_at GRADE_TOP near w → rectangle_shape GRADE_TOP near size r w ≡ flat_shape size r q
-rectangle_beyond size near r w q le is =
+pub rectangle_beyond : (top : ℕ) (size : Dimensions) (near : ℕ) (r : Rect) (w : ℤ) (q : ℕ) → pos near ≤ℤ w → q ≡ nearness_at top near w → rectangle_shape top near size r w ≡ flat_shape size r q
+rectangle_beyond top size near r w q le is =
     let t = not_less w (pos near) le in
     rw (t, is) refl
 
 -- one that is before it
-pub rectangle_before : (size : Dimensions) (near : ℕ) (r : Rect) (w : ℤ) → w <ℤ pos near → rectangle_shape GRADE_TOP near size r w ≡ cond (meets r (screen_of size)) AlwaysVisible AlwaysOutside
-rectangle_before size near r w lt =
+pub rectangle_before : (top : ℕ) (size : Dimensions) (near : ℕ) (r : Rect) (w : ℤ) → w <ℤ pos near → rectangle_shape top near size r w ≡ cond (meets r (screen_of size)) AlwaysVisible AlwaysOutside
+rectangle_before top size near r w lt =
     let t = is_less w (pos near) lt in
     rw t refl

@@ -8,7 +8,6 @@ use Rattle.cull_base.specs.Rectangle.{meets}
 use Rattle.cull_base.specs.Screen.{Dimensions, tile_columns_of, tile_place, tile_rect_of, tile_rows_of}
 use Rattle.cull_base.specs.Span.{columns_in, has_tile, number_in, rows_in}
 use Rattle.cull_base.specs.declared.clip.ClipVertex.{ClipVertex}
-use Rattle.cull_base.specs.declared.nearness.TheConstants.{GRADE_TOP}
 use Rattle.cull_base.specs.declared.scene_types.Tri.{Tri}
 use Rattle.cull_base.specs.declared.tile_span.TileSpan.{TileSpan}
 use Rattle.cull_base.specs.declared.triangle.Winding.{Winding}
@@ -106,13 +105,14 @@ merged_more size window all k x start old new more piece band merged same met =
     (merged_then size (first_in size window) (take k all) (x ∷ []) start old new merged (band_more size window x old new piece (band_still size window start old merged.whole band) same met))
 
 -- a band into which the pieces of some triangles are merged, under other names of the screen, the first tile, the near distance and the winding
-pub merged_as : (size size' : Dimensions) (first first' near near' : ℕ) (winding winding' : Winding) (clips : List ClipVertex) (tris : List Tri) (old new : List TileOf) → size ≡ size' → first ≡ first' → near ≡ near' → winding ≡ winding'
-    → AreMerged size first (list_of_clips clips tris GRADE_TOP near size winding) old new → AreMerged size' first' (list_of_clips clips tris GRADE_TOP near' size' winding') old new
-merged_as size size' first first' near near' winding winding' clips tris old new sizes firsts nears windings merged =
-    subst (λ (w : Winding). AreMerged size' first' (list_of_clips clips tris GRADE_TOP near' size' w) old new) windings
-    (subst (λ n. AreMerged size' first' (list_of_clips clips tris GRADE_TOP n size' winding) old new) nears
-    (subst (λ n. AreMerged size' n (list_of_clips clips tris GRADE_TOP near size' winding) old new) firsts
-    (subst (λ (s : Dimensions). AreMerged s first (list_of_clips clips tris GRADE_TOP near s winding) old new) sizes merged)))
+pub merged_as : (size size' : Dimensions) (first first' top top' near near' : ℕ) (winding winding' : Winding) (clips : List ClipVertex) (tris : List Tri) (old new : List TileOf) → size ≡ size' → first ≡ first' → top ≡ top' → near ≡ near' → winding ≡ winding'
+    → AreMerged size first (list_of_clips clips tris top near size winding) old new → AreMerged size' first' (list_of_clips clips tris top' near' size' winding') old new
+merged_as size size' first first' top top' near near' winding winding' clips tris old new sizes firsts tops nears windings merged =
+    subst (λ (w : Winding). AreMerged size' first' (list_of_clips clips tris top' near' size' w) old new) windings
+    (subst (λ n. AreMerged size' first' (list_of_clips clips tris top' n size' winding) old new) nears
+    (subst (λ n. AreMerged size' first' (list_of_clips clips tris n near size' winding) old new) tops
+    (subst (λ n. AreMerged size' n (list_of_clips clips tris top near size' winding) old new) firsts
+    (subst (λ (s : Dimensions). AreMerged s first (list_of_clips clips tris top near s winding) old new) sizes merged))))
 
 -- the tile that is read at a number
 pub read_at : (tiles : List TileOf) (n : ℕ) (t : TileOf) → n < length tiles → t ≡ get_or tiles n t → t ≡ tile_at tiles n

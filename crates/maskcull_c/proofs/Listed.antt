@@ -3,7 +3,6 @@ use Rattle.std.proofs.Common.{◌≡◌, inl, inr, ℕ, ◌+◌, ◌-◌, ◌*�
 use Rattle.std.proofs.lemmas.Bool.{cases_lt}
 use Rattle.std.proofs.lemmas.List.{get_or-append_right, get_or-map, get_or-set_other, get_or-set_same, get_or_append_left, length-append, length-map, length-set, length-take-le}
 use Rattle.cull_base.specs.declared.clip.ClipVertex.{ClipVertex}
-use Rattle.cull_base.specs.declared.nearness.TheConstants.{GRADE_TOP}
 use Rattle.cull_base.specs.declared.scene_types.Tri.{Tri}
 use Rattle.cull_base.specs.declared.triangle.Side.TheVariants.{Occluder}
 use Rattle.cull_base.specs.declared.triangle.Winding.{Winding}
@@ -62,29 +61,29 @@ listed_then at ps qs old mid new a b = record {
 }
 
 -- the pieces of one triangle more, by the vertices that were looked up
-pub more_pieces : (clips : List ClipVertex) (triangles : List Triangle) (near : ℕ) (size : Dimensions) (winding : Winding) (i : ℕ) (d : Triangle) (v : List ClipVertex) (ps : List Piece) → i < length triangles
+pub more_pieces : (clips : List ClipVertex) (triangles : List Triangle) (top near : ℕ) (size : Dimensions) (winding : Winding) (i : ℕ) (d : Triangle) (v : List ClipVertex) (ps : List Piece) → i < length triangles
     → corner v 0 ≡ clip_at clips (tri_of (get_or triangles i d)) 0 → corner v 1 ≡ clip_at clips (tri_of (get_or triangles i d)) 1 → corner v 2 ≡ clip_at clips (tri_of (get_or triangles i d)) 2
-    → ps ≡ pieces_of (corner v 0) (corner v 1) (corner v 2) GRADE_TOP near size winding Occluder
-    → list_of_clips clips (take i (map tri_of triangles)) GRADE_TOP near size winding ++ ps ≡ list_of_clips clips (take (i + 1) (map tri_of triangles)) GRADE_TOP near size winding
-more_pieces clips triangles near size winding i d v ps below e0 e1 e2 is =
+    → ps ≡ pieces_of (corner v 0) (corner v 1) (corner v 2) top near size winding Occluder
+    → list_of_clips clips (take i (map tri_of triangles)) top near size winding ++ ps ≡ list_of_clips clips (take (i + 1) (map tri_of triangles)) top near size winding
+more_pieces clips triangles top near size winding i d v ps below e0 e1 e2 is =
     let tris = map tri_of triangles in
     let none : Tri = record { 0 = [] } in
     let lt : i < length tris = omega (arith, below, length-map triangles tri_of) in
     let at : get_or tris i none ≡ tri_of (get_or triangles i d) = get_or-map tri_of triangles i d none below in
-    let these : ps ≡ pieces_at clips GRADE_TOP near size winding (get_or tris i none)
-    = is ∙ by_corners clips (corner v 0) (corner v 1) (corner v 2) GRADE_TOP near size winding (tri_of (get_or triangles i d)) e0 e1 e2
-    ∙ ap (λ (t : Tri). pieces_at clips GRADE_TOP near size winding t) (sym at) in
-    list_more clips tris GRADE_TOP near size winding i none (list_of_clips clips (take i tris) GRADE_TOP near size winding) ps lt refl these
+    let these : ps ≡ pieces_at clips top near size winding (get_or tris i none)
+    = is ∙ by_corners clips (corner v 0) (corner v 1) (corner v 2) top near size winding (tri_of (get_or triangles i d)) e0 e1 e2
+    ∙ ap (λ (t : Tri). pieces_at clips top near size winding t) (sym at) in
+    list_more clips tris top near size winding i none (list_of_clips clips (take i tris) top near size winding) ps lt refl these
 
 -- so many triangles have at most two pieces each
-pub most_pieces : (clips : List ClipVertex) (triangles : List Triangle) (near : ℕ) (size : Dimensions) (winding : Winding) (n : ℕ) → n ≤ length triangles → length (list_of_clips clips (take n (map tri_of triangles)) GRADE_TOP near size winding) ≤ 2 * n
-most_pieces clips triangles near size winding n le =
+pub most_pieces : (clips : List ClipVertex) (triangles : List Triangle) (top near : ℕ) (size : Dimensions) (winding : Winding) (n : ℕ) → n ≤ length triangles → length (list_of_clips clips (take n (map tri_of triangles)) top near size winding) ≤ 2 * n
+most_pieces clips triangles top near size winding n le =
     let tris = map tri_of triangles in
     let long : length (take n tris) ≡ n = length-take-le n tris (omega (arith, le, length-map triangles tri_of)) in
-    let most = list_most clips (take n tris) GRADE_TOP near size winding in
+    let most = list_most clips (take n tris) top near size winding in
     omega (arith, long, most)
 
--- the pieces under other names of the screen, the near distance and the winding
-pub pieces_as : (clips : List ClipVertex) (tris : List Tri) (size size' : Dimensions) (near near' : ℕ) (winding winding' : Winding) → size ≡ size' → near ≡ near' → winding ≡ winding'
-    → list_of_clips clips tris GRADE_TOP near size winding ≡ list_of_clips clips tris GRADE_TOP near' size' winding'
-pieces_as clips tris size size' near near' winding winding' sizes nears windings = rw (sizes, nears, windings) refl
+-- the pieces under other names of the top, the screen, the near distance and the winding
+pub pieces_as : (clips : List ClipVertex) (tris : List Tri) (top top' : ℕ) (size size' : Dimensions) (near near' : ℕ) (winding winding' : Winding) → top ≡ top' → size ≡ size' → near ≡ near' → winding ≡ winding'
+    → list_of_clips clips tris top near size winding ≡ list_of_clips clips tris top' near' size' winding'
+pieces_as clips tris top top' size size' near near' winding winding' tops sizes nears windings = rw (tops, sizes, nears, windings) refl

@@ -6,7 +6,6 @@ use Rattle.std.proofs.lemmas.List.{get_or-map, length-map, take_all}
 use Rattle.std.proofs.lemmas.List.Elements.{Contains-get_or}
 use Rattle.std.proofs.lemmas.List.Folds.{list_all-map}
 use Rattle.cull_base.specs.declared.clip.ClipVertex.{ClipVertex}
-use Rattle.cull_base.specs.declared.nearness.TheConstants.{GRADE_TOP}
 use Rattle.cull_base.specs.declared.place.Sub.{Sub}
 use Rattle.cull_base.specs.declared.rect.Rect.{Rect}
 use Rattle.cull_base.specs.declared.scene_types.Tri.{Tri}
@@ -49,16 +48,16 @@ pub all_tris : (ts : List Triangle) (n : ℕ) → length ts ≤ n → take n (ma
 all_tris ts n le = let e : length (map tri_of ts) ≡ length ts = simp length-map in take_all n (map tri_of ts) (omega (arith, e, le))
 
 -- what is known after one triangle more
-pub one_more : (f : Sub → State) (near : ℕ) (size : Dimensions) (clips : List ClipVertex) (tris : List Tri) (i : ℕ) (t : Tri) (x y : Progress) → i < length tris → get_or tris i no_tri ≡ t
-    → HasAsked f size (object_pieces GRADE_TOP near size clips (take i tris)) (near_boxes near size clips (take i tris)) at_first x
-    → HasAsked f size (object_pieces_at GRADE_TOP near size clips t) (option_to_list (near_box_at near size clips t)) x y
-    → HasAsked f size (object_pieces GRADE_TOP near size clips (take (i + 1) tris)) (near_boxes near size clips (take (i + 1) tris)) at_first y
-one_more f near size clips tris i t x y lt is before asked =
-    let both = both_asked f size (object_pieces GRADE_TOP near size clips (take i tris)) (object_pieces_at GRADE_TOP near size clips t)
+pub one_more : (f : Sub → State) (top near : ℕ) (size : Dimensions) (clips : List ClipVertex) (tris : List Tri) (i : ℕ) (t : Tri) (x y : Progress) → i < length tris → get_or tris i no_tri ≡ t
+    → HasAsked f size (object_pieces top near size clips (take i tris)) (near_boxes near size clips (take i tris)) at_first x
+    → HasAsked f size (object_pieces_at top near size clips t) (option_to_list (near_box_at near size clips t)) x y
+    → HasAsked f size (object_pieces top near size clips (take (i + 1) tris)) (near_boxes near size clips (take (i + 1) tris)) at_first y
+one_more f top near size clips tris i t x y lt is before asked =
+    let both = both_asked f size (object_pieces top near size clips (take i tris)) (object_pieces_at top near size clips t)
     (near_boxes near size clips (take i tris)) (option_to_list (near_box_at near size clips t)) at_first x y before asked in
-    let pieces = joined_more (object_pieces_at GRADE_TOP near size clips) tris i no_tri lt ∙ ap (λ (u : Tri). object_pieces GRADE_TOP near size clips (take i tris) ++ object_pieces_at GRADE_TOP near size clips u) is in
+    let pieces = joined_more (object_pieces_at top near size clips) tris i no_tri lt ∙ ap (λ (u : Tri). object_pieces top near size clips (take i tris) ++ object_pieces_at top near size clips u) is in
     let boxes = joined_more (λ u. option_to_list (near_box_at near size clips u)) tris i no_tri lt ∙ ap (λ (u : Tri). near_boxes near size clips (take i tris) ++ option_to_list (near_box_at near size clips u)) is in
-    subst (λ (bs : List Rect). HasAsked f size (object_pieces GRADE_TOP near size clips (take (i + 1) tris)) bs at_first y) (sym boxes)
+    subst (λ (bs : List Rect). HasAsked f size (object_pieces top near size clips (take (i + 1) tris)) bs at_first y) (sym boxes)
     (subst (λ (ps : List Piece). HasAsked f size ps (near_boxes near size clips (take i tris) ++ option_to_list (near_box_at near size clips t)) at_first y) (sym pieces) both)
 
 -- three vertices, each of which is known

@@ -1,7 +1,7 @@
 //! Rectangles, boxes and meshes, tested against what tiles hold.
 ghost use Rattle.std.specs.Prelude.{◌≡◌, ◌≤◌, ◌↔◌, IsTrue, length, map};
 ghost use Rattle.std.specs.List.{All};
-ghost use Rattle.cull_base.specs.declared.nearness.TheConstants.{GRADE_TOP};
+ghost use Rattle.cull_base.specs.Grade.{top_of};
 ghost use Rattle.rect_query.specs.Boxes.{box_shape};
 ghost use Rattle.rect_query.specs.Rectangles.{rectangle_shape};
 ghost use Rattle.maskcull_c.specs.Asked.{shape_of_area, shape_of_box, shape_of_mesh, verdict_over};
@@ -37,13 +37,20 @@ pub(crate) fn are_all(tiles: &[TileState], size: Size) -> bool
 }
 
 // A rectangle at distance w: visible before the near distance where it has a pixel in the screen.
-fn rectangle_verdict(tiles: &[TileState], size: Size, near: u16, rect: Rect, w: i32) -> Verdict
+fn rectangle_verdict(
+    tiles: &[TileState],
+    size: Size,
+    near: u16,
+    rect: Rect,
+    w: i32,
+    grade: Grade,
+) -> Verdict
     requires least { 1 ≤ near }
     requires most { near ≤ 1024 }
     requires all { AreAll size tiles.now }
-    ensures { result ≡ verdict_over size tiles.now (rectangle_shape GRADE_TOP near size rect w) }
+    ensures { result ≡ verdict_over size tiles.now (rectangle_shape (top_of grade) near size rect w) }
 {
-    match rect_near(w, near, Grade::Narrow) {
+    match rect_near(w, near, grade) {
         Some(q) => rect_test(&PlainView::new(tiles), size, rect, q),
         None => if rect.meets(&size.screen()) {
             Verdict::Visible
@@ -71,14 +78,20 @@ fn clips(corners: &Corners) -> [ClipVertex; 8]
 }
 
 // A box, by its eight corners.
-fn box_verdict(tiles: &[TileState], size: Size, near: u16, corners: &Corners) -> Verdict
+fn box_verdict(
+    tiles: &[TileState],
+    size: Size,
+    near: u16,
+    corners: &Corners,
+    grade: Grade,
+) -> Verdict
     requires least { 1 ≤ near }
     requires most { near ≤ 1024 }
     requires all { AreAll size tiles.now }
     ensures { result ≡ verdict_over size tiles.now
-        (box_shape GRADE_TOP near size (map clip_of corners.now.corners)) }
+        (box_shape (top_of grade) near size (map clip_of corners.now.corners)) }
 {
-    match box_rect(&clips(corners), near, size, Grade::Narrow) {
+    match box_rect(&clips(corners), near, size, grade) {
         BoxAnswer::Outside => Verdict::Outside,
         BoxAnswer::Straddles => Verdict::Visible,
         BoxAnswer::At { rect, q } => rect_test(&PlainView::new(tiles), size, rect, q),
@@ -104,7 +117,14 @@ pub extern "C" fn maskcull_test(setup: &Setup, tiles: &[TileState], area: &Area,
     if !are_all(tiles, checked.size) {
         return BAD_TILES;
     }
-    code(rectangle_verdict(tiles, checked.size, checked.near, area.rect(), w))
+    code(rectangle_verdict(
+        tiles,
+        checked.size,
+        checked.near,
+        area.rect(),
+        w,
+        checked.grade,
+    ))
 }
 
 /// Tests a box by the clip vertices of its corners, as a rectangle around them that is as near as the nearest: visible
@@ -126,7 +146,7 @@ pub extern "C" fn maskcull_test_box(setup: &Setup, tiles: &[TileState], corners:
     if !are_all(tiles, checked.size) {
         return BAD_TILES;
     }
-    code(box_verdict(tiles, checked.size, checked.near, corners))
+    code(box_verdict(tiles, checked.size, checked.near, corners, checked.grade))
 }
 
 /// Tests a mesh by its triangles, which are taken from both sides: visible where a vertex is past the guard, outside
@@ -161,5 +181,12 @@ pub extern "C" fn maskcull_test_mesh(
     if !are_among(triangles, vertices.len()) {
         return BAD_INDEX;
     }
-    code(mesh_verdict(tiles, checked.size, checked.near, vertices, triangles))
+    code(mesh_verdict(
+        tiles,
+        checked.size,
+        checked.near,
+        vertices,
+        triangles,
+        checked.grade,
+    ))
 }

@@ -118,3 +118,36 @@ fn what_is_asked_wrongly_is_refused(rt: HostRuntime) -> Result<(), Fail> {
     assert_eq!(rt; mesh(&three, &[ONE, NEXT])?, BAD_INDEX);
     Ok(())
 }
+
+// A wall over the screen at distance 4000, near distance 16: nearness 67108, and 262 in the narrow grade. At 4001 an
+// area has 67093, and 263 there; at 4000 it has 67109 and 263.
+#[test]
+fn an_area_just_behind_a_wall_is_hidden_in_the_wide_grade(rt: HostRuntime) {
+    let wall = [
+        at(-4000, 4000, 4000),
+        at(4000, 4000, 4000),
+        at(4000, -4000, 4000),
+        at(-4000, -4000, 4000),
+    ];
+    let screen = area(0, 0, 32, 8);
+    for (winding, behind) in [(WIDE, OCCLUDED), (WIDE + 2, OCCLUDED), (0, VISIBLE)] {
+        let asked = setup(32, 8, 16, winding);
+        let mut tiles = [TileState::empty(); 1];
+        assert_eq!(rt;
+            maskcull_draw(&asked, &mut tiles, &wall, &[ONE, NEXT]),
+            DONE
+        );
+        assert_eq!(rt; maskcull_test(&asked, &tiles, &screen, 4001), behind);
+        assert_eq!(rt; maskcull_test(&asked, &tiles, &screen, 4000), VISIBLE);
+        let beyond = [
+            at(-4001, 4001, 4001),
+            at(4001, 4001, 4001),
+            at(4001, -4001, 4001),
+            at(-4001, -4001, 4001),
+        ];
+        assert_eq!(rt;
+            maskcull_test_mesh(&asked, &tiles, &beyond, &[ONE, NEXT]),
+            behind
+        );
+    }
+}

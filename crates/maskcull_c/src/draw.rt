@@ -1,7 +1,7 @@
 //! Occluder triangles, drawn after all that were drawn before.
 ghost use Rattle.std.specs.Prelude.{◌≡◌, ◌≢◌, ℕ, ◌<◌, ◌≤◌, ◌⊎◌, length, map, MatchOption};
 ghost use Rattle.std.specs.List.{All};
-ghost use Rattle.cull_base.specs.declared.nearness.TheConstants.{GRADE_TOP};
+ghost use Rattle.cull_base.specs.Grade.{top_of};
 ghost use Rattle.masked_update.specs.TileOf.{tile_at};
 ghost use Rattle.snap_setup.specs.Pieces.{list_of_clips};
 ghost use Rattle.maskcull_c.specs.Bands.{Adds, AreMerged, IsBand, first_in};
@@ -12,7 +12,7 @@ ghost use Rattle.maskcull_c.specs.declared.status.TheConstants.{DONE, BAD_SETUP,
 use crate::band::draw_piece;
 use crate::given::{Checked, Setup, Triangle, Vertex, are_among, clips_of};
 use crate::status::{BAD_INDEX, BAD_SETUP, BAD_TILES, DONE};
-use cull_base::{Side, Size, TileSpan, Winding};
+use cull_base::{Side, Size, TileSpan};
 use masked_update::TileState;
 use snap_setup::{Pieces, set_up};
 
@@ -33,21 +33,21 @@ fn draw_triangles(
     window: TileSpan,
     vertices: &[Vertex],
     triangles: &[Triangle],
-    near: u16,
-    size: Size,
-    winding: Winding,
+    checked: &Checked,
 )
-    requires band { IsBand size window tiles.old }
-    requires near_least { 1 ≤ near }
-    requires near_most { near ≤ 1024 }
+    requires band { IsBand checked.now.size window tiles.old }
+    requires near_least { 1 ≤ checked.now.near }
+    requires near_most { checked.now.near ≤ 1024 }
     requires indices { All (IsAmong (length vertices.now)) triangles.now }
-    ensures { AreMerged size (first_in size window)
-        (list_of_clips (map clip_of vertices.now) (map tri_of triangles.now) GRADE_TOP near size winding)
+    ensures { let c = checked.now in AreMerged c.size (first_in c.size window)
+        (list_of_clips (map clip_of vertices.now) (map tri_of triangles.now) (top_of c.grade) c.near c.size c.winding)
         tiles.old tiles.new }
 {
+    let (near, size) = (checked.near, checked.size);
+    let (winding, grade) = (checked.winding, checked.grade);
     for triangle in triangles {
         let clips = clips_of(vertices, triangle);
-        let pieces = set_up(&clips, near, size, winding, Side::Occluder);
+        let pieces = set_up(&clips, near, size, winding, Side::Occluder, grade);
         draw_pieces(tiles, window, &pieces, size);
     }
 }
@@ -64,8 +64,8 @@ fn draw_onto(
     requires near_least { 1 ≤ checked.now.near }
     requires near_most { checked.now.near ≤ 1024 }
     ensures merged { result ≡ DONE → AreMerged checked.now.size (first_in checked.now.size window)
-        (list_of_clips (map clip_of vertices.now) (map tri_of triangles.now) GRADE_TOP checked.now.near
-        checked.now.size checked.now.winding) tiles.old tiles.new }
+        (list_of_clips (map clip_of vertices.now) (map tri_of triangles.now) (top_of checked.now.grade)
+        checked.now.near checked.now.size checked.now.winding) tiles.old tiles.new }
     ensures counts { (t : ℕ) → t < length tiles.old
         → (tile_at tiles.new t).count ≡ (tile_at tiles.old t).count }
     ensures accepted { All (IsAmong (length vertices.now)) triangles.now → result ≡ DONE }
@@ -76,15 +76,7 @@ fn draw_onto(
     if !are_among(triangles, vertices.len()) {
         return BAD_INDEX;
     }
-    draw_triangles(
-        tiles,
-        window,
-        vertices,
-        triangles,
-        checked.near,
-        checked.size,
-        checked.winding,
-    );
+    draw_triangles(tiles, window, vertices, triangles, checked);
     DONE
 }
 

@@ -1,15 +1,18 @@
 //! What a caller hands over.
-ghost use Rattle.std.specs.Prelude.{◌≡◌, ◌↔◌, IsTrue, IfSome, MatchOption, length, map};
+ghost use Rattle.std.specs.Prelude.{◌≡◌, ◌≤◌, ◌/◌, ◌%◌, ◌↔◌, IsTrue, IfSome, MatchOption, length, map};
 ghost use Rattle.std.specs.List.{All};
 ghost use Rattle.cull_base.specs.Screen.{IsSize, dimensions};
 ghost use Rattle.near_clip.specs.NearPart.{corner};
 ghost use Rattle.snap_setup.specs.Pieces.{clip_at};
-ghost use Rattle.maskcull_c.specs.Given.{IsAmong, IsSetup, size_of, winding_of, clip_of, tri_of, rect_of};
+ghost use Rattle.maskcull_c.specs.Given.{IsAmong, IsSetup, grade_of, size_of, winding_of, clip_of, tri_of, rect_of};
 
-use cull_base::{ClipVertex, Rect, Size, Winding};
+use cull_base::{ClipVertex, Grade, Rect, Size, Winding};
+
+/// What is added to a winding in a setup where the grade of nearness is wide.
+pub const WIDE: u32 = 16;
 
 /// A screen in pixels, the near distance, and which triangles are dropped: 0 none, 1 those that run clockwise on the
-/// screen, 2 the others.
+/// screen, 2 the others. With `WIDE` more the grade of nearness is wide.
 #[derive(Clone, Copy)]
 #[repr(C)]
 pub struct Setup {
@@ -60,12 +63,13 @@ pub(crate) struct Checked {
     pub(crate) size: Size,
     pub(crate) near: u16,
     pub(crate) winding: Winding,
+    pub(crate) grade: Grade,
 }
 
 fn winding_of(number: u32) -> Winding
     ensures { result ≡ winding_of number }
 {
-    match number {
+    match number % WIDE {
         0 => Winding::Both,
         1 => Winding::DropClockwise,
         _ => Winding::DropCounter,
@@ -83,21 +87,40 @@ pub(crate) fn size_from(width: u32, height: u32) -> Option<Size>
 }
 
 impl Setup {
-    /// None exactly where the size, the near distance or the winding is none.
+    fn grade(&self) -> Grade
+        ensures { result ≡ grade_of self.now }
+    {
+        if self.winding / WIDE == 0 {
+            Grade::Narrow
+        } else {
+            Grade::Wide
+        }
+    }
+
+    // Whether there is a winding of this number, and a grade.
+    fn is_drawn(&self) -> bool
+        ensures { IsTrue result ↔ (self.now.winding % WIDE ≤ 2) × (self.now.winding / WIDE ≤ 1) }
+    {
+        self.winding % WIDE <= 2 && self.winding / WIDE <= 1
+    }
+
+    /// None exactly where the size, the near distance, the winding or the grade is none.
     pub(crate) fn checked(&self) -> Option<Checked>
         ensures none { MatchOption result (IsSetup self.now → ⊥) (λ c. IsSetup self.now) }
         ensures size { IfSome result (λ c. c.size ≡ size_of self.now) }
         ensures near { IfSome result (λ c. c.near ≡ self.now.near) }
         ensures winding { IfSome result (λ c. c.winding ≡ winding_of self.now.winding) }
+        ensures grade { IfSome result (λ c. c.grade ≡ grade_of self.now) }
     {
         let size = size_from(self.width, self.height)?;
-        if self.near < 1 || self.near > 1024 || self.winding > 2 {
+        if self.near < 1 || self.near > 1024 || !self.is_drawn() {
             return None;
         }
         Some(Checked {
             size,
             near: self.near as u16,
             winding: winding_of(self.winding),
+            grade: self.grade(),
         })
     }
 }

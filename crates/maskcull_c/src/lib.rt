@@ -22,7 +22,7 @@ mod tiles;
 
 pub use ask::{maskcull_test, maskcull_test_box, maskcull_test_mesh};
 pub use draw::{maskcull_draw, maskcull_draw_band};
-pub use given::{Area, Corners, Setup, Triangle, Vertex};
+pub use given::{Area, Corners, Setup, Triangle, Vertex, WIDE};
 pub use laws::{after_is_sound, bands_join, part_cleared, slices_join};
 pub use picture::maskcull_nearness;
 pub use pieces::{ListedPiece, PieceRoom, maskcull_draw_pieces};

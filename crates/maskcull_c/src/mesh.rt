@@ -1,7 +1,7 @@
 //! Meshes in the caller's memory, asked triangle by triangle.
 ghost use Rattle.std.specs.Prelude.{◌≡◌, ◌≤◌, false, length, map};
 ghost use Rattle.std.specs.List.{All, list_all, list_any};
-ghost use Rattle.cull_base.specs.declared.nearness.TheConstants.{GRADE_TOP};
+ghost use Rattle.cull_base.specs.Grade.{top_of};
 ghost use Rattle.cull_base.specs.Guard.{is_past_guard};
 ghost use Rattle.cull_base.specs.Screen.{IsSize};
 ghost use Rattle.masked_update.specs.TileOf.{tile_at};
@@ -14,7 +14,7 @@ ghost use Rattle.maskcull_c.specs.Tiles.{AreAll};
 
 use crate::given::{Triangle, Vertex, clips_of};
 use camera_path::{is_behind, past_guard};
-use cull_base::{Size, Verdict};
+use cull_base::{Grade, Size, Verdict};
 use masked_update::{PlainView, TileState};
 use mesh_query::{Progress, ask_triangle};
 
@@ -64,6 +64,7 @@ fn ask_triangles(
     near: u16,
     vertices: &[Vertex],
     triangles: &[Triangle],
+    grade: Grade,
 ) -> Option<Progress>
     requires least { 1 ≤ near }
     requires most { near ≤ 1024 }
@@ -73,7 +74,7 @@ fn ask_triangles(
     requires guarded { at_some_vertex (map clip_of vertices.now) (λ v. is_past_guard v near)
         (map tri_of triangles.now) ≡ false }
     ensures { Tells (state_in size (tile_at tiles.now)) size
-        (object_pieces GRADE_TOP near size (map clip_of vertices.now) (map tri_of triangles.now))
+        (object_pieces (top_of grade) near size (map clip_of vertices.now) (map tri_of triangles.now))
         (near_boxes near size (map clip_of vertices.now) (map tri_of triangles.now)) at_first result }
 {
     let view = PlainView::new(tiles);
@@ -82,7 +83,7 @@ fn ask_triangles(
         touched: false,
     };
     for triangle in triangles {
-        now = ask_triangle(&view, size, near, &clips_of(vertices, triangle), now)?;
+        now = ask_triangle(&view, size, near, &clips_of(vertices, triangle), now, grade)?;
     }
     Some(now)
 }
@@ -96,13 +97,14 @@ pub(crate) fn mesh_verdict(
     near: u16,
     vertices: &[Vertex],
     triangles: &[Triangle],
+    grade: Grade,
 ) -> Verdict
     requires least { 1 ≤ near }
     requires most { near ≤ 1024 }
     requires all { AreAll size tiles.now }
     requires among { All (IsAmong (length vertices.now)) triangles.now }
     ensures { result ≡ verdict_over size tiles.now
-        (mesh_shape GRADE_TOP near size (map clip_of vertices.now) (map tri_of triangles.now)) }
+        (mesh_shape (top_of grade) near size (map clip_of vertices.now) (map tri_of triangles.now)) }
 {
     // an accessor tells what is held of a size
     let _width = size.width();
@@ -112,7 +114,7 @@ pub(crate) fn mesh_verdict(
     if is_one_past_guard(vertices, triangles, near) {
         return Verdict::Visible;
     }
-    match ask_triangles(tiles, size, near, vertices, triangles) {
+    match ask_triangles(tiles, size, near, vertices, triangles, grade) {
         None => Verdict::Visible,
         Some(found) => if !found.met {
             Verdict::Outside

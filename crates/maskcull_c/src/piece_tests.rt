@@ -1,6 +1,6 @@
 //! Triangles that are set up once and drawn piece by piece, room for pieces, and pictures of what tiles hold.
 use super::*;
-use crate::tests::{QUAD, SETUP, VERTICES, WIDE, assert_alike, held};
+use crate::tests::{FOUR_TILES, QUAD, SETUP, VERTICES, assert_alike, held};
 use cull_base::ScreenTri;
 use masked_update::TileState;
 use std::test::Fail;
@@ -90,7 +90,7 @@ fn draw_one(
     room: &PieceRoom,
 ) -> Result<u32, &'static str> {
     let tri = ScreenTri::new(room.x, room.y, room.q).ok_or("a piece")?;
-    Ok(maskcull_draw_pieces(&WIDE, tiles, first_row, &[ListedPiece::of(&tri)]))
+    Ok(maskcull_draw_pieces(&FOUR_TILES, tiles, first_row, &[ListedPiece::of(&tri)]))
 }
 
 // Sets triangles up in slices of so many, and draws piece by piece. How many pieces there were.
@@ -101,7 +101,7 @@ fn draw_in_slices(tiles: &mut [TileState], most: usize) -> Result<usize, &'stati
     for _ in 0..FAN.len() {
         let (slice, others) = left.split_at(most.min(left.len()));
         let mut count = 0;
-        if maskcull_set_up(&WIDE, &POINTS, slice, &mut room, &mut count) != DONE {
+        if maskcull_set_up(&FOUR_TILES, &POINTS, slice, &mut room, &mut count) != DONE {
             return Err("a slice");
         }
         for written in room.iter().take(count) {
@@ -118,7 +118,7 @@ fn draw_in_slices(tiles: &mut [TileState], most: usize) -> Result<usize, &'stati
 #[test]
 fn slices_drawn_piece_by_piece_are_one_draw(rt: HostRuntime) -> Result<(), Fail> {
     let mut whole = [TileState::empty(); 4];
-    assert_eq!(rt; maskcull_draw(&WIDE, &mut whole, &POINTS, &FAN), DONE);
+    assert_eq!(rt; maskcull_draw(&FOUR_TILES, &mut whole, &POINTS, &FAN), DONE);
     slices_join();
     for most in [1, 7, 8] {
         let mut tiles = [TileState::empty(); 4];
@@ -135,14 +135,17 @@ fn pieces_are_drawn_onto_rows_of_the_screen(rt: HostRuntime) -> Result<(), Fail>
     let mut count = 0;
     let mut tiles = [TileState::empty(); 2];
     assert_eq!(rt;
-        maskcull_set_up(&WIDE, &VERTICES, &QUAD, &mut room, &mut count),
+        maskcull_set_up(&FOUR_TILES, &VERTICES, &QUAD, &mut room, &mut count),
         DONE
     );
     for piece in &room[..2] {
         assert_eq!(rt; draw_one(&mut tiles, 2, piece)?, BAD_TILES);
         assert_eq!(rt; draw_one(&mut tiles[..1], 0, piece)?, BAD_TILES);
     }
-    let wrong = Setup { winding: 3, ..WIDE };
+    let wrong = Setup {
+        winding: 3,
+        ..FOUR_TILES
+    };
     assert_eq!(rt; maskcull_draw_pieces(&wrong, &mut tiles, 0, &[]), BAD_SETUP);
     assert_eq!(rt; held(&tiles, 1, 7), (0, 0, 0));
     for piece in &room[..2] {

@@ -1,7 +1,7 @@
 //! Occluder triangles, set up once: their pieces are written into room of the caller's.
 ghost use Rattle.std.specs.Prelude.{◌≡◌, ◌≢◌, ◌+◌, ◌≤◌, length, map};
 ghost use Rattle.std.specs.List.{All};
-ghost use Rattle.cull_base.specs.declared.nearness.TheConstants.{GRADE_TOP};
+ghost use Rattle.cull_base.specs.Grade.{top_of};
 ghost use Rattle.snap_setup.specs.Pieces.{list_of_clips};
 ghost use Rattle.maskcull_c.specs.Given.{IsAmong, IsSetup, clip_of, pieces_drawn, tri_of};
 ghost use Rattle.maskcull_c.specs.Pieces.{AreListed, HasRoom};
@@ -10,7 +10,7 @@ ghost use Rattle.maskcull_c.specs.declared.status.TheConstants.{DONE, BAD_SETUP,
 use crate::given::{Setup, Triangle, Vertex, are_among, clips_of};
 use crate::pieces::PieceRoom;
 use crate::status::{BAD_INDEX, BAD_ROOM, BAD_SETUP, DONE};
-use cull_base::{Side, Size, Winding};
+use cull_base::{Grade, Side, Size, Winding};
 use snap_setup::{Pieces, set_up};
 
 // Writes pieces from one place on, and tells the place after them.
@@ -34,21 +34,22 @@ fn list_triangles(
     near: u16,
     size: Size,
     winding: Winding,
+    grade: Grade,
 ) -> usize
     requires near_least { 1 ≤ near }
     requires near_most { near ≤ 1024 }
     requires indices { All (IsAmong (length vertices.now)) triangles.now }
     requires room { HasRoom triangles.now rooms.old }
     ensures count { result ≡ length
-        (list_of_clips (map clip_of vertices.now) (map tri_of triangles.now) GRADE_TOP near size winding) }
+        (list_of_clips (map clip_of vertices.now) (map tri_of triangles.now) (top_of grade) near size winding) }
     ensures listed { AreListed 0
-        (list_of_clips (map clip_of vertices.now) (map tri_of triangles.now) GRADE_TOP near size winding)
+        (list_of_clips (map clip_of vertices.now) (map tri_of triangles.now) (top_of grade) near size winding)
         rooms.old rooms.new }
 {
     let mut at = 0;
     for triangle in triangles {
         let clips = clips_of(vertices, triangle);
-        let pieces = set_up(&clips, near, size, winding, Side::Occluder);
+        let pieces = set_up(&clips, near, size, winding, Side::Occluder, grade);
         at = put_pieces(rooms, at, &pieces);
     }
     at
@@ -95,6 +96,7 @@ pub extern "C" fn maskcull_set_up(
         checked.near,
         checked.size,
         checked.winding,
+        checked.grade,
     );
     DONE
 }

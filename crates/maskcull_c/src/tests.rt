@@ -13,7 +13,7 @@ pub const SETUP: Setup = Setup {
 };
 
 /// Two tiles side by side, in two rows.
-pub const WIDE: Setup = Setup {
+pub const FOUR_TILES: Setup = Setup {
     width: 64,
     height: 16,
     near: 1,
@@ -107,6 +107,9 @@ fn a_refusal_leaves_the_tiles(rt: HostRuntime) -> Result<(), Fail> {
         (setup(32, 2052, 1, 0), QUAD, BAD_SETUP),
         (setup(32, 8, 0, 0), QUAD, BAD_SETUP),
         (setup(32, 8, 1, 3), QUAD, BAD_SETUP),
+        (setup(32, 8, 1, 15), QUAD, BAD_SETUP),
+        (setup(32, 8, 1, WIDE + 3), QUAD, BAD_SETUP),
+        (setup(32, 8, 1, 2 * WIDE), QUAD, BAD_SETUP),
         (setup(32, 16, 1, 0), QUAD, BAD_TILES),
         (setup(32, 8, 1, 0), beyond, BAD_INDEX),
     ];
@@ -123,7 +126,7 @@ fn a_refusal_leaves_the_tiles(rt: HostRuntime) -> Result<(), Fail> {
         BAD_TILES
     );
     assert_eq!(rt;
-        maskcull_draw_band(&WIDE, &mut tiles, 0, &VERTICES, &QUAD),
+        maskcull_draw_band(&FOUR_TILES, &mut tiles, 0, &VERTICES, &QUAD),
         BAD_TILES
     );
     assert_eq!(rt; held(&tiles, 0, 4), (0, 0, 0));
@@ -133,15 +136,18 @@ fn a_refusal_leaves_the_tiles(rt: HostRuntime) -> Result<(), Fail> {
 #[test]
 fn rows_of_tiles_make_the_screen(rt: HostRuntime) -> Result<(), Fail> {
     let mut whole = [TileState::empty(); 4];
-    assert_eq!(rt; maskcull_draw(&WIDE, &mut whole, &VERTICES, &SLANTED), DONE);
+    assert_eq!(rt;
+        maskcull_draw(&FOUR_TILES, &mut whole, &VERTICES, &SLANTED),
+        DONE
+    );
     let mut rows = [TileState::empty(); 4];
     let (upper, lower) = rows.split_at_mut(2);
     assert_eq!(rt;
-        maskcull_draw_band(&WIDE, lower, 1, &VERTICES, &SLANTED),
+        maskcull_draw_band(&FOUR_TILES, lower, 1, &VERTICES, &SLANTED),
         DONE
     );
     assert_eq!(rt;
-        maskcull_draw_band(&WIDE, upper, 0, &VERTICES, &SLANTED),
+        maskcull_draw_band(&FOUR_TILES, upper, 0, &VERTICES, &SLANTED),
         DONE
     );
     bands_join();
@@ -153,25 +159,31 @@ fn rows_of_tiles_make_the_screen(rt: HostRuntime) -> Result<(), Fail> {
 fn each_row_hides_by_what_was_drawn_onto_it(rt: HostRuntime) -> Result<(), Fail> {
     let (upper, lower) = (area(0, 0, 64, 8), area(0, 8, 64, 16));
     let mut tiles = [TileState::empty(); 4];
-    assert_eq!(rt; maskcull_draw(&WIDE, &mut tiles, &VERTICES, &QUAD), DONE);
-    assert_eq!(rt; maskcull_test(&WIDE, &tiles, &lower, 3), OCCLUDED);
+    assert_eq!(rt;
+        maskcull_draw(&FOUR_TILES, &mut tiles, &VERTICES, &QUAD),
+        DONE
+    );
+    assert_eq!(rt; maskcull_test(&FOUR_TILES, &tiles, &lower, 3), OCCLUDED);
     let (_, second_row) = tiles.split_at_mut(2);
     maskcull_clear(second_row);
     part_cleared();
-    assert_eq!(rt; maskcull_test(&WIDE, &tiles, &upper, 3), OCCLUDED);
-    assert_eq!(rt; maskcull_test(&WIDE, &tiles, &lower, 5), VISIBLE);
+    assert_eq!(rt; maskcull_test(&FOUR_TILES, &tiles, &upper, 3), OCCLUDED);
+    assert_eq!(rt; maskcull_test(&FOUR_TILES, &tiles, &lower, 5), VISIBLE);
     let (_, second_row) = tiles.split_at_mut(2);
     assert_eq!(rt;
-        maskcull_draw_band(&WIDE, second_row, 1, &FARTHER, &QUAD),
+        maskcull_draw_band(&FOUR_TILES, second_row, 1, &FARTHER, &QUAD),
         DONE
     );
     after_is_sound();
-    assert_eq!(rt; maskcull_test(&WIDE, &tiles, &upper, 3), OCCLUDED);
-    assert_eq!(rt; maskcull_test(&WIDE, &tiles, &lower, 3), VISIBLE);
-    assert_eq!(rt; maskcull_test(&WIDE, &tiles, &lower, 5), OCCLUDED);
+    assert_eq!(rt; maskcull_test(&FOUR_TILES, &tiles, &upper, 3), OCCLUDED);
+    assert_eq!(rt; maskcull_test(&FOUR_TILES, &tiles, &lower, 3), VISIBLE);
+    assert_eq!(rt; maskcull_test(&FOUR_TILES, &tiles, &lower, 5), OCCLUDED);
     // and all rows again
-    assert_eq!(rt; maskcull_draw(&WIDE, &mut tiles, &VERTICES, &QUAD), DONE);
-    assert_eq!(rt; maskcull_test(&WIDE, &tiles, &lower, 3), OCCLUDED);
+    assert_eq!(rt;
+        maskcull_draw(&FOUR_TILES, &mut tiles, &VERTICES, &QUAD),
+        DONE
+    );
+    assert_eq!(rt; maskcull_test(&FOUR_TILES, &tiles, &lower, 3), OCCLUDED);
     Ok(())
 }
 

@@ -4,12 +4,13 @@ use Rattle.std.specs.List.{fold, Contains}
 use Rattle.std.proofs.lemmas.Int.{ints}
 use Rattle.std.proofs.lemmas.Bool.{both_ways}
 use Rattle.cull_base.specs.declared.clip.ClipVertex.{ClipVertex}
-use Rattle.cull_base.specs.declared.nearness.TheConstants.{GRADE_TOP}
+use Rattle.cull_base.specs.declared.nearness.Grade.{Grade}
 use Rattle.cull_base.specs.declared.place.Sub.{Sub}
 use Rattle.cull_base.specs.declared.rect.Rect.{Rect}
 use Rattle.cull_base.specs.declared.scene_types.Tri.{Tri}
 use Rattle.cull_base.specs.declared.triangle.Side.TheVariants.{Object}
 use Rattle.cull_base.specs.declared.triangle.Winding.TheVariants.{Both}
+use Rattle.cull_base.specs.Grade.{top_of}
 use Rattle.cull_base.specs.Guard.{is_past_guard}
 use Rattle.cull_base.specs.NearPlane.{is_behind}
 use Rattle.cull_base.specs.Screen.{Dimensions, IsSize}
@@ -112,17 +113,17 @@ HasPieces AlwaysVisible = Unit {0}
 HasPieces (Flat r q) = Unit {0}
 HasPieces (Pieces ps hull) = (t : Piece) → Contains ps t → IsPiece t × IsWithin (box_of t) hull
 
-pub mesh_has_pieces : (near : ℕ) (size : Dimensions) (clips : List ClipVertex) (tris : List Tri) → IsSize size.width size.height → 1 ≤ near → near ≤ 1024 → HasPieces (mesh_shape GRADE_TOP near size clips tris)
+pub mesh_has_pieces : (grade : Grade) (near : ℕ) (size : Dimensions) (clips : List ClipVertex) (tris : List Tri) → IsSize size.width size.height → 1 ≤ near → near ≤ 1024 → HasPieces (mesh_shape (top_of grade) near size clips tris)
 unfolding mesh_shape
-mesh_has_pieces near size clips tris valid hn le = by (at_each_vertex clips (is_behind near) tris) (at_some_vertex clips (λ v. is_past_guard v near) tris) (is_one_on_screen size (near_boxes near size clips tris))
+mesh_has_pieces grade near size clips tris valid hn le = by (at_each_vertex clips (is_behind near) tris) (at_some_vertex clips (λ v. is_past_guard v near) tris) (is_one_on_screen size (near_boxes near size clips tris))
   where
-    by : (a b c : Bool) → HasPieces (cond a AlwaysOutside (cond b AlwaysVisible (cond c (Pieces (object_pieces GRADE_TOP near size clips tris) (hull_of (near_boxes near size clips tris))) AlwaysOutside)))
+    by : (a b c : Bool) → HasPieces (cond a AlwaysOutside (cond b AlwaysVisible (cond c (Pieces (object_pieces (top_of grade) near size clips tris) (hull_of (near_boxes near size clips tris))) AlwaysOutside)))
     by true b c = tt
     by false true c = tt
     by false false false = tt
     by false false true = λ t m.
-        let (tri, n, among) = from_joined (object_pieces_at GRADE_TOP near size clips) tris t m in
-        let box = piece_in_near_box (clip_at clips tri 0) (clip_at clips tri 1) (clip_at clips tri 2) GRADE_TOP near size Both Object t among in (
-          held_by_member IsPiece _ t (pieces_are (clip_at clips tri 0) (clip_at clips tri 1) (clip_at clips tri 2) near size Both Object valid hn le) among,
+        let (tri, n, among) = from_joined (object_pieces_at (top_of grade) near size clips) tris t m in
+        let box = piece_in_near_box (clip_at clips tri 0) (clip_at clips tri 1) (clip_at clips tri 2) (top_of grade) near size Both Object t among in (
+          held_by_member IsPiece _ t (pieces_are (clip_at clips tri 0) (clip_at clips tri 1) (clip_at clips tri 2) grade near size Both Object valid hn le) among,
           within_all (box_of t) box.rect (hull_of (near_boxes near size clips tris)) box.within (hull_holds (near_boxes near size clips tris) box.rect (box_among near size clips tris tri box.rect n box.is)),
         )

@@ -6,7 +6,7 @@ use Rattle.std.specs.List.{All, Contains}
 use Rattle.std.specs.Cmp.{both_ways as equal}
 use Rattle.std.proofs.lemmas.Bool.{both_ways, false_from_ne_true}
 use Rattle.cull_base.specs.declared.clip.ClipVertex.{ClipVertex}
-use Rattle.cull_base.specs.declared.nearness.TheConstants.{GRADE_TOP}
+use Rattle.cull_base.specs.declared.nearness.Grade.{Grade}
 use Rattle.cull_base.specs.declared.place.Sub.{Sub}
 use Rattle.cull_base.specs.declared.rect.Rect.{Rect}
 use Rattle.cull_base.specs.declared.scene_types.Tri.{Tri}
@@ -14,6 +14,7 @@ use Rattle.cull_base.specs.declared.scene_types.Verdict.{Verdict}
 use Rattle.cull_base.specs.declared.scene_types.Verdict.TheVariants.{Visible, Occluded, Outside}
 use Rattle.cull_base.specs.declared.triangle.Side.TheVariants.{Object}
 use Rattle.cull_base.specs.declared.triangle.Winding.TheVariants.{Both}
+use Rattle.cull_base.specs.Grade.{top_of}
 use Rattle.cull_base.specs.Guard.{is_past_guard}
 use Rattle.cull_base.specs.NearPlane.{is_behind}
 use Rattle.cull_base.specs.Screen.{Dimensions, IsSize, screen_of, tile_rect_of}
@@ -35,20 +36,20 @@ use Rattle.mesh_query.proofs.Boxes.{touched_meets, tile_meets_screen, tile_meets
 use Rattle.mesh_query.proofs.Members.{first_of_list, one_holds, one_that_holds, each_holds, each_from, part_of_joined, from_joined, all_some}
 
 -- what the vertices decide
-pub early_decides : (near : ℕ) (size : Dimensions) (clips : List ClipVertex) (tris : List Tri) (f : Sub → State) (v : Verdict) → early_verdict_of near clips tris ≡ Some v → verdict_of size f (mesh_shape GRADE_TOP near size clips tris) ≡ v
+pub early_decides : (top near : ℕ) (size : Dimensions) (clips : List ClipVertex) (tris : List Tri) (f : Sub → State) (v : Verdict) → early_verdict_of near clips tris ≡ Some v → verdict_of size f (mesh_shape top near size clips tris) ≡ v
 unfolding mesh_shape
-early_decides near size clips tris f v e = by (at_each_vertex clips (is_behind near) tris) (at_some_vertex clips (λ u. is_past_guard u near) tris) e
+early_decides top near size clips tris f v e = by (at_each_vertex clips (is_behind near) tris) (at_some_vertex clips (λ u. is_past_guard u near) tris) e
   where
-    by : (a b : Bool) → cond a (Some Outside) (cond b (Some Visible) None) ≡ Some v → verdict_of size f (cond a AlwaysOutside (cond b AlwaysVisible (cond (is_one_on_screen size (near_boxes near size clips tris)) (Pieces (object_pieces GRADE_TOP near size clips tris) (hull_of (near_boxes near size clips tris))) AlwaysOutside))) ≡ v
+    by : (a b : Bool) → cond a (Some Outside) (cond b (Some Visible) None) ≡ Some v → verdict_of size f (cond a AlwaysOutside (cond b AlwaysVisible (cond (is_one_on_screen size (near_boxes near size clips tris)) (Pieces (object_pieces top near size clips tris) (hull_of (near_boxes near size clips tris))) AlwaysOutside))) ≡ v
     by true b e = cc
     by false true e = cc
     by false false e = absurd cc
 
-pub early_area : (near : ℕ) (size : Dimensions) (clips : List ClipVertex) (tris : List Tri) → is_some (early_verdict_of near clips tris) ≡ true → area_of size (mesh_shape GRADE_TOP near size clips tris) ≡ no_pixels
+pub early_area : (top near : ℕ) (size : Dimensions) (clips : List ClipVertex) (tris : List Tri) → is_some (early_verdict_of near clips tris) ≡ true → area_of size (mesh_shape top near size clips tris) ≡ no_pixels
 unfolding mesh_shape
-early_area near size clips tris e = by (at_each_vertex clips (is_behind near) tris) (at_some_vertex clips (λ u. is_past_guard u near) tris) e
+early_area top near size clips tris e = by (at_each_vertex clips (is_behind near) tris) (at_some_vertex clips (λ u. is_past_guard u near) tris) e
   where
-    by : (a b : Bool) → is_some (cond a (Some Outside) (cond b (Some Visible) None)) ≡ true → area_of size (cond a AlwaysOutside (cond b AlwaysVisible (cond (is_one_on_screen size (near_boxes near size clips tris)) (Pieces (object_pieces GRADE_TOP near size clips tris) (hull_of (near_boxes near size clips tris))) AlwaysOutside))) ≡ no_pixels
+    by : (a b : Bool) → is_some (cond a (Some Outside) (cond b (Some Visible) None)) ≡ true → area_of size (cond a AlwaysOutside (cond b AlwaysVisible (cond (is_one_on_screen size (near_boxes near size clips tris)) (Pieces (object_pieces top near size clips tris) (hull_of (near_boxes near size clips tris))) AlwaysOutside))) ≡ no_pixels
     by true b e = refl
     by false true e = refl
     by false false e = absurd cc
@@ -66,24 +67,24 @@ early_open near clips tris e = let (a, b) = by (at_each_vertex clips (is_behind 
     by false true e = absurd cc
     by false false e = (refl, refl)
 
-pub open_shape : (near : ℕ) (size : Dimensions) (clips : List ClipVertex) (tris : List Tri) → IsOpen near clips tris
-    → mesh_shape GRADE_TOP near size clips tris ≡ cond (is_one_on_screen size (near_boxes near size clips tris)) (Pieces (object_pieces GRADE_TOP near size clips tris) (hull_of (near_boxes near size clips tris))) AlwaysOutside
+pub open_shape : (top near : ℕ) (size : Dimensions) (clips : List ClipVertex) (tris : List Tri) → IsOpen near clips tris
+    → mesh_shape top near size clips tris ≡ cond (is_one_on_screen size (near_boxes near size clips tris)) (Pieces (object_pieces top near size clips tris) (hull_of (near_boxes near size clips tris))) AlwaysOutside
 unfolding mesh_shape
-open_shape near size clips tris h = let a = h.front in let b = h.guarded in rw (a, b) refl
+open_shape top near size clips tris h = let a = h.front in let b = h.guarded in rw (a, b) refl
 
 -- the near box of a triangle is among those of the mesh
 pub box_among : (near : ℕ) (size : Dimensions) (clips : List ClipVertex) (tris : List Tri) (t : Tri) (r : Rect) → Contains tris t → near_box_at near size clips t ≡ Some r → Contains (near_boxes near size clips tris) r
 box_among near size clips tris t r m e = part_of_joined (λ u. option_to_list (near_box_at near size clips u)) tris t r m (rw e (first_of_list r []))
 
 -- a view that holds the tiles of the area holds those that a near box meets
-pub holds_boxes : (held : ℕ → Bool) (near : ℕ) (size : Dimensions) (clips : List ClipVertex) (tris : List Tri) → IsOpen near clips tris → HoldsMet held size (area_of size (mesh_shape GRADE_TOP near size clips tris))
+pub holds_boxes : (held : ℕ → Bool) (top near : ℕ) (size : Dimensions) (clips : List ClipVertex) (tris : List Tri) → IsOpen near clips tris → HoldsMet held size (area_of size (mesh_shape top near size clips tris))
     → All (λ t. IfSome (near_box_at near size clips t) (λ r. HoldsMet held size r)) tris
-holds_boxes held near size clips tris left holds = all_some (near_box_at near size clips) (λ r. HoldsMet held size r) tris (λ t r m e n lt met.
+holds_boxes held top near size clips tris left holds = all_some (near_box_at near size clips) (λ r. HoldsMet held size r) tris (λ t r m e n lt met.
     let among = box_among near size clips tris t r m e in
     let on = one_holds (λ a. meets a (screen_of size)) (near_boxes near size clips tris) r among (tile_meets_screen size r n met) in
-    let shape = open_shape near size clips tris left ∙ ap (λ (b : Bool). cond b (Pieces (object_pieces GRADE_TOP near size clips tris) (hull_of (near_boxes near size clips tris))) AlwaysOutside) on in
+    let shape = open_shape top near size clips tris left ∙ ap (λ (b : Bool). cond b (Pieces (object_pieces top near size clips tris) (hull_of (near_boxes near size clips tris))) AlwaysOutside) on in
     let hull = hull_of (near_boxes near size clips tris) in
-    let area : area_of size (mesh_shape GRADE_TOP near size clips tris) ≡ cut_of hull (screen_of size) = ap (area_of size) shape in
+    let area : area_of size (mesh_shape top near size clips tris) ≡ cut_of hull (screen_of size) = ap (area_of size) shape in
     holds n lt (ap (λ a. meets a (tile_rect_of size n)) area ∙ tile_meets_cut size r hull n (hull_holds (near_boxes near size clips tris) r among) met))
 
 -- a sample of the pieces is one that a piece touches
@@ -126,36 +127,36 @@ all_hide size f ps hull b asked = equal (is_hidden size f (Pieces ps hull)) b (�
     ]
 
 -- the verdict after all triangles
-pub found_verdict : (f : Sub → State) (near : ℕ) (size : Dimensions) (clips : List ClipVertex) (tris : List Tri) (now : Progress) → IsOpen near clips tris
-    → HasAsked f size (object_pieces GRADE_TOP near size clips tris) (near_boxes near size clips tris) at_first now
-    → verdict_of size f (mesh_shape GRADE_TOP near size clips tris) ≡ cond now.met (cond now.touched Occluded Visible) Outside
-found_verdict f near size clips tris now left h =
-    ap (verdict_of size f) (open_shape near size clips tris left) ∙ by (is_one_on_screen size (near_boxes near size clips tris)) now.met h.met
+pub found_verdict : (f : Sub → State) (top near : ℕ) (size : Dimensions) (clips : List ClipVertex) (tris : List Tri) (now : Progress) → IsOpen near clips tris
+    → HasAsked f size (object_pieces top near size clips tris) (near_boxes near size clips tris) at_first now
+    → verdict_of size f (mesh_shape top near size clips tris) ≡ cond now.met (cond now.touched Occluded Visible) Outside
+found_verdict f top near size clips tris now left h =
+    ap (verdict_of size f) (open_shape top near size clips tris left) ∙ by (is_one_on_screen size (near_boxes near size clips tris)) now.met h.met
   where
-    by : (b m : Bool) → m ≡ b → verdict_of size f (cond b (Pieces (object_pieces GRADE_TOP near size clips tris) (hull_of (near_boxes near size clips tris))) AlwaysOutside) ≡ cond m (cond now.touched Occluded Visible) Outside
-    by true m e = ap (λ (c : Bool). cond c Occluded Visible) (all_hide size f (object_pieces GRADE_TOP near size clips tris) (hull_of (near_boxes near size clips tris)) now.touched h.touched) ∙ rw e refl
+    by : (b m : Bool) → m ≡ b → verdict_of size f (cond b (Pieces (object_pieces top near size clips tris) (hull_of (near_boxes near size clips tris))) AlwaysOutside) ≡ cond m (cond now.touched Occluded Visible) Outside
+    by true m e = ap (λ (c : Bool). cond c Occluded Visible) (all_hide size f (object_pieces top near size clips tris) (hull_of (near_boxes near size clips tris)) now.touched h.touched) ∙ rw e refl
     by false m e = rw e refl
 
 -- the verdict where a sample shows
-pub shown_verdict : (f : Sub → State) (near : ℕ) (size : Dimensions) (clips : List ClipVertex) (tris : List Tri) → IsSize size.width size.height → 1 ≤ near → near ≤ 1024 → IsOpen near clips tris
-    → SomeShows f (TouchedBy size (object_pieces GRADE_TOP near size clips tris)) → verdict_of size f (mesh_shape GRADE_TOP near size clips tris) ≡ Visible
-shown_verdict f near size clips tris valid hn le left shows =
+pub shown_verdict : (f : Sub → State) (grade : Grade) (near : ℕ) (size : Dimensions) (clips : List ClipVertex) (tris : List Tri) → IsSize size.width size.height → 1 ≤ near → near ≤ 1024 → IsOpen near clips tris
+    → SomeShows f (TouchedBy size (object_pieces (top_of grade) near size clips tris)) → verdict_of size f (mesh_shape (top_of grade) near size clips tris) ≡ Visible
+shown_verdict f grade near size clips tris valid hn le left shows =
     let (t, px, py, (m, touch), s) = shows in
-    let (tri, n, among) = from_joined (object_pieces_at GRADE_TOP near size clips) tris t m in
-    let piece = held_by_member IsPiece _ t (pieces_are (clip_at clips tri 0) (clip_at clips tri 1) (clip_at clips tri 2) near size Both Object valid hn le) among in
-    let box = piece_in_near_box (clip_at clips tri 0) (clip_at clips tri 1) (clip_at clips tri 2) GRADE_TOP near size Both Object t among in
+    let (tri, n, among) = from_joined (object_pieces_at (top_of grade) near size clips) tris t m in
+    let piece = held_by_member IsPiece _ t (pieces_are (clip_at clips tri 0) (clip_at clips tri 1) (clip_at clips tri 2) grade near size Both Object valid hn le) among in
+    let box = piece_in_near_box (clip_at clips tri 0) (clip_at clips tri 1) (clip_at clips tri 2) (top_of grade) near size Both Object t among in
     let on = one_holds (λ a. meets a (screen_of size)) (near_boxes near size clips tris) box.rect (box_among near size clips tris tri box.rect n box.is) (touched_meets size t box.rect px py piece box.within touch) in
     let hull = hull_of (near_boxes near size clips tris) in
-    let shape = open_shape near size clips tris left ∙ ap (λ (b : Bool). cond b (Pieces (object_pieces GRADE_TOP near size clips tris) hull) AlwaysOutside) on in
-    ap (verdict_of size f) shape ∙ ap (λ (b : Bool). cond b Occluded Visible) (shown size f (object_pieces GRADE_TOP near size clips tris) hull shows)
+    let shape = open_shape (top_of grade) near size clips tris left ∙ ap (λ (b : Bool). cond b (Pieces (object_pieces (top_of grade) near size clips tris) hull) AlwaysOutside) on in
+    ap (verdict_of size f) shape ∙ ap (λ (b : Bool). cond b Occluded Visible) (shown size f (object_pieces (top_of grade) near size clips tris) hull shows)
 
 -- the area where the vertices leave it open
-pub open_area : (near : ℕ) (size : Dimensions) (clips : List ClipVertex) (tris : List Tri) (b : Bool) → IsOpen near clips tris → is_one_on_screen size (near_boxes near size clips tris) ≡ b
-    → area_of size (mesh_shape GRADE_TOP near size clips tris) ≡ cond b (cut_of (hull_of (near_boxes near size clips tris)) (screen_of size)) no_pixels
-open_area near size clips tris b left e = ap (area_of size) (open_shape near size clips tris left) ∙ by b e
+pub open_area : (top near : ℕ) (size : Dimensions) (clips : List ClipVertex) (tris : List Tri) (b : Bool) → IsOpen near clips tris → is_one_on_screen size (near_boxes near size clips tris) ≡ b
+    → area_of size (mesh_shape top near size clips tris) ≡ cond b (cut_of (hull_of (near_boxes near size clips tris)) (screen_of size)) no_pixels
+open_area top near size clips tris b left e = ap (area_of size) (open_shape top near size clips tris left) ∙ by b e
   where
     by : (b : Bool) → is_one_on_screen size (near_boxes near size clips tris) ≡ b
-        → area_of size (cond (is_one_on_screen size (near_boxes near size clips tris)) (Pieces (object_pieces GRADE_TOP near size clips tris) (hull_of (near_boxes near size clips tris))) AlwaysOutside)
+        → area_of size (cond (is_one_on_screen size (near_boxes near size clips tris)) (Pieces (object_pieces top near size clips tris) (hull_of (near_boxes near size clips tris))) AlwaysOutside)
         ≡ cond b (cut_of (hull_of (near_boxes near size clips tris)) (screen_of size)) no_pixels
     by true e = rw e refl
     by false e = rw e refl

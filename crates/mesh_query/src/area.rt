@@ -1,7 +1,6 @@
 //! The pixels over which a mesh is tested.
-ghost use Rattle.std.specs.Prelude.{◌≡◌, ◌≤◌, [], ◌∷◌, true, false, length, MatchOption};
+ghost use Rattle.std.specs.Prelude.{◌≡◌, ℕ, ◌≤◌, [], ◌∷◌, true, false, length, MatchOption};
 ghost use Rattle.std.specs.List.{All};
-ghost use Rattle.cull_base.specs.declared.nearness.TheConstants.{GRADE_TOP};
 ghost use Rattle.cull_base.specs.Guard.{is_past_guard};
 ghost use Rattle.cull_base.specs.Shape.{area_of};
 ghost use Rattle.snap_setup.specs.Pieces.{HasClips};
@@ -48,12 +47,12 @@ fn hull(size: Size, near: Near, clips: &[ClipVertex], tris: &[Tri]) -> Option<Re
 
 /// The pixels of the screen over which a mesh is tested, by its triangles among clip vertices: the smallest rectangle
 /// that holds their near boxes, cut to the screen; none where the mesh is outside or visible before any sample is
-/// looked at. Conditions: `near` is 1 to 1024, and each index is below the number of clips.
+/// looked at. It is the same in both grades. Conditions: `near` is 1 to 1024, and each index is below the number of clips.
 pub fn mesh_area(size: Size, near: u16, clips: &[ClipVertex], tris: &[Tri]) -> Rect
     requires least { 1 ≤ near }
     requires most { near ≤ 1024 }
     requires indices { All (HasClips (length clips.now)) tris.now }
-    ensures { result ≡ area_of size (mesh_shape GRADE_TOP near size clips.now tris.now) }
+    ensures { (top : ℕ) → result ≡ area_of size (mesh_shape top near size clips.now tris.now) }
 {
     let near = Near { distance: near };
     if early_verdict(clips, tris, near).is_some() {

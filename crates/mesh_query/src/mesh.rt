@@ -2,7 +2,7 @@
 ghost use Rattle.std.specs.Prelude.{◌≡◌, ◌≤◌, false, not, length, map, IfSome};
 ghost use Rattle.std.specs.Option.{option_to_list};
 ghost use Rattle.std.specs.List.{All, Contains, list_all};
-ghost use Rattle.cull_base.specs.declared.nearness.TheConstants.{GRADE_TOP};
+ghost use Rattle.cull_base.specs.Grade.{top_of};
 ghost use Rattle.cull_base.specs.Guard.{is_past_guard};
 ghost use Rattle.cull_base.specs.NearPlane.{is_behind};
 ghost use Rattle.cull_base.specs.Piece.{Piece, IsPiece, box_of};
@@ -18,7 +18,7 @@ ghost use Rattle.mesh_query.specs.Meshes.{is_one_on_screen, at_some_vertex};
 use crate::piece::MeshPiece;
 use crate::vertices::early_verdict;
 use camera_path::is_behind;
-use cull_base::{ClipVertex, Near, Side, Size, Tri, Verdict, Winding};
+use cull_base::{ClipVertex, Grade, Near, Side, Size, Tri, Verdict, Winding};
 use masked_update::TileView;
 use snap_setup::{Pieces, corners, near_box, set_up};
 
@@ -82,6 +82,7 @@ pub fn ask_triangle<V: TileView>(
     near: u16,
     vertices: &[ClipVertex; 3],
     before: Progress,
+    grade: Grade,
 ) -> Option<Progress>
     requires least { 1 ≤ near }
     requires most { near ≤ 1024 }
@@ -90,10 +91,10 @@ pub fn ask_triangle<V: TileView>(
     requires holds { IfSome (near_box_of_triangle vertices.now near size)
         (λ r. HoldsMet (V.held view.now) size r) }
     ensures { Tells (state_in size (V.tile_of view.now)) size
-        (pieces_of_triangle vertices.now GRADE_TOP near size Winding.Both Side.Object)
+        (pieces_of_triangle vertices.now (top_of grade) near size Winding.Both Side.Object)
         (option_to_list (near_box_of_triangle vertices.now near size)) before result }
 {
-    let pieces = set_up(vertices, near, size, Winding::Both, Side::Object);
+    let pieces = set_up(vertices, near, size, Winding::Both, Side::Object, grade);
     let now = ask_pieces(view, size, &pieces, before)?;
     if now.met {
         return Some(now);
@@ -115,6 +116,7 @@ fn ask_triangles<V: TileView>(
     near: Near,
     clips: &[ClipVertex],
     tris: &[Tri],
+    grade: Grade,
 ) -> Option<Progress>
     requires sized { IsSize size.width size.height }
     requires indices { All (HasClips (length clips.now)) tris.now }
@@ -122,7 +124,7 @@ fn ask_triangles<V: TileView>(
     requires holds { All (λ t. IfSome (near_box_at near.distance size clips.now t)
         (λ r. HoldsMet (V.held view.now) size r)) tris.now }
     ensures { Tells (state_in size (V.tile_of view.now)) size
-        (object_pieces GRADE_TOP near.distance size clips.now tris.now)
+        (object_pieces (top_of grade) near.distance size clips.now tris.now)
         (near_boxes near.distance size clips.now tris.now) at_first result }
 {
     let mut now = Progress {
@@ -130,7 +132,7 @@ fn ask_triangles<V: TileView>(
         touched: false,
     };
     for tri in tris {
-        now = ask_triangle(view, size, near.distance, &corners(clips, tri), now)?;
+        now = ask_triangle(view, size, near.distance, &corners(clips, tri), now, grade)?;
     }
     Some(now)
 }
@@ -138,22 +140,23 @@ fn ask_triangles<V: TileView>(
 /// The verdict of a mesh, by its triangles among clip vertices: outside where all vertices are before the near
 /// distance, or where there are none; else visible where one is past the guard; else outside where no near box meets
 /// the screen; else occluded where a sample in the screen is touched, and each hides the high bounds of the pieces
-/// that touch it; else visible. Conditions: `near` is 1 to 1024, each index is below the number of clips, and the view
-/// holds each tile that the mesh's area meets.
+/// that touch it; else visible. The grade is that by which the occluders were set up. Conditions: `near` is 1 to 1024,
+/// each index is below the number of clips, and the view holds each tile that the mesh's area meets.
 pub fn mesh_test<V: TileView>(
     view: &V,
     size: Size,
     near: u16,
     clips: &[ClipVertex],
     tris: &[Tri],
+    grade: Grade,
 ) -> Verdict
     requires least { 1 ≤ near }
     requires most { near ≤ 1024 }
     requires indices { All (HasClips (length clips.now)) tris.now }
     requires holds { HoldsMet (V.held view.now) size
-        (area_of size (mesh_shape GRADE_TOP near size clips.now tris.now)) }
+        (area_of size (mesh_shape (top_of grade) near size clips.now tris.now)) }
     ensures { result ≡ verdict_of size (state_in size (V.tile_of view.now))
-        (mesh_shape GRADE_TOP near size clips.now tris.now) }
+        (mesh_shape (top_of grade) near size clips.now tris.now) }
 {
     // an accessor tells what is held of a size
     let _width = size.width();
@@ -161,7 +164,7 @@ pub fn mesh_test<V: TileView>(
     if let Some(verdict) = early_verdict(clips, tris, near) {
         return verdict;
     }
-    let Some(found) = ask_triangles(view, size, near, clips, tris) else {
+    let Some(found) = ask_triangles(view, size, near, clips, tris, grade) else {
         return Verdict::Visible;
     };
     if !found.met {

@@ -5,7 +5,7 @@ ghost use Rattle.cull_base.specs.Screen.{tile_count_of};
 ghost use Rattle.snap_setup.specs.Pieces.{HasClips};
 
 use super::*;
-use cull_base::{ClipVertex, Memory, Rect, Size, Tri, Verdict, Winding};
+use cull_base::{Batch, ClipVertex, Grade, Memory, Rect, Size, Tri, Verdict, Winding};
 use masked_update::{PlainView, TileState, draw_plain};
 use snap_setup::frame_list;
 use std::alloc::Global;
@@ -28,15 +28,25 @@ fn rect(x0: i32, y0: i32, x1: i32, y1: i32) -> Rect {
 }
 
 // The tiles after the two triangles of a quad.
-fn after(alloc: Global, size: Size, quad: &[ClipVertex; 4]) -> Result<Vec<TileState>, Memory>
+fn after(
+    alloc: Global,
+    size: Size,
+    quad: &[ClipVertex; 4],
+    grade: Grade,
+) -> Result<Vec<TileState>, Memory>
     ensures { IfOk result (λ v. length v.items ≡ tile_count_of size) }
 {
-    let list = frame_list(alloc, quad, &TWO, 1, size, Winding::Both)?;
+    let batches = [Batch {
+        count: 2,
+        winding: Winding::Both,
+    }];
+    let list = frame_list(alloc, quad, &TWO, 1, size, &batches, grade)?;
     draw_plain(alloc, &list)
 }
 
-// The verdict of a mesh over the tiles after a quad, and its area.
-fn told(
+// The verdict of a mesh over the tiles after a quad in a grade, and its area.
+fn told_in(
+    grade: Grade,
     alloc: Global,
     quad: &[ClipVertex; 4],
     clips: &[ClipVertex],
@@ -45,9 +55,22 @@ fn told(
     requires { All (HasClips (length clips.now)) tris.now }
 {
     let size = Size::new(32, 8).ok_or("size")?;
-    let tiles = after(alloc, size, quad)?;
-    let verdict = mesh_test(&PlainView::new(tiles.as_slice()), size, 1, clips, tris);
+    let tiles = after(alloc, size, quad, grade)?;
+    let view = PlainView::new(tiles.as_slice());
+    let verdict = mesh_test(&view, size, 1, clips, tris, grade);
     Ok((verdict, mesh_area(size, 1, clips, tris)))
+}
+
+// The same in the narrow grade.
+fn told(
+    alloc: Global,
+    quad: &[ClipVertex; 4],
+    clips: &[ClipVertex],
+    tris: &[Tri],
+) -> Result<(Verdict, Rect), Fail>
+    requires { All (HasClips (length clips.now)) tris.now }
+{
+    told_in(Grade::Narrow, alloc, quad, clips, tris)
 }
 
 // The same over a quad that covers the screen at a distance of 2.
@@ -135,5 +158,30 @@ fn a_mesh_between_all_samples_is_visible_and_has_an_area(rt: HostRuntime) -> Res
         behind_two(rt.alloc(), &mesh, &THREE)?,
         (Verdict::Visible, third)
     );
+    Ok(())
+}
+
+// A mesh at distance 1001 behind a quad at 1000: its nearness is 66 and the quad's 65, in the wide grade 16761 and
+// 16777.
+#[test]
+fn a_mesh_just_behind_a_quad_is_hidden_in_the_wide_grade(rt: HostRuntime) -> Result<(), Fail> {
+    let quad = [
+        at(-1000, 1000, 1000),
+        at(1000, 1000, 1000),
+        at(1000, -1000, 1000),
+        at(-1000, -1000, 1000),
+    ];
+    let mesh = [
+        at(-1001, 1001, 1001),
+        at(1001, 1001, 1001),
+        at(1001, -1001, 1001),
+    ];
+    for (grade, verdict) in [
+        (Grade::Narrow, Verdict::Visible),
+        (Grade::Wide, Verdict::Occluded),
+    ] {
+        let (found, area) = told_in(grade, rt.alloc(), &quad, &mesh, &ONE)?;
+        assert_eq!(rt; (found, area), (verdict, rect(0, 0, 32, 8)));
+    }
     Ok(())
 }

@@ -1,7 +1,7 @@
 -- Floors and ceilings of quotients by a positive number.
-use Rattle.std.proofs.Common.{◌≡◌, ℕ, ℤ, pos, negsuc, neg_ℤ, suc, zero, ◌+◌, ◌*◌, ◌/◌, ◌%◌, ◌<◌, ◌≤◌, ◌<ℤ◌, ◌≤ℤ◌, ◌+ℤ◌, ◌*ℤ◌, ◌⊎◌, inl, inr, min, FitsSigned, w32, arith, refl, ap}
+use Rattle.std.proofs.Common.{◌≡◌, ℕ, ℤ, pos, negsuc, neg_ℤ, suc, zero, ◌+◌, ◌*◌, ◌/◌, ◌%◌, ◌<◌, ◌≤◌, ◌<ℤ◌, ◌≤ℤ◌, ◌+ℤ◌, ◌*ℤ◌, ◌⊎◌, inl, inr, min, FitsSigned, w32, arith, refl, sym, ap, ◌-◌, ◌∙◌}
 use Rattle.std.proofs.lemmas.Int.{ints}
-use Rattle.std.proofs.Math.Nat.{mul-le-mul_left, div-lt_iff_lt-mul, div-eq_of_lt-le, div-add-mod, mod-lt, zero-div, mod-eq_of_lt}
+use Rattle.std.proofs.Math.Nat.{mul-le-mul_left, mul-add-div, div-mul-le_self, div-lt_iff_lt-mul, div-eq_of_lt-le, div-add-mod, mod-lt, zero-div, mod-eq_of_lt}
 use Rattle.std.specs.Int.RustNames.{unsigned_abs}
 use Rattle.cull_base.specs.Bounds.{Bounded}
 use Rattle.cull_base.proofs.Bounds.{times-bounded}
@@ -79,3 +79,29 @@ is_place p o w d s e q ed es ee eq hp hw low high =
     let v = rounded_is p o w d s e q ed es ee eq in
     let n = rounded_near p o w hp hw low high in
     record { value = v; within = rw v (omega (arith, ints, n), omega (arith, ints, n)); fits = rw v (omega (arith, ints, n)) }
+
+-- a quotient in two steps: of the number without its lower eight bits, and of what that leaves
+pub quotient_within : (n d : ℕ) → 0 < d → n / d ≤ n
+quotient_within n d h =
+    let whole : n / d * d ≤ n = div-mul-le_self n d in
+    let one : n / d * 1 ≤ n / d * d = mul-le-mul_left (n / d) h in
+    omega (arith, whole, one)
+
+pub step_within : (n d u : ℕ) → u ≡ n / 256 / d → 256 * u * d ≤ n
+step_within n d u e =
+    let upper : n / 256 / d * d ≤ n / 256 = div-mul-le_self (n / 256) d in
+    let lower : n / 256 * 256 ≤ n = div-mul-le_self n 256 in
+    rw e (omega (arith, upper, lower))
+
+pub first_within : (n d u : ℕ) → 0 < d → u ≡ n / 256 / d → 256 * u ≤ n
+first_within n d u h e =
+    let within = step_within n d u e in
+    let one : 256 * u * 1 ≤ 256 * u * d = mul-le-mul_left (256 * u) h in
+    omega (arith, within, one)
+
+pub in_two_steps : (n d u l : ℕ) → 0 < d → u ≡ n / 256 / d → l ≡ (n - 256 * u * d) / d → 256 * u + l ≡ n / d
+in_two_steps n d u l h eu el =
+    let within = step_within n d u eu in
+    let whole : n ≡ d * (256 * u) + (n - 256 * u * d) = omega (arith, within) in
+    let sum : (d * (256 * u) + (n - 256 * u * d)) / d ≡ 256 * u + (n - 256 * u * d) / d = mul-add-div h (256 * u) (n - 256 * u * d) in
+    ap (λ (x : ℕ). 256 * u + x) el ∙ sym sum ∙ ap (λ (x : ℕ). x / d) (sym whole)

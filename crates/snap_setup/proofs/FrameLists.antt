@@ -5,7 +5,6 @@ use mathlib.Core.List.{append_assoc}
 use Rattle.std.proofs.lemmas.List.Sums.{length-filter, count_by-le-length}
 use Rattle.std.proofs.lemmas.Grind.{flat_map-append}
 use Rattle.cull_base.specs.declared.clip.ClipVertex.{ClipVertex}
-use Rattle.cull_base.specs.declared.nearness.TheConstants.{GRADE_TOP}
 use Rattle.cull_base.specs.declared.triangle.Side.TheVariants.{Occluder}
 use Rattle.cull_base.specs.declared.triangle.Winding.{Winding}
 use Rattle.cull_base.specs.declared.scene_types.Tri.{Tri}
@@ -22,6 +21,12 @@ use Rattle.snap_setup.specs.Pieces.{pieces_of, pieces_at, clip_at, list_of_clips
 pub list_none : (clips : List ClipVertex) (top near : ℕ) (size : Dimensions) (winding : Winding) → [] ≡ list_of_clips clips [] top near size winding
 unfolding list_of_clips
 list_none clips top near size winding = refl
+
+-- some triangles, and then others
+pub list_both : (clips : List ClipVertex) (some others : List Tri) (top near : ℕ) (size : Dimensions) (winding : Winding) →
+    list_of_clips clips (some ++ others) top near size winding ≡ list_of_clips clips some top near size winding ++ list_of_clips clips others top near size winding
+unfolding list_of_clips
+list_both clips some others top near size winding = flat_map-append (pieces_at clips top near size winding) some others
 
 -- by the corners that the code looked up
 pub by_corners : (clips : List ClipVertex) (v0 v1 v2 : ClipVertex) (top near : ℕ) (size : Dimensions) (winding : Winding) (t : Tri) →

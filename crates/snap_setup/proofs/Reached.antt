@@ -1,5 +1,5 @@
 -- What it says of a point that it is in reach.
-use Rattle.std.proofs.Common.{◌≡◌, FitsSigned, w64, to_z, of_z, ℕ, ℤ, pos, negsuc, zero, suc, sym, ◌+◌, ◌*◌, ◌-◌, ◌^◌, ◌<◌, ◌≤◌, ◌≤ℤ◌, ◌+ℤ◌, ◌-ℤ◌, ◌*ℤ◌, arith, refl, ◌/◌, ◌%◌, min}
+use Rattle.std.proofs.Common.{◌≡◌, FitsSigned, w64, to_z, of_z, ℕ, ℤ, pos, negsuc, zero, suc, sym, ap, ◌∙◌, ◌+◌, ◌*◌, ◌-◌, ◌^◌, ◌<◌, ◌≤◌, ◌≤ℤ◌, ◌+ℤ◌, ◌-ℤ◌, ◌*ℤ◌, arith, refl, ◌/◌, ◌%◌, min}
 use Rattle.std.proofs.lemmas.Int.{ints, to_z-of_z}
 use Rattle.std.proofs.Math.Nat.{mul-le-mul_left, mul-le-mul}
 use Rattle.near_clip.specs.declared.hom_point.HomPoint.{HomPoint}
@@ -7,6 +7,7 @@ use Rattle.near_clip.specs.Reach.{IsInReach}
 use Rattle.std.proofs.Math.Nat.{div-le_of_le-mul, div-add-mod, div-eq_of_lt-le, mod-lt, mul-div-mul_left, lt_of_mul-lt-mul_left}
 use Rattle.std.specs.Int.{div_ceil}
 use Rattle.std.specs.Int.RustNames.{unsigned_abs}
+use Rattle.cull_base.specs.declared.nearness.TheConstants.{HELD_TOP}
 use Rattle.cull_base.specs.declared.triangle.Side.{Side}
 use Rattle.cull_base.specs.declared.triangle.Side.TheVariants.{Occluder, Object}
 use Rattle.cull_base.specs.Screen.{Dimensions}
@@ -136,45 +137,52 @@ nearness_from : (top near : ℕ) (p : HomPoint) (a n w : ℕ) → 1 ≤ near →
     a ≡ unsigned_abs p.scale → n ≡ top * near * a → w ≡ unsigned_abs p.w → IsNearness top near p (n / w) (div_ceil n w)
 nearness_from top near p a n w hn le h ea en ew = let k = nearness_is top near p hn le h in rw (en, ea, ew) k
 
-pub numerator_small : (top near s a b : ℕ) → a ≡ top → b ≡ near → near ≤ 1024 → s ≤ 2 ^ 25 → a * b * s ≤ top * 2 ^ 35
-numerator_small top near s a b ea eb hn hs = let k = mul-le-mul_left top (mul-le-mul hn hs) in rw (ea, eb) (omega (arith, k))
+pub numerator_small : (near s a b : ℕ) → a ≤ HELD_TOP → b ≡ near → near ≤ 1024 → s ≤ 2 ^ 25 → a * b * s ≤ HELD_TOP * 2 ^ 35
+numerator_small near s a b ha eb hn hs = let k = mul-le-mul (mul-le-mul ha hn) hs in rw eb (omega (arith, k))
 
--- the same by a divisor of twice w
-doubled_down : (n w : ℕ) → 0 < w → 2 * n / (2 * w) ≡ n / w
-doubled_down n w h = mul-div-mul_left {m = 2} n w (omega arith)
-
-doubled_up : (n w : ℕ) → 0 < w → (2 * n + (2 * w - 1)) / (2 * w) ≡ div_ceil n w
-doubled_up n w h = by_rest (n % w) refl
+-- a quotient that is rounded up by what was added
+rounded_up : (n w : ℕ) → 0 < w → (n + (w - 1)) / w ≡ div_ceil n w
+rounded_up n w h = by_rest (n % w) refl
   where
-    by_rest : (r : ℕ) → r ≡ n % w → (2 * n + (2 * w - 1)) / (2 * w) ≡ n / w + min 1 (n % w)
+    by_rest : (r : ℕ) → r ≡ n % w → (n + (w - 1)) / w ≡ n / w + min 1 (n % w)
     by_rest zero e =
         let m = div-add-mod n w in
         let k : n / w + min 1 (n % w) ≡ n / w = omega (arith, e) in
-        rw k (div-eq_of_lt-le (2 * w) {m = 2 * n + (2 * w - 1)} (omega (arith, m, e, h)) (omega (arith, m, e, h)))
+        rw k (div-eq_of_lt-le w {m = n + (w - 1)} (omega (arith, m, e, h)) (omega (arith, m, e, h)))
     by_rest (suc r) e =
         let m = div-add-mod n w in
         let k : n / w + min 1 (n % w) ≡ n / w + 1 = omega (arith, e) in
         let lt : n % w < w = mod-lt n h in
-        rw k (div-eq_of_lt-le (2 * w) {m = 2 * n + (2 * w - 1)} (omega (arith, m, e, h)) (omega (arith, m, e, h, lt)))
+        rw k (div-eq_of_lt-le w {m = n + (w - 1)} (omega (arith, m, e, h)) (omega (arith, m, e, h, lt)))
 
 -- the nearness of one side, and a bound on it
 pub record IsRoundedNearness (top near : ℕ) (p : HomPoint) (side : Side) (q : ℕ) : Type 0 where
   pub value : q ≡ nearness_of p top near side
   pub within : q ≤ top
 
-by_side : (side : Side) (top near : ℕ) (p : HomPoint) (n w d : ℕ) → d ≡ 2 * w → 0 < w → IsNearness top near p (n / w) (div_ceil n w) → IsRoundedNearness top near p side ((2 * n + addend_of side w) / d)
-by_side Occluder top near p n w d ed h k =
-    let e : 2 * n + 0 ≡ 2 * n = omega arith in
-    rw (e, ed, doubled_down n w h) (record { value = k.down_is; within = k.down_small })
-by_side Object top near p n w d ed h k = rw (ed, doubled_up n w h) (record { value = k.up_is; within = k.up_small })
+by_side : (side : Side) (top near : ℕ) (p : HomPoint) (n w : ℕ) → 0 < w → IsNearness top near p (n / w) (div_ceil n w) → IsRoundedNearness top near p side ((n + addend_of side w) / w)
+by_side Occluder top near p n w h k = let e : n + 0 ≡ n = omega arith in rw e (record { value = k.down_is; within = k.down_small })
+by_side Object top near p n w h k = rw (rounded_up n w h) (record { value = k.up_is; within = k.up_small })
 
 -- by the numbers that the code took
-pub nearness_doubled : (side : Side) (top near : ℕ) (p : HomPoint) (a n w d u q : ℕ) → 1 ≤ near → near ≤ 1024 → IsInReach near p → pos 1 ≤ℤ p.w → FitsSigned w64 p.scale → FitsSigned w64 p.w →
-    a ≡ unsigned_abs (to_z w64 (of_z w64 p.scale)) → n ≡ top * near * a → w ≡ unsigned_abs (to_z w64 (of_z w64 p.w)) → pos d ≡ pos 2 *ℤ p.w → u ≡ addend_of side w → q ≡ (2 * n + u) / d →
+pub nearness_by_w : (side : Side) (top near : ℕ) (p : HomPoint) (a n w u q : ℕ) → 1 ≤ near → near ≤ 1024 → IsInReach near p → pos 1 ≤ℤ p.w → FitsSigned w64 p.scale → FitsSigned w64 p.w →
+    a ≡ unsigned_abs (to_z w64 (of_z w64 p.scale)) → n ≡ top * near * a → w ≡ unsigned_abs (to_z w64 (of_z w64 p.w)) → u ≡ addend_of side w → q ≡ (n + u) / w →
     IsRoundedNearness top near p side q
-nearness_doubled side top near p a n w d u q hn le h least fs fw ea en ew ed eu eq =
+nearness_by_w side top near p a n w u q hn le h least fs fw ea en ew eu eq =
     let es = simp to_z-of_z at ew in
     let k = nearness_from top near p a n w hn le h (simp to_z-of_z at ea) en es in
     let (b, eb) = natural p.w (omega (arith, ints, least)) in
     let wb : w ≡ b = rw eb at es in
-    rw (eq, eu) (by_side side top near p n w d (omega (arith, ints, ed, eb, wb)) (omega (arith, ints, least, eb, wb)) k)
+    rw (eq, eu) (by_side side top near p n w (omega (arith, ints, least, eb, wb)) k)
+
+-- the same by a divisor of twice w
+pub nearness_doubled : (side : Side) (top near : ℕ) (p : HomPoint) (a n w d u q : ℕ) → 1 ≤ near → near ≤ 1024 → IsInReach near p → pos 1 ≤ℤ p.w → FitsSigned w64 p.scale → FitsSigned w64 p.w →
+    a ≡ unsigned_abs (to_z w64 (of_z w64 p.scale)) → n ≡ top * near * a → w ≡ unsigned_abs (to_z w64 (of_z w64 p.w)) → pos d ≡ pos 2 *ℤ p.w → u ≡ addend_of side w → q ≡ 2 * (n + u) / d →
+    IsRoundedNearness top near p side q
+nearness_doubled side top near p a n w d u q hn le h least fs fw ea en ew ed eu eq =
+    let es = simp to_z-of_z at ew in
+    let (b, eb) = natural p.w (omega (arith, ints, least)) in
+    let wb : w ≡ b = rw eb at es in
+    let twice : d ≡ 2 * w = omega (arith, ints, ed, eb, wb) in
+    let half : 2 * (n + u) / (2 * w) ≡ (n + u) / w = mul-div-mul_left {m = 2} (n + u) w (omega arith) in
+    nearness_by_w side top near p a n w u q hn le h least fs fw ea en ew eu (eq ∙ ap (λ (x : ℕ). 2 * (n + u) / x) twice ∙ half)

@@ -2,8 +2,9 @@
 use Rattle.std.proofs.Common.{◌≡◌, ℕ, ◌+◌, ◌*◌, ◌<◌, ◌≤◌, List, [], ◌∷◌, ◌++◌, filter, length, get_or, take, length-append, length-take-le, refl, sym, ap, subst, ◌∙◌, arith}
 use Rattle.std.proofs.lemmas.List.Elements.{filter-append}
 use Rattle.std.proofs.lemmas.List.Sums.{length-filter, count_by-le-length}
-use Rattle.cull_base.specs.declared.nearness.TheConstants.{GRADE_TOP}
+use Rattle.cull_base.specs.Grade.{top_of}
 use Rattle.cull_base.specs.declared.scene_types.Tri.{Tri}
+use Rattle.cull_base.specs.declared.triangle.Winding.{Winding}
 use Rattle.cull_base.specs.Screen.{Dimensions}
 use Rattle.cull_base.specs.Piece.{Piece}
 use Rattle.cull_base.specs.Tiles.{FrameListOf, with_members}
@@ -13,7 +14,7 @@ use Rattle.snap_setup.specs.declared.occluders.Occluders.{Occluders}
 use Rattle.snap_setup.specs.declared.triangle.Corners.{Corners}
 use Rattle.snap_setup.specs.Corners.{pieces_of_corners}
 use Rattle.snap_setup.specs.Keeping.{is_kept, Took}
-use Rattle.snap_setup.specs.Occluders.{list_of_some}
+use Rattle.snap_setup.specs.Occluders.{list_of_part}
 use Rattle.snap_setup.specs.Pieces.{clip_at}
 use Rattle.snap_setup.proofs.FrameLists.{by_corners, list_more, list_most, with_none, with_more}
 
@@ -43,11 +44,11 @@ pub took_each : (f g : FrameListOf) (n : ℕ) (ps : List Piece) → Took Each f 
 took_each f g n ps took = took.members ∙ ap (with_members f) (each_kept f.list.size ps)
 
 -- where there was room for two pieces a triangle, there is room for those of the next
-pub room_for_two : (o : Occluders) (tris : List Tri) (i n : ℕ) (keeping : Keeping) (f g : FrameListOf) → i < length tris → Took keeping f g n (list_of_some o (take i tris))
+pub room_for_two : (o : Occluders) (winding : Winding) (tris : List Tri) (i n : ℕ) (keeping : Keeping) (f g : FrameListOf) → i < length tris → Took keeping f g n (list_of_part o winding (take i tris))
     → length f.list.members + 2 * length tris ≤ f.room → length g.list.members + 2 ≤ g.room
-room_for_two o tris i n keeping f g lt took room =
-    let pieces = list_of_some o (take i tris) in
-    let most = list_most o.clips.now (take i tris) GRADE_TOP o.near.distance o.size o.winding in
+room_for_two o winding tris i n keeping f g lt took room =
+    let pieces = list_of_part o winding (take i tris) in
+    let most = list_most o.clips.now (take i tris) (top_of o.grade) o.near.distance o.size winding in
     let members = ap (λ (x : FrameListOf). length x.list.members) took.members in
     let rooms = ap (λ (x : FrameListOf). x.room) took.members in
     let fewer = count_by-le-length (is_kept keeping f.list.size) pieces in
@@ -65,16 +66,16 @@ room_for_two o tris i n keeping f g lt took room =
     )
 
 -- and few were counted
-pub few_counted : (o : Occluders) (tris : List Tri) (i n : ℕ) (keeping : Keeping) (f g : FrameListOf) → i < length tris → Took keeping f g n (list_of_some o (take i tris)) → n ≤ 2 * length tris
-few_counted o tris i n keeping f g lt took =
-    let most = list_most o.clips.now (take i tris) GRADE_TOP o.near.distance o.size o.winding in
+pub few_counted : (o : Occluders) (winding : Winding) (tris : List Tri) (i n : ℕ) (keeping : Keeping) (f g : FrameListOf) → i < length tris → Took keeping f g n (list_of_part o winding (take i tris)) → n ≤ 2 * length tris
+few_counted o winding tris i n keeping f g lt took =
+    let most = list_most o.clips.now (take i tris) (top_of o.grade) o.near.distance o.size winding in
     omega (arith, most, took.counted, lt, length-take-le i tris (omega (arith, lt)))
 
 -- the next triangle's pieces behind those of the ones before it
-pub one_more : (o : Occluders) (tris : List Tri) (i m n : ℕ) (d : Tri) (keeping : Keeping) (f g h : FrameListOf) (r : Corners) → i < length tris → Took keeping f g m (list_of_some o (take i tris))
+pub one_more : (o : Occluders) (winding : Winding) (tris : List Tri) (i m n : ℕ) (d : Tri) (keeping : Keeping) (f g h : FrameListOf) (r : Corners) → i < length tris → Took keeping f g m (list_of_part o winding (take i tris))
     → r.v0.now ≡ clip_at o.clips.now (get_or tris i d) 0 → r.v1.now ≡ clip_at o.clips.now (get_or tris i d) 1 → r.v2.now ≡ clip_at o.clips.now (get_or tris i d) 2
-    → Took keeping g h n (pieces_of_corners r o.near.distance o.size o.winding) → Took keeping f h (m + n) (list_of_some o (take (i + 1) tris))
-one_more o tris i m n d keeping f g h r lt took e0 e1 e2 grown =
-    let before = list_of_some o (take i tris) in
-    let ps = by_corners o.clips.now r.v0.now r.v1.now r.v2.now GRADE_TOP o.near.distance o.size o.winding (get_or tris i d) e0 e1 e2 in
-    took_more keeping f g h m n before _ _ took grown (list_more o.clips.now tris GRADE_TOP o.near.distance o.size o.winding i d before _ lt refl ps)
+    → Took keeping g h n (pieces_of_corners r (top_of o.grade) o.near.distance o.size winding) → Took keeping f h (m + n) (list_of_part o winding (take (i + 1) tris))
+one_more o winding tris i m n d keeping f g h r lt took e0 e1 e2 grown =
+    let before = list_of_part o winding (take i tris) in
+    let ps = by_corners o.clips.now r.v0.now r.v1.now r.v2.now (top_of o.grade) o.near.distance o.size winding (get_or tris i d) e0 e1 e2 in
+    took_more keeping f g h m n before _ _ took grown (list_more o.clips.now tris (top_of o.grade) o.near.distance o.size winding i d before _ lt refl ps)

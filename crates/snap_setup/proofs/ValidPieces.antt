@@ -6,10 +6,12 @@ use Rattle.std.proofs.lemmas.Bool.{or_parts}
 use Rattle.std.proofs.lemmas.Int.{ints}
 use Rattle.std.proofs.lemmas.List.Elements.{All-nil, All-cons}
 use Rattle.cull_base.specs.declared.clip.ClipVertex.{ClipVertex}
-use Rattle.cull_base.specs.declared.nearness.TheConstants.{GRADE_TOP, HELD_TOP}
+use Rattle.cull_base.specs.declared.nearness.Grade.{Grade}
+use Rattle.cull_base.specs.declared.nearness.TheConstants.{HELD_TOP}
 use Rattle.cull_base.specs.declared.triangle.Side.{Side}
 use Rattle.cull_base.specs.declared.triangle.Side.TheVariants.{Occluder, Object}
 use Rattle.cull_base.specs.declared.triangle.Winding.{Winding}
+use Rattle.cull_base.specs.Grade.{top_of}
 use Rattle.cull_base.specs.Piece.{Piece, IsPiece, IsCoordinate, doubled_area}
 use Rattle.cull_base.specs.Screen.{Dimensions, IsSize}
 use Rattle.near_clip.specs.declared.hom_point.HomPoint.{HomPoint}
@@ -23,6 +25,7 @@ use Rattle.snap_setup.specs.Pieces.{triangle, triangles_of, is_left_out, is_drop
 use Rattle.snap_setup.specs.Triangles.{pieces_of_triangle}
 use Rattle.snap_setup.proofs.Areas.{turned_area}
 use Rattle.snap_setup.proofs.Floors.{rounded_near}
+use Rattle.snap_setup.proofs.Tops.{top_held}
 use Rattle.snap_setup.proofs.KeptPieces.{kept_from, kept_cons}
 use Rattle.snap_setup.proofs.Reached.{in_sight, nearness_is}
 
@@ -39,23 +42,23 @@ kept_more P winding t ts here rest = subst (All P) (sym (kept_cons winding t ts)
     by false e = All-cons P (turned t) (kept_from winding ts) (here e) rest
 
 -- points in reach are snapped into range
-held : (a b : ℕ) → a ≡ b → a ≤ GRADE_TOP → b ≤ HELD_TOP
-held a b e h = omega (arith, e, h)
+held : (grade : Grade) (a b : ℕ) → a ≡ b → a ≤ top_of grade → b ≤ HELD_TOP
+held grade a b e h = omega (arith, e, h, top_held grade)
 
-snapped_nearness : (p : HomPoint) (near : ℕ) (side : Side) → 1 ≤ near → near ≤ 1024 → IsInReach near p → nearness_of p GRADE_TOP near side ≤ HELD_TOP
-snapped_nearness p near Occluder hn le r = let k = nearness_is GRADE_TOP near p hn le r in held _ _ k.down_is k.down_small
-snapped_nearness p near Object hn le r = let k = nearness_is GRADE_TOP near p hn le r in held _ _ k.up_is k.up_small
+snapped_nearness : (p : HomPoint) (grade : Grade) (near : ℕ) (side : Side) → 1 ≤ near → near ≤ 1024 → IsInReach near p → nearness_of p (top_of grade) near side ≤ HELD_TOP
+snapped_nearness p grade near Occluder hn le r = let k = nearness_is (top_of grade) near p hn le r in held grade _ _ k.down_is k.down_small
+snapped_nearness p grade near Object hn le r = let k = nearness_is (top_of grade) near p hn le r in held grade _ _ k.up_is k.up_small
 
-pub snapped_is : (p : HomPoint) (near : ℕ) (size : Dimensions) (side : Side) → IsSize size.width size.height → 1 ≤ near → near ≤ 1024 → IsInReach near p → IsSnapped (snapped p GRADE_TOP near size side)
+pub snapped_is : (p : HomPoint) (grade : Grade) (near : ℕ) (size : Dimensions) (side : Side) → IsSize size.width size.height → 1 ≤ near → near ≤ 1024 → IsInReach near p → IsSnapped (snapped p (top_of grade) near size side)
 unfolding snapped
-snapped_is p near size side valid hn le r =
+snapped_is p grade near size side valid hn le r =
     let s = in_sight near p hn le r in
     let x = rounded_near size.width (p.x +ℤ p.w) p.w valid.within_width s.w_least (omega (arith, ints, s.x_beside, s.w_least)) (omega (arith, ints, s.x_beside, s.w_least)) in
     let y = rounded_near size.height (p.w -ℤ p.y) p.w valid.within_height s.w_least (omega (arith, ints, s.y_beside, s.w_least)) (omega (arith, ints, s.y_beside, s.w_least)) in
     record {
       x_within = (omega (arith, ints, x), omega (arith, ints, x));
       y_within = (omega (arith, ints, y), omega (arith, ints, y));
-      nearness_within = snapped_nearness p near side hn le r;
+      nearness_within = snapped_nearness p grade near side hn le r;
     }
 
 -- a triangle of such points with a positive area is a piece
@@ -104,19 +107,19 @@ map_all f P Q [] to h = All-nil Q
 map_all f P Q (p ∷ ps) to h = All-cons Q (f p) (map f ps) (to p (h 0 p (omega arith))) (map_all f P Q ps to (λ k d lt. h (suc k) d (omega arith)))
 
 -- each piece of a triangle is one
-pub pieces_are : (v0 v1 v2 : ClipVertex) (near : ℕ) (size : Dimensions) (winding : Winding) (side : Side) → IsSize size.width size.height → 1 ≤ near → near ≤ 1024 → All IsPiece (pieces_of v0 v1 v2 GRADE_TOP near size winding side)
+pub pieces_are : (v0 v1 v2 : ClipVertex) (grade : Grade) (near : ℕ) (size : Dimensions) (winding : Winding) (side : Side) → IsSize size.width size.height → 1 ≤ near → near ≤ 1024 → All IsPiece (pieces_of v0 v1 v2 (top_of grade) near size winding side)
 unfolding pieces_of kept_of snapped_part
-pieces_are v0 v1 v2 near size winding side valid hn le = by (is_any_past_guard v0 v1 v2 near) refl
+pieces_are v0 v1 v2 grade near size winding side valid hn le = by (is_any_past_guard v0 v1 v2 near) refl
   where
     ps : List HomPoint
     ps = near_part v0 v1 v2 near
 
-    by : (b : Bool) → is_any_past_guard v0 v1 v2 near ≡ b → All IsPiece (cond b [] (kept_from winding (triangles_of (map (λ p. snapped p GRADE_TOP near size side) (near_part v0 v1 v2 near)))))
+    by : (b : Bool) → is_any_past_guard v0 v1 v2 near ≡ b → All IsPiece (cond b [] (kept_from winding (triangles_of (map (λ p. snapped p (top_of grade) near size side) (near_part v0 v1 v2 near)))))
     by true e = All-nil IsPiece
     by false e =
         let (g0, rest) = or_parts _ _ e in let (g1, g2) = or_parts _ _ rest in
         let reach = near_part_reaches v0 v1 v2 near le (guarded v0 near g0) (guarded v1 near g1) (guarded v2 near g2) in
-        kept_are_pieces winding _ (map_all (λ p. snapped p GRADE_TOP near size side) (IsInReach near) IsSnapped (near_part v0 v1 v2 near) (λ p r. snapped_is p near size side valid hn le r) reach)
+        kept_are_pieces winding _ (map_all (λ p. snapped p (top_of grade) near size side) (IsInReach near) IsSnapped (near_part v0 v1 v2 near) (λ p r. snapped_is p grade near size side valid hn le r) reach)
 
-pub pieces_of_triangle_are : (v : List ClipVertex) (near : ℕ) (size : Dimensions) (winding : Winding) (side : Side) → IsSize size.width size.height → 1 ≤ near → near ≤ 1024 → All IsPiece (pieces_of_triangle v GRADE_TOP near size winding side)
-pieces_of_triangle_are v near size winding side valid hn le = pieces_are (corner v 0) (corner v 1) (corner v 2) near size winding side valid hn le
+pub pieces_of_triangle_are : (v : List ClipVertex) (grade : Grade) (near : ℕ) (size : Dimensions) (winding : Winding) (side : Side) → IsSize size.width size.height → 1 ≤ near → near ≤ 1024 → All IsPiece (pieces_of_triangle v (top_of grade) near size winding side)
+pieces_of_triangle_are v grade near size winding side valid hn le = pieces_are (corner v 0) (corner v 1) (corner v 2) grade near size winding side valid hn le

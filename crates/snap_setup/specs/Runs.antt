@@ -24,7 +24,7 @@ members_of rooms = flat_map (λ (f : FrameListOf). f.list.members) rooms
 
 -- the pieces of run k of a frame's triangles
 abbrev pub run_pieces : Occluders → ℕ → ℕ → List Piece
-run_pieces o share k = list_of_some o (run_of o.tris.now share k)
+run_pieces o share k = list_of_some o (run_of o.tris.now share k) (k * share)
 
 -- each room got the pieces of its run
 abbrev pub AreFilled : Occluders → ℕ → List FrameListOf → List FrameListOf → Type 0

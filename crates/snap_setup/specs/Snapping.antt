@@ -30,10 +30,10 @@ abbrev pub rounded_by : Side → ℤ → ℤ → ℤ
 rounded_by Occluder n d = floor_of n d
 rounded_by Object n d = ceiling_of n d
 
--- what is added to twice a numerator so that its quotient by twice w is rounded so
+-- what is added to a numerator so that its quotient by w is rounded so
 abbrev pub addend_of : Side → ℕ → ℕ
 addend_of Occluder w = 0
-addend_of Object w = 2 * w - 1
+addend_of Object w = w - 1
 
 -- top * near * scale / w, in whole numbers: the top is the nearness of the near distance
 abbrev pub nearness_of : HomPoint → ℕ → ℕ → Side → ℕ

@@ -1,9 +1,9 @@
 -- The clip vertices of a frame on its screen, each by itself.
 use Rattle.std.specs.Prelude.{◌≡◌, ℕ, pos, ◌⊎◌, List, [], map, Bool, false, cond, not, ◌&&◌, ◌||◌, slice_index, slice_index_or}
 use Rattle.cull_base.specs.declared.clip.ClipVertex.{ClipVertex}
-use Rattle.cull_base.specs.declared.nearness.TheConstants.{GRADE_TOP}
 use Rattle.cull_base.specs.declared.scene_types.Tri.{Tri}
 use Rattle.cull_base.specs.declared.triangle.Side.TheVariants.{Occluder}
+use Rattle.cull_base.specs.Grade.{top_of}
 use Rattle.cull_base.specs.Guard.{is_past_guard}
 use Rattle.cull_base.specs.Screen.{Dimensions}
 use Rattle.near_clip.specs.NearPart.{is_in_front, whole}
@@ -22,21 +22,21 @@ is_placed v near = is_in_front v near && not (is_past_guard v near)
 abbrev pub nowhere : Snapped
 nowhere = record { x = pos 0; y = pos 0; q = 0 }
 
--- a vertex as a corner of occluders
-unfoldable pub screen_vertex : ClipVertex → ℕ → Dimensions → ScreenVertex
-screen_vertex v near size =
+-- a vertex as a corner of occluders, by the top of the scene's grade of nearness
+unfoldable pub screen_vertex : ClipVertex → ℕ → ℕ → Dimensions → ScreenVertex
+screen_vertex v top near size =
     record {
-      at = cond (is_placed v near) (snapped (whole v) GRADE_TOP near size Occluder) nowhere;
+      at = cond (is_placed v near) (snapped (whole v) top near size Occluder) nowhere;
       placed = is_placed v near;
       past = is_past_guard v near;
     }
 
-abbrev pub screen_vertices : List ClipVertex → ℕ → Dimensions → List ScreenVertex
-screen_vertices clips near size = map (λ v. screen_vertex v near size) clips
+abbrev pub screen_vertices : List ClipVertex → ℕ → ℕ → Dimensions → List ScreenVertex
+screen_vertices clips top near size = map (λ v. screen_vertex v top near size) clips
 
 -- all of a frame's vertices, or none
 abbrev pub AreShared : Occluders → List ScreenVertex → Type 0
-AreShared o vertices = (vertices ≡ []) ⊎ (vertices ≡ screen_vertices o.clips.now o.near.distance o.size)
+AreShared o vertices = (vertices ≡ []) ⊎ (vertices ≡ screen_vertices o.clips.now (top_of o.grade) o.near.distance o.size)
 
 -- corner k of a triangle, looked up among the vertices
 abbrev pub vertex_at : List ScreenVertex → Tri → ℕ → ScreenVertex
@@ -53,7 +53,7 @@ abbrev pub is_any_past : ScreenCorners → Bool
 is_any_past c = c.v0.now.past || (c.v1.now.past || c.v2.now.past)
 
 -- they are those of a triangle's clip vertices
-pub record AreCornersOf (t : Corners) (near : ℕ) (size : Dimensions) (c : ScreenCorners) : Type 0 where
-  pub first : c.v0.now ≡ screen_vertex t.v0.now near size
-  pub second : c.v1.now ≡ screen_vertex t.v1.now near size
-  pub third : c.v2.now ≡ screen_vertex t.v2.now near size
+pub record AreCornersOf (t : Corners) (top near : ℕ) (size : Dimensions) (c : ScreenCorners) : Type 0 where
+  pub first : c.v0.now ≡ screen_vertex t.v0.now top near size
+  pub second : c.v1.now ≡ screen_vertex t.v1.now top near size
+  pub third : c.v2.now ≡ screen_vertex t.v2.now top near size

@@ -4,14 +4,13 @@ ghost use Rattle.std.specs.Prelude.{◌≡◌, ◌<◌, ◌≤◌, ◌*◌, ◌+
 ghost use Rattle.std.specs.List.{All};
 ghost use Rattle.cull_base.specs.Screen.{Dimensions};
 ghost use Rattle.cull_base.specs.Tiles.{with_members};
-ghost use Rattle.cull_base.specs.declared.nearness.TheConstants.{GRADE_TOP};
-ghost use Rattle.snap_setup.specs.Occluders.{list_of_some};
-ghost use Rattle.snap_setup.specs.Pieces.{list_of_clips, HasClips};
+ghost use Rattle.snap_setup.specs.Occluders.{list_of, list_of_some};
+ghost use Rattle.snap_setup.specs.Pieces.{HasClips};
 ghost use Rattle.snap_setup.specs.Runs.{members_of, run_of, run_pieces};
 ghost use Rattle.snap_setup.specs.Runs.{AreFilled, AreMade, IsFirstFor, IsRoom};
 ghost use Rattle.snap_setup.specs.Vertices.{AreShared};
 
-use crate::frame::{list_in_turn, push_all};
+use crate::frame::{list_in_turn, push_batches};
 use crate::keeping::Keeping;
 use crate::occluders::Occluders;
 use crate::vertices::{ScreenVertex, shared_vertices_by_workers};
@@ -59,28 +58,36 @@ fn run(tris: &[Tri], share: usize, k: usize) -> &[Tri]
     &tris[start..end]
 }
 
-// As `push_all`, where each piece is kept. Meanwhile the list stands apart from those of other threads: side by side
-// these are on one cache line, which each piece would take from the others.
+// As `push_batches`, where each piece is kept. Meanwhile the list stands apart from those of other threads: side by
+// side these are on one cache line, which each piece would take from the others.
 fn push_all_apart(
     alloc: Global,
     occluders: &Occluders,
     vertices: &[ScreenVertex],
     tris: &[Tri],
+    skipped: usize,
     list: &mut FrameList,
 )
     requires vertices { AreShared occluders.now vertices.now }
     requires indices { All (HasClips (length occluders.now.clips.now)) tris.now }
     requires room { length list.old.list.members + 2 * length tris.now ≤ list.old.room }
-    ensures { list.new ≡ with_members list.old (list_of_some occluders.now tris.now) }
+    ensures { list.new ≡ with_members list.old (list_of_some occluders.now tris.now skipped) }
 {
     match FrameList::with_room(alloc, occluders.size, 0) {
         Ok(empty) => {
             let mut apart = mem::replace(list, empty);
-            push_all(occluders, vertices, tris, Keeping::Each, &mut apart);
+            push_batches(
+                occluders,
+                vertices,
+                tris,
+                skipped,
+                Keeping::Each,
+                &mut apart,
+            );
             *list = apart;
         }
         Err(_) => {
-            push_all(occluders, vertices, tris, Keeping::Each, list);
+            push_batches(occluders, vertices, tris, skipped, Keeping::Each, list);
         }
     }
 }
@@ -119,6 +126,7 @@ fn fill<R: Threads + Sync>(
                 occluders,
                 vertices,
                 run(occluders.tris, share, k),
+                k * share,
                 room,
             )
         },
@@ -166,8 +174,7 @@ pub fn frame_list_by_workers<R: Threads + Sync>(
     occluders: &Occluders,
     workers: u32,
 ) -> Result<FrameList, Memory>
-    ensures members { let o = occluders.now in IfOk result (λ f. f.list.members
-        ≡ list_of_clips o.clips.now o.tris.now GRADE_TOP o.near.distance o.size o.winding) }
+    ensures members { IfOk result (λ f. f.list.members ≡ list_of occluders.now) }
     ensures size { IfOk result (λ f. f.list.size ≡ occluders.now.size) }
 {
     let runs = (occluders.tris.len() / SHARE).min(workers as usize);

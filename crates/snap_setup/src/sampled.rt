@@ -1,10 +1,9 @@
 //! The pieces of a frame that may cover a sample.
 ghost use Rattle.std.specs.Prelude.{◌≡◌, length, IfOk};
-ghost use Rattle.cull_base.specs.declared.nearness.TheConstants.{GRADE_TOP};
 ghost use Rattle.cull_base.specs.Sampled.{sampled_among};
-ghost use Rattle.snap_setup.specs.Pieces.{list_of_clips};
+ghost use Rattle.snap_setup.specs.Occluders.{list_of};
 
-use crate::frame::push_all;
+use crate::frame::push_whole;
 use crate::keeping::Keeping;
 use crate::occluders::Occluders;
 use crate::vertices::shared_vertices;
@@ -21,20 +20,13 @@ pub struct KeptList {
 /// Of the pieces that `frame_list` gives, those in whose box, or on its edge, a pixel's middle on the screen stands,
 /// and how many that gives. All memory is allocated first. Err: out of memory.
 pub fn sampled_list(alloc: Global, occluders: &Occluders) -> Result<KeptList, Memory>
-    ensures members { let o = occluders.now in IfOk result (λ s. s.list.list.members
-        ≡ sampled_among o.size (list_of_clips o.clips.now o.tris.now GRADE_TOP o.near.distance o.size o.winding)) }
+    ensures members { IfOk result
+        (λ s. s.list.list.members ≡ sampled_among occluders.now.size (list_of occluders.now)) }
     ensures size { IfOk result (λ s. s.list.list.size ≡ occluders.now.size) }
-    ensures listed { let o = occluders.now in IfOk result (λ s. s.listed
-        ≡ length (list_of_clips o.clips.now o.tris.now GRADE_TOP o.near.distance o.size o.winding)) }
+    ensures listed { IfOk result (λ s. s.listed ≡ length (list_of occluders.now)) }
 {
     let mut list = FrameList::with_room(alloc, occluders.size, 2 * occluders.tris.len() as u32)?;
     let vertices = shared_vertices(alloc, occluders)?;
-    let listed = push_all(
-        occluders,
-        vertices.as_slice(),
-        occluders.tris,
-        Keeping::Sampled,
-        &mut list,
-    );
+    let listed = push_whole(occluders, vertices.as_slice(), Keeping::Sampled, &mut list);
     Ok(KeptList { list, listed })
 }

@@ -3,12 +3,13 @@ ghost use Rattle.std.specs.Prelude.{IfSome, negsuc, ◌<◌, ◌/◌, ◌<ℤ◌
 ghost use Rattle.cull_base.specs.Bounds.{Bounded};
 ghost use Rattle.cull_base.specs.Depth.{floor_of};
 ghost use Rattle.cull_base.specs.Piece.{IsCoordinate};
-ghost use Rattle.cull_base.specs.declared.nearness.TheConstants.{GRADE_TOP};
+ghost use Rattle.cull_base.specs.Grade.{top_of};
+ghost use Rattle.cull_base.specs.declared.nearness.TheConstants.{HELD_TOP};
 ghost use Rattle.near_clip.specs.Reach.{IsInReach};
 ghost use Rattle.snap_setup.specs.Snapping.{round_half, screen_x, screen_y, nearness_of, addend_of, snapped, place_of};
 ghost use Rattle.snap_setup.specs.Snapping.{IsInSight, IsOnScale, IsSnapped};
 
-use cull_base::{Divisor, GRADE_TOP, Near, Side, Size};
+use cull_base::{Divisor, Grade, Near, Side, Size};
 use near_clip::HomPoint;
 
 /// A point on the screen: coordinates in sixteenths of a pixel, y downwards, and nearness from 0 to the top of
@@ -37,7 +38,7 @@ fn wide_sum(a: i128, b: i64) -> i128
     a + i128::from(b)
 }
 
-// Twice w, by which the coordinates and the nearness of a point are divided.
+// Twice w, by which the coordinates of a point are divided, and its nearness where that has no shorter way.
 #[inline(always)]
 fn doubled_w(point: &HomPoint) -> Divisor
     requires { IsInSight point.now }
@@ -104,12 +105,12 @@ fn place_y(point: &HomPoint, size: Size, doubled: &Divisor) -> i32
 }
 
 #[inline(always)]
-fn nearness_numerator(near: Near, scale: u64) -> u64
+fn nearness_numerator(near: Near, scale: u64, grade: Grade) -> u64
     requires { scale ≤ 2 ^ 25 }
-    ensures value { result ≡ GRADE_TOP * near.distance * scale }
-    ensures bounded { result ≤ GRADE_TOP * 2 ^ 35 }
+    ensures value { result ≡ top_of grade * near.distance * scale }
+    ensures bounded { result ≤ HELD_TOP * 2 ^ 35 }
 {
-    u64::from(GRADE_TOP) * u64::from(near.distance) * scale
+    u64::from(grade.top()) * u64::from(near.distance) * scale
 }
 
 #[inline(always)]
@@ -117,24 +118,24 @@ fn addend(side: Side, w: u64) -> u64
     requires least { 1 ≤ w }
     requires most { w ≤ 2 ^ 49 }
     ensures value { result ≡ addend_of side w }
-    ensures bounded { result ≤ 2 ^ 50 }
+    ensures bounded { result ≤ 2 ^ 49 }
 {
     match side {
         Side::Occluder => 0,
-        Side::Object => 2 * w - 1,
+        Side::Object => w - 1,
     }
 }
 
 #[inline(always)]
-fn nearness(point: &HomPoint, near: Near, side: Side, doubled: &Divisor) -> u32
+fn nearness(point: &HomPoint, near: Near, side: Side, grade: Grade, doubled: &Divisor) -> u32
     requires reach { IsInReach near.distance point.now }
     requires sight { IsInSight point.now }
     requires doubled { pos doubled.now ≡ pos 2 *ℤ point.now.w }
-    ensures value { result ≡ nearness_of point.now GRADE_TOP near.distance side }
-    ensures within { result ≤ GRADE_TOP }
+    ensures value { result ≡ nearness_of point.now (top_of grade) near.distance side }
+    ensures within { result ≤ top_of grade }
 {
-    let numerator = 2 * nearness_numerator(near, point.scale.unsigned_abs());
-    doubled.quotient(numerator + addend(side, point.w.unsigned_abs())) as u32
+    let numerator = nearness_numerator(near, point.scale.unsigned_abs(), grade);
+    doubled.quotient(2 * (numerator + addend(side, point.w.unsigned_abs()))) as u32
 }
 
 /// Processors divide numbers below this size in a fraction of the time.
@@ -150,6 +151,38 @@ fn short_quotient(n: u64, d: u64) -> Option<u64>
         Some(u64::from(n as u32 / d as u32))
     } else {
         None
+    }
+}
+
+// A quotient in two steps: first of the number without its lower eight bits, then of what that leaves. None where one
+// of these doesn't fit.
+#[inline(always)]
+fn quotient_in_two(n: u64, d: u64) -> Option<u64>
+    requires { 0 < d }
+    ensures { IfSome result (λ q. q ≡ n / d) }
+{
+    let Some(upper) = short_quotient(n / 256, d) else {
+        return None;
+    };
+    let first = 256 * upper;
+    let rest = n - first * d;
+    let Some(lower) = short_quotient(rest, d) else {
+        return None;
+    };
+    Some(first + lower)
+}
+
+// The same in one step where the number fits 32 bits, as in the narrow grade most do, and else in two: in the wide
+// grade a vertex that no plane cuts needs them where the near distance is above 255.
+#[inline(always)]
+fn quotient_in_steps(n: u64, d: u64) -> Option<u64>
+    requires { 0 < d }
+    ensures { IfSome result (λ q. q ≡ n / d) }
+{
+    if n < SHORT {
+        short_quotient(n, d)
+    } else {
+        quotient_in_two(n, d)
     }
 }
 
@@ -189,14 +222,15 @@ fn short_place(pixels: u16, offset: i64, w: i64, doubled: u64) -> Option<i32>
 }
 
 #[inline(always)]
-fn short_nearness(point: &HomPoint, near: Near, side: Side, doubled: u64) -> Option<u32>
+fn short_nearness(point: &HomPoint, near: Near, side: Side, grade: Grade) -> Option<u32>
     requires reach { IsInReach near.distance point.now }
     requires sight { IsInSight point.now }
-    requires doubled { pos doubled ≡ pos 2 *ℤ point.now.w }
-    ensures { IfSome result (λ q. (q ≡ nearness_of point.now GRADE_TOP near.distance side) × (q ≤ GRADE_TOP)) }
+    ensures { IfSome result
+        (λ q. (q ≡ nearness_of point.now (top_of grade) near.distance side) × (q ≤ top_of grade)) }
 {
-    let numerator = 2 * nearness_numerator(near, point.scale.unsigned_abs());
-    match short_quotient(numerator + addend(side, point.w.unsigned_abs()), doubled) {
+    let numerator = nearness_numerator(near, point.scale.unsigned_abs(), grade);
+    let w = point.w.unsigned_abs();
+    match quotient_in_steps(numerator + addend(side, w), w) {
         Some(q) => Some(q as u32),
         None => None,
     }
@@ -279,13 +313,14 @@ pub fn place_of(point: &HomPoint, near: u16, size: Size) -> Place
     long_place_of(point, size)
 }
 
-// A point whose three quotients are of numbers that fit 32 bits, as those of most points are.
+// A point whose quotients are of numbers that fit 32 bits, as those of most points are.
 #[inline(always)]
-fn short_snap(point: &HomPoint, near: Near, size: Size, side: Side) -> Option<Snapped>
+fn short_snap(point: &HomPoint, near: Near, size: Size, side: Side, grade: Grade) -> Option<Snapped>
     requires reach { IsInReach near.distance point.now }
     requires sight { IsInSight point.now }
     requires narrow { point.now.w ≤ℤ pos (2 ^ 32) }
-    ensures { IfSome result (λ s. (s ≡ snapped point.now GRADE_TOP near.distance size side) × IsSnapped s) }
+    ensures { IfSome result
+        (λ s. (s ≡ snapped point.now (top_of grade) near.distance size side) × IsSnapped s) }
 {
     let doubled = 2 * point.w.unsigned_abs();
     let Some(x) = short_x(point, size, doubled) else {
@@ -294,7 +329,7 @@ fn short_snap(point: &HomPoint, near: Near, size: Size, side: Side) -> Option<Sn
     let Some(y) = short_y(point, size, doubled) else {
         return None;
     };
-    let Some(q) = short_nearness(point, near, side, doubled) else {
+    let Some(q) = short_nearness(point, near, side, grade) else {
         return None;
     };
     Some(Snapped { x, y, q })
@@ -302,36 +337,36 @@ fn short_snap(point: &HomPoint, near: Near, size: Size, side: Side) -> Option<Sn
 
 // Any point, by one reciprocal.
 #[inline(never)]
-fn long_snap(point: &HomPoint, near: Near, size: Size, side: Side) -> Snapped
+fn long_snap(point: &HomPoint, near: Near, size: Size, side: Side, grade: Grade) -> Snapped
     requires reach { IsInReach near.distance point.now }
     requires sight { IsInSight point.now }
-    ensures value { result ≡ snapped point.now GRADE_TOP near.distance size side }
+    ensures value { result ≡ snapped point.now (top_of grade) near.distance size side }
     ensures within { IsSnapped result }
 {
     let doubled = doubled_w(point);
     Snapped {
         x: place_x(point, size, &doubled),
         y: place_y(point, size, &doubled),
-        q: nearness(point, near, side, &doubled),
+        q: nearness(point, near, side, grade, &doubled),
     }
 }
 
 /// A point on the screen: its coordinates are rounded to the nearest whole number, and its nearness down for an
-/// occluder, up for an object. Conditions: `near` is 1 to 1024; the scale is 1 to 2^25, w is `near` to 16384 `near`
+/// occluder, up for an object; the grade says how fine it is. Conditions: `near` is 1 to 1024; the scale is 1 to 2^25, w is `near` to 16384 `near`
 /// times the scale, and x and y are at most 16384 `near` times the scale away from 0.
 #[inline(always)]
-pub fn snap(point: &HomPoint, near: u16, size: Size, side: Side) -> Snapped
+pub fn snap(point: &HomPoint, near: u16, size: Size, side: Side, grade: Grade) -> Snapped
     requires near_least { 1 ≤ near }
     requires near_most { near ≤ 1024 }
     requires reach { IsInReach near point.now }
-    ensures value { result ≡ snapped point.now GRADE_TOP near size side }
+    ensures value { result ≡ snapped point.now (top_of grade) near size side }
     ensures within { IsSnapped result }
 {
     let near = Near { distance: near };
     if point.w <= NARROW_W {
-        if let Some(snapped) = short_snap(point, near, size, side) {
+        if let Some(snapped) = short_snap(point, near, size, side, grade) {
             return snapped;
         }
     }
-    long_snap(point, near, size, side)
+    long_snap(point, near, size, side, grade)
 }

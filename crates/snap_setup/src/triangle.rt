@@ -1,7 +1,7 @@
 //! The pieces of one triangle.
 ghost use Rattle.std.specs.Prelude.{◌≡◌, pos, [], false, true, ◌+◌, ◌≤◌, ◌<ℤ◌, ◌↔◌, length, option_to_list};
-ghost use Rattle.cull_base.specs.declared.nearness.TheConstants.{GRADE_TOP};
 ghost use Rattle.cull_base.specs.declared.triangle.Side.TheVariants.{Occluder};
+ghost use Rattle.cull_base.specs.Grade.{top_of};
 ghost use Rattle.cull_base.specs.Piece.{doubled_area};
 ghost use Rattle.snap_setup.specs.Pieces.{triangle, is_dropped, piece_if, kept_of, is_any_past_guard, is_all_in_front};
 ghost use Rattle.snap_setup.specs.Corners.{part_of, pieces_of_corners};
@@ -11,12 +11,13 @@ ghost use Rattle.snap_setup.specs.Snapping.{IsSnapped};
 ghost use Rattle.snap_setup.specs.Vertices.{are_all_placed, is_any_placed, is_any_past, AreCornersOf};
 
 use crate::keeping::{Keeping, take_if};
+use crate::occluders::Occluders;
 use crate::pieces::Pieces;
 use crate::snapping::{Snapped, snap};
 use crate::vertices::ScreenVertex;
 use camera_path::past_guard;
 use cull_base::arithmetic::edge_value;
-use cull_base::{ClipVertex, FrameList, Near, ScreenTri, Side, Size, Winding};
+use cull_base::{ClipVertex, FrameList, Grade, Near, ScreenTri, Side, Size, Winding};
 use near_clip::{clip_near, is_in_front, whole};
 
 // Positive where the points run clockwise on the screen.
@@ -103,35 +104,43 @@ fn whole_piece(
     size: Size,
     winding: Winding,
     side: Side,
+    grade: Grade,
 ) -> Option<ScreenTri>
     requires guarded { is_any_past_guard tri.now.v0.now tri.now.v1.now tri.now.v2.now near.distance ≡ false }
     requires front { is_all_in_front tri.now.v0.now tri.now.v1.now tri.now.v2.now near.distance ≡ true }
-    ensures { option_to_list result ≡ kept_of (part_of tri.now near.distance size side) winding }
+    ensures { option_to_list result ≡ kept_of (part_of tri.now (top_of grade) near.distance size side) winding }
 {
-    let p0 = snap(&whole(tri.v0), near.distance, size, side);
-    let p1 = snap(&whole(tri.v1), near.distance, size, side);
-    let p2 = snap(&whole(tri.v2), near.distance, size, side);
+    let p0 = snap(&whole(tri.v0), near.distance, size, side, grade);
+    let p1 = snap(&whole(tri.v1), near.distance, size, side, grade);
+    let p2 = snap(&whole(tri.v2), near.distance, size, side, grade);
     piece(&p0, &p1, &p2, winding)
 }
 
 // The pieces of a triangle that the near plane cuts, or that lies behind it.
 #[inline(never)]
-fn clipped_pieces(tri: &Corners, near: Near, size: Size, winding: Winding, side: Side) -> Pieces
+fn clipped_pieces(
+    tri: &Corners,
+    near: Near,
+    size: Size,
+    winding: Winding,
+    side: Side,
+    grade: Grade,
+) -> Pieces
     requires guarded { is_any_past_guard tri.now.v0.now tri.now.v1.now tri.now.v2.now near.distance ≡ false }
-    ensures { result ≡ kept_of (part_of tri.now near.distance size side) winding }
+    ensures { result ≡ kept_of (part_of tri.now (top_of grade) near.distance size side) winding }
 {
     let polygon = clip_near(&[*tri.v0, *tri.v1, *tri.v2], near.distance);
     if polygon.len() == 0 {
         return Pieces::none();
     }
-    let p0 = snap(&polygon.get(0), near.distance, size, side);
-    let p1 = snap(&polygon.get(1), near.distance, size, side);
-    let p2 = snap(&polygon.get(2), near.distance, size, side);
+    let p0 = snap(&polygon.get(0), near.distance, size, side, grade);
+    let p1 = snap(&polygon.get(1), near.distance, size, side, grade);
+    let p2 = snap(&polygon.get(2), near.distance, size, side, grade);
     let first = piece(&p0, &p1, &p2, winding);
     if polygon.len() == 3 {
         return Pieces::of(first, None);
     }
-    let p3 = snap(&polygon.get(3), near.distance, size, side);
+    let p3 = snap(&polygon.get(3), near.distance, size, side, grade);
     let second = piece(&p0, &p2, &p3, winding);
     Pieces::of(first, second)
 }
@@ -140,12 +149,19 @@ fn clipped_pieces(tri: &Corners, near: Near, size: Size, winding: Winding, side:
 /// past the guard, and else none exactly where all of it is behind the near plane or each triangle of the clipped
 /// polygon has area 0 or a dropped winding. Condition: `near` is 1 to 1024.
 #[inline(always)]
-pub fn set_up(tri: &[ClipVertex; 3], near: u16, size: Size, winding: Winding, side: Side) -> Pieces
+pub fn set_up(
+    tri: &[ClipVertex; 3],
+    near: u16,
+    size: Size,
+    winding: Winding,
+    side: Side,
+    grade: Grade,
+) -> Pieces
     requires near_least { 1 ≤ near }
     requires near_most { near ≤ 1024 }
-    ensures value { result ≡ pieces_of_triangle tri.now GRADE_TOP near size winding side }
+    ensures value { result ≡ pieces_of_triangle tri.now (top_of grade) near size winding side }
     ensures most { length result ≤ 2 }
-    ensures none { (result ≡ []) ↔ TriangleGivesNone tri.now GRADE_TOP near size winding side }
+    ensures none { (result ≡ []) ↔ TriangleGivesNone tri.now (top_of grade) near size winding side }
 {
     let [v0, v1, v2] = tri;
     let tri = &Corners { v0, v1, v2 };
@@ -153,9 +169,9 @@ pub fn set_up(tri: &[ClipVertex; 3], near: u16, size: Size, winding: Winding, si
     if is_any_past_guard(tri, near) {
         Pieces::none()
     } else if is_all_in_front(tri, near) {
-        Pieces::of(whole_piece(tri, near, size, winding, side), None)
+        Pieces::of(whole_piece(tri, near, size, winding, side, grade), None)
     } else {
-        clipped_pieces(tri, near, size, winding, side)
+        clipped_pieces(tri, near, size, winding, side, grade)
     }
 }
 
@@ -166,16 +182,17 @@ fn push_clipped(
     near: Near,
     size: Size,
     winding: Winding,
+    grade: Grade,
     keeping: Keeping,
     list: &mut FrameList,
 ) -> u32
     requires guarded { is_any_past_guard tri.now.v0.now tri.now.v1.now tri.now.v2.now near.distance ≡ false }
     requires room { length list.old.list.members + 2 ≤ list.old.room }
     ensures value { Took keeping list.old list.new result
-        (kept_of (part_of tri.now near.distance size Occluder) winding) }
-    ensures most { length (kept_of (part_of tri.now near.distance size Occluder) winding) ≤ 2 }
+        (kept_of (part_of tri.now (top_of grade) near.distance size Occluder) winding) }
+    ensures most { length (kept_of (part_of tri.now (top_of grade) near.distance size Occluder) winding) ≤ 2 }
 {
-    clipped_pieces(tri, near, size, winding, Side::Occluder).push_onto(keeping, list)
+    clipped_pieces(tri, near, size, winding, Side::Occluder, grade).push_onto(keeping, list)
 }
 
 /// Appends the pieces of an occluder's triangle that are kept to a list, as `set_up` makes them, and gives how many the
@@ -186,24 +203,26 @@ pub(crate) fn push_pieces(
     near: Near,
     size: Size,
     winding: Winding,
+    grade: Grade,
     keeping: Keeping,
     list: &mut FrameList,
 ) -> u32
     requires { length list.old.list.members + 2 ≤ list.old.room }
-    ensures value { Took keeping list.old list.new result (pieces_of_corners tri.now near.distance size winding) }
-    ensures most { length (pieces_of_corners tri.now near.distance size winding) ≤ 2 }
+    ensures value { Took keeping list.old list.new result
+        (pieces_of_corners tri.now (top_of grade) near.distance size winding) }
+    ensures most { length (pieces_of_corners tri.now (top_of grade) near.distance size winding) ≤ 2 }
 {
     if is_any_past_guard(tri, near) {
         return 0;
     }
     if is_all_in_front(tri, near) {
         take_if(
-            whole_piece(tri, near, size, winding, Side::Occluder),
+            whole_piece(tri, near, size, winding, Side::Occluder, grade),
             keeping,
             list,
         )
     } else {
-        push_clipped(tri, near, size, winding, keeping, list)
+        push_clipped(tri, near, size, winding, grade, keeping, list)
     }
 }
 
@@ -238,25 +257,28 @@ impl<'a> ScreenCorners<'a> {
     }
 }
 
-/// As `push_pieces`, by what is known of the vertices: a triangle has no pieces where one of them is past the guard or
-/// all are behind the near plane, and only one that the plane cuts is snapped anew. Conditions as there.
+/// As `push_pieces` of one of a frame's triangles, by what is known of the vertices: a triangle has no pieces where one
+/// of them is past the guard or all are behind the near plane, and only one that the plane cuts is snapped anew.
+/// Conditions as there.
 #[inline(always)]
 pub(crate) fn push_shared(
+    occluders: &Occluders,
     tri: &Corners,
     corners: &ScreenCorners,
-    near: Near,
-    size: Size,
     winding: Winding,
     keeping: Keeping,
     list: &mut FrameList,
 ) -> u32
-    requires corners { AreCornersOf tri.now near.distance size corners.now }
+    requires corners { let o = occluders.now in
+        AreCornersOf tri.now (top_of o.grade) o.near.distance o.size corners.now }
     requires room { length list.old.list.members + 2 ≤ list.old.room }
-    ensures value { Took keeping list.old list.new result (pieces_of_corners tri.now near.distance size winding) }
-    ensures most { length (pieces_of_corners tri.now near.distance size winding) ≤ 2 }
+    ensures value { let o = occluders.now in Took keeping list.old list.new result
+        (pieces_of_corners tri.now (top_of o.grade) o.near.distance o.size winding) }
+    ensures most { let o = occluders.now in
+        length (pieces_of_corners tri.now (top_of o.grade) o.near.distance o.size winding) ≤ 2 }
 {
     // an accessor tells what is held of a size
-    let _width = size.width();
+    let _width = occluders.size.width();
     if corners.are_all_placed() {
         return take_if(
             piece(&corners.v0.at, &corners.v1.at, &corners.v2.at, winding),
@@ -268,7 +290,15 @@ pub(crate) fn push_shared(
         return 0;
     }
     if corners.is_any_placed() {
-        push_clipped(tri, near, size, winding, keeping, list)
+        push_clipped(
+            tri,
+            occluders.near,
+            occluders.size,
+            winding,
+            occluders.grade,
+            keeping,
+            list,
+        )
     } else {
         0
     }

@@ -1,12 +1,13 @@
 //! The clip vertices of a frame on its screen: each is snapped once, however many triangles share it.
 ghost use Rattle.std.specs.Prelude.{◌≡◌, ◌<◌, ◌≤◌, ◌⊎◌, [], length, IfOk};
+ghost use Rattle.cull_base.specs.Grade.{top_of};
 ghost use Rattle.near_clip.specs.NearPart.{corner};
 ghost use Rattle.snap_setup.specs.Vertices.{screen_vertex, screen_vertices, AreShared};
 
 use crate::occluders::Occluders;
 use crate::snapping::{Snapped, snap};
 use camera_path::past_guard;
-use cull_base::{ClipVertex, Memory, Near, Side, Size};
+use cull_base::{ClipVertex, Grade, Memory, Near, Side, Size};
 use near_clip::{is_in_front, whole};
 use side_by_side::for_each_share;
 use std::alloc::Global;
@@ -25,13 +26,13 @@ pub(crate) struct ScreenVertex {
 }
 
 #[inline(always)]
-fn screen_vertex(v: &ClipVertex, near: Near, size: Size) -> ScreenVertex
-    ensures { result ≡ screen_vertex v.now near.distance size }
+fn screen_vertex(v: &ClipVertex, near: Near, size: Size, grade: Grade) -> ScreenVertex
+    ensures { result ≡ screen_vertex v.now (top_of grade) near.distance size }
 {
     let past = past_guard(v, near.distance);
     let placed = is_in_front(v, near.distance) & !past;
     let at = if placed {
-        snap(&whole(v), near.distance, size, Side::Occluder)
+        snap(&whole(v), near.distance, size, Side::Occluder, grade)
     } else {
         Snapped { x: 0, y: 0, q: 0 }
     };
@@ -60,7 +61,7 @@ pub(crate) fn shared_vertices(
     let shared = shared_clips(occluders);
     let mut vertices = Vec::with_capacity(alloc, shared.len()).map_err(|_| Memory)?;
     for v in shared {
-        vertices.push_reserved(screen_vertex(v, occluders.near, occluders.size));
+        vertices.push_reserved(screen_vertex(v, occluders.near, occluders.size, occluders.grade));
     }
     Ok(vertices)
 }
@@ -74,7 +75,8 @@ fn put_all<R: Threads + Sync>(
     workers: u32,
 )
     requires { length vertices.old ≡ length clips.now }
-    ensures { vertices.new ≡ screen_vertices clips.now occluders.now.near.distance occluders.now.size }
+    ensures { let o = occluders.now in
+        vertices.new ≡ screen_vertices clips.now (top_of o.grade) o.near.distance o.size }
 {
     let threads = (vertices.len() / SHARE).min(workers as usize).max(1);
     for_each_share(
@@ -83,9 +85,9 @@ fn put_all<R: Threads + Sync>(
         threads,
         &|i: usize, vertex: &mut ScreenVertex|
             requires { i < length clips.now }
-            ensures { vertex.new
-                ≡ screen_vertex (corner clips.entry.now i) occluders.entry.now.near.distance occluders.entry.now.size }
-        { *vertex = screen_vertex(&clips[i], occluders.near, occluders.size) },
+            ensures { let o = occluders.entry.now in vertex.new
+                ≡ screen_vertex (corner clips.entry.now i) (top_of o.grade) o.near.distance o.size }
+        { *vertex = screen_vertex(&clips[i], occluders.near, occluders.size, occluders.grade) },
     );
 }
 

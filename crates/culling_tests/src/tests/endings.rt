@@ -16,7 +16,9 @@ fn a_refused_scene_is_noted_with_its_numbers(rt: HostRuntime) -> Result<(), Fail
     for (changes, note) in [
         ([(0, 0x4e)].as_slice(), "scene refused 2\n"),
         (&[(6, 33)], "scene refused 4 33 8\n"),
-        (&[(4, 2)], "scene refused 3 2\n"),
+        (&[(4, 3)], "scene refused 3 3\n"),
+        // in version 2 the first vertex stands where the number of batches is
+        (&[(4, 2)], "scene refused 8 5 4294967294\n"),
         (&[(14, 1), (15, 1)], "scene refused 8 0 257\n"),
         (&[(100, 4)], "scene refused 11 0 1\n"),
         (&[(104, 3)], "scene refused 12 0\n"),

@@ -34,8 +34,8 @@ pub fn sink(alloc: Global, most: usize, call: u64) -> Result<BytesSink, AllocErr
     Ok(BytesSink::new(alloc, most, Vec::from_slice(alloc, &[call])?))
 }
 
-// The words of a command line, parted by one space each; none of an empty one.
-fn words_of(alloc: Global, line: &str) -> Result<Vec<String>, AllocError> {
+/// The words of a command line, parted by one space each; none of an empty one.
+pub fn words_of(alloc: Global, line: &str) -> Result<Vec<String>, AllocError> {
     let mut words = Vec::new(alloc);
     if line.is_empty() {
         return Ok(words);

@@ -83,6 +83,21 @@ pub fn scene(
     scene_of(alloc, vertices, triangles, &[], &objects)
 }
 
+/// The first scene in version 2, with these batches: a count and a winding each. It is narrow.
+pub fn in_batches(alloc: Global, batches: &[(u32, u8)]) -> Result<Vec<u8>, AllocError> {
+    let mut bytes = Vec::from_slice(alloc, b"MSOC")?;
+    bytes.extend_from_slice(&[2, 0])?;
+    bytes.extend_from_slice(&FIRST[6..32])?;
+    bytes.extend_from_slice(&[(batches.len() % 256) as u8, 0, 0, 0])?;
+    bytes.extend_from_slice(&FIRST[32..104])?;
+    for (count, winding) in batches {
+        bytes.extend_from_slice(&count.to_le_bytes())?;
+        bytes.push(*winding)?;
+    }
+    bytes.extend_from_slice(&FIRST[104..])?;
+    Ok(bytes)
+}
+
 /// The first so many bytes of the first scene, all where it has no more.
 pub fn first_bytes(alloc: Global, count: usize) -> Result<Vec<u8>, AllocError> {
     Vec::from_slice(alloc, &FIRST[..count.min(FIRST.len())])

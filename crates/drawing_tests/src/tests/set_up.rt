@@ -1,12 +1,15 @@
 //! Points, triangles and frames worked by hand.
-ghost use Rattle.std.specs.Prelude.{◌≡◌, ◌≤◌, false, length};
+ghost use Rattle.std.specs.Prelude.{◌≡◌, ◌≤◌, false, length, IfOk};
+ghost use Rattle.cull_base.specs.Batches.{AreBatchesOf};
 ghost use Rattle.cull_base.specs.Guard.{is_past_guard};
 ghost use Rattle.near_clip.specs.Reach.{IsInReach};
 ghost use Rattle.snap_setup.specs.Pieces.{HasClips};
 ghost use Rattle.std.specs.List.{All};
 
 use camera_path::past_guard;
-use cull_base::{ClipVertex, FrameList, Near, Rect, Side, Size, Tri, Winding};
+use cull_base::{
+    Batch, ClipVertex, FrameList, Grade, Memory, Near, Rect, Side, Size, Tri, Winding,
+};
 use near_clip::HomPoint;
 use snap_setup::{Occluders, Pieces, Snapped, frame_list, near_box, sampled_list, set_up, snap};
 use std::alloc::Global;
@@ -29,7 +32,7 @@ fn point_at(rt: &impl Abort, x: i64, y: i64, w: i64, size: Size, side: Side) -> 
     assert!(rt; -16384 <= y && y <= 16384);
     assert!(rt; 1 <= w && w <= 16384);
     let point = HomPoint { x, y, w, scale: 1 };
-    snap(&point, 1, size, side)
+    snap(&point, 1, size, side, Grade::Narrow)
 }
 
 fn box_of_triangle(rt: &impl Abort, corners: [ClipVertex; 3], size: Size) -> Option<Rect> {
@@ -65,6 +68,39 @@ fn nearness_goes_down_for_occluders_and_up_for_objects(rt: HostRuntime) -> Resul
     Ok(())
 }
 
+// The nearness of a vertex at distance w in the wide grade.
+fn wide_nearness(rt: &impl Abort, near: u16, w: i64, side: Side) -> u32
+    requires near_least { 1 ≤ near }
+    requires near_most { near ≤ 1024 }
+{
+    assert!(rt; i64::from(near) <= w && w <= 16384);
+    let size = Size::new(32, 8).expect(rt, "size");
+    let point = HomPoint {
+        x: 0,
+        y: 0,
+        w,
+        scale: 1,
+    };
+    snap(&point, near, size, side, Grade::Wide).q
+}
+
+// Up to a near distance of 255 the numerator fits 32 bits: 16777215 * 255 is 256 * 16711679 + 1. Above it is divided in
+// two steps: 16777215 * 1024 is 3000 * 5726622 + 2160, and 1024 * 16777215.
+#[test]
+fn the_wide_grade_has_the_greater_top(rt: HostRuntime) {
+    for (near, w, occluder, object) in [
+        (1, 1, 16777215, 16777215),
+        (1, 2, 8388607, 8388608),
+        (255, 256, 16711679, 16711680),
+        (1024, 3000, 5726622, 5726623),
+        (1024, 1024, 16777215, 16777215),
+        (1024, 16384, 1048575, 1048576),
+    ] {
+        assert_eq!(rt; wide_nearness(&rt, near, w, Side::Occluder), occluder);
+        assert_eq!(rt; wide_nearness(&rt, near, w, Side::Object), object);
+    }
+}
+
 #[test]
 fn cut_points_are_snapped_by_their_scale(rt: HostRuntime) -> Result<(), Fail> {
     let size = Size::new(32, 8).ok_or("size")?;
@@ -74,7 +110,7 @@ fn cut_points_are_snapped_by_their_scale(rt: HostRuntime) -> Result<(), Fail> {
         w: 12,
         scale: 6,
     };
-    let point = snap(&cut, 2, size, Side::Occluder);
+    let point = snap(&cut, 2, size, Side::Occluder, Grade::Narrow);
     assert_eq!(rt; point.x, 597);
     assert_eq!(rt; point.q, 65535);
     Ok(())
@@ -85,7 +121,8 @@ fn farthest(rt: &impl Abort, x: i64, y: i64, w: i64, scale: i64) -> (i32, i32, u
     requires { IsInReach 1024 (record { x = x; y = y; w = w; scale = scale }) }
 {
     let size = Size::new(2048, 2048).expect(rt, "size");
-    let snapped = snap(&HomPoint { x, y, w, scale }, 1024, size, Side::Object);
+    let point = HomPoint { x, y, w, scale };
+    let snapped = snap(&point, 1024, size, Side::Object, Grade::Narrow);
     (snapped.x, snapped.y, snapped.q)
 }
 
@@ -115,7 +152,7 @@ fn occluder(tri: &[ClipVertex; 3], near: u16, winding: Winding) -> Result<Pieces
     requires most { near ≤ 1024 }
 {
     let size = Size::new(32, 8).ok_or("size")?;
-    Ok(set_up(tri, near, size, winding, Side::Occluder))
+    Ok(set_up(tri, near, size, winding, Side::Occluder, Grade::Narrow))
 }
 
 #[test]
@@ -147,6 +184,17 @@ fn near_boxes_hold_what_has_no_area(rt: HostRuntime) -> Result<(), Fail> {
     Ok(())
 }
 
+// All of some triangles in one batch.
+fn in_one_batch(tris: &[Tri], winding: Winding) -> [Batch; 1]
+    requires { length tris.now ≤ 65536 }
+    ensures { AreBatchesOf result (length tris.now) }
+{
+    [Batch {
+        count: tris.len() as u32,
+        winding,
+    }]
+}
+
 // The list of some triangles on a screen of 32 by 8.
 fn listed(alloc: Global, clips: &[ClipVertex], tris: &[Tri], near: u16) -> Result<FrameList, Fail>
     requires near { (1 ≤ near) × (near ≤ 1024) }
@@ -154,7 +202,8 @@ fn listed(alloc: Global, clips: &[ClipVertex], tris: &[Tri], near: u16) -> Resul
     requires indices { All (HasClips (length clips.now)) tris.now }
 {
     let size = Size::new(32, 8).ok_or("size")?;
-    Ok(frame_list(alloc, clips, tris, near, size, Winding::Both)?)
+    let batches = in_one_batch(tris, Winding::Both);
+    Ok(frame_list(alloc, clips, tris, near, size, &batches, Grade::Narrow)?)
 }
 
 // The two triangles of a quad over the screen.
@@ -163,7 +212,8 @@ fn quad(alloc: Global, tris: &[Tri; 2], winding: Winding) -> Result<FrameList, F
 {
     let size = Size::new(32, 8).ok_or("size")?;
     let clips = [at(-2, 2, 2), at(2, 2, 2), at(2, -2, 2), at(-2, -2, 2)];
-    Ok(frame_list(alloc, &clips, tris, 1, size, winding)?)
+    let batches = in_one_batch(tris, winding);
+    Ok(frame_list(alloc, &clips, tris, 1, size, &batches, Grade::Narrow)?)
 }
 
 const CLOCKWISE: [Tri; 2] = [Tri([0, 1, 2]), Tri([0, 2, 3])];
@@ -257,7 +307,8 @@ fn kept_of_one(alloc: Global, clips: &[ClipVertex; 3]) -> Result<(u32, u32), Fai
         tris: &[Tri([0, 1, 2])],
         near: Near { distance: 1 },
         size: Size::new(32, 8).ok_or("size")?,
-        winding: Winding::Both,
+        batches: &in_one_batch(&[Tri([0, 1, 2])], Winding::Both),
+        grade: Grade::Narrow,
     };
     let kept = sampled_list(alloc, &occluders)?;
     Ok((kept.list.len(), kept.listed))
@@ -299,5 +350,83 @@ fn a_piece_without_a_sample_of_the_screen_is_counted_alone(rt: HostRuntime) -> R
     ] {
         assert_eq!(rt; kept_of_one(rt.alloc(), &clips)?, (0, 1));
     }
+    Ok(())
+}
+
+#[test]
+fn the_law_on_one_batch_is_called(rt: HostRuntime) {
+    one_batch();
+}
+
+// The first triangle of a quad, which runs clockwise, and its second, which is turned, in turn: 2,500 in all.
+fn alternating(alloc: Global) -> Result<Vec<Tri>, Fail>
+    ensures indices { IfOk result (λ v. All (HasClips 4) v.items) }
+    ensures count { IfOk result (λ v. length v.items ≡ 2500) }
+{
+    let mut tris = Vec::with_capacity(alloc, 2500).map_err(|_| Memory)?;
+    for _ in 0..1250 {
+        tris.push_reserved(Tri([0, 1, 2]));
+        tris.push_reserved(Tri([0, 3, 2]));
+    }
+    Ok(tris)
+}
+
+// Batches of 1, 0, 1248, 2 and 1249 triangles. The second of two runs begins within the fourth batch.
+const BATCHES: [Batch; 5] = [
+    Batch {
+        count: 1,
+        winding: Winding::Both,
+    },
+    Batch {
+        count: 0,
+        winding: Winding::DropClockwise,
+    },
+    Batch {
+        count: 1248,
+        winding: Winding::DropCounter,
+    },
+    Batch {
+        count: 2,
+        winding: Winding::DropClockwise,
+    },
+    Batch {
+        count: 1249,
+        winding: Winding::Both,
+    },
+];
+
+// By hand: the first triangle, the clockwise ones from 2 to 1248, triangle 1249, which isn't, and all from 1251 on.
+#[test]
+fn a_run_begins_within_a_batch(rt: HostRuntime) -> Result<(), Fail> {
+    let clips = [at(-2, 2, 2), at(2, 2, 2), at(2, -2, 2), at(-2, -2, 2)];
+    let tris = alternating(rt.alloc())?;
+    let occluders = Occluders {
+        clips: &clips,
+        tris: tris.as_slice(),
+        near: Near { distance: 1 },
+        size: Size::new(32, 8).ok_or("size")?,
+        batches: &BATCHES,
+        grade: Grade::Narrow,
+    };
+    let one = frame_list_by_workers(&rt, rt.alloc(), &occluders, 1)?;
+    let two = frame_list_by_workers(&rt, rt.alloc(), &occluders, 2)?;
+    assert_eq!(rt; (one.len(), two.len()), (1875, 1875));
+    for k in 0..1875 {
+        assert_eq!(rt; numbers(&two, k)?, numbers(&one, k)?);
+    }
+    let clockwise = ([0, 512, 512], [0, 0, 128], [32767; 3]);
+    let turned = ([0, 512, 0], [0, 128, 128], [32767; 3]);
+    assert_eq!(rt;
+        (numbers(&one, 0)?, numbers(&one, 624)?),
+        (clockwise, clockwise)
+    );
+    assert_eq!(rt;
+        (numbers(&one, 625)?, numbers(&one, 626)?),
+        (turned, turned)
+    );
+    assert_eq!(rt;
+        (numbers(&one, 627)?, numbers(&one, 1874)?),
+        (clockwise, turned)
+    );
     Ok(())
 }

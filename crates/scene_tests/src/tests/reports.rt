@@ -4,10 +4,12 @@ ghost use Rattle.cull_base.specs.Screen.{tile_count_of};
 ghost use Rattle.tile_cells.specs.Standing.{AreStanding, IsReading, StandsAt};
 
 use cull_base::{
-    BytesSink, FrameList, Memory, NO_PIXELS, Object, Rect, ScreenTri, SinkError, Size, SureSink,
-    Verdict, Winding,
+    Batch, BytesSink, FrameList, Grade, Memory, NO_PIXELS, Object, Rect, ScreenTri, SinkError,
+    Size, SureSink, Verdict, Winding,
 };
-use cull_report::{Asked, LiveLine, object_settled, verdicts_by_workers, write_live};
+use cull_report::{
+    Asked, LiveLine, object_settled, upgrade_keeps_texts, verdicts_by_workers, write_live,
+};
 use masked_update::{PlainView, SubTile, TileState};
 use scene_reader::{Scene, SceneParts};
 use std::alloc::Global;
@@ -160,14 +162,20 @@ fn tiles_of_the_area_in_order(rt: HostRuntime) -> Result<(), Fail> {
 }
 
 // A scene of one tile without vertices, with one frame and these objects.
-fn scene_of(alloc: Global, objects: Vec<Object>) -> Result<Scene, Fail> {
+fn scene_of(alloc: Global, objects: Vec<Object>, grade: Grade) -> Result<Scene, Fail> {
+    let none = Batch {
+        count: 0,
+        winding: Winding::DropCounter,
+    };
     let parts = SceneParts {
+        version: 2,
         width: 32,
         height: 8,
         near: 1,
-        winding: Winding::DropCounter,
+        grade,
         vertices: Vec::new(alloc),
         occluders: Vec::new(alloc),
+        batches: Vec::from_slice(alloc, &[none])?,
         object_tris: Vec::new(alloc),
         objects,
         cameras: Vec::from_slice(alloc, &[[0; 12]])?,
@@ -176,7 +184,7 @@ fn scene_of(alloc: Global, objects: Vec<Object>) -> Result<Scene, Fail> {
 }
 
 // The rectangle of the whole screen at two distances.
-fn rectangles_at(alloc: Global, near: i32, far: i32) -> Result<Scene, Fail> {
+fn rectangles_at(alloc: Global, near: i32, far: i32, grade: Grade) -> Result<Scene, Fail> {
     let rect = pixels(0, 0, 32, 8);
     let objects = Vec::from_slice(
         alloc,
@@ -185,7 +193,7 @@ fn rectangles_at(alloc: Global, near: i32, far: i32) -> Result<Scene, Fail> {
             Object::Area { rect, w: far },
         ],
     )?;
-    scene_of(alloc, objects)
+    scene_of(alloc, objects, grade)
 }
 
 // Whether an object of a scene without vertices is settled over the scene's only tile.
@@ -208,10 +216,30 @@ fn rectangle_behind_the_quad_is_settled_and_one_at_its_distance_is_not(
     let mut sub = SubTile::empty();
     sub.merge(32767, 0xFFFF_FFFF);
     let tile = TileState::of([sub; 8], 2);
-    let scene = rectangles_at(rt.alloc(), 2, 3)?;
+    let scene = rectangles_at(rt.alloc(), 2, 3, Grade::Narrow)?;
     assert!(rt; !is_settled(&scene, 0, tile)?);
     assert!(rt; is_settled(&scene, 1, tile)?);
     Ok(())
+}
+
+// At distances 1000 and 1001 a rectangle has 16778 and 16761 in the wide grade, 66 twice in the narrow one.
+#[test]
+fn wide_rectangles_differ_where_narrow_ones_are_alike(rt: HostRuntime) -> Result<(), Fail> {
+    let mut sub = SubTile::empty();
+    sub.merge(16777, 0xFFFF_FFFF);
+    let tile = TileState::of([sub; 8], 2);
+    let wide = rectangles_at(rt.alloc(), 1000, 1001, Grade::Wide)?;
+    assert!(rt; !is_settled(&wide, 0, tile)?);
+    assert!(rt; is_settled(&wide, 1, tile)?);
+    let narrow = rectangles_at(rt.alloc(), 1000, 1001, Grade::Narrow)?;
+    assert!(rt; is_settled(&narrow, 0, tile)?);
+    assert!(rt; is_settled(&narrow, 1, tile)?);
+    Ok(())
+}
+
+#[test]
+fn the_law_on_upgraded_scenes_is_called(rt: HostRuntime) {
+    upgrade_keeps_texts();
 }
 
 // So many such rectangles, of which each third is far.
@@ -222,7 +250,7 @@ fn many_rectangles(alloc: Global, count: u32, near: i32, far: i32) -> Result<Sce
         let w = if k % 3 == 0 { far } else { near };
         objects.push(Object::Area { rect, w })?;
     }
-    scene_of(alloc, objects)
+    scene_of(alloc, objects, Grade::Narrow)
 }
 
 // A frame's lines, by so many workers, of a scene without vertices over the scene's only tile.

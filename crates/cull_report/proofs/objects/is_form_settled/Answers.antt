@@ -6,6 +6,7 @@ use Rattle.rect_query.specs.Settled.{is_settled}
 use Rattle.cull_report.specs.Forms.{range_of}
 use Rattle.cull_report.specs.Scene.{size_of, frame_clips}
 use Rattle.cull_report.proofs.Forms.{flat_holds}
+use Rattle.cull_base.specs.Grade.{top_of}
 use Rattle.cull_report.proofs.Settled.{flat_settled, mesh_unsettled}
 use Rattle.cull_report.proofs.objects.is_form_settled.Goals as goal
 
@@ -24,4 +25,4 @@ returns-in-Flat g c =
 pub returns-in-Mesh : goal.returns-in-Mesh
 returns-in-Mesh g c =
     let s = c.args.scene.now in let states = state_in (size_of s) (g.V.TileView.tile_of c.args.view.now) in
-    rw (c.in-Mesh.is) (mesh_unsettled s.near (size_of s) states (frame_clips s c.args._frame) (range_of s.object_tris c.in-Mesh.first c.in-Mesh.count))
+    rw (c.in-Mesh.is) (mesh_unsettled (top_of s.grade) s.near (size_of s) states (frame_clips s c.args._frame) (range_of s.object_tris c.in-Mesh.first c.in-Mesh.count))

@@ -1,5 +1,5 @@
 use Rattle.std.proofs.Common.{◌≡◌, List, map, ap, ◌∙◌, subst}
-use Rattle.cull_base.specs.declared.nearness.TheConstants.{GRADE_TOP}
+use Rattle.cull_base.specs.Grade.{top_of}
 use Rattle.cull_base.specs.Shape.{flat_shape, verdict_of}
 use Rattle.masked_update.specs.TileOf.{TileOf, tile_at}
 use Rattle.masked_update.specs.Views.{state_in}
@@ -16,18 +16,18 @@ rect_test-requires c = holds_met c.args.size c.args.tiles.now c.new.result.state
 pub returns-in-Outside : goal.returns-in-Outside
 returns-in-Outside c =
     let size = c.args.size in
-    let is : Outside ≡ box_answer GRADE_TOP c.args.near size (map clip_of c.args.corners.now.corners) = c.in-Outside.ensures ∙ ap (box_answer GRADE_TOP c.args.near size) c.clips.ensures in
+    let is : Outside ≡ box_answer (top_of c.args.grade) c.args.near size (map clip_of c.args.corners.now.corners) = c.in-Outside.ensures ∙ ap (box_answer (top_of c.args.grade) c.args.near size) c.clips.ensures in
     ap (λ (a : BoxAnswer). verdict_of size (state_in size (tile_at c.args.tiles.now)) (shape_of_answer size a)) is
 
 pub returns-in-Straddles : goal.returns-in-Straddles
 returns-in-Straddles c =
     let size = c.args.size in
-    let is : Straddles ≡ box_answer GRADE_TOP c.args.near size (map clip_of c.args.corners.now.corners) = c.in-Straddles.ensures ∙ ap (box_answer GRADE_TOP c.args.near size) c.clips.ensures in
+    let is : Straddles ≡ box_answer (top_of c.args.grade) c.args.near size (map clip_of c.args.corners.now.corners) = c.in-Straddles.ensures ∙ ap (box_answer (top_of c.args.grade) c.args.near size) c.clips.ensures in
     ap (λ (a : BoxAnswer). verdict_of size (state_in size (tile_at c.args.tiles.now)) (shape_of_answer size a)) is
 
 pub returns-in-At : goal.returns-in-At
 returns-in-At c =
     let size = c.args.size in let r = c.in-At.rect in let q = c.in-At.q in
-    let is : At r q ≡ box_answer GRADE_TOP c.args.near size (map clip_of c.args.corners.now.corners) = c.in-At.ensures ∙ ap (box_answer GRADE_TOP c.args.near size) c.clips.ensures in
+    let is : At r q ≡ box_answer (top_of c.args.grade) c.args.near size (map clip_of c.args.corners.now.corners) = c.in-At.ensures ∙ ap (box_answer (top_of c.args.grade) c.args.near size) c.clips.ensures in
     let seen = subst (λ (ts : List TileOf). c.rect_test.result ≡ verdict_of size (state_in size (tile_at ts)) (flat_shape size r q)) c.new.ensures c.rect_test.ensures in
     seen ∙ ap (λ (a : BoxAnswer). verdict_of size (state_in size (tile_at c.args.tiles.now)) (shape_of_answer size a)) is

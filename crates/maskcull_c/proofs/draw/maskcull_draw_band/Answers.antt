@@ -1,7 +1,8 @@
 use Rattle.std.proofs.Common.{map, ap, ◌∙◌, subst}
+use Rattle.cull_base.specs.Grade.{top_of}
 use Rattle.cull_base.specs.Screen.{Dimensions}
 use Rattle.maskcull_c.specs.Bands.{first_in}
-use Rattle.maskcull_c.specs.Given.{clip_of, pieces_drawn, size_of, tri_of, winding_of}
+use Rattle.maskcull_c.specs.Given.{clip_of, grade_of, pieces_drawn, size_of, tri_of, winding_of}
 use Rattle.maskcull_c.specs.Tiles.{AreRows, row_start}
 use Rattle.maskcull_c.proofs.Bands.{band_is_rows, merged_as}
 use Rattle.maskcull_c.proofs.Merged.{merged_adds}
@@ -15,8 +16,8 @@ returns-clause-merged c e =
     let is = c.in-Some.ensures in
     let row = c.in-Some-window_from.ensures.1 in
     let first = ap (row_start checked.size) row ∙ ap (λ (s : Dimensions). row_start s c.args.first_row) is.size in
-    merged_as checked.size (size_of setup) (first_in checked.size window) (row_start (size_of setup) c.args.first_row) checked.near setup.near checked.winding (winding_of setup.winding) (map clip_of c.args.vertices.now) (map tri_of c.args.triangles.now) c.args.tiles.now c.draw_onto.new.tiles
-    is.size first is.near is.winding (c.draw_onto.ensures.merged e)
+    merged_as checked.size (size_of setup) (first_in checked.size window) (row_start (size_of setup) c.args.first_row) (top_of checked.grade) (top_of (grade_of setup)) checked.near setup.near checked.winding (winding_of setup.winding) (map clip_of c.args.vertices.now) (map tri_of c.args.triangles.now) c.args.tiles.now c.draw_onto.new.tiles
+    is.size first (ap top_of is.grade) is.near is.winding (c.draw_onto.ensures.merged e)
 
 pub returns-clause-drawn : goal.returns-clause-drawn
 returns-clause-drawn c e =

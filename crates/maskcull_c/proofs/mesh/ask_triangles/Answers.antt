@@ -2,7 +2,7 @@ use Rattle.std.proofs.Common.{◌≡◌, List, map, get_or, length, ◌≤◌, f
 use Rattle.std.specs.Option.{option_to_list}
 use Rattle.std.specs.List.{All, list_any}
 use Rattle.cull_base.specs.declared.clip.ClipVertex.{ClipVertex}
-use Rattle.cull_base.specs.declared.nearness.TheConstants.{GRADE_TOP}
+use Rattle.cull_base.specs.Grade.{top_of}
 use Rattle.cull_base.specs.declared.scene_types.Tri.{Tri}
 use Rattle.cull_base.specs.declared.triangle.Side.TheVariants.{Object}
 use Rattle.cull_base.specs.declared.triangle.Winding.TheVariants.{Both}
@@ -44,11 +44,11 @@ returns-in_err-now c =
     let size = c.args.size in let near = c.args.near in let clips = map clip_of c.args.vertices.now in let ts = c.args.triangles.now in
     let i = c.loop-triangle.triangle-index in let t = tri_of (get_or ts i no_triangle) in
     let f = state_in size (tile_at c.args.tiles.now) in
-    let seen = subst (λ (tiles : List TileOf). SomeShows (state_in size (tile_at tiles)) (TouchedBy size (pieces_of_triangle c.clips_of.result GRADE_TOP near size Both Object))) c.new-view.ensures c.in_err-now.ensures in
-    let shows = subst (λ (vs : List ClipVertex). SomeShows f (TouchedBy size (pieces_of_triangle vs GRADE_TOP near size Both Object))) whole seen in
+    let seen = subst (λ (tiles : List TileOf). SomeShows (state_in size (tile_at tiles)) (TouchedBy size (pieces_of_triangle c.clips_of.result (top_of c.args.grade) near size Both Object))) c.new-view.ensures c.in_err-now.ensures in
+    let shows = subst (λ (vs : List ClipVertex). SomeShows f (TouchedBy size (pieces_of_triangle vs (top_of c.args.grade) near size Both Object))) whole seen in
     rw (c.from_residual.ensures)
-    (shows_among f size (object_pieces_at GRADE_TOP near size clips t) (object_pieces GRADE_TOP near size clips (map tri_of ts))
-    (λ u m. part_of_joined (object_pieces_at GRADE_TOP near size clips) (map tri_of ts) t u (tri_among ts i no_triangle c.loop-triangle-test.true) m) shows)
+    (shows_among f size (object_pieces_at (top_of c.args.grade) near size clips t) (object_pieces (top_of c.args.grade) near size clips (map tri_of ts))
+    (λ u m. part_of_joined (object_pieces_at (top_of c.args.grade) near size clips) (map tri_of ts) t u (tri_among ts i no_triangle c.loop-triangle-test.true) m) shows)
 
 pub loop-triangle-preserved : goal.loop-triangle-preserved
 unfolding no_triangle
@@ -57,14 +57,14 @@ loop-triangle-preserved c =
     let size = c.args.size in let near = c.args.near in let clips = map clip_of c.args.vertices.now in let ts = c.args.triangles.now in
     let i = c.loop-triangle.triangle-index in let t = tri_of (get_or ts i no_triangle) in let tris = map tri_of ts in
     let f = state_in size (tile_at c.args.tiles.now) in let before = c.loop-triangle.now in let now = c.in_ok-now.now in
-    let seen = subst (λ (tiles : List TileOf). HasAsked (state_in size (tile_at tiles)) size (pieces_of_triangle c.clips_of.result GRADE_TOP near size Both Object) (option_to_list (near_box_of_triangle c.clips_of.result near size)) before now) c.new-view.ensures c.in_ok-now.ensures in
-    let asked : HasAsked f size (object_pieces_at GRADE_TOP near size clips t) (option_to_list (near_box_at near size clips t)) before now =
-    subst (λ (vs : List ClipVertex). HasAsked f size (pieces_of_triangle vs GRADE_TOP near size Both Object) (option_to_list (near_box_of_triangle vs near size)) before now) whole seen in
-    one_more f near size clips tris i t before now (tri_within ts i c.loop-triangle-test.true) (tri_there ts i no_triangle c.loop-triangle-test.true) c.loop-triangle.invariant asked
+    let seen = subst (λ (tiles : List TileOf). HasAsked (state_in size (tile_at tiles)) size (pieces_of_triangle c.clips_of.result (top_of c.args.grade) near size Both Object) (option_to_list (near_box_of_triangle c.clips_of.result near size)) before now) c.new-view.ensures c.in_ok-now.ensures in
+    let asked : HasAsked f size (object_pieces_at (top_of c.args.grade) near size clips t) (option_to_list (near_box_at near size clips t)) before now =
+    subst (λ (vs : List ClipVertex). HasAsked f size (pieces_of_triangle vs (top_of c.args.grade) near size Both Object) (option_to_list (near_box_of_triangle vs near size)) before now) whole seen in
+    one_more f (top_of c.args.grade) near size clips tris i t before now (tri_within ts i c.loop-triangle-test.true) (tri_there ts i no_triangle c.loop-triangle-test.true) c.loop-triangle.invariant asked
 
 pub returns : goal.returns
 returns c =
     let size = c.args.size in let near = c.args.near in let clips = map clip_of c.args.vertices.now in let ts = c.args.triangles.now in
     let end : length ts ≤ c.loop-triangle.triangle-index = omega (arith, c.loop-triangle-test.false) in
-    subst (λ (tris : List Tri). HasAsked (state_in size (tile_at c.args.tiles.now)) size (object_pieces GRADE_TOP near size clips tris) (near_boxes near size clips tris) at_first c.loop-triangle.now)
+    subst (λ (tris : List Tri). HasAsked (state_in size (tile_at c.args.tiles.now)) size (object_pieces (top_of c.args.grade) near size clips tris) (near_boxes near size clips tris) at_first c.loop-triangle.now)
     (all_tris ts c.loop-triangle.triangle-index end) c.loop-triangle.invariant

@@ -1,5 +1,5 @@
 use Rattle.std.proofs.Common.{map, take}
-use Rattle.cull_base.specs.declared.nearness.TheConstants.{GRADE_TOP}
+use Rattle.cull_base.specs.Grade.{top_of}
 use Rattle.masked_update.specs.TileOf.{tile_at}
 use Rattle.masked_update.specs.Views.{state_in}
 use Rattle.mesh_query.specs.Asked.{HasAsked, at_first}
@@ -9,4 +9,4 @@ use Rattle.maskcull_c.proofs.mesh.ask_triangles.Given as goal
 
 abbrev pub invariant-loop-triangle : goal.invariant-loop-triangle
 invariant-loop-triangle l = let clips = map clip_of l.vertices in let tris = take l.triangle-index (map tri_of l.triangles) in
-    HasAsked (state_in l.size (tile_at l.tiles)) l.size (object_pieces GRADE_TOP l.near l.size clips tris) (near_boxes l.near l.size clips tris) at_first l.now
+    HasAsked (state_in l.size (tile_at l.tiles)) l.size (object_pieces (top_of l.grade) l.near l.size clips tris) (near_boxes l.near l.size clips tris) at_first l.now

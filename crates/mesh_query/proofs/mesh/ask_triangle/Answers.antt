@@ -1,6 +1,6 @@
 use Rattle.std.proofs.Common.{List, map, sym, ◌∙◌, subst}
 use Rattle.std.specs.List.{All, Contains}
-use Rattle.cull_base.specs.declared.nearness.TheConstants.{GRADE_TOP}
+use Rattle.cull_base.specs.Grade.{top_of}
 use Rattle.cull_base.specs.declared.triangle.Side.TheVariants.{Object}
 use Rattle.cull_base.specs.declared.triangle.Winding.TheVariants.{Both}
 use Rattle.cull_base.specs.Piece.{Piece, IsPiece, box_of}
@@ -20,9 +20,9 @@ ask_pieces-requires g c =
     let v = c.args.vertices.now in let near = c.args.near in let size = c.args.size in
     let is = c.set_up-pieces.ensures.value in
     record {
-      valid = subst (All IsPiece) (sym is) (pieces_of_triangle_are v near size Both Object c.requires.sized c.requires.least c.requires.most);
+      valid = subst (All IsPiece) (sym is) (pieces_of_triangle_are v c.args.grade near size Both Object c.requires.sized c.requires.least c.requires.most);
       holds = λ t m n lt met.
-          let h = piece_in_box_of_triangle v GRADE_TOP near size Both Object t (subst (λ (ps : List Piece). Contains ps t) is m) in
+          let h = piece_in_box_of_triangle v (top_of c.args.grade) near size Both Object t (subst (λ (ps : List Piece). Contains ps t) is m) in
           let held : HoldsMet (g.V.TileView.held c.args.view.now) size h.rect = rw (h.is) at c.requires.holds in
           held n lt (meets_more (box_of t) h.rect (tile_rect_of size n) h.within met);
     }
@@ -36,25 +36,25 @@ pub returns-then-now : goal.returns-then-now
 returns-then-now g c =
     let f = state_in c.args.size (g.V.TileView.tile_of c.args.view.now) in
     let v = c.args.vertices.now in let near = c.args.near in let size = c.args.size in
-    let ps = pieces_of_triangle v GRADE_TOP near size Both Object in let box = near_box_of_triangle v near size in
+    let ps = pieces_of_triangle v (top_of c.args.grade) near size Both Object in let box = near_box_of_triangle v near size in
     let asked : HasAsked f size ps (map box_of ps) c.args.before c.in_ok-now.now = rw (c.set_up-pieces.ensures.value) at c.in_ok-now.ensures in
-    box_known f size ps box c.args.before c.in_ok-now.now (λ t m. piece_in_box_of_triangle v GRADE_TOP near size Both Object t m) asked c.if-now.true
+    box_known f size ps box c.args.before c.in_ok-now.now (λ t m. piece_in_box_of_triangle v (top_of c.args.grade) near size Both Object t m) asked c.if-now.true
 
 pub returns-then-is_all_in_front : goal.returns-then-is_all_in_front
 returns-then-is_all_in_front g c =
     let f = state_in c.args.size (g.V.TileView.tile_of c.args.view.now) in
     let v = c.args.vertices.now in let near = c.args.near in let size = c.args.size in
-    let ps = pieces_of_triangle v GRADE_TOP near size Both Object in let box = near_box_of_triangle v near size in
+    let ps = pieces_of_triangle v (top_of c.args.grade) near size Both Object in let box = near_box_of_triangle v near size in
     let asked : HasAsked f size ps (map box_of ps) c.args.before c.in_ok-now.now = rw (c.set_up-pieces.ensures.value) at c.in_ok-now.ensures in
     let (t, one) = one_member c.set_up-pieces.result (sym c.len.ensures.value ∙ c.if-len-eq1.true) in
     let is = sym c.set_up-pieces.ensures.value ∙ one in
     let front = sym c.is_all_in_front.ensures ∙ c.if-is_all_in_front.true in
-    only_box f size ps box t c.args.before c.in_ok-now.now is (whole_box_of_triangle v GRADE_TOP near size Both Object t c.told-vertices front is) asked
+    only_box f size ps box t c.args.before c.in_ok-now.now is (whole_box_of_triangle v (top_of c.args.grade) near size Both Object t c.told-vertices front is) asked
 
 pub returns : goal.returns
 returns g c =
     let f = state_in c.args.size (g.V.TileView.tile_of c.args.view.now) in
     let v = c.args.vertices.now in let near = c.args.near in let size = c.args.size in
-    let ps = pieces_of_triangle v GRADE_TOP near size Both Object in let box = near_box_of_triangle v near size in
+    let ps = pieces_of_triangle v (top_of c.args.grade) near size Both Object in let box = near_box_of_triangle v near size in
     let asked : HasAsked f size ps (map box_of ps) c.args.before c.in_ok-now.now = rw (c.set_up-pieces.ensures.value) at c.in_ok-now.ensures in
     box_asked f size ps box c.args.before c.in_ok-now.now c.is_box_on_screen.result asked c.if-now.false c.is_box_on_screen.ensures

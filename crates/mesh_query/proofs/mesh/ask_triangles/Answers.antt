@@ -3,7 +3,7 @@ use Rattle.std.specs.Option.{option_to_list}
 use Rattle.std.specs.List.{All, list_any}
 use Rattle.std.proofs.lemmas.List.Elements.{Contains-get_or}
 use Rattle.cull_base.specs.declared.clip.ClipVertex.{ClipVertex}
-use Rattle.cull_base.specs.declared.nearness.TheConstants.{GRADE_TOP}
+use Rattle.cull_base.specs.Grade.{top_of}
 use Rattle.cull_base.specs.declared.rect.Rect.{Rect}
 use Rattle.cull_base.specs.declared.scene_types.Tri.{Tri}
 use Rattle.cull_base.specs.declared.triangle.Side.TheVariants.{Object}
@@ -34,10 +34,10 @@ returns-in_err-now g c =
     let f = state_in c.args.size (g.V.TileView.tile_of c.args.view.now) in let size = c.args.size in let near = c.args.near.distance in let clips = c.args.clips.now in let tris = c.args.tris.now in
     let i = c.loop-tri.tri-index in
     let t = get_or tris i no_triangle in
-    let shows = subst (λ (vs : List ClipVertex). SomeShows f (TouchedBy size (pieces_of_triangle vs GRADE_TOP near size Both Object))) c.corners.ensures.whole c.in_err-now.ensures in
+    let shows = subst (λ (vs : List ClipVertex). SomeShows f (TouchedBy size (pieces_of_triangle vs (top_of c.args.grade) near size Both Object))) c.corners.ensures.whole c.in_err-now.ensures in
     rw (c.from_residual.ensures)
-    (shows_among f size (object_pieces_at GRADE_TOP near size clips t) (object_pieces GRADE_TOP near size clips tris)
-    (λ u m. part_of_joined (object_pieces_at GRADE_TOP near size clips) tris t u (Contains-get_or tris i no_triangle c.loop-tri-test.true) m) shows)
+    (shows_among f size (object_pieces_at (top_of c.args.grade) near size clips t) (object_pieces (top_of c.args.grade) near size clips tris)
+    (λ u m. part_of_joined (object_pieces_at (top_of c.args.grade) near size clips) tris t u (Contains-get_or tris i no_triangle c.loop-tri-test.true) m) shows)
 
 pub loop-tri-preserved : goal.loop-tri-preserved
 unfolding no_triangle
@@ -46,11 +46,11 @@ loop-tri-preserved g c =
     let i = c.loop-tri.tri-index in
     let t = get_or tris i no_triangle in
     let now = c.in_ok-now.now in
-    let asked : HasAsked f size (object_pieces_at GRADE_TOP near size clips t) (option_to_list (near_box_at near size clips t)) c.loop-tri.now now =
-    subst (λ (vs : List ClipVertex). HasAsked f size (pieces_of_triangle vs GRADE_TOP near size Both Object) (option_to_list (near_box_of_triangle vs near size)) c.loop-tri.now now) c.corners.ensures.whole c.in_ok-now.ensures in
-    let both = both_asked f size (object_pieces GRADE_TOP near size clips (take i tris)) (object_pieces_at GRADE_TOP near size clips t) (near_boxes near size clips (take i tris)) (option_to_list (near_box_at near size clips t))
+    let asked : HasAsked f size (object_pieces_at (top_of c.args.grade) near size clips t) (option_to_list (near_box_at near size clips t)) c.loop-tri.now now =
+    subst (λ (vs : List ClipVertex). HasAsked f size (pieces_of_triangle vs (top_of c.args.grade) near size Both Object) (option_to_list (near_box_of_triangle vs near size)) c.loop-tri.now now) c.corners.ensures.whole c.in_ok-now.ensures in
+    let both = both_asked f size (object_pieces (top_of c.args.grade) near size clips (take i tris)) (object_pieces_at (top_of c.args.grade) near size clips t) (near_boxes near size clips (take i tris)) (option_to_list (near_box_at near size clips t))
     at_first c.loop-tri.now now c.loop-tri.invariant asked in
-    let pieces = joined_more (object_pieces_at GRADE_TOP near size clips) tris i no_triangle c.loop-tri-test.true in
+    let pieces = joined_more (object_pieces_at (top_of c.args.grade) near size clips) tris i no_triangle c.loop-tri-test.true in
     let boxes = joined_more (λ u. option_to_list (near_box_at near size clips u)) tris i no_triangle c.loop-tri-test.true in
-    subst (λ (bs : List Rect). HasAsked f size (object_pieces GRADE_TOP near size clips (take (i + 1) tris)) bs at_first now) (sym boxes)
+    subst (λ (bs : List Rect). HasAsked f size (object_pieces (top_of c.args.grade) near size clips (take (i + 1) tris)) bs at_first now) (sym boxes)
     (subst (λ (ps : List Piece). HasAsked f size ps (near_boxes near size clips (take i tris) ++ option_to_list (near_box_at near size clips t)) at_first now) (sym pieces) both)

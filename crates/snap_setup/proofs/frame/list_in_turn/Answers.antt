@@ -1,6 +1,6 @@
 use Rattle.std.proofs.Common.{ap, ◌∙◌, ◌++◌}
 use Rattle.cull_base.specs.Tiles.{FrameListOf}
-use Rattle.snap_setup.specs.Occluders.{list_of_some}
+use Rattle.snap_setup.specs.Occluders.{list_of}
 use Rattle.snap_setup.proofs.Takes.{took_each}
 use Rattle.snap_setup.proofs.frame.list_in_turn.Goals as goal
 
@@ -8,5 +8,5 @@ pub returns-clause-members : goal.returns-clause-members
 returns-clause-members c =
     let o = c.args.occluders.now in
     let f = c.in_ok-list.list in
-    ap (λ (x : FrameListOf). x.list.members) (took_each f c.push_all.new.list c.push_all.result (list_of_some o o.tris.now) c.push_all.ensures)
-    ∙ ap (λ (x : FrameListOf). x.list.members ++ list_of_some o o.tris.now) c.in_ok-list.ensures
+    ap (λ (x : FrameListOf). x.list.members) (took_each f c.push_whole.new.list c.push_whole.result (list_of o) c.push_whole.ensures)
+    ∙ ap (λ (x : FrameListOf). x.list.members ++ list_of o) c.in_ok-list.ensures

@@ -1,23 +1,23 @@
 use Rattle.std.proofs.Common.{[], arith}
-use Rattle.cull_base.specs.declared.nearness.TheConstants.{GRADE_TOP}
+use Rattle.cull_base.specs.Grade.{top_of}
 use Rattle.snap_setup.proofs.FrameLists.{list_none}
 use Rattle.snap_setup.proofs.Takes.{took_none, room_for_two, few_counted, one_more}
 use Rattle.snap_setup.proofs.frame.push_by_corners.Goals as goal
 
 pub loop-tri-init : goal.loop-tri-init
-loop-tri-init c = let o = c.args.occluders.now in took_none c.args.keeping c.args.list.now _ (list_none o.clips.now GRADE_TOP o.near.distance o.size o.winding)
+loop-tri-init c = let o = c.args.occluders.now in took_none c.args.keeping c.args.list.now _ (list_none o.clips.now (top_of o.grade) o.near.distance o.size c.args.winding)
 
 pub push_pieces-count-requires : goal.push_pieces-count-requires
 push_pieces-count-requires c =
-    room_for_two c.args.occluders.now c.args.tris.now c.loop-tri.tri-index c.loop-tri.count c.args.keeping c.args.list.now c.loop-tri.list c.loop-tri-test.true c.loop-tri.invariant c.requires.room
+    room_for_two c.args.occluders.now c.args.winding c.args.tris.now c.loop-tri.tri-index c.loop-tri.count c.args.keeping c.args.list.now c.loop-tri.list c.loop-tri-test.true c.loop-tri.invariant c.requires.room
 
 pub loop-tri-preserved : goal.loop-tri-preserved
 loop-tri-preserved c =
     let e = c.corner_references-corners.ensures in
-    one_more c.args.occluders.now c.args.tris.now c.loop-tri.tri-index c.loop-tri.count c.push_pieces-count.result (record { 0 = [] }) c.args.keeping c.args.list.now c.loop-tri.list _ c.corner_references-corners.result c.loop-tri-test.true c.loop-tri.invariant
+    one_more c.args.occluders.now c.args.winding c.args.tris.now c.loop-tri.tri-index c.loop-tri.count c.push_pieces-count.result (record { 0 = [] }) c.args.keeping c.args.list.now c.loop-tri.list _ c.corner_references-corners.result c.loop-tri-test.true c.loop-tri.invariant
     e.first e.second e.third c.push_pieces-count.ensures.value
 
 pub overflow_add-count : goal.overflow_add-count
 overflow_add-count c =
-    let few = few_counted c.args.occluders.now c.args.tris.now c.loop-tri.tri-index c.loop-tri.count c.args.keeping c.args.list.now c.loop-tri.list c.loop-tri-test.true c.loop-tri.invariant in
+    let few = few_counted c.args.occluders.now c.args.winding c.args.tris.now c.loop-tri.tri-index c.loop-tri.count c.args.keeping c.args.list.now c.loop-tri.list c.loop-tri-test.true c.loop-tri.invariant in
     omega (arith, few, c.requires.room, c.len-length.ensures.small, c.push_pieces-count.ensures.most, c.push_pieces-count.ensures.value.counted)

@@ -1,7 +1,7 @@
 use Rattle.std.proofs.Common.{take}
 use Rattle.snap_setup.specs.Keeping.{Took}
-use Rattle.snap_setup.specs.Occluders.{list_of_some}
+use Rattle.snap_setup.specs.Occluders.{list_of_part}
 use Rattle.snap_setup.proofs.frame.push_by_vertices.Given as goal
 
 abbrev pub invariant-loop-tri : goal.invariant-loop-tri
-invariant-loop-tri l = Took l.keeping l.initial.list l.list l.count (list_of_some l.fn.occluders (take l.tri-index l.tris))
+invariant-loop-tri l = Took l.keeping l.initial.list l.list l.count (list_of_part l.fn.occluders l.winding (take l.tri-index l.tris))
