@@ -17,3 +17,4 @@ pub mod Pixels
 pub mod Shape
 pub mod Nearer
 pub mod Stream
+pub mod Batches
