@@ -203,8 +203,8 @@ abbrev pub index_fault : ℕ → ℕ → ℕ → Tri → Option SceneError
 index_fault table vertices i t = fault_if (list_any (λ v. not (nat_lt v vertices)) t.0) (BadIndex table i)
 
 -- how many triangles batches have
-abbrev pub counted : List (ℕ × ℕ) → ℕ
-counted batches = sum_by (λ b. b.0) batches
+abbrev pub triangles_in : List (ℕ × ℕ) → ℕ
+triangles_in batches = sum_by (λ b. b.0) batches
 
 -- a batch of no winding, or with which there are more than all triangles, where so many are in the batches before it
 abbrev pub is_bad_batch : ℕ → ℕ → ℕ × ℕ → Bool
@@ -212,7 +212,7 @@ is_bad_batch tris before b = nat_lt 2 b.1 || nat_lt tris (before + b.0)
 
 -- of the batch number i of these
 abbrev pub batch_fault : ℕ → List (ℕ × ℕ) → ℕ → ℕ × ℕ → Option SceneError
-batch_fault tris batches i b = fault_if (is_bad_batch tris (counted (take i batches)) b) (BadBatch i)
+batch_fault tris batches i b = fault_if (is_bad_batch tris (triangles_in (take i batches)) b) (BadBatch i)
 
 -- one batch, of all triangles
 abbrev pub is_one_batch : ℕ → List (ℕ × ℕ) → Bool
@@ -226,7 +226,7 @@ unfoldable pub batches_fault : ℕ → ℕ → List (ℕ × ℕ) → Option Scen
 batches_fault version tris batches =
     option_or (fault_if (version == 1 && not (is_one_batch tris batches)) (BadBatch 0))
     (option_or (first_among (batch_fault tris batches) 0 batches)
-    (fault_if (nat_lt (counted batches) tris) (BadBatch (length batches))))
+    (fault_if (nat_lt (triangles_in batches) tris) (BadBatch (length batches))))
 
 abbrev pub camera_fault : ℕ → List ℤ → Option SceneError
 camera_fault i row = fault_if (is_bad_row row) (BadCamera i)
