@@ -220,13 +220,18 @@ is_one_batch tris [] = false
 is_one_batch tris (b ∷ []) = b.0 == tris
 is_one_batch tris (b ∷ c ∷ bs) = false
 
--- In version 1, whose bytes never have it, that there isn't one batch of all triangles; then the first batch at fault;
--- then that some triangles are in no batch.
+-- in version 1 there is one batch; its bytes can't say another
+abbrev pub split_fault : ℕ → ℕ → List (ℕ × ℕ) → Option SceneError
+split_fault version tris batches = fault_if (version == 1 && not (is_one_batch tris batches)) (BadBatch 0)
+
+-- the first batch at fault, and then, by the number of batches, that some triangles are in none
+unfoldable pub sum_fault : ℕ → List (ℕ × ℕ) → Option SceneError
+sum_fault tris batches =
+    option_or (first_among (batch_fault tris batches) 0 batches)
+    (fault_if (nat_lt (triangles_in batches) tris) (BadBatch (length batches)))
+
 unfoldable pub batches_fault : ℕ → ℕ → List (ℕ × ℕ) → Option SceneError
-batches_fault version tris batches =
-    option_or (fault_if (version == 1 && not (is_one_batch tris batches)) (BadBatch 0))
-    (option_or (first_among (batch_fault tris batches) 0 batches)
-    (fault_if (nat_lt (triangles_in batches) tris) (BadBatch (length batches))))
+batches_fault version tris batches = option_or (split_fault version tris batches) (sum_fault tris batches)
 
 abbrev pub camera_fault : ℕ → List ℤ → Option SceneError
 camera_fault i row = fault_if (is_bad_row row) (BadCamera i)

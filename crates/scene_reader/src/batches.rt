@@ -118,7 +118,7 @@ fn read_batch_table<S: Source>(
 fn one_batch(alloc: Global, count: u32, winding: Winding) -> Result<Vec<Batch>, AllocError>
     ensures { IfOk result (λ v. v.items ≡ record { count = count; winding = winding } ∷ []) }
 {
-    let mut batches = Vec::with_capacity(alloc, 1)?;
+    let mut batches = Vec::new(alloc);
     batches.push(Batch { count, winding })?;
     Ok(batches)
 }

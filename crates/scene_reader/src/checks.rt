@@ -5,7 +5,7 @@ ghost use Rattle.cull_base.specs.declared.nearness.Grade.TheVariants.{Narrow};
 ghost use Rattle.std.specs.List.{All, list_any};
 ghost use Rattle.scene_reader.specs.Layout.{IsScene, IsRow, IsTri, IsObject, raw_object, raw_batch};
 ghost use Rattle.scene_reader.specs.Fault.{first_among, first_bad_row, vertex_fault, index_fault, object_fault, camera_fault};
-ghost use Rattle.scene_reader.specs.Fault.{is_one_batch, batches_fault};
+ghost use Rattle.scene_reader.specs.Fault.{is_one_batch, split_fault, sum_fault, batches_fault};
 ghost use Rattle.scene_reader.specs.PartsFault.{AreTables, IsTablesFault, count_in_32_bits, counts_of_parts, grade_fault};
 ghost use Rattle.scene_reader.specs.PartsFault.{first_fault_of_parts};
 
@@ -110,18 +110,25 @@ fn is_one_batch(batches: &[Batch], tris: u32) -> bool
     batches.len() == 1 && batches[0].count == tris
 }
 
-/// The first fault of the batches of so many triangles, which in version 1 are one.
-#[tactic(auto, unfolding(crate::specs::Fault::batches_fault))]
-fn batches_fault(version: u16, batches: &[Batch], tris: u32) -> Option<SceneError>
+// The fault of batches of version 1 that aren't one.
+fn split_fault(version: u16, batches: &[Batch], tris: u32) -> Option<SceneError>
+    ensures { result ≡ split_fault version tris (map raw_batch batches.now) }
+{
+    if version != 1 || is_one_batch(batches, tris) {
+        return None;
+    }
+    Some(SceneError::BadBatch(0))
+}
+
+/// The first batch with which there are more than all triangles. Where there is none, but they are fewer, the number of
+/// batches.
+#[tactic(auto, unfolding(crate::specs::Fault::sum_fault))]
+fn sum_fault(batches: &[Batch], tris: u32) -> Option<SceneError>
     requires some { length batches.now ≤ 4096 }
     requires few { tris ≤ 65536 }
-    ensures value { result ≡ batches_fault version tris (map raw_batch batches.now) }
-    ensures valid { IsNone result → AreBatchesOf batches.now tris × (version ≡ 1 → length batches.now ≡ 1) }
+    ensures { result ≡ sum_fault tris (map raw_batch batches.now) }
 {
-    if version == 1 && !is_one_batch(batches, tris) {
-        return Some(SceneError::BadBatch(0));
-    }
-    // Counts sum to more than 32 bits hold.
+    // The sum of two counts needs more than 32 bits.
     let mut counted = 0_u64;
     for (i, batch) in batches.iter().enumerate() {
         counted += u64::from(batch.count);
@@ -133,6 +140,20 @@ fn batches_fault(version: u16, batches: &[Batch], tris: u32) -> Option<SceneErro
         return Some(SceneError::BadBatch(batches.len() as u32));
     }
     None
+}
+
+/// The first fault of the batches of so many triangles, which in version 1 are one.
+#[tactic(auto, unfolding(crate::specs::Fault::batches_fault))]
+fn batches_fault(version: u16, batches: &[Batch], tris: u32) -> Option<SceneError>
+    requires some { length batches.now ≤ 4096 }
+    requires few { tris ≤ 65536 }
+    ensures value { result ≡ batches_fault version tris (map raw_batch batches.now) }
+    ensures valid { IsNone result → AreBatchesOf batches.now tris × (version ≡ 1 → length batches.now ≡ 1) }
+{
+    if let Some(fault) = split_fault(version, batches, tris) {
+        return Some(fault);
+    }
+    sum_fault(batches, tris)
 }
 
 /// The first object whose numbers its kind doesn't allow, beside so many object triangles.
@@ -176,10 +197,13 @@ fn grade_fault(parts: &SceneParts) -> Option<SceneError>
     ensures value { result ≡ grade_fault parts.now }
     ensures valid { IsNone result → parts.now.version ≡ 1 → parts.now.grade ≡ Narrow }
 {
-    if parts.version == 1 && parts.grade == Grade::Wide {
-        return Some(SceneError::BadGrade(1));
+    if parts.version != 1 {
+        return None;
     }
-    None
+    match parts.grade {
+        Grade::Narrow => None,
+        Grade::Wide => Some(SceneError::BadGrade(1)),
+    }
 }
 
 /// The first fault of parts, which are a scene where there is none.

@@ -1,10 +1,10 @@
 //! Reading a scene from a source, in pieces of any size.
-ghost use Rattle.std.specs.Prelude.{◌≡◌, ◌×◌, ◌+◌, ◌<◌, ◌≤◌, Some, None, IfOk, IfErr, OnOk, IsErrOf};
+ghost use Rattle.std.specs.Prelude.{◌≡◌, ◌≢◌, ◌+◌, ◌≤◌, Some, None, IfOk, IfErr, OnOk, IsErrOf};
 ghost use Rattle.cull_base.specs.Stream.{Rose};
 ghost use Rattle.scene_reader.specs.Layout.{IsScene};
 ghost use Rattle.scene_reader.specs.Fault.{IsRefusal};
 ghost use Rattle.scene_reader.specs.Header.{AreCounts};
-ghost use Rattle.scene_reader.specs.Length.{greatest_length};
+ghost use Rattle.scene_reader.specs.Length.{header_length, greatest_length};
 ghost use Rattle.scene_reader.specs.Reading.{TakesEnd, TakesInTurns, TakesHeader, TakesCount, TakesParts, TakesLayout};
 ghost use Rattle.scene_reader.specs.Reading.{Fetches, FetchesTables, Reads};
 ghost use Rattle.scene_reader.specs.Reading.{ReadsScene, IsOnlyScene, IsNoScene, IsTrailing, Refuses};
@@ -33,8 +33,8 @@ struct Draft {
 /// Reads the number of batches, which only a header of version 2 has.
 fn read_batch_count<S: Source>(source: &mut S, version: u16) -> Result<u32, SceneError>
     ensures taken { IfOk result (λ n. TakesCount version n (S.says source.old) (S.says source.new)) }
-    ensures fetches { Fetches 4 36 32 (S.says source.old) (S.says source.new) result }
-    ensures none { version ≡ 1 → IsUntouched (S.says source.old) (S.says source.new) result }
+    ensures fetches { Fetches 4 (header_length version) 32 (S.says source.old) (S.says source.new) result }
+    ensures second { IfErr result (λ _. version ≢ 1) }
 {
     if version == 1 {
         return Ok(0);

@@ -49,6 +49,14 @@ impl Scene {
         Scene { parts }
     }
 
+    /// What the scene is made of.
+    fn into_parts(self) -> SceneParts
+        ensures value { result ≡ self }
+        ensures valid { IsScene result }
+    {
+        self.parts
+    }
+
     /// The screen, in pixels.
     pub fn size(&self) -> Size
         ensures { result ≡ record { width = self.now.width; height = self.now.height } }
@@ -133,7 +141,7 @@ pub fn upgrade(scene: Scene) -> Scene
     ensures value { result ≡ upgraded scene }
     ensures valid { IsScene (upgraded scene) }
 {
-    let mut parts = scene.parts;
+    let mut parts = scene.into_parts();
     parts.version = 2;
-    Scene { parts }
+    Scene::from_valid(parts)
 }
