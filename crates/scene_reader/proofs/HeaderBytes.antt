@@ -10,8 +10,6 @@ use Rattle.std.proofs.lemmas.List.{take_all, drop_more, drop_all, drop_at, take-
 use Rattle.cull_base.specs.declared.nearness.Grade.{Grade}
 use Rattle.cull_base.specs.declared.nearness.Grade.TheVariants.{Narrow, Wide}
 use Rattle.cull_base.specs.declared.scene_types.Batch.{Batch}
-use Rattle.cull_base.specs.declared.triangle.Winding.{Winding}
-use Rattle.cull_base.specs.declared.triangle.Winding.TheVariants.{Both, DropClockwise, DropCounter}
 use Rattle.scene_reader.specs.declared.header.Counts.{Counts}
 use Rattle.scene_reader.specs.Layout.{Parts, IsScene, magic, short_bytes, word_bytes, winding_code, grade_code, winding_byte, stored_batches, batch_count_bytes, header_bytes}
 use Rattle.scene_reader.specs.Length.{header_length}
@@ -19,6 +17,7 @@ use Rattle.scene_reader.specs.Fault.{version_at, short_at, word_at, batch_count_
 use Rattle.scene_reader.specs.Header.{AreCounts}
 use Rattle.scene_reader.proofs.Takes.{IsByte}
 use Rattle.scene_reader.proofs.Codes.{short_again, word_again, short_back, word_back}
+use Rattle.scene_reader.proofs.BatchTable.{winding_small, byte_second}
 use Rattle.scene_reader.proofs.Headers.{Accepted, FlagsFine, at_first, at_second, length_some, length_first, length_second, version_front, short_front, word_front, byte_front, starts_front}
 
 grow : (a n m : ℕ) (h pre part : List ℕ) → a + n ≡ m → take a h ≡ pre → take n (drop a h) ≡ part → take m h ≡ pre ++ part
@@ -101,32 +100,22 @@ header_back p h len fits a says =
     ∙ ap (λ (t : List ℕ). front_bytes p ++ t) (count_back p h len fits says)
     ∙ sym (two_parts p)
 
-winding_small : (w : Winding) → winding_code w ≤ 2
-winding_small Both = omega arith
-winding_small DropClockwise = omega arith
-winding_small DropCounter = omega arith
-
 grade_small : (g : Grade) → grade_code g ≤ 1
 grade_small Narrow = omega arith
 grade_small Wide = omega arith
 
--- the winding's byte is one in version 1 and 0 otherwise
 byte_small : (version : ℕ) (bs : List Batch) → winding_byte version bs ≤ 2
 byte_small version [] = omega arith
 byte_small version (b ∷ bs) = cond_both (version == 1) (winding_code b.winding) 0 (λ k. k ≤ 2) (λ _. winding_small b.winding) (λ _. omega arith)
 
-byte_second : (version : ℕ) (bs : List Batch) → (version ≡ 1 → ⊥) → winding_byte version bs ≡ 0
-byte_second version [] other = refl
-byte_second version (b ∷ bs) other = at_second version (winding_code b.winding) 0 other
+word_long : (n : ℕ) → length (word_bytes n) ≡ 4
+word_long n = refl
 
 count_long : (version : ℕ) (bs : List Batch) → 32 + length (batch_count_bytes version bs) ≡ header_length version
 count_long version bs = elim (cases_eq version 1) [
   | inl one ↦ omega (arith, ap length (at_first version [] (word_bytes (length bs)) one), length_first version one)
   | inr other ↦ omega (arith, ap length (at_second version [] (word_bytes (length bs)) other), word_long (length bs), length_second version other)
 ]
-  where
-    word_long : (n : ℕ) → length (word_bytes n) ≡ 4
-    word_long n = refl
 
 pub header_long : (p : Parts) → length (header_bytes p) ≡ header_length p.version
 header_long p = ap length (two_parts p) ∙ omega (arith, length-append (front_bytes p) (batch_count_bytes p.version p.batches), front_long p, count_long p.version p.batches)
@@ -191,7 +180,7 @@ count_says p s same = elim (cases_eq p.version 1) [
     ap (drop 32) (two_parts p) ∙ drop_at (front_bytes p) (batch_count_bytes p.version p.batches) 32 (front_long p) ∙ at_second p.version [] (word_bytes (length p.batches)) other in
     at_second (version_at (header_bytes p)) 0 (word_at 32 (header_bytes p)) (λ e. other (sym same ∙ e))
     ∙ ap (λ (t : List ℕ). from_le_bytes w32 (take 4 t)) tail
-    ∙ ap (from_le_bytes w32) (take_all 4 (word_bytes (length p.batches)) (omega arith))
+    ∙ ap (from_le_bytes w32) (take_all 4 (word_bytes (length p.batches)) (omega (arith, word_long (length p.batches))))
     ∙ word_again (length p.batches) (omega (arith, s.few_batches))
     ∙ sym (ap (λ (bs : List Batch). length bs) (at_second p.version [] p.batches other))
 ]

@@ -5,11 +5,12 @@ pub mod Shapes
 pub mod Valid
 pub mod First
 pub mod ObjectTable
+pub mod BatchTable
 pub mod Codes
 pub mod Headers
 pub mod Pieces
 pub mod HeaderBytes
-pub mod SixPieces
+pub mod SevenPieces
 pub mod NoFault
 pub mod LayoutFirst
 pub mod BytesToLayout
