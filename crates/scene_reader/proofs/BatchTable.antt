@@ -209,7 +209,7 @@ batches_more tris i a b c before after piece one t p now =
 
 -- those of a table, with the fault of its end
 pub second_taken : (h : Header) (a b : SourceSays) (table batches : Batches) → (h.version ≡ 1 → ⊥) → TakesBatchTable h.counts.batches h.counts.occluders a b table
-    → batches.fault ≡ option_or table.fault (fault_if (nat_lt table.counted h.counts.occluders) (BadBatch h.counts.batches)) → batches.items ≡ table.items → TakesBatches h a b batches
+    → batches.fault ≡ option_or table.fault (fault_if (nat_lt table.counted h.counts.occluders) (BadBatch h.counts.batches)) → batches.items.items ≡ table.items.items → TakesBatches h a b batches
 second_taken h a b table batches other t fault same =
     let n = h.counts.batches in
     let tris = h.counts.occluders in
@@ -218,7 +218,7 @@ second_taken h a b table batches other t fault same =
       stored = t.raws;
       table = t.table;
       first = fault ∙ decided ∙ sym (ap (batches_fault h.version tris) told ∙ second_fault h.version tris t.raws other);
-      whole = λ e. ap (λ (v : Vec Batch). map raw_batch v.items) same ∙ t.whole (or_parts_none table.fault _ (sym fault ∙ e)).0 ∙ sym told;
+      whole = λ e. ap (map raw_batch) same ∙ t.whole (or_parts_none table.fault _ (sym fault ∙ e)).0 ∙ sym told;
     }
   where
     decided : option_or table.fault (fault_if (nat_lt table.counted h.counts.occluders) (BadBatch h.counts.batches)) ≡ sum_fault h.counts.occluders t.raws

@@ -99,12 +99,16 @@ pub record TakesBatchTable (count tris : ℕ) (before after : SourceSays) (batch
   pub counted : batches.fault ≡ None → batches.counted ≡ triangles_in raws
   pub within : batches.counted ≤ tris
 
+-- the batches of a header's scene, whose table has these
+abbrev pub batches_of : Header → List (ℕ × ℕ) → List (ℕ × ℕ)
+batches_of h stored = batches_told h.version (winding_code h.flags.winding) h.counts.occluders stored
+
 -- the batches of a header's scene: the table was taken that it announces, and its first fault is kept
 pub record TakesBatches (h : Header) (before after : SourceSays) (batches : Batches) : Type 0 where
   pub stored : List (ℕ × ℕ)
   pub table : TakesTable 5 h.counts.batches raw_batch_of before after stored
-  pub first : batches.fault ≡ batches_fault h.version h.counts.occluders (batches_told h.version (winding_code h.flags.winding) h.counts.occluders stored)
-  pub whole : batches.fault ≡ None → map raw_batch batches.items.items ≡ batches_told h.version (winding_code h.flags.winding) h.counts.occluders stored
+  pub first : batches.fault ≡ batches_fault h.version h.counts.occluders (batches_of h stored)
+  pub whole : batches.fault ≡ None → map raw_batch batches.items.items ≡ batches_of h stored
 
 -- an object whose entry has no fault
 abbrev pub IsObjectOf : ℕ → ℕ → ℕ × List ℤ → Object → Type 0
@@ -157,8 +161,8 @@ pub record TakesParts (h : Header) (before after : SourceSays) (p : Parts) (batc
   pub object_tris : IsTable 12 h.counts.object_tris tri_of object_tri_bytes p.object_tris
   pub objects : IsTable 25 h.counts.objects raw_of object_bytes raws
   pub cameras : IsTable 48 h.counts.frames (row_of 12) camera_bytes p.cameras
-  pub batches_first : batches_at ≡ batches_fault h.version h.counts.occluders (batches_told h.version (winding_code h.flags.winding) h.counts.occluders stored)
-  pub batches_whole : batches_at ≡ None → map raw_batch p.batches ≡ batches_told h.version (winding_code h.flags.winding) h.counts.occluders stored
+  pub batches_first : batches_at ≡ batches_fault h.version h.counts.occluders (batches_of h stored)
+  pub batches_whole : batches_at ≡ None → map raw_batch p.batches ≡ batches_of h stored
   pub first : objects_at ≡ first_among (object_fault h.counts.object_tris) 0 raws
   pub whole : objects_at ≡ None → map raw_object p.objects ≡ raws
   pub valid : All (IsObject h.counts.object_tris) p.objects
