@@ -1,6 +1,7 @@
 -- Batches: how many triangles they have, their first fault, and how they are read from their entries.
 use Rattle.std.proofs.Common.{◌≡◌, ℕ, suc, zero, ◌+◌, ◌-◌, ◌*◌, ◌<◌, ◌≤◌, ◌∷◌, ◌++◌, List, [], length, get_or, take, map, arith, refl, sym, ap, ◌∙◌, subst, true, false, Option, Some, None, inl, inr, is_some}
 use Rattle.std.specs.Prelude.{sum, sum_by, not, nat_lt, ◌==◌, ◌&&◌}
+use Rattle.std.specs.List.{AllByRecursion}
 use Rattle.std.specs.Option.{option_or}
 use Rattle.std.proofs.lemmas.Bool.{or_from, or_parts, le-ltb, ltb-false, eq-eqb, ne_eqb, not-false, not_from_true, and_left, and_right, and_cases, both_ways, cases_eq}
 use Rattle.std.proofs.lemmas.List.{length-map, map-append, take-append-le, take_at, take_all, get_or-map, nil_from_length}
@@ -107,6 +108,19 @@ batches_valid version tris bs e =
       | inl other ↦ absurd (both_ways (version == 1) other (eq-eqb version 1 one))
       | inr whole ↦ one_length tris bs (not-false _ whole)
     ])
+
+windings_small : (tris : ℕ) (all : List (ℕ × ℕ)) (i : ℕ) (raws : List (ℕ × ℕ)) → first_among (batch_fault tris all) i raws ≡ None → AllByRecursion (λ (raw : ℕ × ℕ). raw.1 ≤ 2) raws
+windings_small tris all i [] e = tt
+windings_small tris all i (raw ∷ raws) e =
+    let p = or_parts_none (batch_fault tris all i raw) (first_among (batch_fault tris all) (i + 1) raws) e in
+    (ltb-false 2 raw.1 (or_parts _ _ (fault_none _ _ p.0)).0, windings_small tris all (i + 1) raws p.1)
+
+-- batches without a fault have windings
+pub windings_known : (version tris : ℕ) (raws : List (ℕ × ℕ)) → batches_fault version tris raws ≡ None → AllByRecursion (λ (raw : ℕ × ℕ). raw.1 ≤ 2) raws
+unfolding batches_fault sum_fault
+windings_known version tris raws e =
+    let p = or_parts_none (split_fault version tris raws) _ e in
+    windings_small tris raws 0 raws (or_parts_none (first_among (batch_fault tris raws) 0 raws) _ p.1).0
 
 pub batches_good : (version tris : ℕ) (bs : List Batch) → AreBatchesOf bs tris → (version ≡ 1 → length bs ≡ 1) → batches_fault version tris (map raw_batch bs) ≡ None
 unfolding batches_fault sum_fault
