@@ -134,7 +134,7 @@ version_front front rest h = short_front 4 front rest (omega (arith, h))
 pub byte_front : (place : ℕ) (front rest : List ℕ) → place < 32 → 32 ≤ length front → slice_index (front ++ rest) place ≡ slice_index front place
 byte_front place front rest lt h = get_or_append_left front rest 0 place (omega (arith, lt, h))
 
-counts_with_front : (front rest : List ℕ) (n : ℕ) → 32 ≤ length front → counts_with n (front ++ rest) ≡ counts_with n front
+pub counts_with_front : (front rest : List ℕ) (n : ℕ) → 32 ≤ length front → counts_with n (front ++ rest) ≡ counts_with n front
 counts_with_front front rest n h =
     rw (short_front 14 front rest (omega (arith, h)), word_front 16 front rest (omega (arith, h)), word_front 20 front rest (omega (arith, h)), word_front 24 front rest (omega (arith, h)), word_front 28 front rest (omega (arith, h))) refl
 
