@@ -1,10 +1,10 @@
 -- Batches: how many triangles they have, their first fault, and how they are read from their entries.
-use Rattle.std.proofs.Common.{◌≡◌, ℕ, suc, zero, ◌+◌, ◌-◌, ◌*◌, ◌<◌, ◌≤◌, ◌∷◌, ◌++◌, List, [], length, get_or, take, map, arith, refl, sym, ap, ◌∙◌, subst, true, false, Option, Some, None, inl, inr, is_some}
+use Rattle.std.proofs.Common.{◌≡◌, ℕ, suc, zero, ◌+◌, ◌-◌, ◌*◌, ◌<◌, ◌≤◌, ◌∷◌, ◌++◌, List, [], length, get_or, take, drop, map, arith, refl, sym, ap, ◌∙◌, subst, true, false, Option, Some, None, inl, inr, is_some}
 use Rattle.std.specs.Prelude.{sum, sum_by, not, nat_lt, ◌==◌, ◌&&◌}
 use Rattle.std.specs.List.{AllByRecursion}
 use Rattle.std.specs.Option.{option_or}
-use Rattle.std.proofs.lemmas.Bool.{or_from, or_parts, le-ltb, ltb-false, eq-eqb, ne_eqb, not-false, not_from_true, and_left, and_right, and_cases, both_ways, cases_eq}
-use Rattle.std.proofs.lemmas.List.{length-map, map-append, take-append-le, take_at, take_all, get_or-map, nil_from_length}
+use Rattle.std.proofs.lemmas.Bool.{or_from, or_right, or_parts, le-ltb, lt-ltb, ltb-false, eq-eqb, ne_eqb, not-false, not_from_true, and_left, and_right, and_cases, both_ways, cases_eq}
+use Rattle.std.proofs.lemmas.List.{length-map, map-append, take-append-le, take_at, take_all, drop_all, drop_more, get_or-map, nil_from_length}
 use Rattle.std.proofs.lemmas.List.Sums.{sum_by-cons, sum_by_push, sum_by_more, sum_by_more_le, sum-map}
 use Rattle.cull_base.specs.Batches.{AreBatchesOf}
 use Rattle.cull_base.specs.Stream.{SourceSays}
@@ -18,7 +18,7 @@ use Rattle.scene_reader.specs.declared.error.SceneError.TheVariants.{BadBatch}
 use Rattle.scene_reader.specs.Layout.{Parts, IsScene, raw_batch, winding_code, winding_byte, stored_batches}
 use Rattle.scene_reader.specs.Fault.{entries, first_among, fault_if, triangles_in, is_bad_batch, batch_fault, is_one_batch, split_fault, sum_fault, batches_fault, raw_batch_of, batches_told}
 use Rattle.scene_reader.specs.Reading.{Takes, TakesTable, TakesBatch, TakesBatchTable, TakesBatches}
-use Rattle.scene_reader.proofs.Headers.{at_first, at_second, or_parts_none, or_none_from, or_second, fault_none, fault_none_from}
+use Rattle.scene_reader.proofs.Headers.{at_first, at_second, or_parts_none, or_none_from, or_first, or_second, fault_none, fault_none_from}
 use Rattle.scene_reader.proofs.Entries.{table_none, table_more}
 use Rattle.scene_reader.proofs.ObjectTable.{first_append, length_entries}
 
@@ -297,3 +297,69 @@ scene_told p s =
       | inl one ↦ at_first p.version ((tris, byte) ∷ []) (map raw_batch (stored_batches p.version p.batches)) one ∙ one_told p.version tris p.batches one (s.one_batch one) s.batches
       | inr other ↦ at_second p.version ((tris, byte) ∷ []) (map raw_batch (stored_batches p.version p.batches)) other ∙ ap (map raw_batch) (at_second p.version [] p.batches other)
     ]
+
+-- ---- what the code's tests say
+
+pub one_not : (tris : ℕ) (bs : List Batch) → (length bs ≡ 1 → ⊥) → false ≡ is_one_batch tris (map raw_batch bs)
+one_not tris [] other = refl
+one_not tris (b ∷ []) other = absurd (other refl)
+one_not tris (b ∷ c ∷ bs) other = refl
+
+pub one_by : (tris : ℕ) (bs : List Batch) (d : Batch) → length bs ≡ 1 → ((get_or bs 0 d).count == tris) ≡ is_one_batch tris (map raw_batch bs)
+one_by tris [] d one = absurd (omega (arith, one))
+one_by tris (b ∷ []) d one = refl
+one_by tris (b ∷ c ∷ bs) d one = absurd (omega (arith, one))
+
+pub byte_empty : (version : ℕ) (bs : List Batch) → length bs ≡ 0 → 0 ≡ winding_byte version bs
+byte_empty version [] none = refl
+byte_empty version (b ∷ bs) none = absurd (omega (arith, none))
+
+pub byte_first : (version : ℕ) (bs : List Batch) (d : Batch) → version ≡ 1 → 0 < length bs → winding_code (get_or bs 0 d).winding ≡ winding_byte version bs
+byte_first version [] d one some = absurd (omega (arith, some))
+byte_first version (b ∷ bs) d one some = sym (at_first version (winding_code b.winding) 0 one)
+
+module _ (tris : ℕ) (bs : List Batch) (i before : ℕ) (d : Batch) (lt : i < length bs) (so_far : before ≡ triangles_in (take i (map raw_batch bs))) where
+  in_raws : i < length (map raw_batch bs)
+  in_raws = omega (arith, lt, length-map bs raw_batch)
+
+  at_raws : get_or (map raw_batch bs) i (0, 0) ≡ raw_batch (get_or bs i d)
+  at_raws = get_or-map raw_batch bs i d (0, 0) lt
+
+  pub counted_on : before + (get_or bs i d).count ≡ triangles_in (take (i + 1) (map raw_batch bs))
+  counted_on = omega (arith, so_far, ap (λ (r : ℕ × ℕ). r.0) at_raws, sum_by_more (λ (r : ℕ × ℕ). r.0) (map raw_batch bs) i (0, 0) in_raws)
+
+  pub batch_fits : before + (get_or bs i d).count ≤ tris → batch_fault tris (map raw_batch bs) i (get_or (map raw_batch bs) i (0, 0)) ≡ None
+  batch_fits fits =
+      ap (batch_fault tris (map raw_batch bs) i) at_raws
+      ∙ fault_none_from _ (BadBatch i) (or_from _ _ (le-ltb 2 (winding_code (get_or bs i d).winding) (winding_small (get_or bs i d).winding)) (le-ltb tris (triangles_in (take i (map raw_batch bs)) + (get_or bs i d).count) (omega (arith, so_far, fits))))
+
+  pub batch_over : tris < before + (get_or bs i d).count → first_among (batch_fault tris (map raw_batch bs)) i (drop i (map raw_batch bs)) ≡ first_among (batch_fault tris (map raw_batch bs)) 0 (map raw_batch bs)
+      → Some (BadBatch i) ≡ sum_fault tris (map raw_batch bs)
+  unfolding sum_fault
+  batch_over over rest =
+      let raws = map raw_batch bs in
+      let bad : is_bad_batch tris (triangles_in (take i raws)) (raw_batch (get_or bs i d)) ≡ true = or_right _ _ (lt-ltb tris (triangles_in (take i raws) + (get_or bs i d).count) (omega (arith, so_far, over))) in
+      let here : batch_fault tris raws i (get_or raws i (0, 0)) ≡ Some (BadBatch i) = ap (batch_fault tris raws i) at_raws ∙ (rw bad refl) in
+      let first : first_among (batch_fault tris raws) 0 raws ≡ Some (BadBatch i) =
+      sym rest ∙ ap (first_among (batch_fault tris raws) i) (drop_more raws i (0, 0) in_raws) ∙ or_first (batch_fault tris raws i (get_or raws i (0, 0))) _ (BadBatch i) here in
+      sym (or_first (first_among (batch_fault tris raws) 0 raws) _ (BadBatch i) first)
+
+module _ (tris : ℕ) (bs : List Batch) (i counts : ℕ) (whole : length bs ≤ i) (rest : first_among (batch_fault tris (map raw_batch bs)) i (drop i (map raw_batch bs)) ≡ first_among (batch_fault tris (map raw_batch bs)) 0 (map raw_batch bs)) (so_far : counts ≡ triangles_in (take i (map raw_batch bs))) where
+  none_first : first_among (batch_fault tris (map raw_batch bs)) 0 (map raw_batch bs) ≡ None
+  none_first = sym rest ∙ ap (first_among (batch_fault tris (map raw_batch bs)) i) (drop_all i (map raw_batch bs) (omega (arith, whole, length-map bs raw_batch)))
+
+  all_counted : counts ≡ triangles_in (map raw_batch bs)
+  all_counted = so_far ∙ ap triangles_in (take_all i (map raw_batch bs) (omega (arith, whole, length-map bs raw_batch)))
+
+  pub counts_short : counts < tris → Some (BadBatch (length bs)) ≡ sum_fault tris (map raw_batch bs)
+  unfolding sum_fault
+  counts_short few =
+      let raws = map raw_batch bs in
+      let less : nat_lt (triangles_in raws) tris ≡ true = lt-ltb (triangles_in raws) tris (omega (arith, all_counted, few)) in
+      ap (λ (n : ℕ). Some (BadBatch n)) (sym (length-map bs raw_batch)) ∙ sym (or_second (first_among (batch_fault tris raws) 0 raws) _ none_first ∙ (rw less refl))
+
+  pub counts_whole : tris ≤ counts → None ≡ sum_fault tris (map raw_batch bs)
+  unfolding sum_fault
+  counts_whole enough =
+      let raws = map raw_batch bs in
+      sym (or_none_from (first_among (batch_fault tris raws) 0 raws) _ none_first (fault_none_from _ (BadBatch (length raws)) (le-ltb (triangles_in raws) tris (omega (arith, all_counted, enough)))))

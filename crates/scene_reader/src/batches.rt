@@ -80,8 +80,8 @@ impl Batches {
     fn whole_fault(&self, count: u32, tris: u32) -> Option<SceneError>
         ensures { result ≡ option_or self.now.fault (fault_if (nat_lt self.now.counted tris) (SceneError.BadBatch count)) }
     {
-        if self.fault.is_none() && self.counted < u64::from(tris) {
-            return Some(SceneError::BadBatch(count));
+        if self.counted < u64::from(tris) {
+            return self.fault.or(Some(SceneError::BadBatch(count)));
         }
         self.fault
     }

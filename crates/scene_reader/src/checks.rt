@@ -107,14 +107,20 @@ pub fn tables_fault(
 fn is_one_batch(batches: &[Batch], tris: u32) -> bool
     ensures { result ≡ is_one_batch tris (map raw_batch batches.now) }
 {
-    batches.len() == 1 && batches[0].count == tris
+    if batches.len() != 1 {
+        return false;
+    }
+    batches[0].count == tris
 }
 
 // The fault of batches of version 1 that aren't one.
 fn split_fault(version: u16, batches: &[Batch], tris: u32) -> Option<SceneError>
     ensures { result ≡ split_fault version tris (map raw_batch batches.now) }
 {
-    if version != 1 || is_one_batch(batches, tris) {
+    if version != 1 {
+        return None;
+    }
+    if is_one_batch(batches, tris) {
         return None;
     }
     Some(SceneError::BadBatch(0))
@@ -128,15 +134,16 @@ fn sum_fault(batches: &[Batch], tris: u32) -> Option<SceneError>
     requires few { tris ≤ 65536 }
     ensures { result ≡ sum_fault tris (map raw_batch batches.now) }
 {
+    let all = u64::from(tris);
     // The sum of two counts needs more than 32 bits.
     let mut counted = 0_u64;
     for (i, batch) in batches.iter().enumerate() {
         counted += u64::from(batch.count);
-        if u64::from(tris) < counted {
+        if all < counted {
             return Some(SceneError::BadBatch(i as u32));
         }
     }
-    if counted < u64::from(tris) {
+    if counted < all {
         return Some(SceneError::BadBatch(batches.len() as u32));
     }
     None
@@ -150,10 +157,7 @@ fn batches_fault(version: u16, batches: &[Batch], tris: u32) -> Option<SceneErro
     ensures value { result ≡ batches_fault version tris (map raw_batch batches.now) }
     ensures valid { IsNone result → AreBatchesOf batches.now tris × (version ≡ 1 → length batches.now ≡ 1) }
 {
-    if let Some(fault) = split_fault(version, batches, tris) {
-        return Some(fault);
-    }
-    sum_fault(batches, tris)
+    split_fault(version, batches, tris).or(sum_fault(batches, tris))
 }
 
 /// The first object whose numbers its kind doesn't allow, beside so many object triangles.

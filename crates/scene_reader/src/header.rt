@@ -51,7 +51,10 @@ pub fn header_length(version: u16) -> u32
     ensures value { result ≡ header_length version }
     ensures within { result ≤ 36 }
 {
-    if version == 1 { HEADER } else { LONG_HEADER }
+    if version == 1 {
+        return HEADER;
+    }
+    LONG_HEADER
 }
 
 /// What is wrong with a version.
@@ -185,7 +188,10 @@ pub fn header_of(bytes: &[u8; 32], version: u16, batches: u32) -> Result<Header,
     if let Some(fault) = screen_fault(width, height, near) {
         return Err(fault);
     }
-    let flags = flags_of(version, bytes[12], bytes[13])?;
+    let flags = match flags_of(version, bytes[12], bytes[13]) {
+        Ok(flags) => flags,
+        Err(fault) => return Err(fault),
+    };
     let counts = counts_of(bytes, batches);
     if let Some(fault) = count_fault(&counts) {
         return Err(fault);

@@ -176,7 +176,10 @@ fn code_of_grade(grade: Grade) -> u8
 fn winding_byte(version: u16, batches: &[Batch]) -> u8
     ensures { result ≡ winding_byte version batches.now }
 {
-    if version != 1 || batches.is_empty() {
+    if version != 1 {
+        return 0;
+    }
+    if batches.is_empty() {
         return 0;
     }
     code_of(batches[0].winding)
@@ -198,15 +201,17 @@ fn push_batch_count(header: &mut Text<36>, version: u16, batches: &[Batch])
     requires few { length batches.now ≤ 4096 }
     ensures { header.new ≡ header.old ++ batch_count_bytes version batches.now }
 {
-    if version != 1 {
-        header.push(&(batches.len() as u32).to_le_bytes());
+    if version == 1 {
+        return;
     }
+    header.push(&(batches.len() as u32).to_le_bytes());
 }
 
 fn header_of(scene: &Scene) -> Text<36>
     ensures { result ≡ header_bytes scene.now }
 {
-    let (version, batches) = (scene.version(), scene.batches());
+    let version = scene.version();
+    let batches = scene.batches();
     let mut header = Text::begin(b"MSOC");
     header.push(&version.to_le_bytes());
     header.push(&scene.size().width().to_le_bytes());
