@@ -39,7 +39,7 @@ never_made m i raw small bad = fault_of m i raw.0 raw.1 true small bad
 
 -- ---- the table
 
-option_or_none : (o : Option SceneError) → option_or o None ≡ o
+pub option_or_none : (o : Option SceneError) → option_or o None ≡ o
 option_or_none None = refl
 option_or_none (Some e) = refl
 

@@ -77,6 +77,7 @@ impl Batches {
     }
 
     /// The first fault of so many batches beside so many triangles: that of a batch, or that some are in none.
+    #[tactic(auto, using(crate::proofs::ObjectTable::option_or_none))]
     fn whole_fault(&self, count: u32, tris: u32) -> Option<SceneError>
         ensures { result ≡ option_or self.now.fault (fault_if (nat_lt self.now.counted tris) (SceneError.BadBatch count)) }
     {
