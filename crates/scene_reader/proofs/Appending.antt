@@ -8,7 +8,7 @@ use Rattle.cull_base.specs.Stream.{SinkSays, Writes}
 use Rattle.cull_base.specs.declared.memory.SinkError.{SinkError}
 use Rattle.cull_base.specs.declared.scene_types.Object.TheVariants.{Block}
 use Rattle.cull_base.proofs.Streams.{writes_then, writes_no_more}
-use Rattle.scene_reader.specs.Layout.{Parts, number_at, numbers_of, row_bytes, short_bytes, word_bytes, winding_code, magic, header_bytes}
+use Rattle.scene_reader.specs.Layout.{Parts, number_at, numbers_of, row_bytes, short_bytes, word_bytes, winding_byte, grade_code, batch_count_bytes, magic, header_bytes}
 use Rattle.scene_reader.proofs.Shapes.{three}
 
 -- a call that wrote its text, and then another
@@ -50,8 +50,8 @@ pub block_bytes : (low high : List ℤ) → length low ≡ 3 → length high ≡
 block_bytes low high l h =
     ap (λ (xs : List ℤ). row_bytes xs ++ row_bytes high) (sym (three low l)) ∙ ap (λ (xs : List ℤ). row_bytes (number_at low 0 ∷ number_at low 1 ∷ number_at low 2 ∷ []) ++ row_bytes xs) (sym (three high h))
 
-pub header_literal : (p : Parts) (a w h n k f v o t j : List ℕ) → a ≡ short_bytes 1 → w ≡ short_bytes p.width → h ≡ short_bytes p.height → n ≡ short_bytes p.near → k ≡ winding_code p.winding ∷ 0 ∷ []
-    → f ≡ short_bytes (length p.cameras) → v ≡ word_bytes (length p.vertices) → o ≡ word_bytes (length p.occluders) → t ≡ word_bytes (length p.object_tris) → j ≡ word_bytes (length p.objects)
-    → ((((((((((magic ++ a) ++ w) ++ h) ++ n) ++ k) ++ f) ++ v) ++ o) ++ t) ++ j) ≡ header_bytes p
+pub header_literal : (p : Parts) (a w h n k f v o t j b : List ℕ) → a ≡ short_bytes p.version → w ≡ short_bytes p.width → h ≡ short_bytes p.height → n ≡ short_bytes p.near → k ≡ winding_byte p.version p.batches ∷ grade_code p.grade ∷ []
+    → f ≡ short_bytes (length p.cameras) → v ≡ word_bytes (length p.vertices) → o ≡ word_bytes (length p.occluders) → t ≡ word_bytes (length p.object_tris) → j ≡ word_bytes (length p.objects) → b ≡ batch_count_bytes p.version p.batches
+    → (((((((((((magic ++ a) ++ w) ++ h) ++ n) ++ k) ++ f) ++ v) ++ o) ++ t) ++ j) ++ b) ≡ header_bytes p
 unfolding header_bytes
-header_literal p a w h n k f v o t j ea ew eh en ek ef ev eo et ej = rw (ea, ew, eh, en, ek, ef, ev, eo, et, ej) refl
+header_literal p a w h n k f v o t j b ea ew eh en ek ef ev eo et ej eb = rw (ea, ew, eh, en, ek, ef, ev, eo, et, ej, eb) refl

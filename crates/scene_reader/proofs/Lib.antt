@@ -20,3 +20,4 @@ pub mod Refusals
 pub mod ObjectsFrom
 pub mod OneLayout
 pub mod Appending
+pub mod Upgrades
