@@ -78,12 +78,12 @@ sum_within : (tris : ℕ) (raws : List (ℕ × ℕ)) → first_among (batch_faul
 sum_within tris raws e = elim (cases_eq (length raws) 0) [
   | inl none ↦ let nil : raws ≡ [] = nil_from_length raws none in rw nil (omega arith)
   | inr some ↦
-    let k = length raws - 1 in
-    let lt : k < length raws = omega (arith, some) in
-    let clear = none_at (batch_fault tris raws) 0 raws k (0, 0) e lt k (omega arith) in
-    let fits = ltb-false tris (triangles_in (take k raws) + (get_or raws k (0, 0)).0) (or_parts _ _ (fault_none _ _ clear)).1 in
-    let whole : take (k + 1) raws ≡ raws = take_all (k + 1) raws (omega (arith, some)) in
-    omega (arith, fits, sum_by_more (λ (r : ℕ × ℕ). r.0) raws k (0, 0) lt, ap triangles_in whole)
+      let k = length raws - 1 in
+      let lt : k < length raws = omega (arith, some) in
+      let clear = none_at (batch_fault tris raws) 0 raws k (0, 0) e lt k (omega arith) in
+      let fits = ltb-false tris (triangles_in (take k raws) + (get_or raws k (0, 0)).0) (or_parts _ _ (fault_none _ _ clear)).1 in
+      let whole : take (k + 1) raws ≡ raws = take_all (k + 1) raws (omega (arith, some)) in
+      omega (arith, fits, sum_by_more (λ (r : ℕ × ℕ). r.0) raws k (0, 0) lt, ap triangles_in whole)
 ]
 
 one_length : (tris : ℕ) (bs : List Batch) → is_one_batch tris (map raw_batch bs) ≡ true → length bs ≡ 1
@@ -103,11 +103,13 @@ batches_valid version tris bs e =
     let p = or_parts_none (split_fault version tris raws) _ e in
     let q = or_parts_none (first_among (batch_fault tris raws) 0 raws) _ p.1 in
     let low = ltb-false (triangles_in raws) tris (fault_none _ _ q.1) in
-    let high = sum_within tris raws q.0 in
-    (omega (arith, low, high, triangles_of bs), λ one. elim (and_cases (version == 1) (not (is_one_batch tris raws)) (fault_none _ _ p.0)) [
-      | inl other ↦ absurd (both_ways (version == 1) other (eq-eqb version 1 one))
-      | inr whole ↦ one_length tris bs (not-false _ whole)
-    ])
+    let high = sum_within tris raws q.0 in (
+      omega (arith, low, high, triangles_of bs),
+      λ one. elim (and_cases (version == 1) (not (is_one_batch tris raws)) (fault_none _ _ p.0)) [
+        | inl other ↦ absurd (both_ways (version == 1) other (eq-eqb version 1 one))
+        | inr whole ↦ one_length tris bs (not-false _ whole)
+      ],
+    )
 
 windings_small : (tris : ℕ) (all : List (ℕ × ℕ)) (i : ℕ) (raws : List (ℕ × ℕ)) → first_among (batch_fault tris all) i raws ≡ None → AllByRecursion (λ (raw : ℕ × ℕ). raw.1 ≤ 2) raws
 windings_small tris all i [] e = tt
@@ -210,16 +212,24 @@ batches_more tris i a b c before after piece one t p now =
       raws = t.raws ++ raw ∷ [];
       table = table_more 5 i raw_batch_of a b c t.raws piece raw one refl t.table p;
       first =
-      now.first
-      ∙ same_or before.fault (λ (k : ℕ). fault_if (is_bad_batch tris k raw) (BadBatch i)) before.counted (triangles_in t.raws) t.counted
-      ∙ ap (λ (o : Option SceneError). option_or o (fault_if (is_bad_batch tris (triangles_in t.raws) raw) (BadBatch i))) t.first
-      ∙ sym (first_more tris i t.raws raw (raws_count i tris a b before t));
+          now.first
+          ∙ same_or before.fault (λ (k : ℕ). fault_if (is_bad_batch tris k raw) (BadBatch i)) before.counted (triangles_in t.raws) t.counted
+          ∙ ap (λ (o : Option SceneError). option_or o (fault_if (is_bad_batch tris (triangles_in t.raws) raw) (BadBatch i))) t.first
+          ∙ sym (first_more tris i t.raws raw (raws_count i tris a b before t));
       whole = λ e. now.items e ∙ ap (λ (r : List (ℕ × ℕ)). r ++ raw ∷ []) (t.whole (clear e));
       counted = λ e. now.counted e ∙ ap (λ (n : ℕ). n + raw.0) (t.counted (clear e)) ∙ sym (sum_by_push (λ (r : ℕ × ℕ). r.0) t.raws raw);
       within = now.within;
     }
 
 -- ---- the batches of a scene
+
+-- the fault of a table and of its end
+table_decided : (count tris : ℕ) (a b : SourceSays) (table : Batches) (t : TakesBatchTable count tris a b table) → option_or table.fault (fault_if (nat_lt table.counted tris) (BadBatch count)) ≡ sum_fault tris t.raws
+unfolding sum_fault
+table_decided count tris a b table t =
+    same_or table.fault (λ (k : ℕ). fault_if (nat_lt k tris) (BadBatch count)) table.counted (triangles_in t.raws) t.counted
+    ∙ ap (λ (o : Option SceneError). option_or o (fault_if (nat_lt (triangles_in t.raws) tris) (BadBatch count))) t.first
+    ∙ ap (λ (n : ℕ). option_or (first_among (batch_fault tris t.raws) 0 t.raws) (fault_if (nat_lt (triangles_in t.raws) tris) (BadBatch n))) (sym (raws_count count tris a b table t))
 
 -- those of a table, with the fault of its end
 pub second_taken : (h : Header) (a b : SourceSays) (table batches : Batches) → (h.version ≡ 1 → ⊥) → TakesBatchTable h.counts.batches h.counts.occluders a b table
@@ -231,16 +241,9 @@ second_taken h a b table batches other t fault same =
     record {
       stored = t.raws;
       table = t.table;
-      first = fault ∙ decided ∙ sym (ap (batches_fault h.version tris) told ∙ second_fault h.version tris t.raws other);
+      first = fault ∙ table_decided n tris a b table t ∙ sym (ap (batches_fault h.version tris) told ∙ second_fault h.version tris t.raws other);
       whole = λ e. ap (map raw_batch) same ∙ t.whole (or_parts_none table.fault _ (sym fault ∙ e)).0 ∙ sym told;
     }
-  where
-    decided : option_or table.fault (fault_if (nat_lt table.counted h.counts.occluders) (BadBatch h.counts.batches)) ≡ sum_fault h.counts.occluders t.raws
-    unfolding sum_fault
-    decided =
-        same_or table.fault (λ (k : ℕ). fault_if (nat_lt k h.counts.occluders) (BadBatch h.counts.batches)) table.counted (triangles_in t.raws) t.counted
-        ∙ ap (λ (o : Option SceneError). option_or o (fault_if (nat_lt (triangles_in t.raws) h.counts.occluders) (BadBatch h.counts.batches))) t.first
-        ∙ ap (λ (n : ℕ). option_or (first_among (batch_fault h.counts.occluders t.raws) 0 t.raws) (fault_if (nat_lt (triangles_in t.raws) h.counts.occluders) (BadBatch n))) (sym (raws_count h.counts.batches h.counts.occluders a b table t))
 
 -- the one that the header tells, beside a table without entries
 pub first_taken : (h : Header) (a : SourceSays) (batches : Batches) → h.version ≡ 1 → h.counts.batches ≡ 0 → batches.items.items ≡ record { count = h.counts.occluders; winding = h.flags.winding } ∷ [] → batches.fault ≡ None

@@ -67,13 +67,13 @@ count_back : (p : Parts) (h : List ℕ) → length h ≡ header_length p.version
 count_back p h len fits says = elim (cases_eq p.version 1) [
   | inl one ↦ drop_all 32 h (omega (arith, len, length_first p.version one)) ∙ sym (at_first p.version [] (word_bytes (length p.batches)) one)
   | inr other ↦
-    let long : length h ≡ 36 = omega (arith, len, length_second p.version other) in
-    let told : word_at 32 h ≡ length p.batches =
-    sym (at_second (version_at h) 0 (word_at 32 h) (λ e. other (sym says.version ∙ e))) ∙ says.batches ∙ ap (λ (bs : List Batch). length bs) (at_second p.version [] p.batches other) in
-    sym (take_all 4 (drop 32 h) (omega (arith, length-drop 32 h, long)))
-    ∙ sym (word_back 32 h (omega (arith, long)) fits)
-    ∙ ap word_bytes told
-    ∙ sym (at_second p.version [] (word_bytes (length p.batches)) other)
+      let long : length h ≡ 36 = omega (arith, len, length_second p.version other) in
+      let told : word_at 32 h ≡ length p.batches =
+      sym (at_second (version_at h) 0 (word_at 32 h) (λ e. other (sym says.version ∙ e))) ∙ says.batches ∙ ap (λ (bs : List Batch). length bs) (at_second p.version [] p.batches other) in
+      sym (take_all 4 (drop 32 h) (omega (arith, length-drop 32 h, long)))
+      ∙ sym (word_back 32 h (omega (arith, long)) fits)
+      ∙ ap word_bytes told
+      ∙ sym (at_second p.version [] (word_bytes (length p.batches)) other)
 ]
 
 pub header_back : (p : Parts) (h : List ℕ) → length h ≡ header_length p.version → All IsByte h → Accepted h → HeaderSays h p → h ≡ header_bytes p
@@ -173,16 +173,16 @@ says_on front rest p len says = record {
 count_says : (p : Parts) → IsScene p → version_at (header_bytes p) ≡ p.version → batch_count_at (header_bytes p) ≡ length (stored_batches p.version p.batches)
 count_says p s same = elim (cases_eq p.version 1) [
   | inl one ↦
-    at_first (version_at (header_bytes p)) 0 (word_at 32 (header_bytes p)) (same ∙ one)
-    ∙ sym (ap (λ (bs : List Batch). length bs) (at_first p.version [] p.batches one))
+      at_first (version_at (header_bytes p)) 0 (word_at 32 (header_bytes p)) (same ∙ one)
+      ∙ sym (ap (λ (bs : List Batch). length bs) (at_first p.version [] p.batches one))
   | inr other ↦
-    let tail : drop 32 (header_bytes p) ≡ word_bytes (length p.batches) =
-    ap (drop 32) (two_parts p) ∙ drop_at (front_bytes p) (batch_count_bytes p.version p.batches) 32 (front_long p) ∙ at_second p.version [] (word_bytes (length p.batches)) other in
-    at_second (version_at (header_bytes p)) 0 (word_at 32 (header_bytes p)) (λ e. other (sym same ∙ e))
-    ∙ ap (λ (t : List ℕ). from_le_bytes w32 (take 4 t)) tail
-    ∙ ap (from_le_bytes w32) (take_all 4 (word_bytes (length p.batches)) (omega (arith, word_long (length p.batches))))
-    ∙ word_again (length p.batches) (omega (arith, s.few_batches))
-    ∙ sym (ap (λ (bs : List Batch). length bs) (at_second p.version [] p.batches other))
+      let tail : drop 32 (header_bytes p) ≡ word_bytes (length p.batches) =
+      ap (drop 32) (two_parts p) ∙ drop_at (front_bytes p) (batch_count_bytes p.version p.batches) 32 (front_long p) ∙ at_second p.version [] (word_bytes (length p.batches)) other in
+      at_second (version_at (header_bytes p)) 0 (word_at 32 (header_bytes p)) (λ e. other (sym same ∙ e))
+      ∙ ap (λ (t : List ℕ). from_le_bytes w32 (take 4 t)) tail
+      ∙ ap (from_le_bytes w32) (take_all 4 (word_bytes (length p.batches)) (omega (arith, word_long (length p.batches))))
+      ∙ word_again (length p.batches) (omega (arith, s.few_batches))
+      ∙ sym (ap (λ (bs : List Batch). length bs) (at_second p.version [] p.batches other))
 ]
 
 whole_says : (p : Parts) → IsScene p → FrontSays (header_bytes p) p

@@ -146,9 +146,9 @@ batch_count_front front rest h =
     elim (cases_eq v 1) [
       | inl one ↦ at_first (version_at (front ++ rest)) 0 (word_at 32 (front ++ rest)) (same ∙ one) ∙ sym (at_first v 0 (word_at 32 front) one)
       | inr other ↦
-        at_second (version_at (front ++ rest)) 0 (word_at 32 (front ++ rest)) (λ e. other (sym same ∙ e))
-        ∙ word_front 32 front rest (omega (arith, h, length_second v other))
-        ∙ sym (at_second v 0 (word_at 32 front) other)
+          at_second (version_at (front ++ rest)) 0 (word_at 32 (front ++ rest)) (λ e. other (sym same ∙ e))
+          ∙ word_front 32 front rest (omega (arith, h, length_second v other))
+          ∙ sym (at_second v 0 (word_at 32 front) other)
     ]
 
 pub counts_front : (front rest : List ℕ) → length front ≡ header_length (version_at front) → counts_at (front ++ rest) ≡ counts_at front
@@ -235,23 +235,23 @@ screen_good w h n size some within = or_none_from _ _ (fault_none_from _ _ (size
 pub flags_valid : (v w g : ℕ) → flags_fault v w g ≡ None → FlagsFine v w g
 flags_valid v w g e = elim (cases_eq v 1) [
   | inl one ↦
-    let p = or_parts_none (fault_if (nat_lt 2 w) (BadWinding w)) (fault_if (not (g == 0)) (BadReserved g)) (sym (at_first v (first_flags w g) (second_flags w g) one) ∙ e) in
-    let none : g ≡ 0 = eqb-true g 0 (not-false _ (fault_none _ _ p.1)) in
-    record { winding_known = ltb-false 2 w (fault_none _ _ p.0); grade_known = omega (arith, none); first = λ _. none; second = λ other. absurd (other one) }
+      let p = or_parts_none (fault_if (nat_lt 2 w) (BadWinding w)) (fault_if (not (g == 0)) (BadReserved g)) (sym (at_first v (first_flags w g) (second_flags w g) one) ∙ e) in
+      let none : g ≡ 0 = eqb-true g 0 (not-false _ (fault_none _ _ p.1)) in
+      record { winding_known = ltb-false 2 w (fault_none _ _ p.0); grade_known = omega (arith, none); first = λ _. none; second = λ other. absurd (other one) }
   | inr other ↦
-    let p = or_parts_none (fault_if (not (w == 0)) (BadWinding w)) (fault_if (nat_lt 1 g) (BadGrade g)) (sym (at_second v (first_flags w g) (second_flags w g) other) ∙ e) in
-    let none : w ≡ 0 = eqb-true w 0 (not-false _ (fault_none _ _ p.0)) in
-    record { winding_known = omega (arith, none); grade_known = ltb-false 1 g (fault_none _ _ p.1); first = λ one. absurd (other one); second = λ _. none }
+      let p = or_parts_none (fault_if (not (w == 0)) (BadWinding w)) (fault_if (nat_lt 1 g) (BadGrade g)) (sym (at_second v (first_flags w g) (second_flags w g) other) ∙ e) in
+      let none : w ≡ 0 = eqb-true w 0 (not-false _ (fault_none _ _ p.0)) in
+      record { winding_known = omega (arith, none); grade_known = ltb-false 1 g (fault_none _ _ p.1); first = λ one. absurd (other one); second = λ _. none }
 ]
 
 pub flags_good : (v w g : ℕ) → FlagsFine v w g → flags_fault v w g ≡ None
 flags_good v w g f = elim (cases_eq v 1) [
   | inl one ↦
-    at_first v (first_flags w g) (second_flags w g) one
-    ∙ or_none_from _ _ (fault_none_from _ _ (le-ltb 2 w f.winding_known)) (fault_none_from _ _ (not_from_true _ (eq-eqb g 0 (f.first one))))
+      at_first v (first_flags w g) (second_flags w g) one
+      ∙ or_none_from _ _ (fault_none_from _ _ (le-ltb 2 w f.winding_known)) (fault_none_from _ _ (not_from_true _ (eq-eqb g 0 (f.first one))))
   | inr other ↦
-    at_second v (first_flags w g) (second_flags w g) other
-    ∙ or_none_from _ _ (fault_none_from _ _ (not_from_true _ (eq-eqb w 0 (f.second other)))) (fault_none_from _ _ (le-ltb 1 g f.grade_known))
+      at_second v (first_flags w g) (second_flags w g) other
+      ∙ or_none_from _ _ (fault_none_from _ _ (not_from_true _ (eq-eqb w 0 (f.second other)))) (fault_none_from _ _ (le-ltb 1 g f.grade_known))
 ]
 
 pub counts_valid : (n : Counts) → count_fault n ≡ None → AreCounts n

@@ -152,11 +152,11 @@ layout_reads p s =
       vertices = joined_vertices (counts_of p) h v o b t j c sized ∙ sym (layout_vertices p s).each;
       occluders = joined_occluders (counts_of p) h v o b t j c sized ∙ sym (layout_tris p s p.occluders s.occluders).each;
       batches =
-      joined_batches (counts_of p) h v o b t j c sized
-      ∙ ap (λ (bs : List (ℕ × ℕ)). batches_told (version_at h) (slice_index h 12) (length p.occluders) bs) (sym (layout_batches p s).each)
-      ∙ ap (λ (w : ℕ). batches_told w (slice_index h 12) (length p.occluders) (map raw_batch stored)) says.version
-      ∙ ap (λ (w : ℕ). batches_told p.version w (length p.occluders) (map raw_batch stored)) says.winding
-      ∙ scene_told p s;
+          joined_batches (counts_of p) h v o b t j c sized
+          ∙ ap (λ (bs : List (ℕ × ℕ)). batches_told (version_at h) (slice_index h 12) (length p.occluders) bs) (sym (layout_batches p s).each)
+          ∙ ap (λ (w : ℕ). batches_told w (slice_index h 12) (length p.occluders) (map raw_batch stored)) says.version
+          ∙ ap (λ (w : ℕ). batches_told p.version w (length p.occluders) (map raw_batch stored)) says.winding
+          ∙ scene_told p s;
       object_tris = joined_object_tris (counts_of p) h v o b t j c sized ∙ sym (layout_tris p s p.object_tris s.object_tris).each;
       objects = joined_objects (counts_of p) h v o b t j c sized ∙ sym (layout_objects p s).each;
       cameras = joined_cameras (counts_of p) h v o b t j c sized ∙ sym (layout_cameras p s).each;

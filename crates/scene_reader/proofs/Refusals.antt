@@ -168,9 +168,9 @@ module _ (front more : List ℕ) (version batches : ℕ) (len : length front ≡
       elim (cases_eq version 1) [
         | inl one ↦ says ∙ at_first version 0 (word_at 0 more) one ∙ sym (at_first (version_at (front ++ more)) 0 (word_at 32 (front ++ more)) (version_is ∙ sym same ∙ one))
         | inr other ↦
-          says ∙ at_second version 0 (word_at 0 more) other
-          ∙ ap (λ (t : List ℕ). from_le_bytes w32 (take 4 t)) (sym (drop_at front more 32 len))
-          ∙ sym (at_second (version_at (front ++ more)) 0 (word_at 32 (front ++ more)) (λ e. other (same ∙ sym version_is ∙ e)))
+            says ∙ at_second version 0 (word_at 0 more) other
+            ∙ ap (λ (t : List ℕ). from_le_bytes w32 (take 4 t)) (sym (drop_at front more 32 len))
+            ∙ sym (at_second (version_at (front ++ more)) 0 (word_at 32 (front ++ more)) (λ e. other (same ∙ sym version_is ∙ e)))
       ]
 
   joined_fields : fields_fault (front ++ more) (batch_count_at (front ++ more)) ≡ fields_fault front batches
