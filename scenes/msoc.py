@@ -48,8 +48,8 @@ def mesh(first, count):
 
 def scene(size, near, vertices, occluders, objects, cameras, object_triangles=(), winding=KEEPS_BOTH, grade=None,
           batches=None):
-    """The bytes of a scene: of version 2 where a grade or batches are given, each a count and a winding, and of version 1
-    otherwise."""
+    """The bytes of a scene: of version 2 where a grade or batches are given, each a count and a winding, otherwise of
+    version 1."""
     counts = (len(vertices), len(occluders), len(object_triangles), len(objects))
     if grade is None and batches is None:
         batches = []

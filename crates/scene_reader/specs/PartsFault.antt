@@ -1,4 +1,4 @@
--- The first fault of parts that aren't a scene: the steps of `first_fault` that speak of parts, and what holds of version 1.
+-- The first fault of parts that aren't a scene: the steps of `first_fault` that speak of parts, and those of version 1.
 use Rattle.std.specs.Prelude.{ℕ, ℤ, ◌≡◌, ◌-◌, ◌^◌, min, ◌==◌, ◌&&◌, List, length, map, Option, None, Some}
 use Rattle.std.specs.Option.{option_or}
 use Rattle.std.specs.List.{All}

@@ -1,5 +1,5 @@
-//! Batches: read as a table, or in version 1 the one that the header tells. The first fault is kept until the end of the
-//! input is known, since that of the length comes before it.
+//! Batches: read as a table, or in version 1 the one that the header tells. The first fault is kept until the end of
+//! the input is known, since that of the length comes before it.
 ghost use Rattle.std.specs.Prelude.{◌≡◌, ◌+◌, ◌*◌, ◌^◌, ◌<◌, ◌≤◌, nat_lt, None, Some, [], ◌∷◌, true, IfOk, IfErr, IfSome, IfNone, OnOk};
 ghost use Rattle.std.specs.Option.{option_or};
 ghost use Rattle.scene_reader.specs.Layout.{raw_batch, winding_code};
