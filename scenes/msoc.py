@@ -1,15 +1,20 @@
 """The bytes of a scene, as `maskcull cull` reads them.
 
-A scene is a header of 32 bytes and five tables, one after the other without gaps:
+A scene is a header and some tables, one after the other without gaps:
 
     vertices             12 bytes each   x, y, z
     occluder triangles   12 bytes each   the numbers of three vertices, from 0
+    batches               5 bytes each   a count in four bytes, and a winding in one; only in version 2
     object triangles     12 bytes each   the same
     objects              25 bytes each   a kind in one byte, then six numbers
     cameras              48 bytes each   twelve numbers: a row of four for each of x, y and w; one camera a frame
 
 The lowest byte of a number comes first, and a number below 0 is stored as its two's complement. The occluder
 triangles are drawn; the objects are tested against what is drawn. A mesh has a range of the object triangles.
+
+In version 1, with a header of 32 bytes, all occluder triangles have one winding, and the scene is narrow: nearness goes
+to 65535. In version 2, with a header of 36 bytes, a batch has the winding of the next triangles, as many as it counts,
+and nearness may go to 16777215: the scene is wide.
 
 A camera takes the vertex (x, y, z) to three numbers, x, y and w. Each is (a x + b y + c z) / 65536, rounded down,
 and then d is added, where a, b, c, d is its row. w is the distance along the view; x / w runs from -1 at the left
@@ -22,6 +27,7 @@ import sys
 
 RECTANGLE, BOX, MESH = 0, 1, 2
 KEEPS_BOTH, DROPS_CLOCKWISE, DROPS_COUNTERCLOCKWISE = 0, 1, 2
+NARROW, WIDE = 0, 1
 ONE = 65536
 
 
@@ -40,11 +46,20 @@ def mesh(first, count):
     return (MESH, first, count, 0, 0, 0, 0)
 
 
-def scene(size, near, vertices, occluders, objects, cameras, object_triangles=(), winding=KEEPS_BOTH):
-    """The bytes of a scene."""
+def scene(size, near, vertices, occluders, objects, cameras, object_triangles=(), winding=KEEPS_BOTH, grade=None,
+          batches=None):
+    """The bytes of a scene: of version 2 where a grade or batches are given, each a count and a winding, otherwise of
+    version 1."""
     counts = (len(vertices), len(occluders), len(object_triangles), len(objects))
-    header = struct.pack("<4s4H2BH4I", b"MSOC", 1, *size, near, winding, 0, len(cameras), *counts)
-    tables = [("<3i", vertices), ("<3I", occluders), ("<3I", object_triangles), ("<B6i", objects), ("<12i", cameras)]
+    if grade is None and batches is None:
+        batches = []
+        header = struct.pack("<4s4H2BH4I", b"MSOC", 1, *size, near, winding, NARROW, len(cameras), *counts)
+    else:
+        batches = [(len(occluders), winding)] if batches is None else batches
+        flags = (0, NARROW if grade is None else grade)
+        header = struct.pack("<4s4H2BH5I", b"MSOC", 2, *size, near, *flags, len(cameras), *counts, len(batches))
+    tables = [("<3i", vertices), ("<3I", occluders), ("<IB", batches), ("<3I", object_triangles), ("<B6i", objects),
+              ("<12i", cameras)]
     return header + b"".join(struct.pack(form, *row) for form, table in tables for row in table)
 
 

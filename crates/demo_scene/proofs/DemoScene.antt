@@ -95,6 +95,10 @@ demo_is_scene seed m few =
     let occluders : length (map triangle_of (range_with_len 0 m)) ≡ m = length-map-range_with_len triangle_of 0 m in
     let objects = length-boxes_of seed (12 * m) box_count in
     record {
+      version_some = lit≤ tt;
+      version_known = lit≤ tt;
+      narrow = λ _. refl;
+      one_batch = λ _. refl;
       size = record { whole_columns = refl; wide = lit≤ tt; within_width = lit≤ tt; whole_rows = refl; high = lit≤ tt; within_height = lit≤ tt };
       near_some = lit≤ tt;
       near_within = lit≤ tt;
@@ -102,10 +106,12 @@ demo_is_scene seed m few =
       few_frames = lit≤ tt;
       few_vertices = omega arith;
       few_occluders = omega arith;
+      few_batches = lit≤ tt;
       few_object_tris = lit≤ tt;
       few_objects = omega arith;
       vertices = flat_all (IsRow 3) (vertices_of seed) (vertices_are_rows seed) 0 m;
       occluders = map_all (IsTri (length (flat_map (vertices_of seed) (range_with_len 0 m)))) triangle_of m (λ i lt. is_tri _ i (omega arith));
+      batches = omega (arith, occluders);
       object_tris = All-nil (IsTri (length (flat_map (vertices_of seed) (range_with_len 0 m))));
       objects = boxes_are_objects seed (12 * m) box_count;
       cameras = map_all (IsRow 12) camera_of frame_count camera_is_row;

@@ -1,6 +1,8 @@
 -- The scene that a number makes: random triangles and boxes between near and far, and four cameras.
 use Rattle.std.specs.Prelude.{ℕ, ℤ, zero, suc, pos, ◌+◌, ◌*◌, ◌^◌, ◌+ℤ◌, ◌-ℤ◌, ◌/◌, ◌%◌, List, [], ◌∷◌, map}
 use Rattle.std.specs.List.{flat_map, range_with_len}
+use Rattle.cull_base.specs.declared.nearness.Grade.TheVariants.{Narrow}
+use Rattle.cull_base.specs.declared.scene_types.Batch.{Batch}
 use Rattle.cull_base.specs.declared.scene_types.Object.{Object}
 use Rattle.cull_base.specs.declared.scene_types.Object.TheVariants.{Block}
 use Rattle.cull_base.specs.declared.scene_types.Tri.{Tri}
@@ -53,6 +55,10 @@ vertices_of seed i = vertex_of seed i 0 ∷ vertex_of seed i 1 ∷ vertex_of see
 abbrev pub triangle_of : ℕ → Tri
 triangle_of i = record { 0 = (3 * i) ∷ (3 * i + 1) ∷ (3 * i + 2) ∷ [] }
 
+-- one batch of so many triangles, of which none is dropped
+abbrev pub whole_batch : ℕ → Batch
+whole_batch triangles = record { count = triangles; winding = Both }
+
 -- half a side of a box
 abbrev pub half_side : ℕ → ℕ → ℤ
 half_side seed k = pos (20 + draw seed k 200)
@@ -84,15 +90,17 @@ box_count = 500
 abbrev pub frame_count : ℕ
 frame_count = 4
 
--- so many triangles, then the boxes
+-- a scene of version 1: so many triangles, then the boxes
 unfoldable pub demo_of : ℕ → ℕ → Parts
 demo_of seed m = record {
+  version = 1;
   width = 1280;
   height = 720;
   near = 16;
-  winding = Both;
+  grade = Narrow;
   vertices = flat_map (vertices_of seed) (range_with_len 0 m);
   occluders = map triangle_of (range_with_len 0 m);
+  batches = whole_batch m ∷ [];
   object_tris = [];
   objects = boxes_of seed (12 * m) box_count;
   cameras = map camera_of (range_with_len 0 frame_count);

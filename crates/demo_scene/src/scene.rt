@@ -1,10 +1,11 @@
 //! The scene that a seed makes.
-ghost use Rattle.std.specs.Prelude.{◌≡◌, ℕ, IfOk, OnOk, ◌≤◌, ◌<◌, ◌*◌, map};
+ghost use Rattle.std.specs.Prelude.{◌≡◌, ℕ, [], ◌∷◌, IfOk, OnOk, ◌≤◌, ◌<◌, ◌*◌, map};
 ghost use Rattle.std.specs.List.{flat_map, range_with_len};
-ghost use Rattle.demo_scene.specs.Demo.{demo_of, state_after, vertices_of, triangle_of, boxes_of, camera_of, box_count, frame_count};
+ghost use Rattle.demo_scene.specs.Demo.{demo_of, state_after, vertices_of, triangle_of, whole_batch, boxes_of, camera_of};
+ghost use Rattle.demo_scene.specs.Demo.{box_count, frame_count};
 
 use crate::generator::Generator;
-use cull_base::{Memory, Object, Tri, Winding};
+use cull_base::{Batch, Grade, Memory, Object, Tri, Winding};
 use scene_reader::{Scene, SceneParts};
 use std::alloc::{AllocError, Global};
 
@@ -42,6 +43,18 @@ fn occluders(alloc: Global, triangles: u32) -> Result<Vec<Tri>, AllocError>
         occluders.push(Tri([3 * i, 3 * i + 1, 3 * i + 2]))?;
     }
     Ok(occluders)
+}
+
+// One batch of so many triangles, of which none is dropped.
+fn whole_batch(alloc: Global, triangles: u32) -> Result<Vec<Batch>, AllocError>
+    ensures { IfOk result (λ v. v.items ≡ whole_batch triangles ∷ []) }
+{
+    let mut batches = Vec::new(alloc);
+    batches.push(Batch {
+        count: triangles,
+        winding: Winding::Both,
+    })?;
+    Ok(batches)
 }
 
 fn boxes(alloc: Global, generator: &mut Generator) -> Result<Vec<Object>, AllocError>
@@ -87,12 +100,14 @@ fn demo_parts(alloc: Global, seed: u64, triangles: u32) -> Result<SceneParts, Al
     let vertices = vertices(alloc, &mut generator, triangles)?;
     let objects = boxes(alloc, &mut generator)?;
     Ok(SceneParts {
+        version: 1,
         width: 1280,
         height: 720,
         near: 16,
-        winding: Winding::Both,
+        grade: Grade::Narrow,
         vertices,
         occluders: occluders(alloc, triangles)?,
+        batches: whole_batch(alloc, triangles)?,
         object_tris: Vec::new(alloc),
         objects,
         cameras: cameras(alloc)?,

@@ -1,4 +1,4 @@
--- Writing entries, batch after batch, and what an error leaves.
+-- Writing entries, so many at once, and what an error leaves.
 use Rattle.std.proofs.Common.{◌≡◌, ℕ, ℤ, ◌+◌, ◌-◌, ◌<◌, ◌≤◌, min, ◌++◌, ◌∷◌, List, [], length, get_or, take, drop, arith, refl, sym, ap, ◌∙◌, Result, Ok, Err}
 use Rattle.std.specs.List.{flat_map}
 use Rattle.std.proofs.Math.Seq.{take-add}
@@ -8,7 +8,7 @@ use Rattle.cull_base.specs.Stream.{SinkSays, Writes}
 use Rattle.cull_base.specs.declared.memory.SinkError.{SinkError}
 use Rattle.cull_base.specs.declared.scene_types.Object.TheVariants.{Block}
 use Rattle.cull_base.proofs.Streams.{writes_then, writes_no_more}
-use Rattle.scene_reader.specs.Layout.{Parts, number_at, numbers_of, row_bytes, short_bytes, word_bytes, winding_code, magic, header_bytes}
+use Rattle.scene_reader.specs.Layout.{Parts, number_at, numbers_of, row_bytes, short_bytes, word_bytes, winding_byte, grade_code, batch_count_bytes, magic, header_bytes}
 use Rattle.scene_reader.proofs.Shapes.{three}
 
 -- a call that wrote its text, and then another
@@ -22,19 +22,19 @@ module _ {X : Type 0} (enc : X → List ℕ) (xs : List X) where
   pub entry_more : (i : ℕ) (d : X) → i < length xs → flat_map enc (take (i + 1) xs) ≡ flat_map enc (take i xs) ++ enc (get_or xs i d)
   entry_more i d lt = ap (flat_map enc) (take_more xs i d lt) ∙ flat_map-append enc (take i xs) (get_or xs i d ∷ []) ∙ ap (λ (t : List ℕ). flat_map enc (take i xs) ++ t) (append-nil (enc (get_or xs i d)))
 
-  -- the bytes so far and those of a batch more, which has so many entries or all that are left
-  batch_more : (i n m : ℕ) → i ≤ length xs → n ≡ min m (length xs - i) → flat_map enc (take (i + m) xs) ≡ flat_map enc (take i xs) ++ flat_map enc (take n (drop i xs))
-  batch_more i n m le is =
+  -- the bytes so far and those of so many entries more, or of all that are left
+  part_more : (i n m : ℕ) → i ≤ length xs → n ≡ min m (length xs - i) → flat_map enc (take (i + m) xs) ≡ flat_map enc (take i xs) ++ flat_map enc (take n (drop i xs))
+  part_more i n m le is =
       let one : min (i + m) (length xs) ≡ min (i + n) (length xs) = omega (arith, is, le) in
       let same : take (i + m) xs ≡ take (i + n) xs = sym (take_min (i + m) xs) ∙ ap (λ k. take k xs) one ∙ take_min (i + n) xs in
       ap (flat_map enc) (same ∙ take-add i n xs) ∙ flat_map-append enc (take i xs) (take n (drop i xs))
 
   module _ (i n m : ℕ) (le : i ≤ length xs) (is : n ≡ min m (length xs - i)) {s0 s1 s2 : SinkSays} where
-    -- one batch more
+    -- one part more
     pub goes_on : {x y z : Unit {0}} → Writes s0 s1 (Ok x) (flat_map enc (take i xs)) → Writes s1 s2 (Ok y) (flat_map enc (take n (drop i xs))) → Writes s0 s2 (Ok z) (flat_map enc (take (i + m) xs))
-    goes_on before now = rw (batch_more i n m le is) (writes_on before now)
+    goes_on before now = rw (part_more i n m le is) (writes_on before now)
 
-    -- an error in a batch
+    -- an error in a part
     pub stops_at : {x : Unit {0}} {e : SinkError} → Writes s0 s1 (Ok x) (flat_map enc (take i xs)) → Writes s1 s2 (Err e) (flat_map enc (take n (drop i xs))) → Writes s0 s2 (Err e) (flat_map enc xs)
     stops_at {x} {e} before now =
         let some = take n (drop i xs) in
@@ -50,8 +50,8 @@ pub block_bytes : (low high : List ℤ) → length low ≡ 3 → length high ≡
 block_bytes low high l h =
     ap (λ (xs : List ℤ). row_bytes xs ++ row_bytes high) (sym (three low l)) ∙ ap (λ (xs : List ℤ). row_bytes (number_at low 0 ∷ number_at low 1 ∷ number_at low 2 ∷ []) ++ row_bytes xs) (sym (three high h))
 
-pub header_literal : (p : Parts) (a w h n k f v o t j : List ℕ) → a ≡ short_bytes 1 → w ≡ short_bytes p.width → h ≡ short_bytes p.height → n ≡ short_bytes p.near → k ≡ winding_code p.winding ∷ 0 ∷ []
-    → f ≡ short_bytes (length p.cameras) → v ≡ word_bytes (length p.vertices) → o ≡ word_bytes (length p.occluders) → t ≡ word_bytes (length p.object_tris) → j ≡ word_bytes (length p.objects)
-    → ((((((((((magic ++ a) ++ w) ++ h) ++ n) ++ k) ++ f) ++ v) ++ o) ++ t) ++ j) ≡ header_bytes p
+pub header_literal : (p : Parts) (a w h n k f v o t j b : List ℕ) → a ≡ short_bytes p.version → w ≡ short_bytes p.width → h ≡ short_bytes p.height → n ≡ short_bytes p.near → k ≡ winding_byte p.version p.batches ∷ grade_code p.grade ∷ []
+    → f ≡ short_bytes (length p.cameras) → v ≡ word_bytes (length p.vertices) → o ≡ word_bytes (length p.occluders) → t ≡ word_bytes (length p.object_tris) → j ≡ word_bytes (length p.objects) → b ≡ batch_count_bytes p.version p.batches
+    → (((((((((((magic ++ a) ++ w) ++ h) ++ n) ++ k) ++ f) ++ v) ++ o) ++ t) ++ j) ++ b) ≡ header_bytes p
 unfolding header_bytes
-header_literal p a w h n k f v o t j ea ew eh en ek ef ev eo et ej = rw (ea, ew, eh, en, ek, ef, ev, eo, et, ej) refl
+header_literal p a w h n k f v o t j b ea ew eh en ek ef ev eo et ej eb = rw (ea, ew, eh, en, ek, ef, ev, eo, et, ej, eb) refl

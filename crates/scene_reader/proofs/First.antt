@@ -1,5 +1,6 @@
 -- The first fault among the members of a list.
-use Rattle.std.proofs.Common.{◌≡◌, ℕ, zero, suc, ℤ, arith, All, ◌+◌, ◌<◌, List, [], ◌∷◌, length, drop, get_or, refl, sym, ap, ◌∙◌, Bool, true, false, Option, None}
+use Rattle.std.proofs.Common.{◌≡◌, ℕ, zero, suc, ℤ, arith, All, ◌+◌, ◌<◌, List, [], ◌∷◌, length, drop, get_or, refl, sym, ap, ◌∙◌, Bool, true, false, Option, Some, None}
+use Rattle.std.specs.Prelude.{IsNone}
 use Rattle.std.specs.Option.{option_or, option_map}
 use Rattle.std.proofs.lemmas.List.{drop_more}
 use Rattle.scene_reader.specs.declared.error.SceneError.{SceneError}
@@ -31,3 +32,7 @@ clear_at i (row ∷ rows) e (suc k) lt = clear_at (i + 1) rows (or_parts_none (f
 -- rows of n numbers of which none is bad
 pub rows_within : (n : ℕ) (rows : List (List ℤ)) → ((k : ℕ) → k < length rows → length (get_or rows k []) ≡ n) → first_bad_row rows ≡ None → All (IsRow n) rows
 rows_within n rows long e = All-from_get_or (IsRow n) rows [] (λ k lt. (long k lt, row_within (get_or rows k []) (clear_at 0 rows e k lt)))
+
+pub same_none : {F : Type 0} (o : Option F) → IsNone o → o ≡ None
+same_none None h = refl
+same_none (Some x) h = absurd h

@@ -5,11 +5,12 @@ pub mod Shapes
 pub mod Valid
 pub mod First
 pub mod ObjectTable
+pub mod BatchTable
 pub mod Codes
 pub mod Headers
 pub mod Pieces
 pub mod HeaderBytes
-pub mod SixPieces
+pub mod SevenPieces
 pub mod NoFault
 pub mod LayoutFirst
 pub mod BytesToLayout
@@ -19,3 +20,4 @@ pub mod Refusals
 pub mod ObjectsFrom
 pub mod OneLayout
 pub mod Appending
+pub mod Upgrades

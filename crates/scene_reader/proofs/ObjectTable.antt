@@ -39,11 +39,11 @@ never_made m i raw small bad = fault_of m i raw.0 raw.1 true small bad
 
 -- ---- the table
 
-option_or_none : (o : Option SceneError) → option_or o None ≡ o
+pub option_or_none : (o : Option SceneError) → option_or o None ≡ o
 option_or_none None = refl
 option_or_none (Some e) = refl
 
-first_append : {X : Type 0} (fault : ℕ → X → Option SceneError) (i j : ℕ) (xs : List X) (x : X) → i + length xs ≡ j → first_among fault i (xs ++ x ∷ []) ≡ option_or (first_among fault i xs) (fault j x)
+pub first_append : {X : Type 0} (fault : ℕ → X → Option SceneError) (i j : ℕ) (xs : List X) (x : X) → i + length xs ≡ j → first_among fault i (xs ++ x ∷ []) ≡ option_or (first_among fault i xs) (fault j x)
 first_append fault i j [] x e = option_or_none (fault i x) ∙ ap (λ (k : ℕ). fault k x) (omega (arith, e))
 first_append fault i j (y ∷ xs) x e =
     ap (option_or (fault i y)) (first_append fault (i + 1) j xs x (omega (arith, e))) ∙ sym (option_or_assoc (fault i y) (first_among fault (i + 1) xs) (fault j x))

@@ -1,15 +1,18 @@
--- Objects and windings from the numbers that stand for them.
+-- Objects, batches and grades from the numbers that stand for them.
 use Rattle.std.proofs.Common.{◌≡◌, ℕ, ℤ, pos, negsuc, suc, zero, ◌≤◌, ◌∷◌, List, [], length, map, arith, refl, sym, ap, ◌∙◌, false, inl, inr}
 use Rattle.std.specs.Prelude.{◌≤ℤ◌}
 use Rattle.std.specs.List.{AllByRecursion}
 use Rattle.std.proofs.lemmas.Int.{ints}
 use Rattle.std.proofs.lemmas.Bool.{or_parts, both_ways, cases_eq}
+use Rattle.cull_base.specs.declared.nearness.Grade.{Grade}
+use Rattle.cull_base.specs.declared.nearness.Grade.TheVariants.{Narrow, Wide}
 use Rattle.cull_base.specs.declared.rect.Rect.{Rect}
+use Rattle.cull_base.specs.declared.scene_types.Batch.{Batch}
 use Rattle.cull_base.specs.declared.triangle.Winding.{Winding}
 use Rattle.cull_base.specs.declared.triangle.Winding.TheVariants.{Both, DropClockwise, DropCounter}
 use Rattle.cull_base.specs.declared.scene_types.Object.{Object}
 use Rattle.cull_base.specs.declared.scene_types.Object.TheVariants.{Area, Block, Mesh}
-use Rattle.scene_reader.specs.Layout.{IsObject, numbers_of, raw_object, winding_code, number_at}
+use Rattle.scene_reader.specs.Layout.{IsObject, numbers_of, raw_object, raw_batch, winding_code, grade_code, number_at}
 use Rattle.scene_reader.specs.Fault.{is_bad_row, is_bad_object, is_not_zero}
 use Rattle.scene_reader.proofs.Valid.{area_valid, block_valid, mesh_valid, le_from_lt}
 use Rattle.scene_reader.proofs.Shapes.{six, not_zero}
@@ -91,3 +94,26 @@ winding_is zero h = refl
 winding_is (suc zero) h = refl
 winding_is (suc (suc zero)) h = refl
 winding_is (suc (suc (suc k))) h = absurd (omega (arith, h))
+
+pub grade_of : ℕ → Grade
+grade_of zero = Narrow
+grade_of (suc k) = Wide
+
+pub grade_is : (k : ℕ) → k ≤ 1 → k ≡ grade_code (grade_of k)
+unfolding grade_of
+grade_is zero h = refl
+grade_is (suc zero) h = refl
+grade_is (suc (suc k)) h = absurd (omega (arith, h))
+
+batch_of : ℕ × ℕ → Batch
+batch_of raw = record { count = raw.0; winding = winding_of raw.1 }
+
+batch_is : (raw : ℕ × ℕ) → raw.1 ≤ 2 → raw_batch (batch_of raw) ≡ raw
+unfolding batch_of
+batch_is raw small = ap (λ (w : ℕ). (raw.0, w)) (sym (winding_is raw.1 small))
+
+pub batches_made : (raws : List (ℕ × ℕ)) → AllByRecursion (λ raw. raw.1 ≤ 2) raws → (bs : List Batch) × (map raw_batch bs ≡ raws)
+batches_made [] small = ([], refl)
+batches_made (raw ∷ raws) small =
+    let rest = batches_made raws small.1 in
+    (batch_of raw ∷ rest.0, ap (λ (r : ℕ × ℕ). r ∷ map raw_batch rest.0) (batch_is raw small.0) ∙ ap (λ (rs : List (ℕ × ℕ)). raw ∷ rs) rest.1)

@@ -1,19 +1,21 @@
 -- Headers and tables as bytes, and back.
-use Rattle.std.proofs.Common.{◌≡◌, ℕ, ℤ, pos, suc, zero, ◌+◌, ◌*◌, ◌<◌, ◌≤◌, ◌++◌, ◌∷◌, List, [], length, take, drop, map, arith, refl, sym, ap, ◌∙◌, All, w32, take-append-drop}
+use Rattle.std.proofs.Common.{◌≡◌, ℕ, ℤ, pos, suc, zero, ◌+◌, ◌*◌, ◌<◌, ◌≤◌, ◌++◌, ◌∷◌, ◌^◌, List, [], length, get_or, take, drop, map, arith, refl, sym, ap, ◌∙◌, All, w32, take-append-drop}
 use Rattle.std.specs.List.{AllByRecursion, flat_map}
 use Rattle.std.specs.Int.{cast_unsigned}
 use Rattle.std.proofs.lemmas.Int.{ints}
-use Rattle.std.proofs.lemmas.List.{length-drop, length-take, length-append, take_at, drop_at, take-append-le, drop-append-le, nil_from_length}
+use Rattle.std.specs.Prelude.{slice_index}
+use Rattle.std.proofs.lemmas.List.{length-drop, length-take, length-append, take_at, drop_at, drop_all, drop_more, take-append-le, drop-append-le, nil_from_length}
 use Rattle.std.proofs.lemmas.List.Elements.{All-take, All-drop, All-from_recursion}
 use Rattle.std.proofs.lemmas.List.Folds.{flat_map-map}
+use Rattle.cull_base.specs.declared.scene_types.Batch.{Batch}
 use Rattle.cull_base.specs.declared.scene_types.Tri.{Tri}
 use Rattle.cull_base.specs.declared.scene_types.Object.{Object}
 use Rattle.cull_base.specs.declared.scene_types.Object.TheVariants.{Area, Block, Mesh}
-use Rattle.scene_reader.specs.Layout.{IsRow, IsTri, IsObject, InLimits, word_bytes, row_bytes, tri_bytes, object_bytes, kind_of, numbers_of, raw_object, number_at}
-use Rattle.scene_reader.specs.Fault.{entries, raw_of}
+use Rattle.scene_reader.specs.Layout.{IsRow, IsTri, IsObject, InLimits, word_bytes, row_bytes, tri_bytes, object_bytes, batch_bytes, winding_code, kind_of, numbers_of, raw_object, raw_batch, number_at}
+use Rattle.scene_reader.specs.Fault.{word_at, entries, raw_of, raw_batch_of}
 use Rattle.scene_reader.specs.Reading.{IsTable}
 use Rattle.scene_reader.proofs.Takes.{IsByte}
-use Rattle.scene_reader.proofs.Codes.{row_back, row_again}
+use Rattle.scene_reader.proofs.Codes.{row_back, row_again, word_back, word_again}
 
 -- ---- tables: from bytes to entries and back to the bytes
 
@@ -66,6 +68,27 @@ entries_front size (suc n) front rest len =
     let fits : size ≤ length front = omega (arith, len) in
     let left : length (drop size front) ≡ size * n = omega (arith, length-drop size front, len) in
     rw (take-append-le size front rest fits, drop-append-le size front rest fits, entries_front size n (drop size front) rest left) refl
+
+-- ---- batches
+
+pub raw_batch_bytes : ℕ × ℕ → List ℕ
+raw_batch_bytes raw = word_bytes raw.0 ++ raw.1 ∷ []
+
+pub batches_raw : (bs : List Batch) → flat_map batch_bytes bs ≡ flat_map raw_batch_bytes (map raw_batch bs)
+unfolding raw_batch_bytes
+batches_raw bs = sym (flat_map-map raw_batch_bytes raw_batch bs)
+
+pub raw_batch_back : (e : List ℕ) → length e ≡ 5 → All IsByte e → raw_batch_bytes (raw_batch_of e) ≡ e
+unfolding raw_batch_bytes
+raw_batch_back e len fits =
+    let last : drop 4 e ≡ slice_index e 4 ∷ [] = drop_more e 4 0 (omega (arith, len)) ∙ ap (λ (t : List ℕ). get_or e 4 0 ∷ t) (drop_all 5 e (omega (arith, len))) in
+    ap (λ (t : List ℕ). t ++ slice_index e 4 ∷ []) (word_back 0 e (omega (arith, len)) fits) ∙ ap (λ (t : List ℕ). take 4 e ++ t) (sym last) ∙ take-append-drop 4 e
+
+pub batch_again : (b : Batch) → b.count < 2 ^ 32 → raw_batch_of (batch_bytes b) ≡ raw_batch b
+batch_again b fits = ap (λ (n : ℕ). (n, winding_code b.winding)) (word_again b.count fits)
+
+pub batch_length : (b : Batch) → length (batch_bytes b) ≡ 5
+batch_length b = refl
 
 -- ---- objects
 

@@ -8,10 +8,11 @@ use Rattle.scene_reader.specs.declared.error.SceneError.TheVariants.{Read, Memor
 use Rattle.scene_reader.specs.declared.header.Header.{Header}
 use Rattle.scene_reader.specs.declared.header.Counts.{Counts}
 use Rattle.scene_reader.specs.Layout.{Parts}
-use Rattle.scene_reader.specs.Length.{scene_length, greatest_length}
+use Rattle.scene_reader.specs.Length.{header_length, scene_length, greatest_length}
 use Rattle.scene_reader.specs.Header.{AreCounts}
-use Rattle.scene_reader.specs.Reading.{Takes, TakesInTurns, Reads, Fetches, FetchesTables, TakesTable, TakesParts}
+use Rattle.scene_reader.specs.Reading.{Takes, TakesInTurns, Reads, Fetches, FetchesTables, TakesTable, TakesHeader, TakesParts}
 use Rattle.scene_reader.proofs.Takes.{takes_nothing, takes_then, ends_later, ends_wider}
+use Rattle.scene_reader.proofs.Headers.{length_within}
 
 -- so many bytes were taken in at most so many turns
 pub record Progress (n : ℕ) (before after : SourceSays) : Type 0 where
@@ -45,20 +46,23 @@ progress_then {n} {m} {a} {b} {c} p q = record {
 pub then_table : {X T : Type 0} {n size count need taken : ℕ} {read : List ℕ → X} {a b c : SourceSays} {items : List X} {t : T} → Progress n a b → TakesTable size count read b c items → Fetches (size * count) need taken b c (Ok t) → Progress (n + size * count) a c
 then_table p t f = progress_then p (table_read t f)
 
-pub parts_read : {T : Type 0} {h : Header} {a b : SourceSays} {p : Parts} {fault : Option SceneError} {t : T} → TakesParts h a b p fault → FetchesTables h.counts a b (Ok t) → Progress (scene_length 1 h.counts - 32) a b
+pub header_read : {h : Header} {a b : SourceSays} → TakesHeader a b h → Progress (header_length h.version) a b
+header_read t = record { bytes = t.bytes; takes = t.takes; count = t.whole; faults = t.faults_stay; turns = t.turns }
+
+pub parts_read : {T : Type 0} {h : Header} {a b : SourceSays} {p : Parts} {batches objects : Option SceneError} {t : T} → TakesParts h a b p batches objects → FetchesTables h.version h.counts a b (Ok t) → Progress (scene_length h.version h.counts - header_length h.version) a b
 parts_read t f =
-    let v = t.vertex_bytes in let o = t.occluder_bytes in let m = t.object_tri_bytes in let j = t.object_bytes in let c = t.camera_bytes in
+    let v = t.vertex_bytes in let o = t.occluder_bytes in let k = t.batch_bytes in let m = t.object_tri_bytes in let j = t.object_bytes in let c = t.camera_bytes in
     record {
-      bytes = v ++ (o ++ (m ++ (j ++ c)));
+      bytes = v ++ (o ++ (k ++ (m ++ (j ++ c))));
       takes = t.takes;
-      count = omega (arith, length-append v (o ++ (m ++ (j ++ c))), length-append o (m ++ (j ++ c)), length-append m (j ++ c), length-append j c, t.vertices.whole, t.occluders.whole, t.object_tris.whole, t.objects.whole, t.cameras.whole);
+      count = omega (arith, length-append v (o ++ (k ++ (m ++ (j ++ c)))), length-append o (k ++ (m ++ (j ++ c))), length-append k (m ++ (j ++ c)), length-append m (j ++ c), length-append j c, t.vertices.whole, t.occluders.whole, t.batches.whole, t.object_tris.whole, t.objects.whole, t.cameras.whole);
       faults = f.reads.faults_stay;
       turns = f.reads.turns;
     }
 
 -- the header, the tables and one turn more
-pub most_turns : (n : Counts) → AreCounts n → 32 + (scene_length 1 n - 32) + 1 ≤ greatest_length 1 + 1
-most_turns n h = omega (arith, h.few_frames, h.few_vertices, h.few_occluders, h.few_object_tris, h.few_objects)
+pub most_turns : (version : ℕ) (n : Counts) → AreCounts n → header_length version + (scene_length version n - header_length version) + 1 ≤ greatest_length + 1
+most_turns version n h = omega (arith, length_within version, h.few_frames, h.few_vertices, h.few_occluders, h.few_batches, h.few_object_tris, h.few_objects)
 
 -- ---- one turn more than bytes
 

@@ -1,5 +1,5 @@
 -- What reading takes from a source.
-use Rattle.std.specs.Prelude.{ℕ, ℤ, ◌≡◌, ◌+◌, ◌-◌, ◌*◌, ◌<◌, ◌≤◌, List, [], ◌∷◌, ◌++◌, length, map, drop}
+use Rattle.std.specs.Prelude.{ℕ, ℤ, ◌≡◌, ◌+◌, ◌-◌, ◌*◌, ◌<◌, ◌≤◌, ◌==◌, if◌then◌else◌, List, [], ◌∷◌, ◌++◌, length, map, drop}
 use Rattle.std.specs.Prelude.{Option, None, Some, option_map, IfSome, Result, IfErr, IsErrOf}
 use Rattle.std.specs.List.{All}
 use Rattle.std.specs.Option.{option_or}
@@ -7,13 +7,16 @@ use Rattle.cull_base.specs.Stream.{SourceSays, Rose}
 use Rattle.cull_base.specs.declared.scene_types.Object.{Object}
 use Rattle.scene_reader.specs.declared.header.Header.{Header}
 use Rattle.scene_reader.specs.declared.header.Counts.{Counts}
+use Rattle.scene_reader.specs.declared.batches.Batches.{Batches}
 use Rattle.scene_reader.specs.declared.objects.Objects.{Objects}
-use Rattle.scene_reader.specs.Layout.{Parts, IsScene, layout, IsObject, raw_object}
+use Rattle.scene_reader.specs.Header.{IsHeaderOf}
+use Rattle.scene_reader.specs.Layout.{Parts, IsScene, layout, IsObject, raw_object, raw_batch, winding_code}
 use Rattle.scene_reader.specs.Length.{header_length, scene_length}
-use Rattle.scene_reader.specs.Fault.{IsRefusal, entries, raw_of, row_of, tri_of}
-use Rattle.scene_reader.specs.Fault.{first_among, object_fault, first_fault, header_fault}
+use Rattle.scene_reader.specs.Fault.{IsRefusal, entries, raw_of, raw_batch_of, row_of, tri_of, word_at, batches_told, triangles_in}
+use Rattle.scene_reader.specs.Fault.{fault_if, is_bad_batch, batch_fault, batches_fault}
+use Rattle.scene_reader.specs.Fault.{first_among, object_fault, first_fault, header_fault, header_taken}
 use Rattle.scene_reader.specs.declared.error.SceneError.{SceneError}
-use Rattle.scene_reader.specs.declared.error.SceneError.TheVariants.{Truncated, Trailing, Read}
+use Rattle.scene_reader.specs.declared.error.SceneError.TheVariants.{Truncated, Trailing, BadBatch, Read}
 
 -- these bytes were taken from the front of what was left, where that is told
 pub record Takes (before after : Option (List ℕ)) (bytes : List ℕ) : Type 0 where
@@ -50,9 +53,28 @@ pub record Fetches {T : Type 0} (wanted need taken : ℕ) (before after : Source
   pub short : IfErr result (λ e. IsRefusal e → EndsWithin wanted need taken before after e)
   pub reads : Reads wanted before after result
 
--- the same of the five tables behind a header
-abbrev pub FetchesTables : {T : Type 0} → Counts → SourceSays → SourceSays → Result T SceneError → Type 0
-FetchesTables n before after result = Fetches (scene_length 1 n - header_length 1) (scene_length 1 n) (header_length 1) before after result
+-- the same of the tables behind a header of some version
+abbrev pub FetchesTables : {T : Type 0} → ℕ → Counts → SourceSays → SourceSays → Result T SceneError → Type 0
+FetchesTables version n before after result =
+    Fetches (scene_length version n - header_length version) (scene_length version n) (header_length version) before after result
+
+-- the number of batches of a header was taken: four bytes in version 2, none in version 1, which has no table of them
+pub record TakesCount (version batches : ℕ) (before after : SourceSays) : Type 0 where
+  pub bytes : List ℕ
+  pub takes : Takes before.left after.left bytes
+  pub whole : 32 + length bytes ≡ header_length version
+  pub says : batches ≡ (if version == 1 then 0 else word_at 0 bytes)
+  pub faults_stay : before.faults ≤ after.faults
+  pub turns : after.turns ≤ before.turns + length bytes
+
+-- a whole header was taken, in as many turns as it has bytes at most
+pub record TakesHeader (before after : SourceSays) (h : Header) : Type 0 where
+  pub bytes : List ℕ
+  pub takes : Takes before.left after.left bytes
+  pub whole : length bytes ≡ header_length h.version
+  pub says : IsHeaderOf bytes h
+  pub faults_stay : before.faults ≤ after.faults
+  pub turns : after.turns ≤ before.turns + header_length h.version
 
 -- a table was taken: so many entries of so many bytes each, every one read as an item
 pub record TakesTable {X : Type 0} (size count : ℕ) (read : List ℕ → X) (before after : SourceSays) (items : List X) : Type 0 where
@@ -60,6 +82,33 @@ pub record TakesTable {X : Type 0} (size count : ℕ) (read : List ℕ → X) (b
   pub takes : Takes before.left after.left bytes
   pub whole : length bytes ≡ size * count
   pub each : items ≡ map read (entries size count bytes)
+
+-- one entry more of a table of batches: the batch, or its fault where there was none before
+pub record TakesBatch (tris i : ℕ) (raw : ℕ × ℕ) (before after : Batches) : Type 0 where
+  pub first : after.fault ≡ option_or before.fault (fault_if (is_bad_batch tris before.counted raw) (BadBatch i))
+  pub items : after.fault ≡ None → map raw_batch after.items.items ≡ map raw_batch before.items.items ++ raw ∷ []
+  pub counted : after.fault ≡ None → after.counted ≡ before.counted + raw.0
+  pub within : after.counted ≤ tris
+
+-- the batches of a table up to its first fault, how many triangles they have, and that fault
+pub record TakesBatchTable (count tris : ℕ) (before after : SourceSays) (batches : Batches) : Type 0 where
+  pub raws : List (ℕ × ℕ)
+  pub table : TakesTable 5 count raw_batch_of before after raws
+  pub first : batches.fault ≡ first_among (batch_fault tris raws) 0 raws
+  pub whole : batches.fault ≡ None → map raw_batch batches.items.items ≡ raws
+  pub counted : batches.fault ≡ None → batches.counted ≡ triangles_in raws
+  pub within : batches.counted ≤ tris
+
+-- the batches of a header's scene, whose table has these
+abbrev pub batches_of : Header → List (ℕ × ℕ) → List (ℕ × ℕ)
+batches_of h stored = batches_told h.version (winding_code h.flags.winding) h.counts.occluders stored
+
+-- the batches of a header's scene: the table was taken that it announces, and its first fault is kept
+pub record TakesBatches (h : Header) (before after : SourceSays) (batches : Batches) : Type 0 where
+  pub stored : List (ℕ × ℕ)
+  pub table : TakesTable 5 h.counts.batches raw_batch_of before after stored
+  pub first : batches.fault ≡ batches_fault h.version h.counts.occluders (batches_of h stored)
+  pub whole : batches.fault ≡ None → map raw_batch batches.items.items ≡ batches_of h stored
 
 -- an object whose entry has no fault
 abbrev pub IsObjectOf : ℕ → ℕ → ℕ × List ℤ → Object → Type 0
@@ -95,29 +144,34 @@ pub record IsTable {X : Type 0} (size count : ℕ) (read : List ℕ → X) (byte
   pub whole : length bytes ≡ size * count
   pub each : items ≡ map read (entries size count bytes)
 
--- the five tables behind a header were taken, with the first fault among the objects
-pub record TakesParts (h : Header) (before after : SourceSays) (p : Parts) (fault : Option SceneError) : Type 0 where
+-- the tables behind a header were taken, with the first faults among the batches and among the objects
+pub record TakesParts (h : Header) (before after : SourceSays) (p : Parts) (batches_at objects_at : Option SceneError) : Type 0 where
   pub vertex_bytes : List ℕ
   pub occluder_bytes : List ℕ
+  pub batch_bytes : List ℕ
   pub object_tri_bytes : List ℕ
   pub object_bytes : List ℕ
   pub camera_bytes : List ℕ
+  pub stored : List (ℕ × ℕ)
   pub raws : List (ℕ × List ℤ)
-  pub takes : Takes before.left after.left (vertex_bytes ++ (occluder_bytes ++ (object_tri_bytes ++ (object_bytes ++ camera_bytes))))
+  pub takes : Takes before.left after.left (vertex_bytes ++ (occluder_bytes ++ (batch_bytes ++ (object_tri_bytes ++ (object_bytes ++ camera_bytes)))))
   pub vertices : IsTable 12 h.counts.vertices (row_of 3) vertex_bytes p.vertices
   pub occluders : IsTable 12 h.counts.occluders tri_of occluder_bytes p.occluders
+  pub batches : IsTable 5 h.counts.batches raw_batch_of batch_bytes stored
   pub object_tris : IsTable 12 h.counts.object_tris tri_of object_tri_bytes p.object_tris
   pub objects : IsTable 25 h.counts.objects raw_of object_bytes raws
   pub cameras : IsTable 48 h.counts.frames (row_of 12) camera_bytes p.cameras
-  pub first : fault ≡ first_among (object_fault h.counts.object_tris) 0 raws
-  pub whole : fault ≡ None → map raw_object p.objects ≡ raws
+  pub batches_first : batches_at ≡ batches_fault h.version h.counts.occluders (batches_of h stored)
+  pub batches_whole : batches_at ≡ None → map raw_batch p.batches ≡ batches_of h stored
+  pub first : objects_at ≡ first_among (object_fault h.counts.object_tris) 0 raws
+  pub whole : objects_at ≡ None → map raw_object p.objects ≡ raws
   pub valid : All (IsObject h.counts.object_tris) p.objects
-  pub header : (p.width ≡ h.width) × (p.height ≡ h.height) × (p.near ≡ h.near) × (p.winding ≡ h.winding)
+  pub header : (p.version ≡ h.version) × (p.width ≡ h.width) × (p.height ≡ h.height) × (p.near ≡ h.near) × (p.grade ≡ h.flags.grade)
 
 -- an error is the first fault of the bytes, where they are told; of a header that is refused nothing behind it is taken
 abbrev pub Refuses : Option (List ℕ) → Option (List ℕ) → SceneError → Type 0
 Refuses before after e =
-    IfSome before (λ bytes. (first_fault bytes ≡ Some e) × (header_fault bytes ≡ Some e → after ≡ Some (drop (header_length 1) bytes)))
+    IfSome before (λ bytes. (first_fault bytes ≡ Some e) × (header_fault bytes ≡ Some e → after ≡ Some (drop (header_taken bytes) bytes)))
 
 -- the scene's layout was taken, and nothing is left
 pub record ReadsScene (before after : Option (List ℕ)) (s : Parts) : Type 0 where
@@ -146,6 +200,6 @@ IsNoScene before = IfSome before.left (λ bytes. (t : Parts) → IsScene t → b
 abbrev pub HasFirstFault : SourceSays → Option SceneError → Type 0
 HasFirstFault before fault = IfSome before.left (λ bytes. first_fault bytes ≡ fault)
 
--- where the fault is one of the header, only the header was taken
+-- where the fault is one of the header, nothing behind it was taken, and up to the version nothing behind 32 bytes
 abbrev pub StopsAtHeader : SourceSays → SourceSays → SceneError → Type 0
-StopsAtHeader before after e = IfSome before.left (λ bytes. header_fault bytes ≡ Some e → after.left ≡ Some (drop (header_length 1) bytes))
+StopsAtHeader before after e = IfSome before.left (λ bytes. header_fault bytes ≡ Some e → after.left ≡ Some (drop (header_taken bytes) bytes))

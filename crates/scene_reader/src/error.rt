@@ -12,18 +12,20 @@ pub enum SceneError {
     Truncated { need: u32, have: u32 },
     #[error("the input doesn't begin with MSOC, so it is no scene")]
     BadMagic,
-    #[error("the scene has version {0}, and only version 1 is read")]
+    #[error("the scene has version {0}, and versions 1 and 2 are read")]
     BadVersion(u16),
     #[error("the screen is {0} by {1}: a width is a multiple of 8, a height one of 4, each at most 2048")]
     BadSize(u16, u16),
     #[error("the near distance is {0}: it is from 1 to 1024")]
     BadNear(u16),
-    #[error("the winding is {0}: it is 0, 1 or 2")]
+    /// Byte 12 of the header.
+    #[error("byte 12 is {0}: it is a winding, 0, 1 or 2, in version 1 and 0 in version 2")]
     BadWinding(u8),
-    #[error("the byte behind the winding is {0}: it is 0")]
+    /// Byte 13 of a header of version 1.
+    #[error("byte 13 is {0}: it is 0 in version 1")]
     BadReserved(u8),
-    /// The counts by field: 0 frames, 1 vertices, 2 occluder triangles, 3 object triangles, 4 objects.
-    #[error("count {field} of the header (0 frames, 1 vertices, 2 occluder triangles, 3 object triangles, 4 objects) is {value}, out of its limits")]
+    /// The counts by field: 0 frames, 1 vertices, 2 occluder triangles, 3 object triangles, 4 objects, 5 batches.
+    #[error("count {field} of the header (0 frames, 1 vertices, 2 occluder triangles, 3 object triangles, 4 objects, 5 batches) is {value}, out of its limits")]
     BadCount { field: u8, value: u32 },
     #[error("bytes follow behind the scene")]
     Trailing,
@@ -38,6 +40,13 @@ pub enum SceneError {
     BadObject(u32),
     #[error("camera {0} has an entry more than 16777216 away from 0")]
     BadCamera(u32),
+    /// Byte 13 of a header of version 2, or 1 for wide parts of version 1.
+    #[error("the grade is {0}: it is 0 or 1, and 0 in version 1")]
+    BadGrade(u8),
+    /// The first batch of no winding, or with which the counts sum to more than the occluder triangles; the number of
+    /// batches where they sum to less; 0 where parts of version 1 aren't one batch of all triangles.
+    #[error("batch {0} has an unknown winding, or with it the batches don't have as many triangles as the scene")]
+    BadBatch(u32),
     /// The source's count of faults rose.
     #[error("the scene couldn't be read")]
     Read,

@@ -1,6 +1,7 @@
 //! Scenes: their bytes are read, tested and written here, so the layers above never see a scene that isn't valid.
 #![tactic(auto)]
 
+mod batches;
 mod checks;
 mod error;
 mod header;
@@ -16,8 +17,8 @@ mod writing;
 
 pub use error::SceneError;
 pub use intake::fill;
-pub use laws::one_layout;
+pub use laws::{one_layout, upgrades_scenes};
 pub use parts::SceneParts;
 pub use reading::read_scene;
-pub use scene::Scene;
+pub use scene::{Scene, upgrade};
 pub use writing::write_scene;

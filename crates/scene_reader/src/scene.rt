@@ -1,10 +1,11 @@
 //! A scene: its parts, tested once, so that whoever holds one need not test them again.
 ghost use Rattle.std.specs.Prelude.{◌≡◌, MatchResult, IsOk};
+ghost use Rattle.scene_reader.specs.Layout.{IsScene, upgraded};
 
 use crate::checks::parts_fault;
 use crate::error::SceneError;
 use crate::parts::SceneParts;
-use cull_base::{Object, Size, Tri, Winding};
+use cull_base::{Batch, Grade, Object, Size, Tri};
 use std::marker::Model;
 
 /// A valid scene.
@@ -48,6 +49,14 @@ impl Scene {
         Scene { parts }
     }
 
+    /// What the scene is made of.
+    fn into_parts(self) -> SceneParts
+        ensures value { result ≡ self }
+        ensures valid { IsScene result }
+    {
+        self.parts
+    }
+
     /// The screen, in pixels.
     pub fn size(&self) -> Size
         ensures { result ≡ record { width = self.now.width; height = self.now.height } }
@@ -66,11 +75,19 @@ impl Scene {
         self.parts.near
     }
 
-    /// Which triangles are dropped by the sense in which they run.
-    pub fn winding(&self) -> Winding
-        ensures { result ≡ self.now.winding }
+    /// The version of the layout that the scene has: 1 or 2.
+    pub fn version(&self) -> u16
+        ensures value { result ≡ self.now.version }
+        ensures valid { IsScene self.now }
     {
-        self.parts.winding
+        self.parts.version
+    }
+
+    /// How far nearness goes. A scene of version 1 is narrow.
+    pub fn grade(&self) -> Grade
+        ensures { result ≡ self.now.grade }
+    {
+        self.parts.grade
     }
 
     /// x, y and z of each vertex.
@@ -85,6 +102,14 @@ impl Scene {
         ensures { result.now ≡ self.now.occluders }
     {
         &self.parts.occluders
+    }
+
+    /// How the occluder triangles follow one another in batches, each with the winding that is dropped of it.
+    pub fn batches(&self) -> &[Batch]
+        ensures value { result.now ≡ self.now.batches }
+        ensures valid { IsScene self.now }
+    {
+        &self.parts.batches
     }
 
     /// The triangles that meshes are made of.
@@ -108,4 +133,15 @@ impl Scene {
     {
         &self.parts.cameras
     }
+}
+
+/// The scene in version 2, all else as it was: a scene of version 1 gets its one batch as a table, and stays narrow.
+/// Nothing is allocated.
+pub fn upgrade(scene: Scene) -> Scene
+    ensures value { result ≡ upgraded scene }
+    ensures valid { IsScene (upgraded scene) }
+{
+    let mut parts = scene.into_parts();
+    parts.version = 2;
+    Scene::from_valid(parts)
 }

@@ -4,18 +4,19 @@ ghost use Rattle.std.specs.Prelude.{◌≡◌, ℕ, List, ◌∷◌, ◌++◌, �
 ghost use Rattle.std.specs.List.{flat_map};
 ghost use Rattle.cull_base.specs.Stream.{Writes};
 ghost use Rattle.scene_reader.specs.Layout.{layout, header_bytes, word_bytes, row_bytes, tri_bytes};
-ghost use Rattle.scene_reader.specs.Layout.{corner_bytes, object_bytes, winding_code};
+ghost use Rattle.scene_reader.specs.Layout.{corner_bytes, object_bytes, batch_bytes, winding_code, grade_code};
+ghost use Rattle.scene_reader.specs.Layout.{winding_byte, stored_batches, batch_count_bytes};
 
 use crate::objects::{BOX, MESH, RECTANGLE};
 use crate::scene::Scene;
-use cull_base::{Object, Sink, SinkError, Tri, Winding};
+use cull_base::{Batch, Grade, Object, Sink, SinkError, Tri, Winding};
 use text_lines::Text;
 
 /// Bytes of some entries, one behind the other, that a sink is asked once to take.
 type Piece = Text<12288>;
 
 /// How many entries of a table are handed to the sink at once. Each has at most 48 bytes.
-const BATCH: usize = 256;
+const AT_ONCE: usize = 256;
 
 /// What stands in a table, as bytes.
 trait Written {
@@ -69,6 +70,23 @@ impl Written for Tri {
 
     fn push_to(&self, piece: &mut Piece) {
         push_words(piece, &self.0);
+    }
+}
+
+fn push_batch(piece: &mut Piece, batch: &Batch)
+    requires { length piece.old + 5 ≤ 12288 }
+    ensures value { piece.new ≡ piece.old ++ batch_bytes batch.now }
+    ensures room { length piece.new ≡ length piece.old + 5 }
+{
+    piece.push(&batch.count.to_le_bytes());
+    piece.push(&[code_of(batch.winding)]);
+}
+
+impl Written for Batch {
+    ghost bytes = { batch_bytes };
+
+    fn push_to(&self, piece: &mut Piece) {
+        push_batch(piece, self);
     }
 }
 
@@ -127,9 +145,9 @@ fn piece_of<E: Written>(entries: &[E]) -> Piece
 fn write_table<W: Sink, E: Written>(sink: &mut W, entries: &[E]) -> Result<(), SinkError>
     ensures { Writes (W.says sink.old) (W.says sink.new) result (flat_map E.bytes entries.now) }
 {
-    for batch in 0..entries.len().div_ceil(BATCH) {
-        let first = BATCH * batch;
-        let end = first + BATCH.min(entries.len() - first);
+    for part in 0..entries.len().div_ceil(AT_ONCE) {
+        let first = AT_ONCE * part;
+        let end = first + AT_ONCE.min(entries.len() - first);
         piece_of(&entries[first..end]).write_to(sink)?;
     }
     Ok(())
@@ -145,20 +163,67 @@ fn code_of(winding: Winding) -> u8
     }
 }
 
-fn header_of(scene: &Scene) -> Text<32>
+fn code_of_grade(grade: Grade) -> u8
+    ensures { result ≡ grade_code grade }
+{
+    match grade {
+        Grade::Narrow => 0,
+        Grade::Wide => 1,
+    }
+}
+
+// What stands behind the near distance: the winding of the one batch of version 1.
+fn winding_byte(version: u16, batches: &[Batch]) -> u8
+    ensures { result ≡ winding_byte version batches.now }
+{
+    if version != 1 {
+        return 0;
+    }
+    if batches.is_empty() {
+        return 0;
+    }
+    code_of(batches[0].winding)
+}
+
+// The batches that a table is written of. Version 1 has none.
+fn stored_batches(version: u16, batches: &[Batch]) -> &[Batch]
+    ensures { result.now ≡ stored_batches version batches.now }
+{
+    if version == 1 {
+        return &batches[..0];
+    }
+    batches
+}
+
+// The number of batches, at the end of a header of version 2.
+fn push_batch_count(header: &mut Text<36>, version: u16, batches: &[Batch])
+    requires room { length header.old ≤ 32 }
+    requires few { length batches.now ≤ 4096 }
+    ensures { header.new ≡ header.old ++ batch_count_bytes version batches.now }
+{
+    if version == 1 {
+        return;
+    }
+    header.push(&(batches.len() as u32).to_le_bytes());
+}
+
+fn header_of(scene: &Scene) -> Text<36>
     ensures { result ≡ header_bytes scene.now }
 {
+    let version = scene.version();
+    let batches = scene.batches();
     let mut header = Text::begin(b"MSOC");
-    header.push(&1_u16.to_le_bytes());
+    header.push(&version.to_le_bytes());
     header.push(&scene.size().width().to_le_bytes());
     header.push(&scene.size().height().to_le_bytes());
     header.push(&scene.near().to_le_bytes());
-    header.push(&[code_of(scene.winding()), 0]);
+    header.push(&[winding_byte(version, batches), code_of_grade(scene.grade())]);
     header.push(&(scene.cameras().len() as u16).to_le_bytes());
     header.push(&(scene.vertices().len() as u32).to_le_bytes());
     header.push(&(scene.occluders().len() as u32).to_le_bytes());
     header.push(&(scene.object_tris().len() as u32).to_le_bytes());
     header.push(&(scene.objects().len() as u32).to_le_bytes());
+    push_batch_count(&mut header, version, batches);
     header
 }
 
@@ -170,6 +235,7 @@ pub fn write_scene<W: Sink>(scene: &Scene, sink: &mut W) -> Result<(), SinkError
     header_of(scene).write_to(sink)?;
     write_table(sink, scene.vertices())?;
     write_table(sink, scene.occluders())?;
+    write_table(sink, stored_batches(scene.version(), scene.batches()))?;
     write_table(sink, scene.object_tris())?;
     write_table(sink, scene.objects())?;
     write_table(sink, scene.cameras())

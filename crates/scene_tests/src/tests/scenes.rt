@@ -1,6 +1,8 @@
 //! Scenes that are read, refused and written, byte by byte.
-use cull_base::{BytesSink, BytesSource, Object, SinkError, SureSink, SureSource, Tri, Winding};
-use scene_reader::{Scene, SceneError, SceneParts, read_scene, write_scene};
+use cull_base::{
+    Batch, BytesSink, BytesSource, Grade, Object, SinkError, SureSink, SureSource, Tri, Winding,
+};
+use scene_reader::{Scene, SceneError, SceneParts, read_scene, upgrade, write_scene};
 use std::alloc::{AllocError, Global};
 use std::test::Fail;
 
@@ -28,6 +30,24 @@ fn edit(bytes: &mut Vec<u8>, edits: &[(usize, u8)]) {
     }
 }
 
+fn batch(count: u32, winding: Winding) -> Batch {
+    Batch { count, winding }
+}
+
+/// The first scene in version 2, with these batches of its two triangles, each a count and the code of a winding.
+fn in_batches(alloc: Global, batches: &[(u32, u8)]) -> Result<Vec<u8>, AllocError> {
+    let mut bytes = Vec::from_slice(alloc, &FIRST_SCENE[..32])?;
+    edit(&mut bytes, &[(4, 2)]);
+    bytes.extend_from_slice(&(batches.len() as u32).to_le_bytes())?;
+    bytes.extend_from_slice(&FIRST_SCENE[32..OBJECT])?;
+    for (count, winding) in batches {
+        bytes.extend_from_slice(&count.to_le_bytes())?;
+        bytes.push(*winding)?;
+    }
+    bytes.extend_from_slice(&FIRST_SCENE[OBJECT..])?;
+    Ok(bytes)
+}
+
 fn refusal_of(alloc: Global, bytes: Vec<u8>) -> Option<SceneError> {
     read_scene(alloc, &mut BytesSource::new(bytes, 7, Vec::new(alloc))).err()
 }
@@ -40,7 +60,9 @@ fn the_first_scene_is_read_and_written_back(rt: HostRuntime) -> Result<(), Fail>
     assert_eq!(rt; scene.size().width(), 32);
     assert_eq!(rt; scene.size().height(), 8);
     assert_eq!(rt; scene.near(), 1);
-    assert_eq!(rt; scene.winding(), Winding::Both);
+    assert_eq!(rt; scene.version(), 1);
+    assert_eq!(rt; scene.grade(), Grade::Narrow);
+    assert_eq!(rt; scene.batches(), [batch(2, Winding::Both)].as_slice());
     assert_eq!(rt;
         scene.vertices(),
         [[-2, 2, 2], [2, 2, 2], [2, -2, 2], [-2, -2, 2]].as_slice()
@@ -75,7 +97,7 @@ fn each_field_of_the_header_holds_from_its_edge_on(rt: HostRuntime) -> Result<()
     let table: [(&[(usize, u8)], Option<SceneError>); 20] = [
         (&[], None),
         (&[(3, 0x44)], Some(SceneError::BadMagic)),
-        (&[(4, 2)], Some(SceneError::BadVersion(2))),
+        (&[(4, 3)], Some(SceneError::BadVersion(3))),
         (&[(4, 0)], Some(SceneError::BadVersion(0))),
         (&[(6, 33)], Some(SceneError::BadSize(33, 8))),
         (&[(6, 0)], Some(SceneError::BadSize(0, 8))),
@@ -104,7 +126,7 @@ fn each_field_of_the_header_holds_from_its_edge_on(rt: HostRuntime) -> Result<()
 fn each_count_holds_from_its_edge_on(rt: HostRuntime) -> Result<(), Fail> {
     let short = |need| { Some(SceneError::Truncated { need, have: 177 }) };
     let count = |field, value| Some(SceneError::BadCount { field, value });
-    let table: [(&[(usize, u8)], Option<SceneError>); 11] = [
+    let table: [(&[(usize, u8)], Option<SceneError>); 12] = [
         (&[(14, 0)], count(0, 0)),
         (&[(14, 0), (15, 1)], short(12417)),
         (&[(14, 1), (15, 1)], count(0, 257)),
@@ -116,6 +138,8 @@ fn each_count_holds_from_its_edge_on(rt: HostRuntime) -> Result<(), Fail> {
         (&[(24, 1), (26, 4)], count(3, 262145)),
         (&[(28, 0), (30, 1)], short(1638552)),
         (&[(28, 1), (30, 1)], count(4, 65537)),
+        // In version 2 the first vertex stands where the number of batches is read.
+        (&[(4, 2)], count(5, 4294967294)),
     ];
     for (edits, want) in table {
         assert_eq!(rt; refusal_after(rt.alloc(), edits)?, want, "after {edits:?}");
@@ -218,12 +242,14 @@ fn a_failure_is_told_as_such(rt: HostRuntime) -> Result<(), Fail> {
 
 fn parts_with(alloc: Global, object: Object) -> Result<SceneParts, AllocError> {
     Ok(SceneParts {
+        version: 1,
         width: 32,
         height: 8,
         near: 1,
-        winding: Winding::DropCounter,
+        grade: Grade::Narrow,
         vertices: Vec::from_slice(alloc, &[[0, 0, 1]])?,
         occluders: Vec::new(alloc),
+        batches: Vec::from_slice(alloc, &[batch(0, Winding::DropCounter)])?,
         object_tris: Vec::from_slice(alloc, &[Tri([0, 0, 0])])?,
         objects: Vec::from_slice(alloc, &[object])?,
         cameras: Vec::from_slice(alloc, &[[0; 12]])?,
@@ -279,6 +305,185 @@ fn parts_without_a_camera_are_refused_for_that_first(rt: HostRuntime) -> Result<
         Scene::new(parts).err(),
         Some(SceneError::BadCount { field: 0, value: 0 })
     );
+    Ok(())
+}
+
+fn written(alloc: Global, scene: &Scene) -> Result<SureSink, Fail> {
+    let mut sink = SureSink::new(alloc);
+    write_scene(scene, &mut sink)
+        .ok()
+        .ok_or("memory for a scene")?;
+    Ok(sink)
+}
+
+#[test]
+fn an_upgraded_scene_has_its_batch_as_a_table(rt: HostRuntime) -> Result<(), Fail> {
+    let alloc = rt.alloc();
+    let second = in_batches(alloc, &[(2, 0)])?;
+    assert_eq!(rt; second.len(), 186);
+    let first = read_scene(
+        alloc,
+        &mut SureSource::new(Vec::from_slice(alloc, &FIRST_SCENE)?),
+    )?;
+    assert_eq!(rt; written(alloc, &upgrade(first))?.held(), second.as_slice());
+    let again = read_scene(
+        alloc,
+        &mut SureSource::new(Vec::from_slice(alloc, &second)?),
+    )?;
+    assert_eq!(rt; again.version(), 2);
+    assert_eq!(rt; again.grade(), Grade::Narrow);
+    assert_eq!(rt; again.batches(), [batch(2, Winding::Both)].as_slice());
+    assert_eq!(rt; written(alloc, &again)?.held(), second.as_slice());
+    assert_eq!(rt; written(alloc, &upgrade(again))?.held(), second.as_slice());
+    Ok(())
+}
+
+#[test]
+fn a_wide_scene_in_batches_is_written_back(rt: HostRuntime) -> Result<(), Fail> {
+    let alloc = rt.alloc();
+    let mut bytes = in_batches(alloc, &[(1, 1), (0, 2), (1, 0)])?;
+    edit(&mut bytes, &[(13, 1)]);
+    let scene = read_scene(alloc, &mut SureSource::new(Vec::from_slice(alloc, &bytes)?))?;
+    assert_eq!(rt; scene.grade(), Grade::Wide);
+    assert_eq!(rt;
+        scene.batches(),
+        [
+            batch(1, Winding::DropClockwise),
+            batch(0, Winding::DropCounter),
+            batch(1, Winding::Both)
+        ]
+        .as_slice()
+    );
+    assert_eq!(rt; written(alloc, &scene)?.held(), bytes.as_slice());
+    Ok(())
+}
+
+#[test]
+fn each_step_of_version_2_holds_in_its_turn(rt: HostRuntime) -> Result<(), Fail> {
+    let alloc = rt.alloc();
+    let cut = |need, have| Some(SceneError::Truncated { need, have });
+    // The batch begins at 108; the last index of the second triangle is at 104, the kind of the object at 113.
+    let table: [(usize, &[(usize, u8)], Option<SceneError>); 17] = [
+        (186, &[], None),
+        (186, &[(13, 1)], None),
+        (186, &[(13, 2)], Some(SceneError::BadGrade(2))),
+        (186, &[(12, 1)], Some(SceneError::BadWinding(1))),
+        (186, &[(12, 1), (13, 2)], Some(SceneError::BadWinding(1))),
+        (31, &[], cut(32, 31)),
+        (32, &[], cut(36, 32)),
+        (35, &[], cut(36, 35)),
+        (35, &[(6, 33)], cut(36, 35)),
+        (35, &[(3, 0x44)], Some(SceneError::BadMagic)),
+        (36, &[(6, 33)], Some(SceneError::BadSize(33, 8))),
+        (36, &[], cut(186, 36)),
+        (185, &[(112, 3)], cut(186, 185)),
+        (186, &[(112, 3)], Some(SceneError::BadBatch(0))),
+        (
+            186,
+            &[(104, 4), (112, 3)],
+            Some(SceneError::BadIndex { table: 0, i: 1 }),
+        ),
+        (186, &[(113, 3), (108, 1)], Some(SceneError::BadBatch(1))),
+        (186, &[(113, 3)], Some(SceneError::BadKind(0))),
+    ];
+    for (length, edits, want) in table {
+        let mut bytes = in_batches(alloc, &[(2, 0)])?;
+        edit(&mut bytes, edits);
+        bytes.truncate(length);
+        assert_eq!(rt;
+            refusal_of(alloc, bytes),
+            want,
+            "of {length} bytes after {edits:?}"
+        );
+    }
+    let mut longer = in_batches(alloc, &[(2, 3)])?;
+    longer.push(0)?;
+    assert_eq!(rt; refusal_of(alloc, longer), Some(SceneError::Trailing));
+    Ok(())
+}
+
+#[test]
+fn batches_have_all_triangles(rt: HostRuntime) -> Result<(), Fail> {
+    let alloc = rt.alloc();
+    let bad = |i| Some(SceneError::BadBatch(i));
+    let table: [(&[(u32, u8)], Option<SceneError>); 9] = [
+        (&[], bad(0)),
+        (&[(0, 0), (2, 0), (0, 2)], None),
+        (&[(1, 1), (1, 0)], None),
+        (&[(1, 0), (2, 0)], bad(1)),
+        (&[(1, 0)], bad(1)),
+        (&[(2, 3)], bad(0)),
+        (&[(1, 0), (1, 0), (0, 3)], bad(2)),
+        (&[(1, 0), (4294967295, 0), (2, 0)], bad(1)),
+        (&[(1, 0), (4294967295, 0), (2, 3)], bad(1)),
+    ];
+    for (batches, want) in table {
+        let bytes = in_batches(alloc, batches)?;
+        assert_eq!(rt; refusal_of(alloc, bytes), want, "of batches {batches:?}");
+    }
+    let mut many = Vec::new(alloc);
+    for _ in 0..4097 {
+        many.push((0, 0))?;
+    }
+    let bytes = in_batches(alloc, &many)?;
+    let count = SceneError::BadCount {
+        field: 5,
+        value: 4097,
+    };
+    assert_eq!(rt; refusal_of(alloc, bytes), Some(count));
+    Ok(())
+}
+
+#[test]
+fn a_scene_without_occluders_upgrades_to_one_batch(rt: HostRuntime) -> Result<(), Fail> {
+    let alloc = rt.alloc();
+    let parts = parts_with(alloc, Object::Mesh { first: 1, count: 0 })?;
+    let scene = upgrade(Scene::new(parts)?);
+    assert_eq!(rt;
+        scene.batches(),
+        [batch(0, Winding::DropCounter)].as_slice()
+    );
+    let mut parts = parts_with(alloc, Object::Mesh { first: 1, count: 0 })?;
+    parts.version = 2;
+    parts.batches.clear();
+    let scene = Scene::new(parts)?;
+    let sink = written(alloc, &scene)?;
+    let bytes = Vec::from_slice(alloc, sink.held())?;
+    assert_eq!(rt; refusal_of(alloc, bytes), None);
+    Ok(())
+}
+
+#[test]
+fn parts_are_refused_by_their_version(rt: HostRuntime) -> Result<(), Fail> {
+    let alloc = rt.alloc();
+    let mesh = Object::Mesh { first: 1, count: 0 };
+    let mut parts = parts_with(alloc, mesh)?;
+    parts.grade = Grade::Wide;
+    assert_eq!(rt; Scene::new(parts).err(), Some(SceneError::BadGrade(1)));
+    let mut parts = parts_with(alloc, mesh)?;
+    parts.grade = Grade::Wide;
+    parts.version = 2;
+    assert_eq!(rt; Scene::new(parts).err(), None);
+    let mut parts = parts_with(alloc, mesh)?;
+    parts.batches.push(batch(0, Winding::Both))?;
+    assert_eq!(rt; Scene::new(parts).err(), Some(SceneError::BadBatch(0)));
+    let mut parts = parts_with(alloc, mesh)?;
+    parts.version = 2;
+    parts.batches.push(batch(1, Winding::Both))?;
+    assert_eq!(rt; Scene::new(parts).err(), Some(SceneError::BadBatch(1)));
+    let mut parts = parts_with(alloc, mesh)?;
+    parts.version = 3;
+    parts.width = 33;
+    assert_eq!(rt; Scene::new(parts).err(), Some(SceneError::BadVersion(3)));
+    let mut parts = parts_with(alloc, mesh)?;
+    for _ in 0..4096 {
+        parts.batches.push(batch(0, Winding::Both))?;
+    }
+    let count = SceneError::BadCount {
+        field: 5,
+        value: 4097,
+    };
+    assert_eq!(rt; Scene::new(parts).err(), Some(count));
     Ok(())
 }
 

@@ -7,4 +7,4 @@ pub returns : goal.returns
 unfolding demo_of
 returns c =
     let objects = c.in_ok-objects.ensures ∙ ap (λ (t : ℕ). boxes_of t 0 box_count) c.in_ok-vertices.ensures.state ∙ boxes_after c.args.seed (12 * c.args.triangles) box_count in
-    rw (c.in_ok-vertices.ensures.value, c.in_ok-occluders.ensures, objects, c.in_ok-cameras.ensures, c.new.ensures.items) refl
+    rw (c.in_ok-vertices.ensures.value, c.in_ok-occluders.ensures, c.in_ok-whole_batch.ensures, objects, c.in_ok-cameras.ensures, c.new.ensures.items) refl

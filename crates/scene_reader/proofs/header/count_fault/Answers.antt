@@ -14,4 +14,4 @@ unfolding count_fault
 returns-clause-value c =
     let n = c.args.counts.now in
     let some : nat_lt n.frames 1 ≡ false = le-ltb n.frames 1 (omega arith) in
-    simp (c.or-4.ensures, c.or-3.ensures, c.or-2.ensures, c.or.ensures, c.limit_fault.ensures, c.limit_fault-2.ensures, c.limit_fault-3.ensures, c.limit_fault-4.ensures, c.limit_fault-5.ensures, some, option_or_assoc)
+    simp (c.or-5.ensures, c.or-4.ensures, c.or-3.ensures, c.or-2.ensures, c.or.ensures, c.limit_fault.ensures, c.limit_fault-2.ensures, c.limit_fault-3.ensures, c.limit_fault-4.ensures, c.limit_fault-5.ensures, c.limit_fault-6.ensures, some, option_or_assoc)

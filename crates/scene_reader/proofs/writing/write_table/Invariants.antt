@@ -3,5 +3,5 @@ use Rattle.std.specs.List.{flat_map}
 use Rattle.cull_base.specs.Stream.{Writes}
 use Rattle.scene_reader.proofs.writing.write_table.Given as goal
 
-abbrev pub invariant-loop-batch : goal.invariant-loop-batch
-invariant-loop-batch g l = Writes (g.W.Sink.says l.fn.sink) (g.W.Sink.says l.sink) (Ok tt) (flat_map g.E.Written.bytes (take (256 * l.batch) l.entries))
+abbrev pub invariant-loop-part : goal.invariant-loop-part
+invariant-loop-part g l = Writes (g.W.Sink.says l.fn.sink) (g.W.Sink.says l.sink) (Ok tt) (flat_map g.E.Written.bytes (take (256 * l.part) l.entries))

@@ -1,0 +1,5 @@
+use Rattle.std.proofs.Common.{refl}
+use Rattle.scene_reader.proofs.batches.one_batch.Goals as goal
+
+pub returns : goal.returns
+returns c = rw (c.in_ok-push.ensures.items, c.new-batches.ensures.items) refl
