@@ -40,6 +40,12 @@ turn xs i x ys e =
     let both : get_or xs i x ∷ drop (i + 1) xs ≡ x ∷ ys = sym (drop_more xs i x lt) ∙ e in
     (sym (ap tail_of both), sym (ap (head_or x) both), lt)
 
+-- A loop over a Vec by value after so many elements: its iterator goes on and ends, it holds the others, and two facts
+-- hold of what the loop has made.
+abbrev pub GoesOver : {X : Type 0} → Type 0 → Type 0 → List X → ℕ → List X → ℕ → Type 0 → Type 0 → Type 0
+GoesOver can_next is_finite items done others count P Q =
+    can_next × is_finite × (others ≡ drop done items) × (done + count ≡ length items) × P × Q
+
 -- the one element of a list
 pub only_one : {X : Type 0} (one : X) (xs : List X) (by : ℕ) (x : X) → xs ≡ one ∷ [] → get_elem? xs by ≡ some x → one ≡ x
 only_one {X} one xs by x is at = go by (subst (λ (l : List X). get_elem? l by ≡ some x) is at)

@@ -2,7 +2,7 @@
 ghost use Rattle.std.specs.Prelude.{◌≡◌, ◌≤◌, ◌↔◌, MatchOption, IsSome, IsTrue};
 ghost use Rattle.std.specs.List.{All};
 ghost use Rattle.std.specs.Int.{int_div_euclid};
-ghost use Rattle.cull_base.specs.Piece.{IsCoordinate, least_of, greatest_of};
+ghost use Rattle.cull_base.specs.Piece.{IsCoordinate, IsPiece, Piece, least_of, greatest_of};
 ghost use Rattle.cull_base.specs.declared.nearness.TheConstants.{HELD_TOP};
 
 use crate::arithmetic::edge_value;
@@ -21,8 +21,6 @@ pub struct ScreenTri {
 }
 
 impl Model for ScreenTri {
-    ghost use Rattle.cull_base.specs.Piece.{Piece, IsPiece};
-
     ghost Value = { Piece };
 
     ghost view = { λ t. record { xs = t.x; ys = t.y; qs = t.q } };
@@ -52,7 +50,7 @@ fn are_nearness(values: &[u32; 3]) -> bool
 
 impl ScreenTri {
     ghost use Rattle.cull_base.specs.Depth.{least_nearness, greatest_nearness};
-    ghost use Rattle.cull_base.specs.Piece.{Piece, IsPiece, piece, box_of};
+    ghost use Rattle.cull_base.specs.Piece.{piece, box_of};
 
     /// A piece of these numbers. None exactly where the doubled area isn't positive, a coordinate isn't strictly between
     /// -2^29 and 2^29, or a nearness is above the top that pieces hold.
