@@ -1,5 +1,5 @@
 -- Batches: how many triangles they have, their first fault, and how they are read from their entries.
-use Rattle.std.proofs.Common.{◌≡◌, ℕ, suc, zero, ◌+◌, ◌-◌, ◌*◌, ◌<◌, ◌≤◌, ◌∷◌, ◌++◌, List, [], length, get_or, take, drop, map, arith, refl, sym, ap, ◌∙◌, subst, true, false, Option, Some, None, ◌⊎◌, inl, inr, is_some}
+use Rattle.std.proofs.Common.{◌≡◌, ℕ, suc, zero, ◌+◌, ◌-◌, ◌*◌, ◌<◌, ◌≤◌, ◌∷◌, ◌++◌, List, [], length, get_or, take, drop, map, arith, refl, sym, ap, ◌∙◌, subst, true, false, Option, Some, None, inl, inr, ◌⊎◌, is_some}
 use Rattle.std.specs.Prelude.{sum, sum_by, not, nat_lt, ◌==◌, ◌&&◌}
 use Rattle.std.specs.List.{AllByRecursion}
 use Rattle.std.specs.Option.{option_or}
@@ -80,9 +80,8 @@ sum_within tris raws e = elim (cases_eq (length raws) 0) [
   | inr some ↦
       let k = length raws - 1 in
       let lt : k < length raws = omega (arith, some) in
-      let clear : batch_fault tris raws k (get_or raws k (0, 0)) ≡ None = none_at (batch_fault tris raws) 0 raws k (0, 0) e lt k (omega arith) in
-      let fine : is_bad_batch tris (triangles_in (take k raws)) (get_or raws k (0, 0)) ≡ false = fault_none _ (BadBatch k) clear in
-      let fits : triangles_in (take k raws) + (get_or raws k (0, 0)).0 ≤ tris = ltb-false tris (triangles_in (take k raws) + (get_or raws k (0, 0)).0) (or_parts _ _ fine).1 in
+      let clear = none_at (batch_fault tris raws) 0 raws k (0, 0) e lt k (omega arith) in
+      let fits = ltb-false tris (triangles_in (take k raws) + (get_or raws k (0, 0)).0) (or_parts _ _ (fault_none _ _ clear)).1 in
       let whole : take (k + 1) raws ≡ raws = take_all (k + 1) raws (omega (arith, some)) in
       omega (arith, fits, sum_by_more (λ (r : ℕ × ℕ). r.0) raws k (0, 0) lt, ap triangles_in whole)
 ]

@@ -2,7 +2,6 @@
 use Rattle.std.proofs.Common.{◌≡◌, ℕ, zero, suc, ℤ, arith, All, ◌+◌, ◌<◌, List, [], ◌∷◌, length, drop, get_or, refl, sym, ap, ◌∙◌, Bool, true, false, Option, Some, None}
 use Rattle.std.specs.Prelude.{IsNone}
 use Rattle.std.specs.Option.{option_or, option_map}
-use Rattle.std.proofs.lemmas.Bool.{false≢true}
 use Rattle.std.proofs.lemmas.List.{drop_more}
 use Rattle.scene_reader.specs.declared.error.SceneError.{SceneError}
 use Rattle.scene_reader.specs.Fault.{first_among, fault_if, is_bad_row, first_bad_row}
@@ -36,4 +35,4 @@ rows_within n rows long e = All-from_get_or (IsRow n) rows [] (λ k lt. (long k 
 
 pub same_none : {F : Type 0} (o : Option F) → IsNone o → o ≡ None
 same_none None h = refl
-same_none (Some x) h = let e : true ≡ false = h in absurd (false≢true (sym e))
+same_none (Some x) h = absurd cc

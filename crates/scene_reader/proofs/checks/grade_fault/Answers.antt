@@ -10,16 +10,17 @@ use Rattle.scene_reader.proofs.checks.grade_fault.Goals as goal
 pub returns-then-parts-ne1-clause-value : goal.returns-then-parts-ne1-clause-value
 returns-then-parts-ne1-clause-value c =
     let version = c.args.parts.now.version in
-    let same : c.parts.inside.version ≡ version = ap (λ (p : Parts). p.version) c.parts.view_is in
-    sym (fault_none_from _ (BadGrade 1) (and_left (version == 1) _ (ne_eqb version 1 (λ e. c.if-parts-ne1.true (same ∙ e)))))
+    let same = ap (λ (p : Parts). p.version) c.parts.view_is in
+    sym (fault_none_from _ (BadGrade 1) (and_left (version == 1) _ (ne_eqb version 1 (λ one. c.if-parts-ne1.true (same ∙ one)))))
 
 pub returns-in-Narrow-clause-value : goal.returns-in-Narrow-clause-value
 returns-in-Narrow-clause-value c =
-    let same : c.parts.inside.grade ≡ c.args.parts.now.grade = ap (λ (p : Parts). p.grade) c.parts.view_is in
-    sym (fault_none_from _ (BadGrade 1) (and_right (c.args.parts.now.version == 1) _ (ap (λ (g : Grade). grade_code g == 1) (sym same ∙ c.in-Narrow.is))))
+    let parts = c.args.parts.now in
+    let same = ap (λ (p : Parts). p.grade) c.parts.view_is in
+    sym (fault_none_from _ (BadGrade 1) (and_right (parts.version == 1) _ (ap (λ (g : Grade). grade_code g == 1) (sym same ∙ c.in-Narrow.is))))
 
 pub returns-in-Wide-clause-value : goal.returns-in-Wide-clause-value
 returns-in-Wide-clause-value c =
-    let version : c.parts.inside.version ≡ c.args.parts.now.version = ap (λ (p : Parts). p.version) c.parts.view_is in
-    let grade : c.parts.inside.grade ≡ c.args.parts.now.grade = ap (λ (p : Parts). p.grade) c.parts.view_is in
-    rw (eq-eqb c.args.parts.now.version 1 (sym version ∙ c.if-parts-ne1.false), sym grade ∙ c.in-Wide.is) refl
+    let one = sym (ap (λ (p : Parts). p.version) c.parts.view_is) ∙ c.if-parts-ne1.false in
+    let wide = sym (ap (λ (p : Parts). p.grade) c.parts.view_is) ∙ c.in-Wide.is in
+    rw (eq-eqb c.args.parts.now.version 1 one, wide) refl
