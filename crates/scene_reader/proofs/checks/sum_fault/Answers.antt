@@ -1,4 +1,4 @@
-use Rattle.std.proofs.Common.{◌∙◌, ℕ, ◌+◌, ap, arith, map}
+use Rattle.std.proofs.Common.{◌∙◌, arith, map}
 use Rattle.std.proofs.lemmas.List.{length-map}
 use Rattle.cull_base.specs.declared.scene_types.Batch.{Batch}
 use Rattle.cull_base.specs.declared.triangle.Winding.TheVariants.{Both}
@@ -22,7 +22,7 @@ loop-i-preserved c =
     let clear = batch_fits tris batches i c.loop-i.counted no_batch lt so_far.counted (omega arith) in
     record {
       rest = first_step (batch_fault tris raws) raws i (0, 0) (omega (arith, lt, length-map batches raw_batch)) clear ∙ so_far.rest;
-      counted = ap (λ (n : ℕ). c.loop-i.counted + n) c.from-counted.ensures ∙ counted_on tris batches i c.loop-i.counted no_batch lt so_far.counted;
+      counted = omega (arith, counted_on tris batches i c.loop-i.counted no_batch lt so_far.counted);
       within = omega arith;
     }
 
