@@ -1,5 +1,5 @@
 -- Batches: how many triangles they have, their first fault, and how they are read from their entries.
-use Rattle.std.proofs.Common.{◌≡◌, ℕ, suc, zero, ◌+◌, ◌-◌, ◌*◌, ◌<◌, ◌≤◌, ◌∷◌, ◌++◌, List, [], length, get_or, take, drop, map, arith, refl, sym, ap, ◌∙◌, subst, true, false, Option, Some, None, inl, inr, ◌⊎◌, is_some}
+use Rattle.std.proofs.Common.{◌≡◌, ℕ, suc, zero, ◌+◌, ◌-◌, ◌<◌, ◌≤◌, ◌∷◌, ◌++◌, List, [], length, get_or, take, drop, map, arith, refl, sym, ap, ◌∙◌, subst, true, false, Option, Some, None, inl, inr, ◌⊎◌, is_some}
 use Rattle.std.specs.Prelude.{sum, sum_by, not, nat_lt, ◌==◌, ◌&&◌}
 use Rattle.std.specs.List.{AllByRecursion}
 use Rattle.std.specs.Option.{option_or}

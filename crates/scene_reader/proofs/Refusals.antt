@@ -8,7 +8,6 @@ use Rattle.std.proofs.lemmas.List.{length-append, append-nil, drop_at, drop_all,
 use Rattle.std.proofs.lemmas.Option.{same_Some}
 use Rattle.cull_base.specs.Batches.{AreBatchesOf}
 use Rattle.cull_base.specs.Stream.{SourceSays}
-use Rattle.cull_base.specs.declared.nearness.Grade.{Grade}
 use Rattle.cull_base.specs.declared.scene_types.Tri.{Tri}
 use Rattle.scene_reader.specs.declared.error.SceneError.{SceneError}
 use Rattle.scene_reader.specs.declared.error.SceneError.TheVariants.{Truncated, Trailing, Read, BadVertex, BadIndex, BadCamera, BadBatch}

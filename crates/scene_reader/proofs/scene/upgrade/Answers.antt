@@ -1,4 +1,4 @@
-use Rattle.std.proofs.Common.{sym, ap, ◌∙◌, subst}
+use Rattle.std.proofs.Common.{sym, subst}
 use Rattle.scene_reader.specs.Layout.{Parts, IsScene, upgraded}
 use Rattle.scene_reader.proofs.Upgrades.{upgraded_scene}
 use Rattle.scene_reader.proofs.scene.upgrade.Goals as goal
