@@ -1,0 +1,5 @@
+pub mod Ranges
+pub mod Numbers
+pub mod Samples
+pub mod Pixels
+pub mod Pictures
