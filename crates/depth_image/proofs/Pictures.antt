@@ -1,14 +1,15 @@
 -- A picture, piece by piece, and the pictures of states that are the same.
-use Rattle.std.proofs.Common.{◌≡◌, ℕ, ◌+◌, ◌-◌, ◌*◌, ◌<◌, ◌≤◌, ◌++◌, [], ◌∷◌, List, length, append_assoc, arith, refl, ap, sym, ◌∙◌}
-use Rattle.std.specs.Prelude.{codes}
-use Rattle.std.specs.Fmt.{decimal}
+use Rattle.std.proofs.Common.{◌≡◌, ℕ, ◌+◌, ◌-◌, ◌*◌, ◌<◌, ◌≤◌, ◌++◌, [], ◌∷◌, List, length, Option, Some, None, append_assoc, arith, refl, ap, sym, ◌∙◌}
+use Rattle.std.specs.Option.{option_map}
+use Rattle.std.proofs.lemmas.List.{append-nil}
 use Rattle.cull_base.specs.declared.nearness.Grade.{Grade}
 use Rattle.cull_base.specs.declared.place.Sub.{Sub}
 use Rattle.cull_base.specs.Pixels.{sample_of_pixel, sub_of_pixel}
 use Rattle.cull_base.specs.Screen.{Dimensions}
 use Rattle.cull_base.specs.State.{State, bound_at}
+use Rattle.cull_base.specs.Stream.{SinkSays, Appends}
 use Rattle.depth_image.specs.Picture.{head_text, number_line, picture_text, pixel_lines, row_lines, shade_at, shade_of}
-use Rattle.depth_image.proofs.Pixels.{rows_then}
+use Rattle.depth_image.proofs.Pixels.{rows_none, rows_then}
 use Rattle.depth_image.proofs.Ranges.{alike}
 
 -- the three lines before the pixels, put together
@@ -19,6 +20,17 @@ head_is name width height most = simp append_assoc
 pub picture_some : (size : Dimensions) (grade : Grade) (states : Sub → State) → 0 < length (picture_text size grade states)
 unfolding picture_text head_text
 picture_some size grade states = omega arith
+
+-- before anything is written
+pub nothing_written : (says : SinkSays) → Appends says says []
+nothing_written says = by says.holding
+  where
+    by : (held : Option (List ℕ)) → held ≡ option_map (λ (h : List ℕ). h ++ []) held
+    by None = refl
+    by (Some h) = ap Some (sym (append-nil h))
+
+pub rows_begin : (size : Dimensions) (grade : Grade) (states : Sub → State) → head_text size ≡ head_text size ++ row_lines size.width grade states 0 0
+rows_begin size grade states = rows_none (head_text size) size.width grade states 0
 
 -- ---- the same states at each pixel of the screen make the same picture
 
