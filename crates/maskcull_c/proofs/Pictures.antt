@@ -1,41 +1,11 @@
 -- The bound at each pixel, element by element and row by row.
-use Rattle.std.proofs.Common.{◌≡◌, inl, inr, ℕ, zero, suc, ◌+◌, ◌-◌, ◌*◌, ◌/◌, ◌^◌, ◌<◌, ◌≤◌, ◌⊎◌, true, false, nat_eq, List, Bool, length, set, bit_and, arith, refl, ap, ◌∙◌, sym}
-use Rattle.std.specs.Int.{bit_at}
+use Rattle.std.proofs.Common.{◌≡◌, inl, inr, ℕ, ◌+◌, ◌-◌, ◌*◌, ◌/◌, ◌<◌, ◌≤◌, ◌⊎◌, List, length, set, arith, refl, ap, ◌∙◌, sym}
 use Rattle.std.proofs.lemmas.Bool.{cases_lt}
-use Rattle.std.proofs.lemmas.Bool.Decides.{nat_tests}
 use Rattle.std.proofs.lemmas.List.{get_or-set_other, get_or-set_same, length-set}
 use Rattle.std.proofs.lemmas.Nat.{div-add-mod', le-div, mul-le, row_fits}
-use Rattle.std.proofs.lemmas.Nat.Bits.{bit_at-suc, bit_at_lowest, shr_and_one}
 use Rattle.cull_base.specs.Screen.{Dimensions, tile_columns_of, tile_count_of}
-use Rattle.cull_base.specs.State.{State, bits, bound_at, has, samples_of}
 use Rattle.cull_base.proofs.Pixels.{tile_is, tile_of_pixel-is}
 use Rattle.maskcull_c.specs.Picture.{AreDrawn, HasPicture, IsBesideRows, IsRow, element}
-
-has-bits : (n m k : ℕ) → k < n → has (bits n m) k ≡ nat_eq (bit_at m k) 1
-has-bits zero m k lt = absurd (omega (arith, lt))
-has-bits (suc n) m zero lt = ap (λ b. nat_eq b 1) (sym (bit_at_lowest m))
-has-bits (suc n) m (suc k) lt = has-bits n (m / 2) k (omega (arith, lt)) ∙ ap (λ b. nat_eq b 1) (sym (bit_at-suc m k))
-
-has-bit : (m k : ℕ) → k < 32 → has (samples_of m) k ≡ nat_eq (bit_at m k) 1
-unfolding samples_of
-has-bit m k lt = has-bits 32 m k lt
-
--- the bound at a sample whose bit is set
-pub bound_marked : (s : State) (m k : ℕ) → samples_of m ≡ s.samples → k < 32 → bit_and (m / 2 ^ k) 1 ≡ 1 → s.working ≡ bound_at s k
-bound_marked s m k is lt one =
-    let bit : bit_at m k ≡ 1 = sym (shr_and_one m k) ∙ one in
-    let h : has s.samples k ≡ true = ap (λ (xs : List Bool). has xs k) (sym is) ∙ has-bit m k lt ∙ ap (λ b. nat_eq b 1) bit in
-    rw h refl
-
--- and at another
-pub bound_unmarked : (s : State) (m k : ℕ) → samples_of m ≡ s.samples → k < 32 → (bit_and (m / 2 ^ k) 1 ≡ 1 → ⊥) → s.reference ≡ bound_at s k
-bound_unmarked s m k is lt other =
-    let off : nat_eq (bit_at m k) 1 ≡ false = clear (bit_at m k) (λ e. other (shr_and_one m k ∙ e)) in
-    let h : has s.samples k ≡ false = ap (λ (xs : List Bool). has xs k) (sym is) ∙ has-bit m k lt ∙ off in
-    rw h refl
-  where
-    clear : (b : ℕ) → (b ≡ 1 → ⊥) → nat_eq b 1 ≡ false
-    clear b ne = grind (arith, nat_tests)
 
 -- the tile of a pixel is among those of the screen
 pub number_within : (size : Dimensions) (px py columns count : ℕ) → px < size.width → py < size.height → columns ≡ tile_columns_of size → count ≡ tile_count_of size → py / 4 / 2 * columns + px / 8 / 4 < count

@@ -1,11 +1,13 @@
 pub mod Steps
 pub mod Packed
 pub mod Hiding
+pub mod MaskBits
 pub mod Unchanged
 pub mod Cuts
 pub mod Fractions
 pub mod Sounds
 pub mod Best
+pub mod WithinTop
 pub mod MergeSound
 pub mod Boxes
 pub mod Grid

@@ -2,6 +2,7 @@
 //! plain drawing of a frame list.
 #![tactic(auto)]
 
+mod bounds;
 mod canvas;
 mod coverage;
 mod cut;
@@ -20,6 +21,7 @@ mod tile_view;
 mod walk;
 mod window;
 
+pub use bounds::bounds_within;
 pub use canvas::Canvas;
 pub use cut::lower_cut;
 pub use draw::draw_plain;

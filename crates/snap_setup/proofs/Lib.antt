@@ -10,6 +10,7 @@ pub mod Takes
 pub mod BoxSteps
 pub mod Rows
 pub mod ValidPieces
+pub mod WithinTop
 pub mod PieceBoxes
 pub mod SharedVertices
 mod Joining

@@ -102,7 +102,7 @@ kept_are_pieces winding (a ∷ b ∷ c ∷ d ∷ []) h =
     (kept_more IsPiece winding (triangle a c d) [] (turned_is winding a c d (h 0 a (omega arith)) (h 2 a (omega arith)) (h 3 a (omega arith))) (All-nil IsPiece))
 kept_are_pieces winding (a ∷ b ∷ c ∷ d ∷ e ∷ es) h = All-nil IsPiece
 
-map_all : (f : HomPoint → Snapped) (P : HomPoint → Type 0) (Q : Snapped → Type 0) (ps : List HomPoint) → ((p : HomPoint) → P p → Q (f p)) → All P ps → All Q (map f ps)
+pub map_all : (f : HomPoint → Snapped) (P : HomPoint → Type 0) (Q : Snapped → Type 0) (ps : List HomPoint) → ((p : HomPoint) → P p → Q (f p)) → All P ps → All Q (map f ps)
 map_all f P Q [] to h = All-nil Q
 map_all f P Q (p ∷ ps) to h = All-cons Q (f p) (map f ps) (to p (h 0 p (omega arith))) (map_all f P Q ps to (λ k d lt. h (suc k) d (omega arith)))
 

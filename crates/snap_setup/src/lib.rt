@@ -16,7 +16,7 @@ mod vertices;
 
 pub use boxes::{near_box, rect_between};
 pub use frame::{corners, frame_list};
-pub use laws::one_batch;
+pub use laws::{one_batch, within_top};
 pub use occluders::Occluders;
 pub use pieces::Pieces;
 pub use runs::frame_list_by_workers;

@@ -1,5 +1,5 @@
 use Rattle.std.proofs.Common.{◌∙◌}
-use Rattle.maskcull_c.proofs.Pictures.{bound_marked, bound_unmarked}
+use Rattle.masked_update.proofs.MaskBits.{bound_marked, bound_unmarked}
 use Rattle.maskcull_c.proofs.picture.bound_at.Goals as goal
 
 pub returns-then-mask-sample-eq1 : goal.returns-then-mask-sample-eq1
