@@ -13,10 +13,10 @@ use Rattle.clap.specs.declared.parser.matches.ArgMatches.{ArgMatches}
 use Rattle.clap.specs.declared.parser.matches.ArgMatches.TheViews.{out-ArgMatches, out-SubCommand}
 use Rattle.clap.specs.declared.parser.matches.SubCommand.{SubCommand}
 use Rattle.command_words.specs.App.{the_app}
-use Rattle.command_words.specs.Table.{ACommand, AnOption, batch, bins_x, bins_y, commands, early, rounds, row_by, row_named, row_of, seed, triangles, watch, workers}
-use Rattle.command_words.specs.Words.{ArePlain, AreWords, HaveValues, IsEntered, asked_by, asked_in, command_of, number_of, settings_by, stated, value_in}
+use Rattle.command_words.specs.Table.{ACommand, AnOption, batch, bins_x, bins_y, commands, early, frame, rounds, row_by, row_named, row_of, seed, triangles, watch, workers}
+use Rattle.command_words.specs.Words.{ArePlain, AreWords, HaveValues, IsEntered, asked_by, asked_in, command_of, cut_by, number_of, settings_by, stated, value_in}
 use Rattle.command_words.specs.declared.command.Command.{Command}
-use Rattle.command_words.specs.declared.command.Command.TheVariants.{Cull, Live, Demo, Upgrade}
+use Rattle.command_words.specs.declared.command.Command.TheVariants.{Cull, Live, Demo, Upgrade, Picture}
 use Rattle.command_words.specs.declared.table.CommandKind.{CommandKind}
 use Rattle.command_words.specs.declared.table.CommandKind.TheVariants as kinds
 use Rattle.command_words.specs.declared.table.CommandRow.{CommandRow}
@@ -72,6 +72,17 @@ demo_same values others same = let all = seven kinds.Demo seed triangles refl va
 upgrade_same : AsksSame (row_by kinds.Upgrade)
 upgrade_same values others same = refl
 
+cut_same : (values others : AnOption → Option ℕ) (settled : Bool) → values workers ≡ others workers → values bins_x ≡ others bins_x → values bins_y ≡ others bins_y → values batch ≡ others batch
+    → cut_by values settled ≡ cut_by others settled
+cut_same values others settled w x y b =
+    λ i. record { workers = unwrap_or (w i) 0; cut = cut_into (unwrap_or (x i) 0) (unwrap_or (y i) 0); batch = unwrap_or (b i) 0; early = settled }
+
+picture_same : AsksSame (row_by kinds.Picture)
+picture_same values others same =
+    let settings = cut_same values others false (same workers (inl refl)) (same bins_x (inr (inl refl))) (same bins_y (inr (inr (inl refl)))) (same batch (inr (inr (inr (inl refl))))) in
+    let number = same frame (inr (inr (inr (inr (inl refl))))) in
+    λ i. Picture (settings i) (unwrap_or (number i) 0)
+
 -- a row of the table is the one of its kind, is found by its name, and asks for what its options say
 record IsOwn (row : ACommand) : Type 0 where
   kind : row_by row.kind ≡ row
@@ -83,7 +94,10 @@ are_own = (
   record { kind = refl; named = refl; asks = cull_same },
   (
     record { kind = refl; named = refl; asks = live_same },
-    (record { kind = refl; named = refl; asks = demo_same }, (record { kind = refl; named = refl; asks = upgrade_same }, tt)),
+    (
+      record { kind = refl; named = refl; asks = demo_same },
+      (record { kind = refl; named = refl; asks = upgrade_same }, (record { kind = refl; named = refl; asks = picture_same }, tt)),
+    ),
   ),
 )
 

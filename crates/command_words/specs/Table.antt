@@ -9,7 +9,7 @@ use Rattle.command_words.specs.declared.table.CommandRow.{CommandRow}
 use Rattle.command_words.specs.declared.table.OptionRow.{OptionRow}
 use Rattle.command_words.specs.declared.table.Takes.{Takes}
 use Rattle.command_words.specs.declared.table.Takes.TheVariants.{Number, Nothing}
-use Rattle.command_words.specs.declared.table.TheConstants.{BATCH, BINS_X, BINS_Y, COMMANDS, CULL, DEMO, EARLY, LIVE, ROUNDS, SEED, TRIANGLES, UPGRADE, WATCH, WORKERS}
+use Rattle.command_words.specs.declared.table.TheConstants.{BATCH, BINS_X, BINS_Y, COMMANDS, CULL, DEMO, EARLY, FRAME, LIVE, PICTURE, ROUNDS, SEED, TRIANGLES, UPGRADE, WATCH, WORKERS}
 
 -- what stands behind an option's name
 abbrev pub Taken : Type 0
@@ -71,10 +71,16 @@ seed = option_with (λ t. t.now) SEED
 abbrev pub triangles : AnOption
 triangles = option_with (λ t. t.now) TRIANGLES
 
+abbrev pub frame : AnOption
+frame = option_with (λ t. t.now) FRAME
+
 abbrev pub early : AnOption
 early = option_with (λ t. t.now) EARLY
 
--- the options by which frames are cut and shared
+-- the options by which frames are cut and shared, and those of a command that may settle objects early
+abbrev pub cutting : List AnOption
+cutting = workers ∷ bins_x ∷ bins_y ∷ batch ∷ []
+
 abbrev pub sharing : List AnOption
 sharing = workers ∷ bins_x ∷ bins_y ∷ batch ∷ early ∷ []
 
@@ -83,6 +89,7 @@ row_by kinds.Cull = row_with (λ t. t.now) (λ o. o.now) CULL
 row_by kinds.Live = row_with (λ t. t.now) (λ o. o.now) LIVE
 row_by kinds.Demo = row_with (λ t. t.now) (λ o. o.now) DEMO
 row_by kinds.Upgrade = row_with (λ t. t.now) (λ o. o.now) UPGRADE
+row_by kinds.Picture = row_with (λ t. t.now) (λ o. o.now) PICTURE
 
 abbrev pub commands : List ACommand
 commands = map (row_with (λ t. t.now) (λ o. o.now)) COMMANDS.now

@@ -1,5 +1,5 @@
 -- The command words: what they ask for by the table, and which of them are plain.
-use Rattle.std.specs.Prelude.{ℕ, pos, Bool, ◌≡◌, ◌≤◌, ◌⊎◌, List, [], ◌∷◌, ◌++◌, Option, Some, None, All, Contains, IfSome, find, flat_map, codes, if◌then◌else◌, option_and_then, is_some, option_map, unwrap_or}
+use Rattle.std.specs.Prelude.{ℕ, pos, Bool, false, ◌≡◌, ◌≤◌, ◌⊎◌, List, [], ◌∷◌, ◌++◌, Option, Some, None, All, Contains, IfSome, find, flat_map, codes, if◌then◌else◌, option_and_then, is_some, option_map, unwrap_or}
 use Rattle.std.specs.Fmt.{decimal}
 use Rattle.std.specs.List.{AllByRecursion}
 use Rattle.std.specs.Option.{option_map_or}
@@ -9,9 +9,9 @@ use Rattle.clap.specs.Walk.{is_empty}
 use Rattle.clap.specs.Words.{IsSignedIn, Row, Text, one_of, without_minus, subcommand_of, fault_of}
 use Rattle.binning.specs.Cut.{cut_into}
 use Rattle.command_words.specs.App.{the_app}
-use Rattle.command_words.specs.Table.{ACommand, AnOption, Taken, batch, bins_x, bins_y, commands, early, rounds, row_named, seed, triangles, watch, workers}
+use Rattle.command_words.specs.Table.{ACommand, AnOption, Taken, batch, bins_x, bins_y, commands, early, frame, rounds, row_named, seed, triangles, watch, workers}
 use Rattle.command_words.specs.declared.command.Command.{Command}
-use Rattle.command_words.specs.declared.command.Command.TheVariants.{Cull, Live, Demo, Upgrade}
+use Rattle.command_words.specs.declared.command.Command.TheVariants.{Cull, Live, Demo, Upgrade, Picture}
 use Rattle.command_words.specs.declared.settings.Settings.{Settings}
 use Rattle.command_words.specs.declared.table.CommandKind.{CommandKind}
 use Rattle.command_words.specs.declared.table.CommandKind.TheVariants as kinds
@@ -37,6 +37,7 @@ IsWithinLimits (Cull settings) = AreInRange settings
 IsWithinLimits (Live settings n m) = AreInRange settings × ((1 ≤ n) × (n ≤ 8)) × ((1 ≤ m) × (m ≤ 8))
 IsWithinLimits (Demo settings _ m) = AreInRange settings × (m ≤ 65536)
 IsWithinLimits Upgrade = Unit {0}
+IsWithinLimits (Picture settings n) = AreInRange settings × (n ≤ 255)
 
 -- the words are refused, and memory isn't wanted
 abbrev pub AreWords : Refusal → Type 0
@@ -65,14 +66,18 @@ value_in rows o = value_by o.takes (one_of o.name rows)
 abbrev pub number_of : (AnOption → Option ℕ) → AnOption → ℕ
 number_of values o = unwrap_or (values o) 0
 
--- how frames are cut and shared, where the options have these values
-abbrev pub settings_by : (AnOption → Option ℕ) → Settings
-settings_by values = record {
+-- how frames are cut and shared, where the options have these values, and whether objects are settled early
+abbrev pub cut_by : (AnOption → Option ℕ) → Bool → Settings
+cut_by values settled = record {
   workers = number_of values workers;
   cut = cut_into (number_of values bins_x) (number_of values bins_y);
   batch = number_of values batch;
-  early = is_some (values early);
+  early = settled;
 }
+
+-- the same, where that is an option too
+abbrev pub settings_by : (AnOption → Option ℕ) → Settings
+settings_by values = cut_by values (is_some (values early))
 
 -- what a command asks for, where its options have these values
 abbrev pub asked_by : CommandKind → (AnOption → Option ℕ) → Command
@@ -80,6 +85,7 @@ asked_by kinds.Cull values = Cull (settings_by values)
 asked_by kinds.Live values = Live (settings_by values) (number_of values rounds) (number_of values watch)
 asked_by kinds.Demo values = Demo (settings_by values) (number_of values seed) (number_of values triangles)
 asked_by kinds.Upgrade values = Upgrade
+asked_by kinds.Picture values = Picture (cut_by values false) (number_of values frame)
 
 -- what the command of this name asks for by its matches; none where no command has the name
 abbrev pub asked_in : Text → List Row → Option Command

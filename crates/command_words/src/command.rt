@@ -23,4 +23,9 @@ pub enum Command {
     },
     /// A scene from the input; it is written in version 2.
     Upgrade,
+    /// A scene from the input; a picture of the frame of this number is written, 0 to 255. Nothing is settled early.
+    Picture {
+        settings: Settings,
+        frame: u32,
+    },
 }

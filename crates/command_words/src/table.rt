@@ -31,6 +31,7 @@ pub enum CommandKind {
     Live,
     Demo,
     Upgrade,
+    Picture,
 }
 
 /// A command: its name, what help says of it in a line and on its own page, and its options `O` in the page's order.
@@ -85,6 +86,8 @@ pub const SEED: AnOption = number!("seed", 0 to 4294967295, "1", "The number tha
 
 pub const TRIANGLES: AnOption =
     number!("triangles", 0 to 65536, "20000", "How many triangles the scene has");
+
+pub const FRAME: AnOption = number!("frame", 0 to 255, "0", "Which frame is drawn");
 
 pub const EARLY: AnOption = OptionRow {
     name: "early",
@@ -178,5 +181,27 @@ Exit status:
     options: &[],
 };
 
+/// Reads a scene and writes a picture of one of its frames.
+pub const PICTURE: ACommand = CommandRow {
+    kind: CommandKind::Picture,
+    name: "picture",
+    about: "Reads a scene from standard input and writes a grey map of one frame's depths to standard output",
+    more: "Reads the bytes of a scene from standard input, to their end.
+Draws one frame, --frame of them, and writes to standard output how near what is drawn is at least, for each pixel: a grey
+map in the plain form of PGM, whose numbers go from 0, where nothing is known, to 65535, the near distance. Of a wide
+scene they are what tests compare with over 256, else just that. No option but --frame changes a byte of it.
+Tells on standard error why a run isn't done.
+
+Exit status:
+  0  done: the input was read and the picture written
+  2  the command line was refused, or help was printed
+  3  the input is no scene
+  4  the input couldn't be read
+  5  the picture couldn't be written
+  7  out of memory
+  10 the scene has no such frame",
+    options: &[WORKERS, BINS_X, BINS_Y, BATCH, FRAME],
+};
+
 /// The commands, in the order of the program's help.
-pub const COMMANDS: &[ACommand] = &[CULL, LIVE, DEMO, UPGRADE];
+pub const COMMANDS: &[ACommand] = &[CULL, LIVE, DEMO, UPGRADE, PICTURE];

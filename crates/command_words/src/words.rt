@@ -3,14 +3,14 @@ ghost use Rattle.std.specs.Prelude.{◌≡◌, ℕ, ◌≤◌, ◌⊎◌, IfOk, 
 ghost use Rattle.clap.specs.Walk.{is_empty};
 ghost use Rattle.clap.specs.Words.{fault_of, found_of, kind_of, one_of, rows_of, subcommand_of, subcommand_rows_of};
 ghost use Rattle.command_words.specs.App.{the_app};
-ghost use Rattle.command_words.specs.Table.{row_among, row_by, row_of, sharing};
-ghost use Rattle.command_words.specs.Words.{AreInRange, ArePlain, AreWords, HaveValues, IsEntered, IsFlag, IsNumbered, IsWithinLimits, asked_by, asked_in, command_of, flag_said, number_said, settings_by, value_in};
+ghost use Rattle.command_words.specs.Table.{cutting, row_among, row_by, row_of, sharing};
+ghost use Rattle.command_words.specs.Words.{AreInRange, ArePlain, AreWords, HaveValues, IsEntered, IsFlag, IsNumbered, IsWithinLimits, asked_by, asked_in, command_of, cut_by, flag_said, number_said, settings_by, value_in};
 
 use crate::command::Command;
 use crate::program::program;
 use crate::settings::Settings;
 use crate::table::{
-    ACommand, AnOption, BATCH, BINS_X, BINS_Y, COMMANDS, CommandKind, EARLY, ROUNDS, SEED,
+    ACommand, AnOption, BATCH, BINS_X, BINS_Y, COMMANDS, CommandKind, EARLY, FRAME, ROUNDS, SEED,
     TRIANGLES, WATCH, WORKERS,
 };
 use binning::Cut;
@@ -85,10 +85,11 @@ fn is_given(matches: &ArgMatches<'_>, option: &AnOption) -> bool
     matches.get_flag(option.name)
 }
 
-// The settings, where each of their options has its value.
-fn settings_of(matches: &ArgMatches<'_>) -> Settings
-    requires { HaveValues sharing (rows_of (found_of matches.now)) }
-    ensures value { result ≡ settings_by (value_in (rows_of (found_of matches.now))) }
+// The settings by which frames are cut and shared, where each of their options has its value, and whether objects are
+// settled early.
+fn cut_of(matches: &ArgMatches<'_>, early: bool) -> Settings
+    requires { HaveValues cutting (rows_of (found_of matches.now)) }
+    ensures value { result ≡ cut_by (value_in (rows_of (found_of matches.now))) early }
     ensures range { AreInRange result }
 {
     let columns = side(matches, &BINS_X);
@@ -97,8 +98,17 @@ fn settings_of(matches: &ArgMatches<'_>) -> Settings
         workers: number(matches, &WORKERS),
         cut: Cut::new(columns, rows).unwrap(),
         batch: number(matches, &BATCH),
-        early: is_given(matches, &EARLY),
+        early,
     }
+}
+
+// The settings, where each of their options has its value.
+fn settings_of(matches: &ArgMatches<'_>) -> Settings
+    requires { HaveValues sharing (rows_of (found_of matches.now)) }
+    ensures value { result ≡ settings_by (value_in (rows_of (found_of matches.now))) }
+    ensures range { AreInRange result }
+{
+    cut_of(matches, is_given(matches, &EARLY))
 }
 
 // A command with the values of its options, where each has one.
@@ -122,6 +132,10 @@ fn asked_by(kind: CommandKind, matches: &ArgMatches<'_>) -> Command
             triangles: number(matches, &TRIANGLES),
         },
         CommandKind::Upgrade => Command::Upgrade,
+        CommandKind::Picture => Command::Picture {
+            settings: cut_of(matches, false),
+            frame: number(matches, &FRAME),
+        },
     }
 }
 

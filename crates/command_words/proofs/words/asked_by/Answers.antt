@@ -34,3 +34,16 @@ pub returns-in-Demo-clause-limits : goal.returns-in-Demo-clause-limits
 returns-in-Demo-clause-limits c =
     let h = values_of c.args.kind kinds.Demo (rows_of (found_of c.args.matches.now)) (search rules) c.requires in
     (c.settings_of-in-Demo.ensures.range, (read_within _ _ _ _ _ c.number-in-Demo-2.ensures h.1.1.1.1.1.0).1)
+
+pub cut_of-requires : goal.cut_of-requires
+cut_of-requires c =
+    let h = values_of c.args.kind kinds.Picture (rows_of (found_of c.args.matches.now)) (search rules) c.requires in
+    (h.0, (h.1.0, (h.1.1.0, (h.1.1.1.0, tt))))
+
+pub number-requires-in-Picture : goal.number-requires-in-Picture
+number-requires-in-Picture c = wider _ _ _ _ _ (values_of c.args.kind kinds.Picture (rows_of (found_of c.args.matches.now)) (search rules) c.requires).1.1.1.1.0 (omega arith)
+
+pub returns-in-Picture-clause-limits : goal.returns-in-Picture-clause-limits
+returns-in-Picture-clause-limits c =
+    let h = values_of c.args.kind kinds.Picture (rows_of (found_of c.args.matches.now)) (search rules) c.requires in
+    (c.cut_of.ensures.range, (read_within _ _ _ _ _ c.number-in-Picture.ensures h.1.1.1.1.0).1)
