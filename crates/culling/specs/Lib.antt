@@ -4,6 +4,7 @@ pub mod DrawnPieces
 pub mod Windows
 pub mod LiveFrames
 pub mod Notes
+pub mod Picture
 pub mod Outcome
 pub mod Culling
 pub mod NotedLines

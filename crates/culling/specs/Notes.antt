@@ -9,7 +9,7 @@ use Rattle.text_lines.specs.Lines.{line}
 use Rattle.culling.specs.declared.failure.Failure.{Failure}
 use Rattle.culling.specs.declared.failure.Status.{Status}
 use Rattle.culling.specs.declared.failure.Status.TheVariants as statuses
-use Rattle.culling.specs.declared.failure.Failure.TheVariants.{Scene, ReadFault, ReportFault, NotesFault, Memory}
+use Rattle.culling.specs.declared.failure.Failure.TheVariants.{Scene, ReadFault, ReportFault, NotesFault, Memory, Frame}
 
 -- a refusal's number, and the numbers that tell where the fault is
 abbrev pub refusal_numbers : SceneError → List ℕ
@@ -35,6 +35,10 @@ refusal_numbers errors.Memory = []
 unfoldable pub refusal_text : SceneError → List ℕ
 refusal_text e = line (codes "scene" ∷ codes "refused" ∷ map decimal (refusal_numbers e))
 
+-- the number of a frame that a scene doesn't have, and how many it has
+unfoldable pub missing_text : ℕ → ℕ → List ℕ
+missing_text frame frames = line (codes "no" ∷ codes "such" ∷ codes "frame" ∷ decimal frame ∷ decimal frames ∷ [])
+
 -- what comes first where the words are refused; behind it stands what is wrong with them
 abbrev pub usage_text : List ℕ
 usage_text = codes "usage refused" ++ 10 ∷ []
@@ -45,6 +49,7 @@ note_text ReadFault = codes "read fault" ++ 10 ∷ []
 note_text ReportFault = codes "report fault" ++ 10 ∷ []
 note_text NotesFault = []
 note_text Memory = codes "out of memory" ++ 10 ∷ []
+note_text (Frame frame frames) = missing_text frame frames
 
 -- what is noted of a command's result
 abbrev pub note_by : Result (Unit {0}) Failure → List ℕ
@@ -60,6 +65,7 @@ status_text statuses.ReadFault = note_text ReadFault
 status_text statuses.ReportFault = note_text ReportFault
 status_text statuses.NotesFault = note_text NotesFault
 status_text statuses.Memory = note_text Memory
+status_text statuses.Frame = []
 
 -- the text was appended and more behind it, or a beginning of it where one of the sink's counts rose
 abbrev pub IsNotedFirst : SinkSays → SinkSays → List ℕ → Type 0

@@ -28,6 +28,7 @@ status_of failures.ReadFault = statuses.ReadFault
 status_of failures.ReportFault = statuses.ReportFault
 status_of failures.NotesFault = statuses.NotesFault
 status_of failures.Memory = statuses.Memory
+status_of (failures.Frame frame frames) = statuses.Frame
 
 -- the status of a command's result
 abbrev pub status_by : Result (Unit {0}) Failure → Status
@@ -48,6 +49,7 @@ code_of statuses.ReadFault = 4
 code_of statuses.ReportFault = 5
 code_of statuses.NotesFault = 6
 code_of statuses.Memory = 7
+code_of statuses.Frame = 10
 
 -- the status of a run whose words ask for nothing
 abbrev pub refusal_status : Refusal → Status

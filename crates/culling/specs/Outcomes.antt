@@ -1,5 +1,5 @@
 -- What a command comes to: from what its input says to a status, and to what the report and the notes gain.
-use Rattle.std.specs.Prelude.{ℕ, ◌≡◌, ◌⊎◌, ◌≤◌, ◌++◌, List, [], length, map, take, slice_index_or, Some, IfSome}
+use Rattle.std.specs.Prelude.{ℕ, ◌≡◌, ◌⊎◌, ◌<◌, ◌≤◌, ◌++◌, List, [], length, map, take, slice_index_or, Some, IfSome}
 use Rattle.std.specs.List.{flat_map, range_with_len}
 use Rattle.cull_base.specs.Stream.{SourceSays}
 use Rattle.scene_reader.specs.Layout.{Parts, IsScene, layout, upgraded}
@@ -11,9 +11,10 @@ use Rattle.cull_report.specs.Scene.{frame_report, scene_header}
 use Rattle.clap.specs.Words.{Text}
 use Rattle.command_words.specs.Words.{command_of}
 use Rattle.command_words.specs.declared.command.Command.{Command}
-use Rattle.command_words.specs.declared.command.Command.TheVariants.{Cull, Live, Demo, Upgrade}
+use Rattle.command_words.specs.declared.command.Command.TheVariants.{Cull, Live, Demo, Upgrade, Picture}
 use Rattle.demo_scene.specs.Demo.{demo_of}
-use Rattle.culling.specs.Notes.{refusal_text, status_text}
+use Rattle.culling.specs.Notes.{missing_text, refusal_text, status_text}
+use Rattle.culling.specs.Picture.{ShowsTruly, frame_picture}
 use Rattle.culling.specs.Summary.{summary_text}
 use Rattle.culling.specs.declared.failure.Status.{Status}
 use Rattle.culling.specs.declared.failure.Status.TheVariants as statuses
@@ -68,6 +69,12 @@ report_and s notes = record {
 abbrev pub live_frames : Parts → ℕ → ℕ → Counts → List (List ℕ)
 live_frames s rounds watch counts = map (λ frame. frame_live s rounds watch (counts frame) frame) (range_with_len 0 (length s.cameras))
 
+-- the picture of a frame, and where there is no such frame a note that says so
+abbrev pub IsPictured : Parts → ℕ → OutcomeOf → Type 0
+IsPictured s frame o =
+    ((frame < length s.cameras) × (o ≡ text_alone (frame_picture s frame)))
+    ⊎ ((length s.cameras ≤ frame) × (o ≡ note_alone statuses.Frame (missing_text frame (length s.cameras))))
+
 -- a fact of the bytes that are left in a source, where they are told
 abbrev pub IfBytes : SourceSays → (List ℕ → Type 0) → Type 0
 IfBytes source P = IfSome source.left P
@@ -94,6 +101,7 @@ ReadsScene (Cull settings) = Unit {0}
 ReadsScene (Live settings rounds watch) = Unit {0}
 ReadsScene (Demo settings seed m) = ⊥
 ReadsScene Upgrade = Unit {0}
+ReadsScene (Picture settings frame) = Unit {0}
 
 -- the command comes to this outcome, from what its input says
 abbrev pub Ends : Command → SourceSays → OutcomeOf → Type 0
@@ -102,15 +110,17 @@ Ends (Live settings rounds watch) source o =
     EndsByScene source o (λ s. (counts : Counts) × IsRising s rounds watch counts × (o ≡ report_and s (live_frames s rounds watch counts)))
 Ends (Demo settings seed m) source o = o ≡ text_alone (summary_text seed m)
 Ends Upgrade source o = EndsByScene source o (λ s. o ≡ text_alone (layout (upgraded s)))
+Ends (Picture settings frame) source o = EndsByScene source o (λ s. IsPictured s frame o)
 
 -- What the command's texts call occluded is hidden: what a live line does, by the members that it states, whatever the counts are.
--- `upgrade` calls nothing so.
+-- `upgrade` calls nothing so. What a picture shows is drawn.
 abbrev pub IsTrue : Command → SourceSays → Type 0
 IsTrue (Cull settings) source = (s : Parts) → HasScene source s → HidesTruly s
 IsTrue (Live settings rounds watch) source =
     (s : Parts) → HasScene source s → HidesTruly s × ((counts : Counts) → HidesLive s rounds watch counts)
 IsTrue (Demo settings seed m) source = m ≤ 65536 → HidesTruly (demo_of seed m)
 IsTrue Upgrade source = Unit {0}
+IsTrue (Picture settings frame) source = (s : Parts) → HasScene source s → frame < length s.cameras → ShowsTruly s frame
 
 -- ---- what words ask for
 

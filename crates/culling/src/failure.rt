@@ -23,6 +23,8 @@ pub enum Status {
     NotesFault,
     /// Out of memory.
     Memory,
+    /// The scene has no such frame.
+    Frame,
 }
 
 /// Why a run isn't done.
@@ -33,6 +35,11 @@ pub enum Failure {
     ReportFault,
     NotesFault,
     Memory,
+    /// The scene has no such frame: its number, and how many there are.
+    Frame {
+        frame: u32,
+        frames: u32,
+    },
 }
 
 impl From<SceneError> for Failure {
@@ -87,6 +94,7 @@ impl Status {
             Status::ReportFault => 5,
             Status::NotesFault => 6,
             Status::Memory => 7,
+            Status::Frame => 10,
         }
     }
 }
@@ -115,6 +123,7 @@ impl Failure {
             Failure::ReportFault => Status::ReportFault,
             Failure::NotesFault => Status::NotesFault,
             Failure::Memory => Status::Memory,
+            Failure::Frame { .. } => Status::Frame,
         }
     }
 
@@ -128,6 +137,7 @@ impl Failure {
             // there is nowhere to note it
             Failure::NotesFault => Line::empty(),
             Failure::Memory => line_of(b"out of memory"),
+            Failure::Frame { frame, frames } => missing_line(*frame, *frames),
         }
     }
 
@@ -145,7 +155,21 @@ impl Failure {
 
 ghost use Rattle.std.specs.Fmt.{decimal};
 ghost use Rattle.text_lines.specs.Lines.{line};
-ghost use Rattle.culling.specs.Notes.{refusal_text};
+ghost use Rattle.culling.specs.Notes.{missing_text, refusal_text};
+
+// The line of a frame that isn't there, and of how many there are.
+#[tactic(auto, unfolding(crate::specs::Notes::missing_text))]
+fn missing_line(frame: u32, frames: u32) -> Line
+    ensures { result ≡ missing_text frame frames }
+{
+    let mut line = Line::begin(b"no");
+    line.word(b"such");
+    line.word(b"frame");
+    line.number(u64::from(frame));
+    line.number(u64::from(frames));
+    line.end();
+    line
+}
 
 // What the line of a refused scene begins with: the refusal's number.
 fn refusal(number: u64) -> Line

@@ -11,6 +11,7 @@ mod frames;
 mod live;
 mod live_caller;
 mod live_frame;
+mod picture;
 mod run;
 mod summary;
 mod upgrade;

@@ -10,6 +10,7 @@ use crate::cull::cull;
 use crate::demo::{Seeded, demo};
 use crate::failure::{Failure, Status, end_refused};
 use crate::live::{Looks, live};
+use crate::picture::picture;
 use crate::upgrade::write_upgraded;
 use command_words::{Command, command_of};
 use cull_base::{Sink, Source};
@@ -62,13 +63,17 @@ fn perform<R: Threads + Wait + Sync, S: Source, W: Sink, E: Sink, G: Gate>(
             demo(rt, alloc, &seeded, report, notes, gate)
         }
         Command::Upgrade => write_upgraded(alloc, input, report),
+        Command::Picture { settings, frame } => {
+            picture(rt, alloc, settings, *frame, input, report, gate)
+        }
     }
 }
 
 /// Runs a command, whatever its settings: `cull` reads a scene from the input and writes its report, `live` looks at
 /// the scene's first objects too while each frame is drawn, and notes what it saw, `demo` makes a scene and writes its
-/// summary, `upgrade` reads a scene and writes it in version 2. The gate is asked while frames are drawn. What is said of bytes holds where the input tells its bytes; a
-/// sink's claim where the sink tells its own.
+/// summary, `upgrade` reads a scene and writes it in version 2, `picture` reads a scene and writes a picture of one of its
+/// frames. The gate is asked while frames are drawn. What is said of bytes holds where the input tells its bytes; a sink's
+/// claim where the sink tells its own.
 pub fn run<R: Threads + Wait + Sync, S: Source, W: Sink, E: Sink, G: Gate>(
     rt: &R,
     alloc: Global,
@@ -90,7 +95,8 @@ pub fn run<R: Threads + Wait + Sync, S: Source, W: Sink, E: Sink, G: Gate>(
         WithoutFault before after
         → IfAsked (map string_bytes words.now) (λ c. IsComplete c (S.says input.old) result) }
 
-    // Each object that is called occluded has a piece strictly in front of it at each of its samples in the screen.
+    // Each object that is called occluded has a piece strictly in front of it at each of its samples in the screen; and
+    // at each sample whose number in a picture isn't 0, some piece is as near as the number says.
     ensures truth { IfAsked (map string_bytes words.now) (λ c. IsTrue c (S.says input.old)) }
 
     // The command line. Plain words are never refused, since they make a command.
