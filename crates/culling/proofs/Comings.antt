@@ -17,22 +17,23 @@ use Rattle.cull_report.specs.Live.{Counts}
 use Rattle.cull_report.specs.Scene.{scene_header}
 use Rattle.command_words.specs.Words.{AreWords, IsWithinLimits, command_of}
 use Rattle.command_words.specs.declared.command.Command.{Command}
-use Rattle.command_words.specs.declared.command.Command.TheVariants.{Cull, Live, Demo, Upgrade}
+use Rattle.command_words.specs.declared.command.Command.TheVariants.{Cull, Live, Demo, Upgrade, Picture}
 use Rattle.command_words.specs.declared.settings.Settings.{Settings}
 use Rattle.command_words.specs.declared.words.Refusal.{Refusal}
 use Rattle.command_words.specs.declared.words.Refusal.TheVariants as refusals
 use Rattle.demo_scene.proofs.DemoScene.{demo_is_scene}
 use Rattle.demo_scene.specs.Demo.{demo_of, frame_count}
 use Rattle.culling.specs.declared.failure.Failure.{Failure}
-use Rattle.culling.specs.declared.failure.Failure.TheVariants.{Scene, ReadFault, ReportFault, NotesFault, Memory}
+use Rattle.culling.specs.declared.failure.Failure.TheVariants.{Scene, ReadFault, ReportFault, NotesFault, Memory, Frame}
 use Rattle.culling.specs.declared.failure.Status.{Status}
 use Rattle.culling.specs.declared.failure.Status.TheVariants as statuses
 use Rattle.culling.specs.FrameRuns.{LeavesFrames, LeavesTexts}
 use Rattle.culling.specs.Frames.{lines_of}
 use Rattle.culling.specs.NotedLines.{CountsStay}
-use Rattle.culling.specs.Notes.{IsNotedBehind, IsNotedFirst, note_by, note_text, refusal_text, status_text, usage_text}
+use Rattle.culling.specs.Notes.{IsNotedBehind, IsNotedFirst, missing_text, note_by, note_text, refusal_text, status_text, usage_text}
 use Rattle.culling.specs.Outcome.{failure_of, refusal_status, sink_failure, status_by, status_of}
 use Rattle.culling.specs.Outcomes.{Ends, HasFault, HasScene, IfAsked, IfBytes, IsTrue, ReadsScene, OutcomeOf, joined, live_frames, note_alone, notes_at, notes_before, report_and, report_before, report_of, text_alone}
+use Rattle.culling.specs.Picture.{frame_picture}
 use Rattle.culling.specs.Runs.{AwaitsNote, Comes, HasCause, IsComplete, IsCut, IsUnasked, Leaves, LeavesFront, LeavesWhole, Streams, WithoutFault, streams}
 use Rattle.culling.specs.Summary.{demo_line, frames_summary, summary_text}
 use Rattle.culling.specs.declared.frames.Beside.TheVariants.{Nothing, Looks}
@@ -42,6 +43,7 @@ use Rattle.culling.proofs.FrameByFrame.{are_empty}
 use Rattle.culling.proofs.FrameTexts.{as_one_text, counts_same, never_done, none_at, unwritten, whole_leaves, without_notes}
 use Rattle.culling.proofs.OutcomeTexts.{header_some, joined_is, live_frames_are, not_empty, summary_some}
 use Rattle.culling.proofs.ScenePieces.{all_are_pieces, lines_hide}
+use Rattle.culling.proofs.Shown.{picture_not_empty, shows_truly}
 
 -- ---- what waits for its note
 
@@ -60,12 +62,14 @@ ends_refused (Cull settings) source e reads refusal fault = inr (inl (e, refusal
 ends_refused (Live settings rounds watch) source e reads refusal fault = inr (inl (e, refusal, fault, refl))
 ends_refused (Demo settings seed m) source e reads refusal fault = absurd reads
 ends_refused Upgrade source e reads refusal fault = inr (inl (e, refusal, fault, refl))
+ends_refused (Picture settings frame) source e reads refusal fault = inr (inl (e, refusal, fault, refl))
 
 ends_unread : (c : Command) (source : SourceSays) → ReadsScene c → Ends c source (note_alone statuses.ReadFault (status_text statuses.ReadFault))
 ends_unread (Cull settings) source reads = inr (inr refl)
 ends_unread (Live settings rounds watch) source reads = inr (inr refl)
 ends_unread (Demo settings seed m) source reads = absurd reads
 ends_unread Upgrade source reads = inr (inr refl)
+ends_unread (Picture settings frame) source reads = inr (inr refl)
 
 comes_refused : (c : Command) (i0 i1 : SourceSays) (r n : SinkSays) (e : SceneError) (P Q : Type 0) → ReadsScene c → IsRefusal e → HasFault i0 e → P → Q
     → Comes c statuses.Scene (streams i0 r n) (streams i1 r n) (AwaitsNote (Err (Scene e))) P Q
@@ -237,6 +241,18 @@ demo_comes settings seed m s i r0 r1 n0 n1 r P Q is q w =
     texts_come (Demo settings seed m) (text_alone (summary_text seed m)) i i r0 r1 n0 n1 r P Q refl refl (not_empty (summary_text seed m) [] (summary_some seed m)) (λ reads. absurd reads) (λ none. q)
     (subst (λ (t : List ℕ). LeavesTexts (text_alone t) r r0 r1 n0 n1) (summary_is seed m) (as_one_text head frames r r0 r1 n0 n1 silent))
 
+-- ---- one text on the report
+
+-- it stands whole
+pub text_written : (text : List ℕ) (x : Unit {0}) (r0 r1 n : SinkSays) → Writes r0 r1 (Ok x) text → LeavesTexts (text_alone text) (Ok x) r0 r1 n n
+text_written text x r0 r1 n w =
+    whole_leaves text [] [] r0 r1 n n x
+    (record { reported = subst (Appends r0 r1) (sym (append-nil text)) w.ok; noted = nothing_appended n; report_stays = w.faults_stay; stay = counts_same n })
+
+-- a front of it stands
+pub text_unwritten : (text : List ℕ) (e : SinkError) (r0 r1 n : SinkSays) → Writes r0 r1 (Err e) text → LeavesTexts (text_alone text) (Err (sink_failure e)) r0 r1 n n
+text_unwritten text e r0 r1 n w = unwritten text text [] [] e r0 r1 n (append-nil text) (append-nil text) w
+
 -- ---- `upgrade`
 
 layout_some : (s : Parts) → 0 < length (layout s)
@@ -245,14 +261,11 @@ layout_some s = omega arith
 
 -- the layout stands whole
 pub upgrade_written : (s : Parts) (x : Unit {0}) (r0 r1 n : SinkSays) → Writes r0 r1 (Ok x) (layout s) → LeavesTexts (text_alone (layout s)) (Ok x) r0 r1 n n
-upgrade_written s x r0 r1 n w =
-    let text = layout s in
-    whole_leaves text [] [] r0 r1 n n x
-    (record { reported = subst (Appends r0 r1) (sym (append-nil text)) w.ok; noted = nothing_appended n; report_stays = w.faults_stay; stay = counts_same n })
+upgrade_written s x r0 r1 n w = text_written (layout s) x r0 r1 n w
 
 -- a front of it stands
 pub upgrade_unwritten : (s : Parts) (e : SinkError) (r0 r1 n : SinkSays) → Writes r0 r1 (Err e) (layout s) → LeavesTexts (text_alone (layout s)) (Err (sink_failure e)) r0 r1 n n
-upgrade_unwritten s e r0 r1 n w = let text = layout s in unwritten text text [] [] e r0 r1 n (append-nil text) (append-nil text) w
+upgrade_unwritten s e r0 r1 n w = text_unwritten (layout s) e r0 r1 n w
 
 pub upgrade_comes : (s : Parts) (i0 i1 : SourceSays) (r0 r1 n : SinkSays) (r : Result (Unit {0}) Failure) (P : Type 0) → IsScene s → TakesLayout i0 i1 s
     → LeavesTexts (text_alone (layout (upgraded s))) r r0 r1 n n → Comes Upgrade (status_by r) (streams i0 r0 n) (streams i1 r1 n) (AwaitsNote r) P (Unit {0})
@@ -260,6 +273,28 @@ upgrade_comes s i0 i1 r0 r1 n r P scene takes l =
     let text = layout (upgraded s) in
     texts_come Upgrade (text_alone text) i0 i1 r0 r1 n n r P (Unit {0}) (inl (s, has_scene i0 i1 s scene takes, refl)) refl (not_empty text [] (layout_some (upgraded s)))
     (λ reads. none_left i0 i1 s takes) (λ none. tt) l
+
+-- ---- `picture`
+
+pub picture_comes : (settings : Settings) (frame : ℕ) (s : Parts) (i0 i1 : SourceSays) (r0 r1 n : SinkSays) (r : Result (Unit {0}) Failure) (P : Type 0) → IsScene s → TakesLayout i0 i1 s → frame < length s.cameras
+    → LeavesTexts (text_alone (frame_picture s frame)) r r0 r1 n n → Comes (Picture settings frame) (status_by r) (streams i0 r0 n) (streams i1 r1 n) (AwaitsNote r) P (Unit {0})
+picture_comes settings frame s i0 i1 r0 r1 n r P scene takes lt l =
+    let text = frame_picture s frame in
+    texts_come (Picture settings frame) (text_alone text) i0 i1 r0 r1 n n r P (Unit {0}) (inl (s, has_scene i0 i1 s scene takes, inl (lt, refl))) refl (not_empty text [] (picture_not_empty s frame))
+    (λ reads. none_left i0 i1 s takes) (λ none. tt) l
+
+-- the scene has no such frame
+pub missing_comes : (settings : Settings) (frame frames : ℕ) (s : Parts) (i0 i1 : SourceSays) (r n : SinkSays) (P Q : Type 0) → IsScene s → TakesLayout i0 i1 s → frames ≡ length s.cameras → frames ≤ frame → P → Q
+    → Comes (Picture settings frame) statuses.Frame (streams i0 r n) (streams i1 r n) (AwaitsNote (Err (Frame frame frames))) P Q
+missing_comes settings frame frames s i0 i1 r n P Q scene takes all past p q = record {
+  outcome = note_alone statuses.Frame (missing_text frame frames);
+  ends = inl (s, has_scene i0 i1 s scene takes, inr (omega (arith, all, past), ap (λ (k : ℕ). note_alone statuses.Frame (missing_text frame k)) all));
+  leaves = inl (refl, record { reported = nothing_appended r; noted_is = nothing_awaits n (Err (Frame frame frames)) (missing_text frame frames) refl });
+  causes = record { read = λ is. absurd cc; report = λ is. absurd cc; notes = λ is. absurd cc };
+  untouched = λ is. p;
+  unnoted = λ is. q;
+  taken = λ is. absurd cc;
+}
 
 -- ---- the status's note
 
@@ -341,6 +376,7 @@ some_ends (Cull settings) source = (note_alone statuses.ReadFault (status_text s
 some_ends (Live settings rounds watch) source = (note_alone statuses.ReadFault (status_text statuses.ReadFault), inr (inr refl))
 some_ends (Demo settings seed m) source = (text_alone (summary_text seed m), refl)
 some_ends Upgrade source = (note_alone statuses.ReadFault (status_text statuses.ReadFault), inr (inr refl))
+some_ends (Picture settings frame) source = (note_alone statuses.ReadFault (status_text statuses.ReadFault), inr (inr refl))
 
 pub memory_comes : (c : Command) (i : SourceSays) (r n0 n1 : SinkSays) (P Q : Type 0) → P → IsNoted n0 n1 (status_text statuses.Memory)
     → Comes c statuses.Memory (streams i r n0) (streams i r n1) IsNotedBehind P (statuses.Memory ≡ statuses.Done → Q)
@@ -365,6 +401,7 @@ truth (Cull settings) source = λ s has. hides_truly s has.scene (all_are_pieces
 truth (Live settings rounds watch) source = λ s has. (hides_truly s has.scene (all_are_pieces s has.scene), λ counts. lines_hide s rounds watch counts has.scene)
 truth (Demo settings seed m) source = λ few. let scene = demo_is_scene seed m few in hides_truly (demo_of seed m) scene (all_are_pieces (demo_of seed m) scene)
 truth Upgrade source = tt
+truth (Picture settings frame) source = λ s has lt. shows_truly s frame has.scene
 
 -- ---- what words ask for
 

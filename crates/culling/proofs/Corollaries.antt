@@ -7,14 +7,16 @@ use Rattle.scene_reader.specs.Layout.{Parts, IsScene, layout, upgraded}
 use Rattle.scene_reader.specs.Fault.{IsRefusal, first_fault}
 use Rattle.scene_reader.specs.declared.error.SceneError.{SceneError}
 use Rattle.scene_reader.proofs.LayoutFirst.{scene_first}
+use Rattle.scene_reader.proofs.OnlyScene.{layout_one}
 use Rattle.cull_report.specs.Hiding.{HidesTruly}
 use Rattle.cull_report.specs.Live.{Counts, HidesLive, IsRising, live_text}
 use Rattle.cull_report.specs.Scene.{report_text}
 use Rattle.command_words.specs.declared.command.Command.{Command}
-use Rattle.command_words.specs.declared.command.Command.TheVariants.{Cull, Live, Demo, Upgrade}
+use Rattle.command_words.specs.declared.command.Command.TheVariants.{Cull, Live, Demo, Upgrade, Picture}
 use Rattle.command_words.specs.declared.settings.Settings.{Settings}
-use Rattle.culling.specs.Notes.{IsNotedBehind, refusal_text, status_text}
-use Rattle.culling.specs.Outcomes.{Ends, EndsByScene, HasFault, HasScene, IfBytes, OutcomeOf, ReadsScene, joined, live_frames, note_alone, report_and, report_of, text_alone}
+use Rattle.culling.specs.Notes.{IsNotedBehind, missing_text, refusal_text, status_text}
+use Rattle.culling.specs.Picture.{ShowsTruly, frame_picture}
+use Rattle.culling.specs.Outcomes.{Ends, EndsByScene, HasFault, HasScene, IfBytes, IsPictured, OutcomeOf, ReadsScene, joined, live_frames, note_alone, report_and, report_of, text_alone}
 use Rattle.culling.specs.Runs.{Comes, IsCut, Leaves, LeavesWhole, Streams, WithoutFault}
 use Rattle.culling.specs.Summary.{summary_text}
 use Rattle.culling.specs.declared.failure.Status.{Status}
@@ -22,6 +24,7 @@ use Rattle.culling.specs.declared.failure.Status.TheVariants as statuses
 use Rattle.culling.proofs.Fronts.{front_of_more}
 use Rattle.culling.proofs.OutcomeTexts.{live_is, report_is}
 use Rattle.culling.proofs.ScenePieces.{all_are_pieces, lines_hide}
+use Rattle.culling.proofs.Shown.{shows_truly}
 use Rattle.cull_report.proofs.Occluders.{hides_truly}
 
 -- ---- by the status
@@ -89,6 +92,18 @@ done_upgrade before after P Q h =
     let (s, has, is) = done_scene before.input h.outcome (λ s. h.outcome ≡ text_alone (layout (upgraded s))) h.ends w.0 in
     (s, has, h.taken refl tt, subst (Appends before.report after.report) (ap report_of is ∙ append-nil (layout (upgraded s))) w.1.reported)
 
+-- of `picture` the picture of a frame that is there, and what it shows is drawn
+pub done_picture : (settings : Settings) (frame : ℕ) (before after : Streams) (P Q : Type 0) → Comes (Picture settings frame) statuses.Done before after IsNotedBehind P Q
+    → (s : Parts) × HasScene before.input s × IfBytes before.input (λ bytes. after.input.left ≡ Some []) × (frame < length s.cameras) × Appends before.report after.report (frame_picture s frame) × ShowsTruly s frame
+done_picture settings frame before after P Q h =
+    let w = done_whole h.outcome before.report after.report (IsNotedBehind before.notes after.notes) h.leaves in
+    let (s, has, made) = done_scene before.input h.outcome (λ s. IsPictured s frame h.outcome) h.ends w.0 in
+    elim made [
+      | inl shown ↦
+          (s, has, h.taken refl tt, shown.0, subst (Appends before.report after.report) (ap report_of shown.1 ∙ append-nil (frame_picture s frame)) w.1.reported, shows_truly s frame has.scene)
+      | inr missing ↦ let bad : statuses.Done ≡ statuses.Frame = w.0 ∙ ap (λ (x : OutcomeOf). x.status) missing.1 in absurd cc
+    ]
+
 -- ---- refused: bytes with a first fault end as Scene, ReadFault or Memory
 
 no_scene_at_fault : (source : SourceSays) (s : Parts) (bytes : List ℕ) (e : SceneError) → source.left ≡ Some bytes → first_fault bytes ≡ Some e → HasScene source s → ⊥
@@ -125,6 +140,7 @@ ends_silent (Live settings rounds watch) source o bytes e reads left fault ends 
     by_scene source o (λ s. (counts : Counts) × IsRising s rounds watch counts × (o ≡ report_and s (live_frames s rounds watch counts))) bytes e left fault ends
 ends_silent (Demo settings seed m) source o bytes e reads left fault ends = absurd reads
 ends_silent Upgrade source o bytes e reads left fault ends = by_scene source o (λ s. o ≡ text_alone (layout (upgraded s))) bytes e left fault ends
+ends_silent (Picture settings frame) source o bytes e reads left fault ends = by_scene source o (λ s. IsPictured s frame o) bytes e left fault ends
 
 pub refused : (c : Command) (status : Status) (before after : Streams) (P Q : Type 0) (bytes : List ℕ) (e : SceneError) → ReadsScene c → before.input.left ≡ Some bytes → first_fault bytes ≡ Some e
     → Comes c status before after IsNotedBehind P Q → ((status ≡ statuses.Scene) ⊎ (status ≡ statuses.ReadFault) ⊎ (status ≡ statuses.Memory)) × P
@@ -164,5 +180,40 @@ complete_cull settings status before after P Q s bytes left spelled scene no_rea
             let no : Some e ≡ None = sym some ∙ none in
             absurd cc
         | inr unread ↦ (ap (λ (x : OutcomeOf). x.notes) unread, inr (ap (λ (x : OutcomeOf). x.status) unread))
+      ]
+    ]
+
+-- ---- missing: a scene without the frame, and no fault of the input: `picture` ends as Frame with that note alone, or memory ran out
+
+pub missing_picture : (settings : Settings) (frame : ℕ) (status : Status) (before after : Streams) (P Q : Type 0) (s : Parts) (bytes : List ℕ) → before.input.left ≡ Some bytes → bytes ≡ layout s → IsScene s
+    → length s.cameras ≤ frame → (Rose before.input.faults after.input.faults → ⊥) → Comes (Picture settings frame) status before after IsNotedBehind P Q → ((status ≡ statuses.Frame) ⊎ (status ≡ statuses.Memory)) × P
+missing_picture settings frame status before after P Q s bytes left spelled scene past no_read h =
+    let first : first_fault bytes ≡ None = ap first_fault spelled ∙ scene_first s scene in
+    let (no_report, no_notes, which) = by_layout before.input h.outcome left first h.ends in (
+      elim (silent_ends (Picture settings frame) status before after P Q h no_report no_notes) [
+        | inl same ↦ elim which [ inl missing ↦ inl (same ∙ missing) | inr unread ↦ absurd (no_read (h.causes.read (same ∙ unread))) ]
+        | inr memory ↦ inr memory
+      ],
+      h.untouched no_report,
+    )
+  where
+    by_layout : (source : SourceSays) (o : OutcomeOf) → source.left ≡ Some bytes → first_fault bytes ≡ None → EndsByScene source o (λ t. IsPictured t frame o)
+        → (report_of o ≡ []) × (o.notes ≡ []) × ((o.status ≡ statuses.Frame) ⊎ (o.status ≡ statuses.ReadFault))
+    by_layout source o is none ends = elim ends [
+      | inl made ↦
+          let (t, has, which) = made in
+          let spelled_t : bytes ≡ layout t = subst (λ (l : Option (List ℕ)). IfSome l (λ b. b ≡ layout t)) is has.spelled in
+          let same : s ≡ t = layout_one s t scene has.scene (sym spelled ∙ spelled_t) in
+          elim which [
+            | inl shown ↦ absurd (omega (arith, shown.0, past, ap (λ (p : Parts). length p.cameras) same))
+            | inr missing ↦ (ap report_of missing.1, ap (λ (x : OutcomeOf). x.notes) missing.1, inl (ap (λ (x : OutcomeOf). x.status) missing.1))
+          ]
+      | inr rest ↦ elim rest [
+        | inl bad ↦
+            let (e, refusal, fault, same) = bad in
+            let some : first_fault bytes ≡ Some e = subst (λ (l : Option (List ℕ)). IfSome l (λ x. first_fault x ≡ Some e)) is fault in
+            let no : Some e ≡ None = sym some ∙ none in
+            absurd cc
+        | inr unread ↦ (ap report_of unread, ap (λ (x : OutcomeOf). x.notes) unread, inr (ap (λ (x : OutcomeOf). x.status) unread))
       ]
     ]

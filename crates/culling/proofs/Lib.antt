@@ -3,6 +3,7 @@ pub mod LiveLooks
 pub mod Marks
 pub mod LiveTexts
 pub mod ScenePieces
+pub mod Shown
 pub mod Shares
 pub mod Fronts
 pub mod OutcomeTexts

@@ -34,7 +34,7 @@ fn show_frame<R: Threads + Wait + Sync, W: Sink, G: Gate>(
     requires settings { AreInRange settings.now }
     requires frame { frame < length scene.now.cameras }
     // So it is whatever the notes say, which aren't written.
-    ensures shown { (notes : SinkSays) → LeavesTexts (text_alone (frame_picture scene.now frame)) result
+    ensures { (notes : SinkSays) → LeavesTexts (text_alone (frame_picture scene.now frame)) result
         (W.says report.old) (W.says report.new) notes notes }
 {
     let nowhere = ClipVertex { x: 0, y: 0, w: 0 };

@@ -1,0 +1,36 @@
+use Rattle.std.proofs.Common.{◌≡◌, ℕ, ◌<◌, ◌≤◌, length, arith, ap, refl, Err}
+use Rattle.std.proofs.lemmas.Result.{err_from_is_err_and}
+use Rattle.command_words.specs.declared.command.Command.TheVariants.{Picture}
+use Rattle.culling.proofs.Comings.{failed_read, missing_comes, picture_comes}
+use Rattle.culling.proofs.picture.picture.Goals as goal
+
+pub returns-in_err-scene : goal.returns-in_err-scene
+returns-in_err-scene g c =
+    let p = err_from_is_err_and c.from_residual.result c.from_residual.ensures.1 in
+    let read = c.in_err-scene.ensures in
+    rw (p.1, p.2)
+    (record {
+      outcome = λ notes. failed_read (Picture c.args.settings.now c.args.frame) (g.S.Source.says c.args.input.now) (g.S.Source.says c.read_scene.new.source) (g.W.Sink.says c.args.report.now)
+          notes c.in_err-scene.field-0.0 _ _ tt read.refused (λ is. read.read (ap Err is)) refl tt;
+    })
+
+pub returns-then-frame-frames : goal.returns-then-frame-frames
+returns-then-frame-frames g c =
+    let s = c.in_ok-scene.scene in
+    let all : length c.cameras.result.now ≡ length s.cameras = ap length c.cameras.ensures.value in
+    record {
+      outcome = λ notes. missing_comes c.args.settings.now c.args.frame (length c.cameras.result.now) s (g.S.Source.says c.args.input.now) (g.S.Source.says c.read_scene.new.source)
+          (g.W.Sink.says c.args.report.now) notes _ _ c.in_ok-scene.ensures.ok c.in_ok-scene.ensures.layout all c.if-frame-frames.true refl tt;
+    }
+
+pub show_frame-requires-clause-frame : goal.show_frame-requires-clause-frame
+show_frame-requires-clause-frame g c = omega (arith, ap length c.cameras.ensures.value, c.if-frame-frames.false)
+
+pub returns : goal.returns
+returns g c =
+    let s = c.in_ok-scene.scene in
+    let lt : c.args.frame < length s.cameras = omega (arith, ap length c.cameras.ensures.value, c.if-frame-frames.false) in
+    record {
+      outcome = λ notes. picture_comes c.args.settings.now c.args.frame s (g.S.Source.says c.args.input.now) (g.S.Source.says c.read_scene.new.source)
+          (g.W.Sink.says c.args.report.now) (g.W.Sink.says c.show_frame.new.report) notes c.show_frame.result _ c.in_ok-scene.ensures.ok c.in_ok-scene.ensures.layout lt (c.show_frame.ensures notes);
+    }
