@@ -12,6 +12,7 @@ mod live_verdicts;
 mod masks;
 mod meeting_run;
 mod objects;
+mod pictures;
 mod runs;
 mod scenes;
 mod second_version;

@@ -22,7 +22,8 @@ fn command_for(rt: &impl Abort, alloc: Global, given: &[&str]) -> Result<Command
     )
 }
 
-// The settings of a command, its name, and the two numbers of its own; none of `upgrade`, which has no settings.
+// The settings of a command, its name, and the two numbers of its own; none of `upgrade`, which has no settings. Of
+// `picture` the second number is 0.
 fn parts(command: Command) -> Option<(Settings, &'static str, Option<(u32, u32)>)> {
     let (settings, name, own) = match command {
         Command::Cull { settings } => (settings, "cull", None),
@@ -37,6 +38,7 @@ fn parts(command: Command) -> Option<(Settings, &'static str, Option<(u32, u32)>
             triangles,
         } => (settings, "demo", Some((seed, triangles))),
         Command::Upgrade => return None,
+        Command::Picture { settings, frame } => (settings, "picture", Some((frame, 0))),
     };
     Some((settings, name, own))
 }
@@ -61,6 +63,7 @@ fn defaults_stand_where_no_option_is_given(rt: HostRuntime) -> Result<(), Fail> 
         ("cull", None),
         ("live", Some((1, 1))),
         ("demo", Some((1, 20000))),
+        ("picture", Some((0, 0))),
     ] {
         assert_eq!(rt;
             asked(&rt, alloc, &["maskcull", command])?,
