@@ -199,7 +199,7 @@ Exit status:
   4  the input couldn't be read
   5  the picture couldn't be written
   7  out of memory
-  10 the scene has no such frame",
+  10  the scene has no such frame",
     options: &[WORKERS, BINS_X, BINS_Y, BATCH, FRAME],
 };
 
