@@ -80,7 +80,8 @@ pub fn picture<R: Threads + Wait + Sync, S: Source, W: Sink, G: Gate>(
         (report.new ≡ report.old) (Unit {0}) }
 {
     let scene = read_scene(alloc, input)?;
-    let frames = scene.cameras().len() as u32;
+    let cameras = scene.cameras();
+    let frames = cameras.len() as u32;
     if frame >= frames {
         return Err(Failure::Frame { frame, frames });
     }

@@ -70,17 +70,17 @@ pub eight_pixels : (size : Dimensions) (grade : Grade) (tile_of : ℕ → TileOf
     → s ≡ sub_at (tile_of (y / 8 * tile_columns_of size + column)) (4 * (y / 4 % 2) + k) → sample_lines grade s (8 * (y % 4)) 8 ≡ pixel_lines grade (state_in size tile_of) y (32 * column + 8 * k) 8
 unfolding sample_lines pixel_lines
 eight_pixels size grade tile_of y column k s within lt few fits is =
-    alike (λ j. number_line (cut_shade grade (bound_at s j))) (λ px. number_line (shade_at grade (state_in size tile_of) px y)) (8 * (y % 4)) (32 * column + 8 * k) 8 each
+    alike (λ j. number_line (cut_shade grade (bound_at s j))) (λ px. number_line (shade_at grade (state_in size tile_of) px y)) (8 * (y % 4)) (32 * column + 8 * k) 8
+    (λ i below. at ((32 * column + 8 * k) + i) i below refl)
   where
-    each : (i : ℕ) → i < 8 → number_line (cut_shade grade (bound_at s (8 * (y % 4) + i))) ≡ number_line (shade_at grade (state_in size tile_of) ((32 * column + 8 * k) + i) y)
-    each i below =
-        let x = (32 * column + 8 * k) + i in
-        let state = is ∙ sym (state_is size tile_of y column k x i few below refl) in
-        let sample : 8 * (y % 4) + i ≡ sample_of_pixel x y = omega (arith, below) in
+    at : (x i : ℕ) → i < 8 → x ≡ (32 * column + 8 * k) + i → number_line (cut_shade grade (bound_at s (8 * (y % 4) + i))) ≡ number_line (shade_at grade (state_in size tile_of) x y)
+    at x i below e =
+        let state = is ∙ sym (state_is size tile_of y column k x i few below e) in
+        let place : 8 * (y % 4) + i ≡ sample_of_pixel x y = omega (arith, below, e) in
         let bound : bound_at s (8 * (y % 4) + i) ≡ bound_of_pixel (state_in size tile_of) x y =
-        ap (λ (t : State). bound_at t (8 * (y % 4) + i)) state ∙ ap (λ (j : ℕ). bound_at (state_in size tile_of (sub_of_pixel x y)) j) sample in
+        ap (λ (t : State). bound_at t (8 * (y % 4) + i)) state ∙ ap (λ (j : ℕ). bound_at (state_in size tile_of (sub_of_pixel x y)) j) place in
         ap (λ (b : ℕ). number_line (cut_shade grade b)) bound
-        ∙ ap number_line (shade_uncut grade (bound_of_pixel (state_in size tile_of) x y) (within x y (omega (arith, below, fits)) lt))
+        ∙ ap number_line (shade_uncut grade (bound_of_pixel (state_in size tile_of) x y) (within x y (omega (arith, below, e, fits)) lt))
 
 -- ---- how many pixels of a row the first columns of tiles have
 

@@ -1,5 +1,5 @@
 //! A picture of a view's tiles, row by row.
-ghost use Rattle.std.specs.Prelude.{◌≡◌, ℕ, ◌++◌, ◌+◌, ◌-◌, ◌*◌, ◌<◌, ◌≤◌, true, length};
+ghost use Rattle.std.specs.Prelude.{◌≡◌, ℕ, ◌++◌, ◌+◌, ◌*◌, ◌<◌, ◌≤◌, true, length};
 ghost use Rattle.cull_base.specs.Grade.{top_of};
 ghost use Rattle.cull_base.specs.Screen.{IsSize, tile_columns_of, tile_count_of};
 ghost use Rattle.cull_base.specs.Stream.{Writes};
@@ -58,7 +58,8 @@ fn subs_of_tile(size: Size, column: u32) -> u32
     ensures within { 32 * column + 8 * result ≤ size.width }
     ensures sized { IsSize size.width size.height }
 {
-    let left = u32::from(size.width()) / 8 - 4 * column;
+    let width = u32::from(size.width());
+    let left = width / 8 - 4 * column;
     left.min(4)
 }
 
@@ -75,8 +76,9 @@ fn push_tile<V: TileView>(text: &mut Rows, shown: &Shown<V>, y: u16, column: u32
     ensures sized { IsSize shown.now.size.width shown.now.size.height }
 {
     let size = shown.size;
+    let columns = size.tile_columns();
     let row = u32::from(y);
-    let number = row / 8 * size.tile_columns() + column;
+    let number = row / 8 * columns + column;
     let tile = shown.view.state(number);
     let subs = subs_of_tile(size, column);
     for k in 0..subs {
@@ -107,6 +109,8 @@ fn push_rows<V: TileView>(text: &mut Rows, shown: &Shown<V>, first: u16, count: 
     ensures { let states = state_in shown.now.size (V.tile_of shown.now.view.now) in
         text.new ≡ text.old ++ row_lines shown.now.size.width shown.now.grade states first count }
 {
+    // an accessor tells what is held of a size
+    let _height = shown.size.height();
     for k in 0..count {
         push_row(text, shown, first + k);
     }
@@ -129,9 +133,10 @@ pub fn write_picture<W: Sink, V: TileView>(
         (picture_text size grade (state_in size (V.tile_of view.now))) }
 {
     let shown = Shown { size, grade, view };
+    let height = size.height();
     let rows = rows_at_once(size);
     let mut text = head(size);
-    let pieces = size.height() / rows;
+    let pieces = height / rows;
     for piece in 0..pieces {
         let start = rows * piece;
         push_rows(&mut text, &shown, start, rows);
@@ -139,7 +144,7 @@ pub fn write_picture<W: Sink, V: TileView>(
         text.clear();
     }
     let done = rows * pieces;
-    let left = size.height() - done;
+    let left = height - done;
     push_rows(&mut text, &shown, done, left);
     text.write_to(sink)
 }

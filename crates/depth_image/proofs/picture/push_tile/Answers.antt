@@ -8,8 +8,8 @@ use Rattle.depth_image.proofs.picture.push_tile.Goals as goal
 pub state-tile-requires : goal.state-tile-requires
 state-tile-requires g c =
     let shown = c.args.shown.now in
-    shown.holds (c.from-row.result / 8 * c.tile_columns.result + c.args.column)
-    (number_within shown.size c.args.y c.args.column c.from-row.result c.tile_columns.result c.requires.row c.requires.column c.from-row.ensures c.tile_columns.ensures.value)
+    shown.holds (c.from-row.result / 8 * c.tile_columns-columns.result + c.args.column)
+    (number_within shown.size c.args.y c.args.column c.from-row.result c.tile_columns-columns.result c.requires.row c.requires.column c.from-row.ensures c.tile_columns-columns.ensures.value)
 
 pub loop-k-init : goal.loop-k-init
 loop-k-init g c =
@@ -38,7 +38,7 @@ loop-k-preserved g c =
     let row = c.from-row.result in
     let s = c.sub-sub.result in
     let old = c.args.text.now in
-    let is = sub_is size tile_of y column k row c.tile_columns.result c.state-tile.result s c.from-row.ensures c.tile_columns.ensures.value c.state-tile.ensures c.sub-sub.ensures.value in
+    let is = sub_is size tile_of y column k row c.tile_columns-columns.result c.state-tile.result s c.from-row.ensures c.tile_columns-columns.ensures.value c.state-tile.ensures c.sub-sub.ensures.value in
     let so_far = pixel_lines grade states y (32 * column) (8 * k) in
     let next = sample_lines grade s (8 * (row % 4)) 8 in
     let eight = eight_pixels size grade tile_of y column k s shown.within c.requires.row (omega (arith, c.loop-k-test.true, c.subs_of_tile-subs.ensures.few))

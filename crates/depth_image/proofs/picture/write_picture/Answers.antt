@@ -24,13 +24,13 @@ loop-piece-init g c =
 
 pub overflow_mul-start : goal.overflow_mul-start
 overflow_mul-start g c =
-    let within = piece_within c.rows_at_once-rows.result c.height.result c.loop-piece.piece c.loop-piece-test.true in
-    omega (arith, within, c.height.ensures.value, c.height.ensures.valid.within_height)
+    let within = piece_within c.rows_at_once-rows.result c.height-height.result c.loop-piece.piece c.loop-piece-test.true in
+    omega (arith, within, c.height-height.ensures.value, c.height-height.ensures.valid.within_height)
 
 pub push_rows-requires-clause-rows : goal.push_rows-requires-clause-rows
 push_rows-requires-clause-rows g c =
-    let within = piece_within c.rows_at_once-rows.result c.height.result c.loop-piece.piece c.loop-piece-test.true in
-    omega (arith, within, c.height.ensures.value)
+    let within = piece_within c.rows_at_once-rows.result c.height-height.result c.loop-piece.piece c.loop-piece-test.true in
+    omega (arith, within, c.height-height.ensures.value)
 
 pub push_rows-requires-clause-room : goal.push_rows-requires-clause-room
 push_rows-requires-clause-room g c = omega (arith, c.loop-piece.invariant.short, c.rows_at_once-rows.ensures.few)
@@ -77,32 +77,31 @@ returns-in_err-write_to g c =
     let piece = c.loop-piece.text ++ row_lines size.width grade states start rows in
     let left = row_lines size.width grade states (start + rows) (size.height - (start + rows)) in
     let within : start + rows ≤ size.height =
-    (let most = piece_within rows c.height.result c.loop-piece.piece c.loop-piece-test.true in omega (arith, most, c.height.ensures.value)) in
+    (let most = piece_within rows c.height-height.result c.loop-piece.piece c.loop-piece-test.true in omega (arith, most, c.height-height.ensures.value)) in
     let failed : Writes s1 s2 (Err e) piece = subst (λ (t : List ℕ). Writes s1 s2 (Err e) t) c.push_rows.ensures c.in_err-write_to.ensures in
     let whole = writes_then s0 s1 s2 (Err e) front (piece ++ left) written so_far.faults so_far.refusals (writes_no_more s1 s2 e piece left failed) in
     rw (p.1, p.2) (subst (λ (t : List ℕ). Writes s0 s2 (Err e) t) (sym (picture_after size grade states front c.loop-piece.text start rows within is)) whole)
 
 pub overflow_mul-done : goal.overflow_mul-done
 overflow_mul-done g c =
-    let within = pieces_within c.rows_at_once-rows.result c.height.result in
-    omega (arith, within, c.height.ensures.value, c.height.ensures.valid.within_height)
+    let within = pieces_within c.rows_at_once-rows.result c.height-height.result in
+    omega (arith, within, c.height-height.ensures.value, c.height-height.ensures.valid.within_height)
 
 pub overflow_sub-left : goal.overflow_sub-left
 overflow_sub-left g c =
-    let within = pieces_within c.rows_at_once-rows.result c.height.result in
-    omega (arith, within, c.height.ensures.value, c.height-2.ensures.value)
+    let within = pieces_within c.rows_at_once-rows.result c.height-height.result in
+    omega (arith, within, c.height-height.ensures.value)
 
 pub push_rows-requires-2-clause-rows : goal.push_rows-requires-2-clause-rows
 push_rows-requires-2-clause-rows g c =
-    let within = pieces_within c.rows_at_once-rows.result c.height.result in
-    omega (arith, within, c.height.ensures.value, c.height-2.ensures.value)
+    let within = pieces_within c.rows_at_once-rows.result c.height-height.result in
+    omega (arith, within, c.height-height.ensures.value)
 
 pub push_rows-requires-2-clause-room : goal.push_rows-requires-2-clause-room
 push_rows-requires-2-clause-room g c =
     let rows = c.rows_at_once-rows.result in
-    let left = c.height-2.result - rows * (c.height.result / rows) in
-    let same : c.height-2.result ≡ c.height.result = c.height-2.ensures.value ∙ sym c.height.ensures.value in
-    let less = left_below rows c.height.result left c.rows_at_once-rows.ensures.some (ap (λ (h : ℕ). h - rows * (c.height.result / rows)) same) in
+    let left = c.height-height.result - rows * (c.height-height.result / rows) in
+    let less = left_below rows c.height-height.result left c.rows_at_once-rows.ensures.some refl in
     let few = room_for left rows c.args.size.width less c.rows_at_once-rows.ensures.few in
     omega (arith, c.loop-piece.invariant.short, few)
 
@@ -111,17 +110,17 @@ returns g c =
     let size = c.args.size in let grade = c.args.grade in
     let states = state_in size (g.V.TileView.tile_of c.args.view.now) in
     let rows = c.rows_at_once-rows.result in
-    let done = rows * (c.height.result / rows) in
-    let left = c.height-2.result - done in
+    let done = rows * (c.height-height.result / rows) in
+    let left = c.height-height.result - done in
     let so_far = c.loop-piece.invariant in
     let (front, written, told) = so_far.written in
     let s0 = g.W.Sink.says c.args.sink.now in
     let s1 = g.W.Sink.says c.loop-piece.sink in
     let s2 = g.W.Sink.says c.write_to-2.new.sink in
-    let all : c.loop-piece.piece ≡ c.height.result / rows = omega (arith, c.loop-piece-test.false, c.loop-piece.auto.piece-end) in
+    let all : c.loop-piece.piece ≡ c.height-height.result / rows = omega (arith, c.loop-piece-test.false, c.loop-piece.auto.piece-end) in
     let is = told ∙ ap (λ (n : ℕ). head_text size ++ row_lines size.width grade states 0 (rows * n)) all in
-    let within = pieces_within rows c.height.result in
-    let end : done + left ≡ size.height = omega (arith, within, c.height.ensures.value, c.height-2.ensures.value) in
+    let within = pieces_within rows c.height-height.result in
+    let end : done + left ≡ size.height = omega (arith, within, c.height-height.ensures.value) in
     let piece = c.loop-piece.text ++ row_lines size.width grade states done left in
     let last : Writes s1 s2 c.write_to-2.result piece = subst (λ (t : List ℕ). Writes s1 s2 c.write_to-2.result t) c.push_rows-2.ensures c.write_to-2.ensures in
     let whole = writes_then s0 s1 s2 c.write_to-2.result front piece written so_far.faults so_far.refusals last in
