@@ -177,3 +177,23 @@ fn upgrade_has_no_options(rt: HostRuntime) -> Result<(), Fail> {
     }
     Ok(())
 }
+
+#[test]
+fn picture_asks_for_a_frame(rt: HostRuntime) -> Result<(), Fail> {
+    let alloc = rt.alloc();
+    for (given, sharing, frame) in [
+        (["--frame", "255", "--workers=3"], [3, 1, 1, 64], 255),
+        (["--batch=1", "--frame", "7"], [1, 1, 1, 1], 7),
+        (["--frame=0", "--bins-x", "8"], [1, 8, 1, 64], 0),
+    ] {
+        let [first, second, third] = given;
+        let given = ["maskcull", "picture", first, second, third];
+        assert_eq!(rt; asked(&rt, alloc, &given)?, (sharing, "picture", Some((frame, 0))));
+    }
+    let named = command_for(&rt, alloc, &["maskcull", "picture"])?;
+    let (settings, _, _) = parts(named).ok_or("a command with settings")?;
+    assert!(rt; !settings.early);
+    let page = said(&rt, alloc, &["maskcull", "picture", "--help"])?;
+    assert!(rt; page.contains("Which frame is drawn, 0 to 255 [default: 0]"));
+    Ok(())
+}
