@@ -3,9 +3,9 @@
 
 usage: bench/pictures.py PROGRAM [--rounds 15]
 
-On screens of 2048 by 2048 and of 1280 by 720 pixels, empty and with 65,536 random triangles: the shortest of so many runs
-each, into a file that takes all, and once more into a pipe that is read to its end. The most resident memory of each
-command stands behind. Measure on a quiet machine."""
+On screens of 2048 by 2048 and of 1280 by 720 pixels, empty and with 65,536 random triangles: the shortest of so many
+runs each, into a file that takes all, and once more into a pipe that is read to its end. The most resident memory of
+each command stands behind. Measure on a quiet machine."""
 import argparse
 import os
 import struct

@@ -20,8 +20,8 @@ use std::sync::Wait;
 use std::thread::Threads;
 use tile_queues::{BinTable, BinView, Gate, draw_plain_frame};
 
-// Draws a frame, tests no object of it, and writes its picture. Conditions: the settings are in range, and there is such
-// a frame.
+// Draws a frame, tests no object of it, and writes its picture. Conditions: the settings are in range, and there is
+// such a frame.
 fn show_frame<R: Threads + Wait + Sync, W: Sink, G: Gate>(
     rt: &R,
     alloc: Global,

@@ -28,8 +28,8 @@ fn shade_of(grade: Grade, bound: u32) -> u32
     }
 }
 
-// The same, and the greatest number in place of one above it. No pixel's bound makes such a one, but a depth that holds at
-// no sample might.
+// The same, and the greatest number in place of one above it. No pixel's bound makes such a one, but a depth that holds
+// at no sample might.
 #[inline(always)]
 fn cut_shade(grade: Grade, bound: u32) -> u32
     ensures value { result ≡ cut_shade grade bound }
@@ -79,8 +79,8 @@ fn line_at<'a>(
     }
 }
 
-/// Appends the lines of a row of samples of a subtile. The lines of its two depths are made once. Conditions: the subtile
-/// has the row, and there is room for eight lines.
+/// Appends the lines of a row of samples of a subtile. The lines of its two depths are made once. Conditions: the
+/// subtile has the row, and there is room for eight lines.
 pub(crate) fn push_samples(text: &mut Rows, sub: &SubTile, grade: Grade, row: u32)
     requires row { row < 4 }
     requires room { length text.old + 48 ≤ 24640 }

@@ -116,11 +116,11 @@ fn push_rows<V: TileView>(text: &mut Rows, shown: &Shown<V>, first: u16, count: 
     }
 }
 
-/// Writes a picture of a view's tiles, a plain grey map of the screen: `P2`, the width and the height, `65535`, and then
-/// a line for each pixel, rows from the top and pixels from the left. Its number is the bound at the pixel's sample, of a
-/// wide grade without the lower eight bits; 0 where nothing is known. Failed and Memory are the sink's; after an error the
-/// beginning of the picture was appended, which may end within a line. Nothing is allocated. Conditions: the view holds
-/// every tile of the screen, and no bound is above the grade's top.
+/// Writes a picture of a view's tiles, a plain grey map of the screen: `P2`, the width and the height, `65535`, and
+/// then a line for each pixel, rows from the top and pixels from the left. Its number is the bound at the pixel's
+/// sample, of a wide grade without the lower eight bits; 0 where nothing is known. Failed and Memory are the sink's;
+/// after an error the beginning of the picture was appended, which may end within a line. Nothing is allocated.
+/// Conditions: the view holds every tile of the screen, and no bound is above the grade's top.
 pub fn write_picture<W: Sink, V: TileView>(
     sink: &mut W,
     size: Size,

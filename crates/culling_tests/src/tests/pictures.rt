@@ -21,8 +21,8 @@ const HALF: &str = "32767\n";
 
 const NONE: &str = "0\n";
 
-// How a command line over a scene's bytes ends, and what it writes: its text, at most so many bytes in a write, of which
-// the one of that number fails; and what it notes.
+// How a command line over a scene's bytes ends, and what it writes: its text, at most so many bytes in a write, of
+// which the one of that number fails; and what it notes.
 fn written<R: Threads + Wait + Sync>(
     rt: &R,
     alloc: Global,
