@@ -103,8 +103,8 @@ pixels_all size column le = by size.width le
     by w past = omega (arith, past)
 
 -- a tile of a row has room where the row has
-pub tile_room : (size : Dimensions) (column long begun : ℕ) → column < tile_columns_of size → long ≤ begun + 6 * min (32 * column) size.width → begun + 6 * size.width ≤ 24640 → long + 48 * subs_of_tile size column ≤ 24640
+pub tile_room : (size : Dimensions) (column long begun : ℕ) → column < tile_columns_of size → long ≤ begun + 6 * min (32 * column) size.width → begun + 6 * size.width ≤ 24656 → long + 48 * subs_of_tile size column ≤ 24656
 tile_room size column long begun lt so_far room = by size.width lt so_far room
   where
-    by : (w : ℕ) → column < div_ceil w 32 → long ≤ begun + 6 * min (32 * column) w → begun + 6 * w ≤ 24640 → long + 48 * min (w / 8 - 4 * column) 4 ≤ 24640
+    by : (w : ℕ) → column < div_ceil w 32 → long ≤ begun + 6 * min (32 * column) w → begun + 6 * w ≤ 24656 → long + 48 * min (w / 8 - 4 * column) 4 ≤ 24656
     by w below far fits = omega (arith, below, far, fits)

@@ -15,7 +15,7 @@ pub(crate) const WHITE: u32 = 65535;
 pub(crate) type NumberLine = Text<32>;
 
 /// Rows of pixels that a sink is asked once to take: at most 4,096 lines of six bytes, and the lines before them.
-pub(crate) type Rows = Text<24640>;
+pub(crate) type Rows = Text<24656>;
 
 // A bound as a number of the picture.
 #[inline(always)]
@@ -83,7 +83,7 @@ fn line_at<'a>(
 /// subtile has the row, and there is room for eight lines.
 pub(crate) fn push_samples(text: &mut Rows, sub: &SubTile, grade: Grade, row: u32)
     requires row { row < 4 }
-    requires room { length text.old + 48 ≤ 24640 }
+    requires room { length text.old + 48 ≤ 24656 }
     ensures value { text.new ≡ text.old ++ sample_lines grade sub.now (8 * row) 8 }
     ensures room { length text.new ≤ length text.old + 48 }
 {

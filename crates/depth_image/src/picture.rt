@@ -30,7 +30,7 @@ struct Shown<'a, V: TileView> {
 #[tactic(auto, unfolding(crate::specs::Picture::head_text))]
 fn head(size: Size) -> Rows
     ensures value { result ≡ head_text size }
-    ensures short { length result ≤ 64 }
+    ensures short { length result ≤ 80 }
 {
     let mut text = Text::begin(b"P2");
     text.end();
@@ -68,7 +68,7 @@ fn subs_of_tile(size: Size, column: u32) -> u32
 fn push_tile<V: TileView>(text: &mut Rows, shown: &Shown<V>, y: u16, column: u32)
     requires row { y < shown.now.size.height }
     requires column { column < tile_columns_of shown.now.size }
-    requires room { length text.old + 48 * subs_of_tile shown.now.size column ≤ 24640 }
+    requires room { length text.old + 48 * subs_of_tile shown.now.size column ≤ 24656 }
     ensures value { let states = state_in shown.now.size (V.tile_of shown.now.view.now) in
         text.new ≡ text.old
         ++ pixel_lines shown.now.grade states y (32 * column) (8 * subs_of_tile shown.now.size column) }
@@ -92,7 +92,7 @@ fn push_tile<V: TileView>(text: &mut Rows, shown: &Shown<V>, y: u16, column: u32
 // room.
 fn push_row<V: TileView>(text: &mut Rows, shown: &Shown<V>, y: u16)
     requires row { y < shown.now.size.height }
-    requires room { length text.old + 6 * shown.now.size.width ≤ 24640 }
+    requires room { length text.old + 6 * shown.now.size.width ≤ 24656 }
     ensures value { let states = state_in shown.now.size (V.tile_of shown.now.view.now) in
         text.new ≡ text.old ++ pixel_lines shown.now.grade states y 0 shown.now.size.width }
     ensures room { length text.new ≤ length text.old + 6 * shown.now.size.width }
@@ -105,7 +105,7 @@ fn push_row<V: TileView>(text: &mut Rows, shown: &Shown<V>, y: u16)
 // Appends the lines of some rows of pixels. Conditions: the screen has the rows, and there is room.
 fn push_rows<V: TileView>(text: &mut Rows, shown: &Shown<V>, first: u16, count: u16)
     requires rows { first + count ≤ shown.now.size.height }
-    requires room { length text.old + 6 * (count * shown.now.size.width) ≤ 24640 }
+    requires room { length text.old + 6 * (count * shown.now.size.width) ≤ 24656 }
     ensures { let states = state_in shown.now.size (V.tile_of shown.now.view.now) in
         text.new ≡ text.old ++ row_lines shown.now.size.width shown.now.grade states first count }
 {

@@ -3,7 +3,7 @@ ghost use Rattle.std.specs.Prelude.{◌≤◌};
 
 use crate::tests::runs::{LARGE, NEVER, sink, words_of};
 use crate::tests::scenes::{QUAD, TWO, changed, first_scene, in_batches, scene, two_frames};
-use cull_base::BytesSource;
+use cull_base::{BytesSource, SureSink};
 use culling::{Status, run};
 use demo_scene::demo_scene;
 use scene_reader::write_scene;
@@ -235,13 +235,13 @@ fn each_write_of_a_picture_that_fails_leaves_a_front(rt: HostRuntime) -> Result<
 fn demo_bytes(alloc: Global, triangles: u32) -> Result<Vec<u8>, Fail>
     requires { triangles ≤ 65536 }
 {
-    let Ok(scene) = demo_scene(alloc, 1, triangles) else {
-        return Err(Fail::from("a scene"));
-    };
-    let mut bytes = sink(alloc, LARGE, NEVER)?;
-    if write_scene(&scene, &mut bytes).is_err() {
-        return Err(Fail::from("its bytes"));
-    }
+    let scene = demo_scene(alloc, 1, triangles)
+        .ok()
+        .ok_or("memory for a scene")?;
+    let mut bytes = SureSink::new(alloc);
+    write_scene(&scene, &mut bytes)
+        .ok()
+        .ok_or("memory for its bytes")?;
     Ok(Vec::from_slice(alloc, bytes.held())?)
 }
 
