@@ -8,6 +8,9 @@ use Rattle.depth_image.proofs.lines.push_samples.Goals as goal
 pub loop-column-init : goal.loop-column-init
 loop-column-init c = record { text = samples_none c.args.text.now c.args.grade c.args.sub.now (8 * c.args.row); short = omega arith }
 
+pub line_at-line-requires-clause-sample : goal.line_at-line-requires-clause-sample
+line_at-line-requires-clause-sample c = omega (arith, c.requires.row, c.loop-column-test.true)
+
 pub line_at-line-requires-clause-short : goal.line_at-line-requires-clause-short
 line_at-line-requires-clause-short c = (c.depth_line-working.ensures.short, c.depth_line-reference.ensures.short)
 

@@ -1,7 +1,7 @@
-use Rattle.std.proofs.Common.{◌≡◌, ℕ, ◌+◌, ◌-◌, ◌*◌, ◌/◌, ◌<◌, ◌≤◌, ◌++◌, List, [], length, Err, refl, arith, sym, ap, ◌∙◌, subst}
+use Rattle.std.proofs.Common.{◌≡◌, ℕ, ◌+◌, ◌-◌, ◌*◌, ◌/◌, ◌≤◌, ◌++◌, List, [], length, Err, refl, arith, sym, ap, ◌∙◌, subst}
 use Rattle.std.proofs.lemmas.List.{append-nil}
 use Rattle.std.proofs.lemmas.Result.{err_from_is_err_and}
-use Rattle.cull_base.specs.Stream.{SinkSays, Appends, Writes}
+use Rattle.cull_base.specs.Stream.{Writes}
 use Rattle.cull_base.proofs.Streams.{appends_then, writes_then, writes_no_more}
 use Rattle.masked_update.specs.Views.{state_in}
 use Rattle.depth_image.specs.Picture.{head_text, row_lines}
