@@ -14,7 +14,7 @@ use Rattle.cull_report.specs.Scene.{report_text}
 use Rattle.command_words.specs.declared.command.Command.{Command}
 use Rattle.command_words.specs.declared.command.Command.TheVariants.{Cull, Live, Demo, Upgrade, Picture}
 use Rattle.command_words.specs.declared.settings.Settings.{Settings}
-use Rattle.culling.specs.Notes.{IsNotedBehind, missing_text, refusal_text, status_text}
+use Rattle.culling.specs.Notes.{IsNotedBehind, refusal_text, status_text}
 use Rattle.culling.specs.Picture.{ShowsTruly, frame_picture}
 use Rattle.culling.specs.Outcomes.{Ends, EndsByScene, HasFault, HasScene, IfBytes, IsPictured, OutcomeOf, ReadsScene, joined, live_frames, note_alone, report_and, report_of, text_alone}
 use Rattle.culling.specs.Runs.{Comes, IsCut, Leaves, LeavesWhole, Streams, WithoutFault}

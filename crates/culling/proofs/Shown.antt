@@ -1,5 +1,5 @@
 -- The picture of a frame: that of what its tiles hold, whose bounds are within the grade's top and no nearer than what is drawn.
-use Rattle.std.proofs.Common.{◌≡◌, ℕ, ◌*◌, ◌/◌, ◌<◌, ◌≤◌, length, arith, ap, subst, inl, inr}
+use Rattle.std.proofs.Common.{◌≡◌, ℕ, ◌<◌, ◌≤◌, length, arith, ap, subst, inl, inr}
 use Rattle.std.specs.List.{Contains}
 use Rattle.cull_base.specs.declared.nearness.Grade.{Grade}
 use Rattle.cull_base.specs.declared.nearness.Grade.TheVariants.{Narrow, Wide}

@@ -1,5 +1,5 @@
 -- A bound of a sound state is no nearer than the pieces that it is sound for.
-use Rattle.std.proofs.Common.{◌≡◌, ℕ, pos, ◌<◌, ◌≤◌, ◌*ℤ◌, max, List, true, arith, inl, inr}
+use Rattle.std.proofs.Common.{◌≡◌, ℕ, pos, ◌<◌, ◌≤◌, max, List, true, arith, inl, inr}
 use Rattle.std.specs.List.{Contains}
 use Rattle.std.proofs.lemmas.Int.{ints}
 use Rattle.cull_base.specs.declared.place.Sub.{Sub}

@@ -1,8 +1,8 @@
 -- No piece is nearer than the top that its nearness is scaled by.
-use Rattle.std.proofs.Common.{◌≡◌, ℕ, pos, suc, ◌≤◌, max, List, [], ◌∷◌, map, take, drop, Bool, true, false, cond, int_lt, arith, refl}
+use Rattle.std.proofs.Common.{◌≡◌, ℕ, pos, ◌≤◌, max, List, [], ◌∷◌, map, take, drop, Bool, true, false, cond, int_lt, arith, refl}
 use Rattle.std.specs.List.{All, Contains, flat_map}
 use Rattle.std.proofs.lemmas.Bool.{or_parts}
-use Rattle.std.proofs.lemmas.List.Elements.{All-append, All-contains, All-cons, All-nil}
+use Rattle.std.proofs.lemmas.List.Elements.{All-append, All-contains, All-nil}
 use Rattle.cull_base.specs.declared.clip.ClipVertex.{ClipVertex}
 use Rattle.cull_base.specs.declared.scene_types.Batch.{Batch}
 use Rattle.cull_base.specs.declared.scene_types.Tri.{Tri}

@@ -1,4 +1,4 @@
-use Rattle.std.proofs.Common.{◌≡◌, ℕ, ◌<◌, ◌≤◌, length, arith, ap, refl, Err}
+use Rattle.std.proofs.Common.{◌≡◌, ◌<◌, length, arith, ap, refl, Err}
 use Rattle.std.proofs.lemmas.Result.{err_from_is_err_and}
 use Rattle.command_words.specs.declared.command.Command.TheVariants.{Picture}
 use Rattle.culling.proofs.Comings.{failed_read, missing_comes, picture_comes}

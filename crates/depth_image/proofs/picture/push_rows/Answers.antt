@@ -1,4 +1,4 @@
-use Rattle.std.proofs.Common.{◌≡◌, ℕ, ◌+◌, ◌*◌, ◌≤◌, ◌++◌, List, length, append_assoc, arith, ap, sym, ◌∙◌}
+use Rattle.std.proofs.Common.{◌≡◌, ℕ, ◌+◌, ◌*◌, ◌++◌, List, append_assoc, arith, ap, sym, ◌∙◌}
 use Rattle.masked_update.specs.Views.{state_in}
 use Rattle.depth_image.specs.Picture.{pixel_lines, row_lines}
 use Rattle.depth_image.proofs.Numbers.{room_more}
