@@ -9,6 +9,12 @@ use Rattle.depth_image.proofs.Numbers.{left_below, piece_within, pieces_within, 
 use Rattle.depth_image.proofs.Pictures.{next_front, nothing_written, picture_after, picture_ends, rows_begin}
 use Rattle.depth_image.proofs.picture.write_picture.Goals as goal
 
+pub invariant_of-shown-clause-holds : goal.invariant_of-shown-clause-holds
+invariant_of-shown-clause-holds g c = c.requires.holds
+
+pub invariant_of-shown-clause-within : goal.invariant_of-shown-clause-within
+invariant_of-shown-clause-within g c = c.requires.within
+
 pub loop-piece-init : goal.loop-piece-init
 loop-piece-init g c =
     let size = c.args.size in
