@@ -22,7 +22,8 @@
 import { Calls, MaskcullError, OCCLUDED, OUTSIDE, VISIBLE, countOf, demandAmong, start } from './calls.js';
 
 export {
-    Calls, DROPS_CLOCKWISE, DROPS_COUNTERCLOCKWISE, KEEPS_BOTH, MaskcullError, OCCLUDED, OUTSIDE, VISIBLE, loadModule,
+    Calls, DROPS_CLOCKWISE, DROPS_COUNTERCLOCKWISE, KEEPS_BOTH, MaskcullError, NARROW, OCCLUDED, OUTSIDE, VISIBLE, WIDE,
+    loadModule,
 } from './calls.js';
 
 /** @typedef {import('./calls.js').Screen} Screen */
