@@ -28,7 +28,7 @@ export interface Screen {
     near: number;
     /** KEEPS_BOTH if it is left out. */
     winding?: Winding;
-    /** NARROW if it is left out. */
+    /** For Calls, NARROW if it is left out. A Frame is narrow. */
     grade?: Grade;
 }
 

@@ -76,7 +76,7 @@ const ATTEMPTS = {
         ...[3, -1, NaN].map((winding) => () => make({ winding })),
         ...[16, undefined].map((winding) => (frame) => frame.calls.setWinding(winding)),
     ],
-    grade: [1, 32, NaN].map((grade) => () => make({ grade })),
+    grade: [1, 32, NaN].map((grade) => () => makeCalls({ near: 16, grade })),
     array: [
         (frame) => frame.draw([...WALL], QUAD, CLIP_FROM_VIEW),
         (frame) => frame.draw(WALL.subarray(1), QUAD, CLIP_FROM_VIEW),
