@@ -3,7 +3,7 @@
 
 usage: bench/frames.py PROGRAM [--triangles 1000,20000,65536] [--rectangles 500] [--rounds 5]
                        [--workers 1,2,4] [--bins 4] [--batch 64] [--path 64]
-                       [--grade narrow|wide] [--near 16]
+                       [--grade narrow|wide] [--near 16] [--scene-batches 1]
 
 Each scene has random triangles between near and far, as a camera that looks down the z axis sees them, and random
 rectangles as objects. A frame's time is the shortest of --rounds runs of the program, less that of a run without
@@ -11,8 +11,9 @@ triangles and with one rectangle, so that start-up isn't counted; reading the sc
 more than one worker the screen is cut into --bins columns and rows of bins, and the workers share the frame. With
 --path the same picture is drawn that many times, by cameras in a row, and workers take frames side by side; the time
 of a fourth of them is subtracted, so that reading isn't counted either. With --grade the scenes are of version 2 and
-have this grade, and one batch; without it they are of version 1. With --near the near distance is another, and all
-coordinates and distances are as many times as great as it is times 64, rounded up: the picture stays what it is.
+have this grade, and their triangles come in --scene-batches; without it they are of version 1. With --near the near
+distance is another, and all coordinates and distances are multiplied by a 64th of it, rounded up: the picture stays
+what it is.
 Measure on a quiet machine."""
 import argparse
 import struct
@@ -37,10 +38,11 @@ class Numbers:
 
 
 class Form:
-    """What a scene is apart from its picture: its near distance, and a grade in version 2, None in version 1."""
+    """What a scene is apart from its picture: its near distance, and in version 2 a grade and a number of batches. In
+    version 1 the grade is None."""
 
-    def __init__(self, near=FIRST_NEAR, grade=None):
-        self.near, self.grade = near, grade
+    def __init__(self, near=FIRST_NEAR, grade=None, parts=1):
+        self.near, self.grade, self.parts = near, grade, parts
         # so many units are one of the scenes with the first near distance
         self.unit = -(-near // 64)
 
@@ -49,10 +51,14 @@ class Form:
         if self.grade is None:
             return struct.pack("<4s4H2BH4I", b"MSOC", 1, WIDTH, HEIGHT, self.near, 0, 0, frames, *counts)
         grade = GRADES.index(self.grade)
-        return struct.pack("<4s4H2BH5I", b"MSOC", 2, WIDTH, HEIGHT, self.near, 0, grade, frames, *counts, 1)
+        return struct.pack("<4s4H2BH5I", b"MSOC", 2, WIDTH, HEIGHT, self.near, 0, grade, frames, *counts, self.parts)
 
     def batches(self, triangles):
-        return b"" if self.grade is None else struct.pack("<IB", triangles, 0)
+        """The table of batches: as equal as can be, and none drops a triangle."""
+        if self.grade is None:
+            return b""
+        ends = [triangles * part // self.parts for part in range(self.parts + 1)]
+        return b"".join(struct.pack("<IB", end - first, 0) for first, end in zip(ends, ends[1:]))
 
 
 def scene(form, seed, triangles, rectangles, frames=1):
@@ -110,8 +116,9 @@ def main():
     parser.add_argument("--path", type=int, default=0)
     parser.add_argument("--grade", choices=GRADES)
     parser.add_argument("--near", type=int, default=FIRST_NEAR)
+    parser.add_argument("--scene-batches", type=int, default=1)
     args = parser.parse_args()
-    form = Form(args.near, args.grade)
+    form = Form(args.near, args.grade, args.scene_batches)
     empty = seconds(args.program, ["cull"], scene(form, 1, 0, 1), args.rounds)
     for triangles in map(int, args.triangles.split(",")):
         data = scene(form, 1, triangles, args.rectangles)
