@@ -1,15 +1,13 @@
 -- The scene of a seed is valid.
-use Rattle.std.proofs.Common.{◌≡◌, ℕ, ℤ, zero, suc, pos, neg_ℤ, ◌+◌, ◌*◌, ◌^◌, ◌<◌, ◌≤◌, ◌≤ℤ◌, ◌-ℤ◌, ◌+ℤ◌, ◌++◌, List, [], ◌∷◌, length, map, get_or, arith, refl, ap, sym, subst, ◌∙◌, lit≤}
+use Rattle.std.proofs.Common.{◌≡◌, ℕ, ℤ, zero, suc, pos, ◌+◌, ◌*◌, ◌^◌, ◌<◌, ◌≤◌, ◌≤ℤ◌, ◌-ℤ◌, ◌+ℤ◌, List, [], ◌∷◌, length, map, get_or, arith, refl, ◌∙◌, lit≤}
 use Rattle.std.specs.List.{All, flat_map, range_with_len}
 use Rattle.std.proofs.lemmas.Int.{ints}
 use Rattle.std.proofs.lemmas.List.{length-append}
 use Rattle.std.proofs.lemmas.List.Elements.{All-nil, All-append, All-map, All-from_recursion}
 use Rattle.std.proofs.lemmas.List.FromFn.{length-map-range_with_len, get_or-range_with_len, length-range_with_len}
 use Rattle.cull_base.specs.Bounds.{Bounded}
-use Rattle.cull_base.specs.declared.scene_types.Tri.{Tri}
-use Rattle.cull_base.specs.declared.scene_types.Object.{Object}
 use Rattle.scene_reader.specs.Layout.{IsScene, IsRow, IsTri, IsObject, InLimits}
-use Rattle.demo_scene.specs.Demo.{draw, centre_x, centre_y, centre_z, vertex_about, vertex_of, vertices_of, triangle_of, box_about, box_of, boxes_of, camera_of, box_count, frame_count, demo_of}
+use Rattle.demo_scene.specs.Demo.{draw, centre_x, centre_y, centre_z, vertex_of, vertices_of, triangle_of, box_of, boxes_of, camera_of, box_count, frame_count, demo_of}
 
 -- ---- over a range
 

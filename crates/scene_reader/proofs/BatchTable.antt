@@ -1,6 +1,6 @@
 -- Batches: how many triangles they have, their first fault, and how they are read from their entries.
-use Rattle.std.proofs.Common.{◌≡◌, ℕ, suc, zero, ◌+◌, ◌-◌, ◌*◌, ◌<◌, ◌≤◌, ◌∷◌, ◌++◌, List, [], length, get_or, take, drop, map, arith, refl, sym, ap, ◌∙◌, subst, true, false, Option, Some, None, inl, inr, is_some}
-use Rattle.std.specs.Prelude.{sum, sum_by, not, nat_lt, ◌==◌, ◌&&◌}
+use Rattle.std.proofs.Common.{◌≡◌, ℕ, suc, zero, ◌+◌, ◌-◌, ◌<◌, ◌≤◌, ◌∷◌, ◌++◌, List, [], length, get_or, take, drop, map, arith, refl, sym, ap, ◌∙◌, subst, true, false, Option, Some, None, inl, inr, ◌⊎◌, is_some}
+use Rattle.std.specs.Prelude.{sum, sum_by, not, nat_lt, ◌==◌, ◌&&◌, ◌||◌}
 use Rattle.std.specs.List.{AllByRecursion}
 use Rattle.std.specs.Option.{option_or}
 use Rattle.std.proofs.lemmas.Bool.{or_from, or_right, or_parts, le-ltb, lt-ltb, ltb-false, eq-eqb, ne_eqb, not-false, not_from_true, and_left, and_right, and_cases, both_ways, cases_eq}
@@ -81,7 +81,9 @@ sum_within tris raws e = elim (cases_eq (length raws) 0) [
       let k = length raws - 1 in
       let lt : k < length raws = omega (arith, some) in
       let clear = none_at (batch_fault tris raws) 0 raws k (0, 0) e lt k (omega arith) in
-      let fits = ltb-false tris (triangles_in (take k raws) + (get_or raws k (0, 0)).0) (or_parts _ _ (fault_none _ _ clear)).1 in
+      let last = get_or raws k (0, 0) in
+      let over = nat_lt tris (triangles_in (take k raws) + last.0) in
+      let fits = ltb-false tris (triangles_in (take k raws) + last.0) (or_parts (nat_lt 2 last.1) over (fault_none (nat_lt 2 last.1 || over) (BadBatch k) clear)).1 in
       let whole : take (k + 1) raws ≡ raws = take_all (k + 1) raws (omega (arith, some)) in
       omega (arith, fits, sum_by_more (λ (r : ℕ × ℕ). r.0) raws k (0, 0) lt, ap triangles_in whole)
 ]

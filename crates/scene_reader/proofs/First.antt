@@ -35,4 +35,4 @@ rows_within n rows long e = All-from_get_or (IsRow n) rows [] (λ k lt. (long k 
 
 pub same_none : {F : Type 0} (o : Option F) → IsNone o → o ≡ None
 same_none None h = refl
-same_none (Some x) h = absurd h
+same_none (Some x) h = absurd cc

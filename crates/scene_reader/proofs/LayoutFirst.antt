@@ -10,7 +10,7 @@ use Rattle.cull_base.specs.Batches.{AreBatchesOf}
 use Rattle.cull_base.specs.declared.scene_types.Batch.{Batch}
 use Rattle.cull_base.specs.declared.scene_types.Tri.{Tri}
 use Rattle.scene_reader.specs.declared.error.SceneError.{SceneError}
-use Rattle.scene_reader.specs.Layout.{Parts, IsScene, IsRow, IsTri, IsObject, row_bytes, tri_bytes, batch_bytes, object_bytes, raw_object, raw_batch, winding_byte, stored_batches, header_bytes, layout}
+use Rattle.scene_reader.specs.Layout.{Parts, IsScene, IsRow, IsTri, IsObject, row_bytes, tri_bytes, batch_bytes, object_bytes, raw_object, raw_batch, stored_batches, header_bytes, layout}
 use Rattle.scene_reader.specs.Length.{header_length}
 use Rattle.scene_reader.specs.Fault.{row_of, tri_of, raw_of, raw_batch_of, batches_told, tables_fault, first_fault}
 use Rattle.scene_reader.specs.Reading.{IsTable}

@@ -8,7 +8,6 @@ use Rattle.std.proofs.lemmas.List.{length-append, append-nil, drop_at, drop_all,
 use Rattle.std.proofs.lemmas.Option.{same_Some}
 use Rattle.cull_base.specs.Batches.{AreBatchesOf}
 use Rattle.cull_base.specs.Stream.{SourceSays}
-use Rattle.cull_base.specs.declared.nearness.Grade.{Grade}
 use Rattle.cull_base.specs.declared.scene_types.Tri.{Tri}
 use Rattle.scene_reader.specs.declared.error.SceneError.{SceneError}
 use Rattle.scene_reader.specs.declared.error.SceneError.TheVariants.{Truncated, Trailing, Read, BadVertex, BadIndex, BadCamera, BadBatch}
@@ -230,31 +229,34 @@ no_header_fault h rest e len fine f = let no : ◌≡◌ {A = Option SceneError}
 
 -- ---- what follows a header that is accepted
 
-module _ {before : Option (List ℕ)} {mid : SourceSays} {h : List ℕ} {hd : Header} (whole : length h ≡ header_length hd.version) (th : Takes before mid.left h) (is : IsHeaderOf h hd) where
-  header_len : length h ≡ header_length (version_at h)
-  header_len = whole ∙ ap header_length is.version
+header_len : {h : List ℕ} {hd : Header} → length h ≡ header_length hd.version → IsHeaderOf h hd → length h ≡ header_length (version_at h)
+header_len whole is = whole ∙ ap header_length is.version
 
+module _ {before : Option (List ℕ)} {mid : SourceSays} {h : List ℕ} {hd : Header} (whole : length h ≡ header_length hd.version) (th : Takes before mid.left h) (is : IsHeaderOf h hd) where
   pub refuses_body : (after : SourceSays) (e : SceneError) → EndsWithin (scene_length hd.version hd.counts - header_length hd.version) (scene_length hd.version hd.counts) (header_length hd.version) mid after e → Refuses before after.left e
   refuses_body after e s =
       let v = hd.version in
       let n = hd.counts in
+      let len = header_len whole is in
       let both = takes_then before mid.left after.left h s.bytes th s.takes in
       refuses_bytes before after.left (h ++ s.bytes) e both.front (λ rest told.
       let none = at_end after.left rest s.ended told in
       let all : (h ++ s.bytes) ++ rest ≡ h ++ s.bytes = ap (λ (r : List ℕ). (h ++ s.bytes) ++ r) none ∙ append-nil (h ++ s.bytes) in
       let few : length (h ++ s.bytes) < scene_length v n = omega (arith, s.few, length-append h s.bytes, whole) in
       let named : e ≡ Truncated (scene_length v n) (length (h ++ s.bytes)) = s.truncated ∙ ap (Truncated (scene_length v n)) (omega (arith, length-append h s.bytes, whole)) in
-      (rw (all, named) (first_of_length h s.bytes _ header_len is.accepted (too_short h s.bytes v n header_len (sym is.version) (sym is.counts) few)), λ f. no_header_fault h (s.bytes ++ rest) e header_len is.accepted (subst (λ (b : List ℕ). header_fault b ≡ Some e) (append_assoc h s.bytes rest) f)))
+      (rw (all, named) (first_of_length h s.bytes _ len is.accepted (too_short h s.bytes v n len (sym is.version) (sym is.counts) few)), λ f. no_header_fault h (s.bytes ++ rest) e len is.accepted (subst (λ (b : List ℕ). header_fault b ≡ Some e) (append_assoc h s.bytes rest) f)))
 
-  pub refuses_trailing : (last after : Option (List ℕ)) (body more : List ℕ) → length (h ++ body) ≡ scene_length hd.version hd.counts → Takes mid.left last body → Takes last after more → 0 < length more → Refuses before after Trailing
+module _ {before middle : Option (List ℕ)} {h : List ℕ} {hd : Header} (whole : length h ≡ header_length hd.version) (th : Takes before middle h) (is : IsHeaderOf h hd) where
+  pub refuses_trailing : (last after : Option (List ℕ)) (body more : List ℕ) → length (h ++ body) ≡ scene_length hd.version hd.counts → Takes middle last body → Takes last after more → 0 < length more → Refuses before after Trailing
   refuses_trailing last after body more size tb tm some =
       let v = hd.version in
       let n = hd.counts in
-      let all = takes_then before mid.left after h (body ++ more) th (takes_then mid.left last after body more tb tm) in
+      let len = header_len whole is in
+      let all = takes_then before middle after h (body ++ more) th (takes_then middle last after body more tb tm) in
       refuses_bytes before after (h ++ (body ++ more)) Trailing all.front (λ rest told.
       let joined : (h ++ (body ++ more)) ++ rest ≡ h ++ ((body ++ more) ++ rest) = append_assoc h (body ++ more) rest in
       let long : scene_length v n < length (h ++ ((body ++ more) ++ rest)) = omega (arith, length-append h ((body ++ more) ++ rest), length-append (body ++ more) rest, length-append body more, length-append h body, size, some) in
-      (rw joined (first_of_length h ((body ++ more) ++ rest) Trailing header_len is.accepted (too_long h ((body ++ more) ++ rest) v n header_len (sym is.version) (sym is.counts) long)), λ f. no_header_fault h ((body ++ more) ++ rest) Trailing header_len is.accepted (subst (λ (b : List ℕ). header_fault b ≡ Some Trailing) joined f)))
+      (rw joined (first_of_length h ((body ++ more) ++ rest) Trailing len is.accepted (too_long h ((body ++ more) ++ rest) v n len (sym is.version) (sym is.counts) long)), λ f. no_header_fault h ((body ++ more) ++ rest) Trailing len is.accepted (subst (λ (b : List ℕ). header_fault b ≡ Some Trailing) joined f)))
 
 -- ---- a whole body
 

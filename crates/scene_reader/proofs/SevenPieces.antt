@@ -1,5 +1,5 @@
 -- Bytes in seven pieces, a header and six tables: what is read in each, and that the tables decide.
-use Rattle.std.proofs.Common.{◌≡◌, ℕ, ℤ, ◌+◌, ◌*◌, ◌≤◌, ◌++◌, List, length, drop, map, arith, refl, sym, ap, ◌∙◌, append_assoc, None}
+use Rattle.std.proofs.Common.{◌≡◌, ℕ, ℤ, ◌*◌, ◌≤◌, ◌++◌, List, length, drop, map, arith, refl, sym, ap, ◌∙◌, append_assoc, None}
 use Rattle.std.specs.Prelude.{slice_index}
 use Rattle.std.proofs.lemmas.Bool.{le-ltb}
 use Rattle.std.proofs.lemmas.List.{length-append, drop_at}

@@ -7,9 +7,9 @@ use Rattle.scene_reader.specs.Layout.{winding_code, grade_code}
 use Rattle.scene_reader.specs.Fault.{header_fault, fields_fault, version_at, short_at, counts_with, counts_at}
 
 -- what two bytes say that are a winding in version 1, and a grade in version 2
-pub record AreFlagsOf (winding grade : ℕ) (flags : Flags) : Type 0 where
-  pub winding : winding_code flags.winding ≡ winding
-  pub grade : grade_code flags.grade ≡ grade
+pub record AreFlagsOf (first second : ℕ) (flags : Flags) : Type 0 where
+  pub winding : winding_code flags.winding ≡ first
+  pub grade : grade_code flags.grade ≡ second
 
 -- what the first 32 bytes say of a header that tells so many batches
 pub record AreFieldsOf (bytes : List ℕ) (batches : ℕ) (h : Header) : Type 0 where

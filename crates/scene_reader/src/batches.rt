@@ -1,6 +1,7 @@
 //! Batches: read as a table, or in version 1 the one that the header tells. The first fault is kept until the end of
 //! the input is known, since that of the length comes before it.
-ghost use Rattle.std.specs.Prelude.{◌≡◌, ◌+◌, ◌*◌, ◌^◌, ◌<◌, ◌≤◌, nat_lt, None, Some, [], ◌∷◌, true, IfOk, IfErr, IfSome, IfNone, OnOk};
+ghost use Rattle.std.specs.Prelude.{◌≡◌, ◌+◌, ◌*◌, ◌^◌, ◌<◌, ◌≤◌, nat_lt, None, Some, [], ◌∷◌, true};
+ghost use Rattle.std.specs.Prelude.{IfOk, IfErr, IfSome, IfNone, OnOk};
 ghost use Rattle.std.specs.Option.{option_or};
 ghost use Rattle.scene_reader.specs.Layout.{raw_batch, winding_code};
 ghost use Rattle.scene_reader.specs.Header.{AreCounts};
@@ -79,7 +80,8 @@ impl Batches {
     /// The first fault of so many batches beside so many triangles: that of a batch, or that some are in none.
     #[tactic(auto, using(crate::proofs::ObjectTable::option_or_none))]
     fn whole_fault(&self, count: u32, tris: u32) -> Option<SceneError>
-        ensures { result ≡ option_or self.now.fault (fault_if (nat_lt self.now.counted tris) (SceneError.BadBatch count)) }
+        ensures { result
+            ≡ option_or self.now.fault (fault_if (nat_lt self.now.counted tris) (SceneError.BadBatch count)) }
     {
         if self.counted < u64::from(tris) {
             return self.fault.or(Some(SceneError::BadBatch(count)));
@@ -137,7 +139,8 @@ pub fn read_batches<S: Source>(
     requires none { header.now.version ≡ 1 → header.now.counts.batches ≡ 0 }
     requires known { (1 ≤ header.now.version) × (header.now.version ≤ 2) }
     ensures taken { IfOk result (λ b. TakesBatches header.now (S.says source.old) (S.says source.new) b) }
-    ensures fetches { Fetches (5 * header.now.counts.batches) need taken (S.says source.old) (S.says source.new) result }
+    ensures fetches { Fetches (5 * header.now.counts.batches) need taken
+        (S.says source.old) (S.says source.new) result }
 {
     let (count, tris) = (header.counts.batches, header.counts.occluders);
     if header.version == 1 {

@@ -4,10 +4,10 @@ ghost use Rattle.cull_base.specs.Batches.{AreBatchesOf};
 ghost use Rattle.cull_base.specs.declared.nearness.Grade.TheVariants.{Narrow};
 ghost use Rattle.std.specs.List.{All, list_any};
 ghost use Rattle.scene_reader.specs.Layout.{IsScene, IsRow, IsTri, IsObject, raw_object, raw_batch};
-ghost use Rattle.scene_reader.specs.Fault.{first_among, first_bad_row, vertex_fault, index_fault, object_fault, camera_fault};
-ghost use Rattle.scene_reader.specs.Fault.{is_one_batch, split_fault, sum_fault, batches_fault};
-ghost use Rattle.scene_reader.specs.PartsFault.{AreTables, IsTablesFault, count_in_32_bits, counts_of_parts, grade_fault};
-ghost use Rattle.scene_reader.specs.PartsFault.{first_fault_of_parts};
+ghost use Rattle.scene_reader.specs.Fault.{first_among, first_bad_row, vertex_fault, index_fault, object_fault};
+ghost use Rattle.scene_reader.specs.Fault.{camera_fault, is_one_batch, split_fault, sum_fault, batches_fault};
+ghost use Rattle.scene_reader.specs.PartsFault.{AreTables, IsTablesFault, count_in_32_bits, counts_of_parts};
+ghost use Rattle.scene_reader.specs.PartsFault.{grade_fault, first_fault_of_parts};
 
 use crate::error::SceneError;
 use crate::header::{Counts, count_fault, screen_fault, version_fault};

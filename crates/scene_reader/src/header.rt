@@ -2,8 +2,8 @@
 ghost use Rattle.std.specs.Prelude.{◌≡◌, ◌≤◌, nat_lt, None, Some, IsNone, IfOk, MatchResult};
 ghost use Rattle.cull_base.specs.Screen.{IsSize};
 ghost use Rattle.scene_reader.specs.Length.{header_length};
-ghost use Rattle.scene_reader.specs.Fault.{fault_if, version_at, version_fault, start_fault, screen_fault, flags_fault, count_fault};
-ghost use Rattle.scene_reader.specs.Fault.{counts_with, fields_fault};
+ghost use Rattle.scene_reader.specs.Fault.{fault_if, version_at, version_fault, start_fault, screen_fault, flags_fault};
+ghost use Rattle.scene_reader.specs.Fault.{count_fault, counts_with, fields_fault};
 ghost use Rattle.scene_reader.specs.Header.{AreFlagsOf, AreFieldsOf, AreCounts};
 
 use crate::batches::winding_of;
@@ -101,7 +101,8 @@ pub fn screen_fault(width: u16, height: u16, near: u16) -> Option<SceneError>
 
 // The winding of the one batch of version 1, whose second byte is 0.
 fn flags_of_first(winding: u8, reserved: u8) -> Result<Flags, SceneError>
-    ensures { MatchResult result (λ f. AreFlagsOf winding reserved f × (flags_fault 1 winding reserved ≡ None))
+    ensures { MatchResult result
+        (λ f. AreFlagsOf winding reserved f × (flags_fault 1 winding reserved ≡ None))
         (λ e. flags_fault 1 winding reserved ≡ Some e) }
 {
     let Some(first) = winding_of(winding) else {
@@ -139,7 +140,8 @@ fn flags_of_second(winding: u8, grade: u8) -> Result<Flags, SceneError>
 fn flags_of(version: u16, winding: u8, grade: u8) -> Result<Flags, SceneError>
     requires some { 1 ≤ version }
     requires known { version ≤ 2 }
-    ensures { MatchResult result (λ f. AreFlagsOf winding grade f × (flags_fault version winding grade ≡ None))
+    ensures { MatchResult result
+        (λ f. AreFlagsOf winding grade f × (flags_fault version winding grade ≡ None))
         (λ e. flags_fault version winding grade ≡ Some e) }
 {
     if version == 1 {

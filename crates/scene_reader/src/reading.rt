@@ -66,7 +66,8 @@ fn read_parts<S: Source>(alloc: Global, source: &mut S, header: Header) -> Resul
     requires known { (1 ≤ header.version) × (header.version ≤ 2) }
     ensures taken { IfOk result (λ d.
         TakesParts header (S.says source.old) (S.says source.new) d.parts d.batches d.objects) }
-    ensures fetches { FetchesTables header.version header.counts (S.says source.old) (S.says source.new) result }
+    ensures fetches { FetchesTables header.version header.counts
+        (S.says source.old) (S.says source.new) result }
 {
     let counts = header.counts;
     let vertices_at = header_length(header.version);

@@ -11,7 +11,10 @@ use cull_base::{
     Batch, ClipVertex, FrameList, Grade, Memory, Near, Rect, Side, Size, Tri, Winding,
 };
 use near_clip::HomPoint;
-use snap_setup::{Occluders, Pieces, Snapped, frame_list, near_box, sampled_list, set_up, snap};
+use snap_setup::{
+    Occluders, Pieces, Snapped, frame_list, frame_list_by_workers, near_box, one_batch,
+    sampled_list, set_up, snap,
+};
 use std::alloc::Global;
 use std::process::Abort;
 use std::test::Fail;

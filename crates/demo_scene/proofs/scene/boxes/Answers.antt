@@ -1,5 +1,5 @@
 use Rattle.std.proofs.Common.{◌≡◌, ℕ, ◌+◌, ◌*◌, arith, sym, ap, ◌∙◌, subst}
-use Rattle.demo_scene.specs.Demo.{state_after, box_of, boxes_of, box_count}
+use Rattle.demo_scene.specs.Demo.{box_of, boxes_of, box_count}
 use Rattle.demo_scene.proofs.Draws.{none_drawn, box_after, drawn_after, boxes_of-none, boxes_of-next}
 use Rattle.demo_scene.proofs.scene.boxes.Goals as goal
 

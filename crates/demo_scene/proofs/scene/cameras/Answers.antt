@@ -1,7 +1,6 @@
-use Rattle.std.proofs.Common.{◌≡◌, map, ◌∙◌, arith, ap, sym, []}
-use Rattle.std.specs.List.{range_with_len}
+use Rattle.std.proofs.Common.{arith, sym}
 use Rattle.std.proofs.lemmas.List.FromFn.{map-range_with_len_more}
-use Rattle.demo_scene.specs.Demo.{camera_of, frame_count}
+use Rattle.demo_scene.specs.Demo.{camera_of}
 use Rattle.demo_scene.proofs.scene.cameras.Goals as goal
 
 pub loop-frame-preserved : goal.loop-frame-preserved

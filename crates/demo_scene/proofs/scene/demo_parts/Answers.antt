@@ -1,4 +1,4 @@
-use Rattle.std.proofs.Common.{◌≡◌, ℕ, ◌*◌, refl, ap, ◌∙◌}
+use Rattle.std.proofs.Common.{ℕ, ◌*◌, refl, ap, ◌∙◌}
 use Rattle.demo_scene.specs.Demo.{boxes_of, box_count, demo_of}
 use Rattle.demo_scene.proofs.Draws.{boxes_after}
 use Rattle.demo_scene.proofs.scene.demo_parts.Goals as goal

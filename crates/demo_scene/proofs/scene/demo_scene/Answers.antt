@@ -1,4 +1,4 @@
-use Rattle.std.proofs.Common.{◌≡◌, sym, subst}
+use Rattle.std.proofs.Common.{sym, subst}
 use Rattle.scene_reader.specs.Layout.{IsScene}
 use Rattle.demo_scene.proofs.DemoScene.{demo_is_scene}
 use Rattle.demo_scene.proofs.scene.demo_scene.Goals as goal

@@ -1,5 +1,4 @@
-use Rattle.std.proofs.Common.{◌≡◌, map, arith, sym}
-use Rattle.std.specs.List.{range_with_len}
+use Rattle.std.proofs.Common.{arith, sym}
 use Rattle.std.proofs.lemmas.List.FromFn.{map-range_with_len_more}
 use Rattle.demo_scene.specs.Demo.{triangle_of}
 use Rattle.demo_scene.proofs.scene.occluders.Goals as goal

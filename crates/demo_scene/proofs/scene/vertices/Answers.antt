@@ -1,5 +1,5 @@
 use Rattle.std.proofs.Common.{◌≡◌, ℕ, ◌+◌, ◌*◌, arith, sym, ap, ◌∙◌}
-use Rattle.demo_scene.specs.Demo.{state_after, vertices_of}
+use Rattle.demo_scene.specs.Demo.{vertices_of}
 use Rattle.demo_scene.proofs.Draws.{none_drawn, vertices_after, drawn_after}
 use Rattle.demo_scene.proofs.Ranges.{flat_map-next}
 use Rattle.demo_scene.proofs.scene.vertices.Goals as goal

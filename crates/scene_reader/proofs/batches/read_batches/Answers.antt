@@ -24,7 +24,7 @@ returns-in_err-batches-clause-fetches g c =
     rw (p.1, p.2) (fetches_failed (progress_none _) (omega arith) (omega arith) c.in_err-batches.ensures.fetches)
 
 pub returns-clause-taken : goal.returns-clause-taken
-returns-clause-taken g c = second_taken c.args.header.now _ _ c.in_ok-batches.batches _ c.if-header-eq1.false c.in_ok-batches.ensures.taken c.whole_fault.ensures refl
+returns-clause-taken g c = second_taken c.args.header.now _ _ c.in_ok-batches.batches _ c.if-header-eq1.false c.in_ok-batches.ensures.taken c.whole_fault-batches.ensures refl
 
 pub returns-clause-fetches : goal.returns-clause-fetches
 returns-clause-fetches g c =

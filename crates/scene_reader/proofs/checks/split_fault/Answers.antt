@@ -1,4 +1,4 @@
-use Rattle.std.proofs.Common.{sym, ◌∙◌, refl, false}
+use Rattle.std.proofs.Common.{sym, ◌∙◌, refl}
 use Rattle.std.specs.Prelude.{◌==◌}
 use Rattle.std.proofs.lemmas.Bool.{and_left, and_right, ne_eqb, eq-eqb, not_from_true}
 use Rattle.scene_reader.specs.declared.error.SceneError.TheVariants.{BadBatch}

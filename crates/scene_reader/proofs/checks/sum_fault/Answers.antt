@@ -8,7 +8,7 @@ use Rattle.scene_reader.proofs.BatchTable.{counted_on, batch_fits, batch_over, c
 use Rattle.scene_reader.proofs.First.{first_step}
 use Rattle.scene_reader.proofs.checks.sum_fault.Goals as goal
 
-no_batch : Batch
+abbrev no_batch : Batch
 no_batch = record { count = 0; winding = Both }
 
 pub loop-i-preserved : goal.loop-i-preserved
@@ -22,17 +22,17 @@ loop-i-preserved c =
     let clear = batch_fits tris batches i c.loop-i.counted no_batch lt so_far.counted (omega arith) in
     record {
       rest = first_step (batch_fault tris raws) raws i (0, 0) (omega (arith, lt, length-map batches raw_batch)) clear ∙ so_far.rest;
-      counted = counted_on tris batches i c.loop-i.counted no_batch lt so_far.counted;
+      counted = omega (arith, counted_on tris batches i c.loop-i.counted no_batch lt so_far.counted);
       within = omega arith;
     }
 
-pub returns-then-all-lt-counted : goal.returns-then-all-lt-counted
-returns-then-all-lt-counted c =
+pub returns-then-all-counted : goal.returns-then-all-counted
+returns-then-all-counted c =
     let so_far = c.loop-i.invariant in
     batch_over c.args.tris c.args.batches.now c.loop-i.i c.loop-i.counted no_batch c.loop-i-test.true so_far.counted (omega arith) so_far.rest
 
-pub returns-then-counted-lt-all : goal.returns-then-counted-lt-all
-returns-then-counted-lt-all c =
+pub returns-then-counted-all : goal.returns-then-counted-all
+returns-then-counted-all c =
     let so_far = c.loop-i.invariant in
     counts_short c.args.tris c.args.batches.now c.loop-i.i c.loop-i.counted (omega arith) so_far.rest so_far.counted (omega arith)
 

@@ -1,4 +1,4 @@
-use Rattle.std.proofs.Common.{◌≡◌, ℕ, length, take, arith, sym, ap, ◌∙◌, [], w32}
+use Rattle.std.proofs.Common.{arith, sym, ap, ◌∙◌, [], w32}
 use Rattle.std.specs.Int.{from_le_bytes}
 use Rattle.std.proofs.lemmas.List.{take_all}
 use Rattle.std.proofs.lemmas.Result.{err_from_is_err_and}
@@ -31,7 +31,7 @@ returns-in_err-fetch-clause-fetches g c =
 pub returns-in_err-fetch-clause-second : goal.returns-in_err-fetch-clause-second
 returns-in_err-fetch-clause-second g c =
     let p = err_from_is_err_and c.from_residual.result c.from_residual.ensures.1 in
-    rw (p.1, p.2) c.if-version-eq1.false
+    rw p.1 c.if-version-eq1.false
 
 pub returns-clause-taken : goal.returns-clause-taken
 returns-clause-taken g c =

@@ -1,4 +1,4 @@
-use Rattle.std.proofs.Common.{◌*◌, ◌≤◌, take, Ok}
+use Rattle.std.proofs.Common.{◌*◌, take, Ok}
 use Rattle.std.specs.List.{flat_map}
 use Rattle.cull_base.specs.Stream.{Writes}
 use Rattle.scene_reader.proofs.writing.write_table.Given as goal

@@ -1,4 +1,4 @@
-use Rattle.std.proofs.Common.{◌≡◌, ℕ, pos, ap, ◌∙◌, ◌-ℤ◌, ◌+ℤ◌, refl, rules, w32, FitsSigned}
+use Rattle.std.proofs.Common.{ℕ, pos, ap, ◌∙◌, ◌-ℤ◌, ◌+ℤ◌, refl, rules, w32, FitsSigned}
 use Rattle.std.proofs.lemmas.Int.{to_z-of_z}
 use Rattle.demo_scene.specs.Demo.{state_after, draw}
 use Rattle.demo_scene.proofs.Draws.{draws_after_draws, draw_after}
