@@ -2,7 +2,7 @@
 ghost use Rattle.std.specs.Prelude.{◌≤◌};
 
 use crate::tests::runs::{
-    CULL, LARGE, NEVER, assert_ended, assert_reports, run_with, sink, words_of,
+    CULL, LARGE, NEVER, UPGRADE, assert_ended, assert_reports, run_with, sink, words_of,
 };
 use crate::tests::scenes::{
     OCCLUDED, TWO, UNDRAWN, VISIBLE, changed, first_scene, in_batches, scene,
@@ -15,8 +15,6 @@ use std::sync::Wait;
 use std::test::*;
 use std::thread::Threads;
 use tile_queues::OpenGate;
-
-const UPGRADE: &str = "maskcull upgrade";
 
 // How `upgrade` of some bytes ends, and the bytes that it writes, at most so many in a write; the write of that number
 // fails.
