@@ -8,7 +8,7 @@ use Rattle.culling.specs.Outcome.{refusal_status, status_of}
 use Rattle.culling.specs.Outcomes.{IsTrue}
 use Rattle.culling.specs.Runs.{Comes, IsComplete, streams}
 use Rattle.culling.proofs.Comings.{asked_all, asked_by, comes_done, comes_noted, complete, failed_as, refused_comes, refused_complete, refused_is, refused_noted, truth}
-use Rattle.culling.proofs.run.run.Goals as goal
+use Rattle.culling.proofs.commands.run.Goals as goal
 
 -- ---- the words are refused
 
