@@ -57,6 +57,15 @@ returns-in-Err-perform-clause-truth g c =
 
 -- ---- the command did its work
 
+pub returns-in-Ok-perform-clause-outcome : goal.returns-in-Ok-perform-clause-outcome
+returns-in-Ok-perform-clause-outcome g c =
+    let i0 = g.S.Source.says c.args.input.now in let i1 = g.S.Source.says c.perform.new.input in
+    let r0 = g.W.Sink.says c.args.report.now in let r1 = g.W.Sink.says c.perform.new.report in
+    let n0 = g.E.Sink.says c.args.notes.now in let n1 = g.E.Sink.says c.perform.new.notes in
+    let P : Type 0 = c.perform.new.report ≡ c.args.report.now in let Q : Type 0 = c.perform.new.notes ≡ c.args.notes.now in
+    asked_by (map string_bytes c.args.words.now) c.in-Ok.command (λ command. Comes command statuses.Done (streams i0 r0 n0) (streams i1 r1 n1) IsNotedBehind P (statuses.Done ≡ statuses.Done → Q)) c.in-Ok.ensures.some
+    (comes_done c.in-Ok.command tt i0 i1 r0 r1 n0 n1 P Q c.in-Ok-perform.ensures.outcome)
+
 pub returns-in-Ok-perform-clause-truth : goal.returns-in-Ok-perform-clause-truth
 returns-in-Ok-perform-clause-truth g c =
     let source = g.S.Source.says c.args.input.now in
