@@ -1,13 +1,9 @@
-use Rattle.std.proofs.Common.{◌≡◌, List, map, string_bytes, refl, sym, subst, inl, inr}
-use Rattle.clap.specs.Words.{Text}
-use Rattle.command_words.specs.declared.command.Command.{Command}
-use Rattle.culling.specs.declared.failure.Status.{Status}
+use Rattle.std.proofs.Common.{◌≡◌, map, string_bytes, refl, inl, inr}
 use Rattle.culling.specs.declared.failure.Status.TheVariants as statuses
 use Rattle.culling.specs.Notes.{IsNotedBehind}
-use Rattle.culling.specs.Outcome.{refusal_status, status_of}
 use Rattle.culling.specs.Outcomes.{IsTrue}
-use Rattle.culling.specs.Runs.{Comes, IsComplete, streams}
-use Rattle.culling.proofs.Comings.{asked_all, asked_by, comes_done, comes_noted, complete, failed_as, refused_comes, refused_complete, refused_is, refused_noted, truth}
+use Rattle.culling.specs.Runs.{Comes, streams}
+use Rattle.culling.proofs.Comings.{asked_all, asked_by, comes_done, comes_noted, failed_as, refused_comes, refused_complete, refused_is, refused_noted, truth}
 use Rattle.culling.proofs.commands.run.Goals as goal
 
 -- ---- the words are refused
