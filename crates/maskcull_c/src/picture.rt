@@ -53,14 +53,7 @@ fn bound_of_pixel(tiles: &[TileState], size: Size, x: u16, y: u16) -> u32
 }
 
 // Draws one row of pixels from one place on.
-fn draw_row(
-    out: &mut [u16],
-    start: usize,
-    tiles: &[TileState],
-    size: Size,
-    y: u16,
-    grade: Grade,
-)
+fn draw_row(out: &mut [u16], start: usize, tiles: &[TileState], size: Size, y: u16, grade: Grade)
     requires all { AreAll size tiles.now }
     requires row { y < size.height }
     requires room { start + size.width ≤ length out.old }
