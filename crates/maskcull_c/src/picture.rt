@@ -88,8 +88,8 @@ fn has_picture(out: &[u16], stride: usize, size: Size) -> bool
 }
 
 /// Writes the bound at each pixel of the screen, row by row: that of pixel (x, y) stands at y * row_stride + x, and no
-/// other element is written. In the wide grade it is divided by 256; more than 65535 is written as 65535. 0 where all is
-/// written, else why nothing is.
+/// other element is written. In the wide grade it is divided by 256, and more than 65535 is written as 65535. 0 where
+/// all is written, else why nothing is.
 #[unsafe(no_mangle)]
 pub extern "C" fn maskcull_nearness(
     setup: &Setup,
