@@ -16,7 +16,8 @@ use Rattle.maskcull_c.specs.declared.given.Vertex.{Vertex}
 use Rattle.maskcull_c.specs.declared.given.Triangle.{Triangle}
 use Rattle.maskcull_c.specs.declared.given.Area.{Area}
 
--- a screen, a near distance, a winding and a grade that aren't refused; where the grade is wide, 16 is added to the winding
+-- A screen, a near distance, a winding and a grade that aren't refused. Where the grade is wide, 16 is added to the
+-- winding.
 pub record IsSetup (s : Setup) : Type 0 where
   pub size : IsSize s.width s.height
   pub near_least : 1 ≤ s.near

@@ -53,14 +53,7 @@ fn bound_of_pixel(tiles: &[TileState], size: Size, x: u16, y: u16) -> u32
 }
 
 // Draws one row of pixels from one place on.
-fn draw_row(
-    out: &mut [u16],
-    start: usize,
-    tiles: &[TileState],
-    size: Size,
-    y: u16,
-    grade: Grade,
-)
+fn draw_row(out: &mut [u16], start: usize, tiles: &[TileState], size: Size, y: u16, grade: Grade)
     requires all { AreAll size tiles.now }
     requires row { y < size.height }
     requires room { start + size.width ≤ length out.old }
@@ -95,8 +88,8 @@ fn has_picture(out: &[u16], stride: usize, size: Size) -> bool
 }
 
 /// Writes the bound at each pixel of the screen, row by row: that of pixel (x, y) stands at y * row_stride + x, and no
-/// other element is written. In the wide grade it is divided by 256; more than 65535 is written as 65535. 0 where all is
-/// written, else why nothing is.
+/// other element is written. In the wide grade it is divided by 256, and more than 65535 is written as 65535. 0 where
+/// all is written, else why nothing is.
 #[unsafe(no_mangle)]
 pub extern "C" fn maskcull_nearness(
     setup: &Setup,

@@ -191,8 +191,8 @@ const NEAREST: [Vertex; 4] = [
     Vertex { x: -1, y: -1, w: 1 },
 ];
 
-// At distance 2 the wide nearness is 8388607, and 16777215 at distance 1. These are 256 times 32767 and 255 more, and 256
-// times 65535 and 255 more.
+// At distance 2 the wide nearness is 8388607, and 16777215 at distance 1: 256 times 32767 and 255 more, and 256 times
+// 65535 and 255 more.
 #[test]
 fn a_wide_picture_has_the_bounds_divided_by_256(rt: HostRuntime) -> Result<(), Fail> {
     let wide = setup(32, 8, 1, WIDE);
