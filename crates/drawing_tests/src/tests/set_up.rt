@@ -367,7 +367,7 @@ fn alternating(alloc: Global) -> Result<Vec<Tri>, Fail>
     ensures count { IfOk result (λ v. length v.items ≡ 2500) }
 {
     let mut tris = Vec::with_capacity(alloc, 2500).map_err(|_| Memory)?;
-    for _ in 0..1250 {
+    for _ in 0..1250_usize {
         tris.push_reserved(Tri([0, 1, 2]));
         tris.push_reserved(Tri([0, 3, 2]));
     }
