@@ -167,8 +167,8 @@ pub const UPGRADE: ACommand = CommandRow {
     name: "upgrade",
     about: "Reads a scene from standard input and writes it in version 2 to standard output",
     more: "Reads the bytes of a scene of version 1 or 2 from standard input, to their end.
-Writes to standard output the same scene in version 2. Its report stays the same: a scene of version 1 is narrow, and its
-occluder triangles are one batch with its winding. To make it wide set byte 13 to 1.
+Writes to standard output the same scene in version 2. Its report stays the same: a scene of version 1 is narrow, and
+its occluder triangles are one batch with its winding. To make it wide set byte 13 to 1.
 Tells on standard error why a run isn't done.
 
 Exit status:

@@ -1,6 +1,6 @@
 -- How commands come to their outcomes.
-use Rattle.std.proofs.Common.{◌≡◌, ℕ, zero, suc, ◌+◌, ◌<◌, ◌≤◌, ◌++◌, List, [], length, map, take, arith, refl, sym, ap, ◌∙◌, subst, inl, inr, Option, Some, None, Result, Ok, Err, ◌⊎◌}
-use Rattle.std.specs.Prelude.{IfSome, IsErrOf, slice_index_or}
+use Rattle.std.proofs.Common.{◌≡◌, ℕ, ◌+◌, ◌<◌, ◌≤◌, ◌++◌, List, [], length, map, take, arith, refl, sym, ap, ◌∙◌, subst, inl, inr, Option, Some, None, Result, Ok, Err, ◌⊎◌}
+use Rattle.std.specs.Prelude.{IfSome}
 use Rattle.std.specs.List.{flat_map, range_with_len}
 use Rattle.std.proofs.lemmas.List.{append-nil}
 use Rattle.clap.specs.Words.{Text}
@@ -9,13 +9,13 @@ use Rattle.cull_base.specs.declared.memory.SinkError.{SinkError}
 use Rattle.cull_base.proofs.Streams.{appends_then}
 use Rattle.scene_reader.specs.Layout.{Parts, IsScene, header_bytes, layout, upgraded}
 use Rattle.scene_reader.specs.Fault.{IsRefusal}
-use Rattle.scene_reader.specs.Reading.{HasFirstFault, TakesLayout}
+use Rattle.scene_reader.specs.Reading.{TakesLayout}
 use Rattle.scene_reader.specs.declared.error.SceneError.{SceneError}
 use Rattle.scene_reader.specs.declared.error.SceneError.TheVariants as errors
 use Rattle.cull_report.proofs.Occluders.{hides_truly}
 use Rattle.cull_report.specs.Live.{Counts}
 use Rattle.cull_report.specs.Scene.{scene_header}
-use Rattle.command_words.specs.Words.{AreWords, IsWithinLimits, command_of}
+use Rattle.command_words.specs.Words.{AreWords, command_of}
 use Rattle.command_words.specs.declared.command.Command.{Command}
 use Rattle.command_words.specs.declared.command.Command.TheVariants.{Cull, Live, Demo, Upgrade, Picture}
 use Rattle.command_words.specs.declared.settings.Settings.{Settings}
@@ -24,7 +24,7 @@ use Rattle.command_words.specs.declared.words.Refusal.TheVariants as refusals
 use Rattle.demo_scene.proofs.DemoScene.{demo_is_scene}
 use Rattle.demo_scene.specs.Demo.{demo_of, frame_count}
 use Rattle.culling.specs.declared.failure.Failure.{Failure}
-use Rattle.culling.specs.declared.failure.Failure.TheVariants.{Scene, ReadFault, ReportFault, NotesFault, Memory, Frame}
+use Rattle.culling.specs.declared.failure.Failure.TheVariants.{Scene, ReadFault, Memory, Frame}
 use Rattle.culling.specs.declared.failure.Status.{Status}
 use Rattle.culling.specs.declared.failure.Status.TheVariants as statuses
 use Rattle.culling.specs.FrameRuns.{LeavesFrames, LeavesTexts}
@@ -34,7 +34,7 @@ use Rattle.culling.specs.Notes.{IsNotedBehind, IsNotedFirst, missing_text, note_
 use Rattle.culling.specs.Outcome.{failure_of, refusal_status, sink_failure, status_by, status_of}
 use Rattle.culling.specs.Outcomes.{Ends, HasFault, HasScene, IfAsked, IfBytes, IsTrue, ReadsScene, OutcomeOf, joined, live_frames, note_alone, notes_at, notes_before, report_and, report_before, report_of, text_alone}
 use Rattle.culling.specs.Picture.{frame_picture}
-use Rattle.culling.specs.Runs.{AwaitsNote, Comes, HasCause, IsComplete, IsCut, IsUnasked, Leaves, LeavesFront, LeavesWhole, Streams, WithoutFault, streams}
+use Rattle.culling.specs.Runs.{AwaitsNote, Comes, HasCause, IsComplete, IsUnasked, Leaves, Streams, WithoutFault, streams}
 use Rattle.culling.specs.Summary.{demo_line, frames_summary, summary_text}
 use Rattle.culling.specs.declared.frames.Beside.TheVariants.{Nothing, Looks}
 use Rattle.culling.specs.declared.frames.FrameLines.TheVariants.{Report, Summary}

@@ -1,10 +1,10 @@
 -- What follows for a user of `run` from what its command comes to: each lemma has a promise by its short name.
-use Rattle.std.proofs.Common.{◌≡◌, ℕ, ◌+◌, ◌<◌, ◌≤◌, ◌++◌, List, [], length, take, arith, refl, sym, ap, ◌∙◌, subst, inl, inr, Option, Some, None, ◌⊎◌}
+use Rattle.std.proofs.Common.{◌≡◌, ℕ, ◌<◌, ◌≤◌, ◌++◌, List, [], length, take, arith, refl, sym, ap, ◌∙◌, subst, inl, inr, Option, Some, None, ◌⊎◌}
 use Rattle.std.specs.Prelude.{IfSome}
-use Rattle.std.proofs.lemmas.List.{append-nil, length-append}
-use Rattle.cull_base.specs.Stream.{SinkSays, SourceSays, Appends, AppendsPrefix, Rose}
+use Rattle.std.proofs.lemmas.List.{append-nil}
+use Rattle.cull_base.specs.Stream.{SinkSays, SourceSays, Appends, Rose}
 use Rattle.scene_reader.specs.Layout.{Parts, IsScene, layout, upgraded}
-use Rattle.scene_reader.specs.Fault.{IsRefusal, first_fault}
+use Rattle.scene_reader.specs.Fault.{first_fault}
 use Rattle.scene_reader.specs.declared.error.SceneError.{SceneError}
 use Rattle.scene_reader.proofs.LayoutFirst.{scene_first}
 use Rattle.scene_reader.proofs.OnlyScene.{layout_one}
@@ -14,14 +14,13 @@ use Rattle.cull_report.specs.Scene.{report_text}
 use Rattle.command_words.specs.declared.command.Command.{Command}
 use Rattle.command_words.specs.declared.command.Command.TheVariants.{Cull, Live, Demo, Upgrade, Picture}
 use Rattle.command_words.specs.declared.settings.Settings.{Settings}
-use Rattle.culling.specs.Notes.{IsNotedBehind, refusal_text, status_text}
+use Rattle.culling.specs.Notes.{IsNotedBehind}
 use Rattle.culling.specs.Picture.{ShowsTruly, frame_picture}
-use Rattle.culling.specs.Outcomes.{Ends, EndsByScene, HasFault, HasScene, IfBytes, IsPictured, OutcomeOf, ReadsScene, joined, live_frames, note_alone, report_and, report_of, text_alone}
-use Rattle.culling.specs.Runs.{Comes, IsCut, Leaves, LeavesWhole, Streams, WithoutFault}
+use Rattle.culling.specs.Outcomes.{Ends, EndsByScene, HasScene, IfBytes, IsPictured, OutcomeOf, ReadsScene, joined, live_frames, report_and, report_of, text_alone}
+use Rattle.culling.specs.Runs.{Comes, IsCut, Leaves, LeavesWhole, Streams}
 use Rattle.culling.specs.Summary.{summary_text}
 use Rattle.culling.specs.declared.failure.Status.{Status}
 use Rattle.culling.specs.declared.failure.Status.TheVariants as statuses
-use Rattle.culling.proofs.Fronts.{front_of_more}
 use Rattle.culling.proofs.OutcomeTexts.{live_is, report_is}
 use Rattle.culling.proofs.ScenePieces.{all_are_pieces, lines_hide}
 use Rattle.culling.proofs.Shown.{shows_truly}

@@ -2,6 +2,7 @@
 //! sinks and any gate.
 #![tactic(auto)]
 
+mod commands;
 mod cull;
 mod demo;
 mod drawing;
@@ -12,11 +13,10 @@ mod live;
 mod live_caller;
 mod live_frame;
 mod picture;
-mod run;
 mod summary;
 mod upgrade;
 mod window;
 
+pub use commands::run;
 pub use failure::{Failure, Status};
 pub use frames::{clip_frame, pieces_of};
-pub use run::run;

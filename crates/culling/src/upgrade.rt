@@ -17,7 +17,8 @@ pub fn write_upgraded<S: Source, W: Sink>(
     report: &mut W,
 ) -> Result<(), Failure>
     // So it is whatever the notes say, which aren't written.
-    ensures outcome { (notes : SinkSays) → let before = streams (S.says input.old) (W.says report.old) notes in
+    ensures outcome { (notes : SinkSays) →
+        let before = streams (S.says input.old) (W.says report.old) notes in
         let after = streams (S.says input.new) (W.says report.new) notes in
         Comes Command.Upgrade (status_by result) before after (AwaitsNote result)
         (report.new ≡ report.old) (Unit {0}) }

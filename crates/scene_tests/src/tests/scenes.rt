@@ -421,16 +421,23 @@ fn batches_have_all_triangles(rt: HostRuntime) -> Result<(), Fail> {
         let bytes = in_batches(alloc, batches)?;
         assert_eq!(rt; refusal_of(alloc, bytes), want, "of batches {batches:?}");
     }
-    let mut many = Vec::new(alloc);
-    for _ in 0..4097 {
+    Ok(())
+}
+
+#[test]
+fn no_more_than_4096_batches_are_read(rt: HostRuntime) -> Result<(), Fail> {
+    let alloc = rt.alloc();
+    let mut many = Vec::from_slice(alloc, &[(2, 0)])?;
+    for _ in 1..4096 {
         many.push((0, 0))?;
     }
-    let bytes = in_batches(alloc, &many)?;
+    assert_eq!(rt; refusal_of(alloc, in_batches(alloc, &many)?), None);
+    many.push((0, 0))?;
     let count = SceneError::BadCount {
         field: 5,
         value: 4097,
     };
-    assert_eq!(rt; refusal_of(alloc, bytes), Some(count));
+    assert_eq!(rt; refusal_of(alloc, in_batches(alloc, &many)?), Some(count));
     Ok(())
 }
 

@@ -1,8 +1,7 @@
-use Rattle.std.proofs.Common.{◌≡◌, List, ap, refl, subst, Result, Err, Ok}
+use Rattle.std.proofs.Common.{ap, refl, subst, Err, Ok}
 use Rattle.std.proofs.lemmas.Result.{err_from_is_err_and}
 use Rattle.command_words.specs.declared.command.Command.TheVariants.{Upgrade}
 use Rattle.cull_base.specs.Stream.{Writes}
-use Rattle.cull_base.specs.declared.memory.SinkError.{SinkError}
 use Rattle.scene_reader.specs.Layout.{Parts, layout, upgraded}
 use Rattle.culling.specs.Outcome.{sink_failure}
 use Rattle.culling.proofs.Comings.{failed_read, upgrade_comes, upgrade_unwritten, upgrade_written}

@@ -1,14 +1,10 @@
-use Rattle.std.proofs.Common.{◌≡◌, List, map, string_bytes, refl, sym, subst, inl, inr}
-use Rattle.clap.specs.Words.{Text}
-use Rattle.command_words.specs.declared.command.Command.{Command}
-use Rattle.culling.specs.declared.failure.Status.{Status}
+use Rattle.std.proofs.Common.{◌≡◌, map, string_bytes, refl, inl, inr}
 use Rattle.culling.specs.declared.failure.Status.TheVariants as statuses
 use Rattle.culling.specs.Notes.{IsNotedBehind}
-use Rattle.culling.specs.Outcome.{refusal_status, status_of}
 use Rattle.culling.specs.Outcomes.{IsTrue}
-use Rattle.culling.specs.Runs.{Comes, IsComplete, streams}
-use Rattle.culling.proofs.Comings.{asked_all, asked_by, comes_done, comes_noted, complete, failed_as, refused_comes, refused_complete, refused_is, refused_noted, truth}
-use Rattle.culling.proofs.run.run.Goals as goal
+use Rattle.culling.specs.Runs.{Comes, streams}
+use Rattle.culling.proofs.Comings.{asked_all, asked_by, comes_done, comes_noted, failed_as, refused_comes, refused_complete, refused_is, refused_noted, truth}
+use Rattle.culling.proofs.commands.run.Goals as goal
 
 -- ---- the words are refused
 
@@ -56,6 +52,15 @@ returns-in-Err-perform-clause-truth g c =
     asked_all (map string_bytes c.args.words.now) (λ command. IsTrue command source) (λ command. truth command source)
 
 -- ---- the command did its work
+
+pub returns-in-Ok-perform-clause-outcome : goal.returns-in-Ok-perform-clause-outcome
+returns-in-Ok-perform-clause-outcome g c =
+    let i0 = g.S.Source.says c.args.input.now in let i1 = g.S.Source.says c.perform.new.input in
+    let r0 = g.W.Sink.says c.args.report.now in let r1 = g.W.Sink.says c.perform.new.report in
+    let n0 = g.E.Sink.says c.args.notes.now in let n1 = g.E.Sink.says c.perform.new.notes in
+    let P : Type 0 = c.perform.new.report ≡ c.args.report.now in let Q : Type 0 = c.perform.new.notes ≡ c.args.notes.now in
+    asked_by (map string_bytes c.args.words.now) c.in-Ok.command (λ command. Comes command statuses.Done (streams i0 r0 n0) (streams i1 r1 n1) IsNotedBehind P (statuses.Done ≡ statuses.Done → Q)) c.in-Ok.ensures.some
+    (comes_done c.in-Ok.command tt i0 i1 r0 r1 n0 n1 P Q c.in-Ok-perform.ensures.outcome)
 
 pub returns-in-Ok-perform-clause-truth : goal.returns-in-Ok-perform-clause-truth
 returns-in-Ok-perform-clause-truth g c =

@@ -4,7 +4,7 @@ use Rattle.command_words.specs.declared.command.Command.TheVariants.{Picture, Up
 use Rattle.culling.specs.Outcome.{status_by}
 use Rattle.culling.specs.Runs.{AwaitsNote, Comes, streams}
 use Rattle.culling.proofs.Comings.{comes_as}
-use Rattle.culling.proofs.run.perform.Goals as goal
+use Rattle.culling.proofs.commands.perform.Goals as goal
 
 pub returns-in-Demo-clause-outcome : goal.returns-in-Demo-clause-outcome
 returns-in-Demo-clause-outcome g c =
