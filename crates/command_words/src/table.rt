@@ -188,8 +188,8 @@ pub const PICTURE: ACommand = CommandRow {
     about: "Reads a scene from standard input and writes a grey map of one frame's depths to standard output",
     more: "Reads the bytes of a scene from standard input, to their end.
 Draws one frame, that of the number --frame, and writes to standard output for each pixel how near what is drawn is at
-least: a grey map in the plain form of PGM, from 0, where nothing is known, to 65535, at the near distance. These are the
-numbers with which tests compare, in a wide scene over 256. No option but --frame changes a byte of it.
+least: a grey map in the plain form of PGM, from 0, where nothing is known, to 65535, at the near distance. These are
+the numbers with which tests compare, in a wide scene over 256. No option but --frame changes a byte of it.
 Tells on standard error why a run isn't done.
 
 Exit status:
