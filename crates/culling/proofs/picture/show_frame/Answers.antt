@@ -21,25 +21,25 @@ use Rattle.culling.proofs.Shown.{tiles_show, tiles_within}
 use Rattle.culling.proofs.picture.show_frame.Goals as goal
 
 pub returns-in_err-room : goal.returns-in_err-room
-returns-in_err-room g c =
+returns-in_err-room g c notes =
     let p = err_from_is_err_and c.from_residual.result c.from_residual.ensures.1 in
     let is : c.in_err-room.field-0.0 ≡ Memory = search rules in
-    rw (p.1, p.2, is) (λ notes. no_memory (frame_picture c.args.scene.now c.args.frame) [] [] (g.W.Sink.says c.args.report.now) notes)
+    rw (p.1, p.2, is) (no_memory (frame_picture c.args.scene.now c.args.frame) [] [] (g.W.Sink.says c.args.report.now) notes)
 
 pub returns-in_err-drawn : goal.returns-in_err-drawn
-returns-in_err-drawn g c =
+returns-in_err-drawn g c notes =
     let p = err_from_is_err_and c.from_residual-in_err-drawn.result c.from_residual-in_err-drawn.ensures.1 in
-    rw (p.1, p.2) (λ notes. no_memory (frame_picture c.args.scene.now c.args.frame) [] [] (g.W.Sink.says c.args.report.now) notes)
+    rw (p.1, p.2) (no_memory (frame_picture c.args.scene.now c.args.frame) [] [] (g.W.Sink.says c.args.report.now) notes)
 
 pub returns-in_err-table : goal.returns-in_err-table
-returns-in_err-table g c =
+returns-in_err-table g c notes =
     let p = err_from_is_err_and c.from_residual-in_err-table.result c.from_residual-in_err-table.ensures.1 in
-    rw (p.1, p.2) (λ notes. no_memory (frame_picture c.args.scene.now c.args.frame) [] [] (g.W.Sink.says c.args.report.now) notes)
+    rw (p.1, p.2) (no_memory (frame_picture c.args.scene.now c.args.frame) [] [] (g.W.Sink.says c.args.report.now) notes)
 
 pub returns-in_err-bins : goal.returns-in_err-bins
-returns-in_err-bins g c =
+returns-in_err-bins g c notes =
     let p = err_from_is_err_and c.from_residual-in_err-bins.result c.from_residual-in_err-bins.ensures.1 in
-    rw (p.1, p.2) (λ notes. no_memory (frame_picture c.args.scene.now c.args.frame) [] [] (g.W.Sink.says c.args.report.now) notes)
+    rw (p.1, p.2) (no_memory (frame_picture c.args.scene.now c.args.frame) [] [] (g.W.Sink.says c.args.report.now) notes)
 
 pub of-view-requires-clause-size : goal.of-view-requires-clause-size
 unfolding frame_list
@@ -74,7 +74,7 @@ write_picture-requires-clause-within g c =
 
 pub returns-in_err-write_picture : goal.returns-in_err-write_picture
 unfolding frame_list
-returns-in_err-write_picture g c =
+returns-in_err-write_picture g c notes =
     let s = c.args.scene.now in
     let v = c.of-view.result in
     let d = c.in_ok-drawn.ensures.tiles in
@@ -88,11 +88,11 @@ returns-in_err-write_picture g c =
     let p = err_from_is_err_and c.from_residual-in_err-write_picture.result c.from_residual-in_err-write_picture.ensures.1 in
     let r0 = g.W.Sink.says c.args.report.now in let r1 = g.W.Sink.says c.write_picture.new.sink in
     let writes : Writes r0 r1 (Err e) (frame_picture s c.args.frame) = subst (λ (t : List ℕ). Writes r0 r1 (Err e) t) is c.in_err-write_picture.ensures in
-    rw (p.1, p.2) (λ notes. text_unwritten (frame_picture s c.args.frame) e r0 r1 notes writes)
+    rw (p.1, p.2) (text_unwritten (frame_picture s c.args.frame) e r0 r1 notes writes)
 
 pub returns : goal.returns
 unfolding frame_list
-returns g c =
+returns g c notes =
     let s = c.args.scene.now in
     let v = c.of-view.result in
     let d = c.in_ok-drawn.ensures.tiles in
@@ -104,4 +104,4 @@ returns g c =
     ∙ tiles_show s c.args.frame tiles states in
     let r0 = g.W.Sink.says c.args.report.now in let r1 = g.W.Sink.says c.write_picture.new.sink in
     let writes : Writes r0 r1 (Ok tt) (frame_picture s c.args.frame) = subst (λ (t : List ℕ). Writes r0 r1 (Ok tt) t) is c.in_ok-write_picture.ensures in
-    λ notes. text_written (frame_picture s c.args.frame) tt r0 r1 notes writes
+    text_written (frame_picture s c.args.frame) tt r0 r1 notes writes
