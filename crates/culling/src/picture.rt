@@ -82,7 +82,7 @@ pub fn picture<R: Threads + Wait + Sync, S: Source, W: Sink, G: Gate>(
     let scene = read_scene(alloc, input)?;
     let cameras = scene.cameras();
     let frames = cameras.len() as u32;
-    if frame >= frames {
+    if frames <= frame {
         return Err(Failure::Frame { frame, frames });
     }
     show_frame(rt, alloc, settings, &scene, frame, report, gate)

@@ -14,22 +14,22 @@ returns-in_err-scene g c =
           notes c.in_err-scene.field-0.0 _ _ tt read.refused (λ is. read.read (ap Err is)) refl tt;
     })
 
-pub returns-then-frame-frames : goal.returns-then-frame-frames
-returns-then-frame-frames g c =
+pub returns-then-frames-frame : goal.returns-then-frames-frame
+returns-then-frames-frame g c =
     let s = c.in_ok-scene.scene in
     let all : length c.cameras-cameras.result.now ≡ length s.cameras = ap length c.cameras-cameras.ensures.value in
     record {
       outcome = λ notes. missing_comes c.args.settings.now c.args.frame (length c.cameras-cameras.result.now) s (g.S.Source.says c.args.input.now) (g.S.Source.says c.read_scene.new.source)
-          (g.W.Sink.says c.args.report.now) notes _ _ c.in_ok-scene.ensures.ok c.in_ok-scene.ensures.layout all c.if-frame-frames.true refl tt;
+          (g.W.Sink.says c.args.report.now) notes _ _ c.in_ok-scene.ensures.ok c.in_ok-scene.ensures.layout all c.if-frames-frame.true refl tt;
     }
 
 pub show_frame-requires-clause-frame : goal.show_frame-requires-clause-frame
-show_frame-requires-clause-frame g c = omega (arith, ap length c.cameras-cameras.ensures.value, c.if-frame-frames.false)
+show_frame-requires-clause-frame g c = omega (arith, ap length c.cameras-cameras.ensures.value, c.if-frames-frame.false)
 
 pub returns : goal.returns
 returns g c =
     let s = c.in_ok-scene.scene in
-    let lt : c.args.frame < length s.cameras = omega (arith, ap length c.cameras-cameras.ensures.value, c.if-frame-frames.false) in
+    let lt : c.args.frame < length s.cameras = omega (arith, ap length c.cameras-cameras.ensures.value, c.if-frames-frame.false) in
     record {
       outcome = λ notes. picture_comes c.args.settings.now c.args.frame s (g.S.Source.says c.args.input.now) (g.S.Source.says c.read_scene.new.source)
           (g.W.Sink.says c.args.report.now) (g.W.Sink.says c.show_frame.new.report) notes c.show_frame.result _ c.in_ok-scene.ensures.ok c.in_ok-scene.ensures.layout lt (c.show_frame.ensures notes);
