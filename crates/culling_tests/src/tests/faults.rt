@@ -2,7 +2,7 @@
 ghost use Rattle.std.specs.Prelude.{◌≤◌};
 
 use crate::tests::runs::{
-    CULL, Ended, LARGE, NEVER, UPGRADE, assert_ended, run_over, run_with, sink,
+    CULL, Ended, LARGE, NEVER, PICTURE, UPGRADE, assert_ended, run_over, run_with, sink,
 };
 use crate::tests::scenes::{
     OCCLUDED, QUAD, TWO, changed, first_bytes, first_scene, in_batches, scene, seen_from,
@@ -81,7 +81,7 @@ fn a_scene_cut_anywhere_is_refused(rt: HostRuntime) -> Result<(), Fail> {
 fn each_read_that_fails_is_noted(rt: HostRuntime) -> Result<(), Fail> {
     let alloc = rt.alloc();
     for call in 1..179 {
-        for line in [CULL, UPGRADE] {
+        for line in [CULL, UPGRADE, PICTURE] {
             let ended = read_with_fault(&rt, alloc, line, first_scene(alloc)?, call)?;
             assert_ended(&rt, &ended, Status::ReadFault, "", "read fault\n");
         }
@@ -94,7 +94,7 @@ fn each_read_that_fails_is_noted(rt: HostRuntime) -> Result<(), Fail> {
 fn each_read_of_version_2_that_fails_is_noted(rt: HostRuntime) -> Result<(), Fail> {
     let alloc = rt.alloc();
     for call in 1..188 {
-        for line in [CULL, UPGRADE] {
+        for line in [CULL, UPGRADE, PICTURE] {
             let ended = read_with_fault(&rt, alloc, line, in_batches(alloc, &[(2, 0)])?, call)?;
             assert_ended(&rt, &ended, Status::ReadFault, "", "read fault\n");
         }

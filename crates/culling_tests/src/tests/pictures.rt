@@ -1,7 +1,7 @@
 //! Pictures of the depths: the bound at each pixel, as a grey map.
 ghost use Rattle.std.specs.Prelude.{◌≤◌};
 
-use crate::tests::runs::{LARGE, NEVER, sink, words_of};
+use crate::tests::runs::{LARGE, NEVER, PICTURE, sink, words_of};
 use crate::tests::scenes::{QUAD, TWO, changed, first_scene, in_batches, scene, two_frames};
 use cull_base::{BytesSource, SureSink};
 use culling::{Status, run};
@@ -13,8 +13,6 @@ use std::sync::Wait;
 use std::test::*;
 use std::thread::Threads;
 use tile_queues::OpenGate;
-
-const PICTURE: &str = "maskcull picture";
 
 // Of the quad at distance 2.
 const HALF: &str = "32767\n";

@@ -16,6 +16,9 @@ pub const CULL: &str = "maskcull cull";
 /// The command line that writes a scene in version 2.
 pub const UPGRADE: &str = "maskcull upgrade";
 
+/// The command line that writes a picture of a scene's first frame.
+pub const PICTURE: &str = "maskcull picture";
+
 /// The number of no call: calls are numbered from 1.
 pub const NEVER: u64 = 0;
 
