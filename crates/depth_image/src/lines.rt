@@ -68,7 +68,8 @@ fn line_at<'a>(
     reference: &'a NumberLine,
 ) -> &'a NumberLine
     requires sample { sample < 32 }
-    requires short { (length working.now ≤ 6) × (length reference.now ≤ 6) }
+    requires working { length working.now ≤ 6 }
+    requires reference { length reference.now ≤ 6 }
     ensures value { result.now ≡ cond (has (samples_of mask) sample) working.now reference.now }
     ensures short { length result.now ≤ 6 }
 {

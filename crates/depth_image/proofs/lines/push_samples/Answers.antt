@@ -11,8 +11,11 @@ loop-column-init c = record { text = samples_none c.args.text.now c.args.grade c
 pub line_at-line-requires-clause-sample : goal.line_at-line-requires-clause-sample
 line_at-line-requires-clause-sample c = omega (arith, c.requires.row, c.loop-column-test.true)
 
-pub line_at-line-requires-clause-short : goal.line_at-line-requires-clause-short
-line_at-line-requires-clause-short c = (c.depth_line-working.ensures.short, c.depth_line-reference.ensures.short)
+pub line_at-line-requires-clause-working : goal.line_at-line-requires-clause-working
+line_at-line-requires-clause-working c = c.depth_line-working.ensures.short
+
+pub line_at-line-requires-clause-reference : goal.line_at-line-requires-clause-reference
+line_at-line-requires-clause-reference c = c.depth_line-reference.ensures.short
 
 pub push-requires : goal.push-requires
 push-requires c = omega (arith, ap length c.as_slice.ensures, c.line_at-line.ensures.short, c.loop-column.invariant.short, c.loop-column-test.true, c.requires.room)
