@@ -59,7 +59,8 @@ fn depth_line(grade: Grade, depth: u32) -> NumberLine
     number_line(cut_shade(grade, depth))
 }
 
-// One line at a sample of the mask, and another at any other. Condition: a subtile has the sample.
+// One line at a sample of the mask, and another at any other. Conditions: a subtile has the sample, and both lines have
+// at most five digits.
 #[inline(always)]
 fn line_at<'a>(
     mask: u32,
