@@ -22,23 +22,22 @@ fn command_for(rt: &impl Abort, alloc: Global, given: &[&str]) -> Result<Command
     )
 }
 
-// The settings of a command, its name, and the two numbers of its own; none of `upgrade`, which has no settings.
-fn parts(command: Command) -> Option<(Settings, &'static str, Option<(u32, u32)>)> {
-    let (settings, name, own) = match command {
-        Command::Cull { settings } => (settings, "cull", None),
+// The settings of a command, its name, and the two numbers of its own; `upgrade` has no settings.
+fn parts(command: Command) -> (Option<Settings>, &'static str, Option<(u32, u32)>) {
+    match command {
+        Command::Cull { settings } => (Some(settings), "cull", None),
         Command::Live {
             settings,
             rounds,
             watch,
-        } => (settings, "live", Some((rounds, watch))),
+        } => (Some(settings), "live", Some((rounds, watch))),
         Command::Demo {
             settings,
             seed,
             triangles,
-        } => (settings, "demo", Some((seed, triangles))),
-        Command::Upgrade => return None,
-    };
-    Some((settings, name, own))
+        } => (Some(settings), "demo", Some((seed, triangles))),
+        Command::Upgrade => (None, "upgrade", None),
+    }
 }
 
 // The workers, columns, rows and batch that a command line names, the command, and the two numbers of its own.
@@ -47,8 +46,8 @@ fn asked(
     alloc: Global,
     given: &[&str],
 ) -> Result<([u32; 4], &'static str, Option<(u32, u32)>), Fail> {
-    let named = command_for(rt, alloc, given)?;
-    let (settings, command, own) = parts(named).ok_or("a command with settings")?;
+    let (settings, command, own) = parts(command_for(rt, alloc, given)?);
+    let settings = settings.ok_or("a command with settings")?;
     let (columns, rows) = (settings.cut.columns(), settings.cut.rows());
     let sharing = [settings.workers, columns, rows, settings.batch];
     Ok((sharing, command, own))
@@ -105,8 +104,8 @@ fn the_flag_stands_anywhere_among_the_options(rt: HostRuntime) -> Result<(), Fai
         ),
         (&["maskcull", "cull", "--workers", "3", "--early"], 3, true),
     ] {
-        let named = command_for(&rt, alloc, given)?;
-        let (settings, _, _) = parts(named).ok_or("a command with settings")?;
+        let (settings, _, _) = parts(command_for(&rt, alloc, given)?);
+        let settings = settings.ok_or("a command with settings")?;
         assert_eq!(rt; (settings.workers, settings.early), (workers, is_early));
     }
     Ok(())
@@ -165,8 +164,9 @@ fn ranges_and_defaults_stand_on_the_help_page(rt: HostRuntime) -> Result<(), Fai
 #[test]
 fn upgrade_has_no_options(rt: HostRuntime) -> Result<(), Fail> {
     let alloc = rt.alloc();
-    let named = command_for(&rt, alloc, &["maskcull", "upgrade"])?;
-    assert!(rt; parts(named).is_none());
+    let Command::Upgrade = command_for(&rt, alloc, &["maskcull", "upgrade"])? else {
+        return Err(Fail::from("the command that upgrades"));
+    };
     for option in [["--workers", "2"], ["--batch", "7"], ["--early", "--early"]] {
         let [first, second] = option;
         let given = words(alloc, &["maskcull", "upgrade", first, second])?;
