@@ -81,9 +81,13 @@ asked_by kinds.Live values = Live (settings_by values) (number_of values rounds)
 asked_by kinds.Demo values = Demo (settings_by values) (number_of values seed) (number_of values triangles)
 asked_by kinds.Upgrade values = Upgrade
 
+-- the values of a command's own options, found by their names
+abbrev pub own_values : ACommand → (AnOption → Option ℕ) → AnOption → Option ℕ
+own_values row values o = option_and_then values (find (λ x. bytes_eq x.name o.name) row.options)
+
 -- what the command of this name asks for by its matches; none where no command has the name
 abbrev pub asked_in : Text → List Row → Option Command
-asked_in name rows = option_map (λ row. asked_by row.kind (value_in rows)) (row_named name)
+asked_in name rows = option_map (λ row. asked_by row.kind (own_values row (value_in rows))) (row_named name)
 
 -- what the words ask for; none where `clap` refuses them
 unfoldable pub command_of : List Text → Option Command
@@ -167,7 +171,7 @@ pub record ArePlainFor (row : ACommand) (words : List Text) (c : Command) : Type
   pub uses : List Use
   pub are_uses : AreUses row.options uses
   pub spelled : words ≡ program ∷ row.name ∷ flat_map words_of_use uses
-  pub asked : asked_by row.kind (stated uses) ≡ c
+  pub asked : asked_by row.kind (own_values row (stated uses)) ≡ c
 
 -- plain words, and what they ask for
 abbrev pub ArePlain : List Text → Command → Type 0

@@ -4,7 +4,7 @@ ghost use Rattle.clap.specs.Walk.{is_empty};
 ghost use Rattle.clap.specs.Words.{fault_of, found_of, kind_of, one_of, rows_of, subcommand_of, subcommand_rows_of};
 ghost use Rattle.command_words.specs.App.{the_app};
 ghost use Rattle.command_words.specs.Table.{row_among, row_by, row_of, sharing};
-ghost use Rattle.command_words.specs.Words.{AreInRange, ArePlain, AreWords, HaveValues, IsEntered, IsFlag, IsNumbered, IsWithinLimits, asked_by, asked_in, command_of, flag_said, number_said, settings_by, value_in};
+ghost use Rattle.command_words.specs.Words.{AreInRange, ArePlain, AreWords, HaveValues, IsEntered, IsFlag, IsNumbered, IsWithinLimits, asked_by, asked_in, command_of, flag_said, number_said, own_values, settings_by, value_in};
 
 use crate::command::Command;
 use crate::program::program;
@@ -104,7 +104,7 @@ fn settings_of(matches: &ArgMatches<'_>) -> Settings
 // A command with the values of its options, where each has one.
 fn asked_by(kind: CommandKind, matches: &ArgMatches<'_>) -> Command
     requires { HaveValues (row_by kind).options (rows_of (found_of matches.now)) }
-    ensures value { result ≡ asked_by kind (value_in (rows_of (found_of matches.now))) }
+    ensures value { result ≡ asked_by kind (own_values (row_by kind) (value_in (rows_of (found_of matches.now)))) }
     ensures limits { IsWithinLimits result }
 {
     match kind {

@@ -1,4 +1,4 @@
-use Rattle.std.proofs.Common.{◌≤◌, arith}
+use Rattle.std.proofs.Common.{arith}
 use Rattle.command_words.proofs.OptionNumbers.{read_within, wider}
 use Rattle.command_words.proofs.words.settings_of.Goals as goal
 
