@@ -11,12 +11,12 @@ use Rattle.clap.specs.declared.parser.matches.ArgMatches.{ArgMatches}
 use Rattle.clap.specs.declared.parser.matches.ArgMatches.TheViews.{out-ArgMatches, out-SubCommand}
 use Rattle.clap.specs.declared.parser.matches.SubCommand.{SubCommand}
 use Rattle.command_words.specs.App.{the_app}
-use Rattle.command_words.specs.Table.{ACommand, AnOption, commands, row_by, row_named, row_of}
-use Rattle.command_words.specs.Words.{ArePlain, AreWords, HaveValues, IsEntered, asked_by, asked_in, command_of, own_values, stated, value_in}
-use Rattle.command_words.specs.declared.command.Command.{Command}
+use Rattle.command_words.specs.Table.{ACommand, AnOption, commands, row_named, row_of}
+use Rattle.command_words.specs.Words.{ArePlain, AreWords, HaveValues, IsEntered, asked_by, asked_in, command_of, own_values, row_by, stated, value_in}
+use Rattle.command_words.specs.declared.table.Command.{Command}
 use Rattle.command_words.specs.declared.table.CommandKind.{CommandKind}
-use Rattle.command_words.specs.declared.table.CommandRow.{CommandRow}
-use Rattle.command_words.specs.declared.table.OptionRow.{OptionRow}
+use Rattle.command_words.specs.declared.rows.CommandRow.{CommandRow}
+use Rattle.command_words.specs.declared.rows.OptionRow.{OptionRow}
 use Rattle.command_words.specs.declared.words.Refusal.{Refusal}
 use Rattle.command_words.specs.declared.words.Refusal.TheVariants as refusals
 use Rattle.command_words.proofs.OptionRules.{IsOf, tail_of}

@@ -20,7 +20,7 @@ use Rattle.clap.proofs.WalkLemmas.{both, walk_stopped}
 use Rattle.command_words.specs.App.{the_app}
 use Rattle.command_words.specs.Table.{ACommand, AnOption, Taken, commands}
 use Rattle.command_words.specs.Words.{AreApart, AreUses, Use, stated, value_in, words_of_use}
-use Rattle.command_words.specs.declared.table.Takes.TheVariants.{Number, Nothing}
+use Rattle.command_words.specs.declared.rows.Takes.TheVariants.{Number, Nothing}
 use Rattle.command_words.proofs.OptionRules.{are_apart, is_no, IsOf, of_contained, rules_for, same_option, tail_of}
 use Rattle.command_words.proofs.UseRows.{IsSmall, neither, row_for}
 use Rattle.command_words.proofs.UseWalk.{AreFine, AreNew, HasDefault, IsFine, IsUse, Passes, all_pass, between, leaf, settled_is, settles}

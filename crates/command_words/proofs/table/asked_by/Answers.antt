@@ -1,15 +1,15 @@
-use Rattle.std.proofs.Common.{◌≡◌, List, arith, map, refl, rules, subst, sym, ap, Some}
+use Rattle.std.proofs.Common.{◌≡◌, List, arith, map, refl, rules, subst, sym, Some}
 use Rattle.std.specs.Prelude.{find}
 use Rattle.std.specs.Str.{bytes_eq}
 use Rattle.clap.specs.Words.{Row, found_of, rows_of}
-use Rattle.command_words.specs.Table.{AnOption, rounds, row_by, sharing, triangles, watch}
-use Rattle.command_words.specs.Words.{HasValue, HaveValues, asked_by, own_values, value_in}
-use Rattle.command_words.specs.declared.command.Command.{Command}
-use Rattle.command_words.specs.declared.command.Command.TheVariants.{Cull, Live, Demo}
+use Rattle.command_words.specs.Table.{AnOption}
+use Rattle.command_words.specs.Words.{HasValue, HaveValues, asked_by, own_values, rounds, row_by, sharing, triangles, value_in, watch}
+use Rattle.command_words.specs.declared.table.Command.{Command}
+use Rattle.command_words.specs.declared.table.Command.TheVariants.{Cull, Live, Demo}
 use Rattle.command_words.specs.declared.table.CommandKind.{CommandKind}
 use Rattle.command_words.specs.declared.table.CommandKind.TheVariants as kinds
 use Rattle.command_words.proofs.OptionNumbers.{read_within, value_of, values_of, wider}
-use Rattle.command_words.proofs.words.asked_by.Goals as goal
+use Rattle.command_words.proofs.table.asked_by.Goals as goal
 
 -- of the one command that it is some options have their values, and one
 some_of : (kind own : CommandKind) (some : List AnOption) (rows : List Row) → kind ≡ own → map (λ (o : AnOption). find (λ x. bytes_eq x.name o.name) (row_by own).options) some ≡ map (λ (o : AnOption). Some o) some
@@ -24,15 +24,15 @@ asked_of : (kind own : CommandKind) (rows : List Row) (c : Command) → kind ≡
 asked_of kind own rows c is same = subst (λ (k : CommandKind). c ≡ asked_by k (own_values (row_by k) (value_in rows))) (sym is) same
 
 pub returns-in-Cull-clause-value : goal.returns-in-Cull-clause-value
-returns-in-Cull-clause-value c = asked_of c.args.kind kinds.Cull (rows_of (found_of c.args.matches.now)) _ (search rules) (ap Cull c.settings_of.ensures.value)
+returns-in-Cull-clause-value c = asked_of c.args.kind kinds.Cull (rows_of (found_of c.args.matches.now)) _ (search rules) (λ i. Cull (record { settings = c.settings_of.ensures.value i }))
 
 pub returns-in-Live-clause-value : goal.returns-in-Live-clause-value
 returns-in-Live-clause-value c =
-    asked_of c.args.kind kinds.Live (rows_of (found_of c.args.matches.now)) _ (search rules) (λ i. Live (c.settings_of-in-Live.ensures.value i) (c.number.ensures i) (c.number-in-Live.ensures i))
+    asked_of c.args.kind kinds.Live (rows_of (found_of c.args.matches.now)) _ (search rules) (λ i. Live (record { settings = c.settings_of-in-Live.ensures.value i; rounds = c.number.ensures i; watch = c.number-in-Live.ensures i }))
 
 pub returns-in-Demo-clause-value : goal.returns-in-Demo-clause-value
 returns-in-Demo-clause-value c =
-    asked_of c.args.kind kinds.Demo (rows_of (found_of c.args.matches.now)) _ (search rules) (λ i. Demo (c.settings_of-in-Demo.ensures.value i) (c.number-in-Demo.ensures i) (c.number-in-Demo-2.ensures i))
+    asked_of c.args.kind kinds.Demo (rows_of (found_of c.args.matches.now)) _ (search rules) (λ i. Demo (record { settings = c.settings_of-in-Demo.ensures.value i; seed = c.number-in-Demo.ensures i; triangles = c.number-in-Demo-2.ensures i }))
 
 pub settings_of-requires : goal.settings_of-requires
 settings_of-requires c = some_of c.args.kind kinds.Cull sharing (rows_of (found_of c.args.matches.now)) (search rules) refl c.requires

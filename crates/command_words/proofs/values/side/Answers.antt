@@ -1,6 +1,6 @@
 use Rattle.std.proofs.Common.{◌≤◌, arith}
 use Rattle.command_words.proofs.OptionNumbers.{read_within, wider}
-use Rattle.command_words.proofs.words.side.Goals as goal
+use Rattle.command_words.proofs.values.side.Goals as goal
 
 pub number-requires : goal.number-requires
 number-requires c = wider _ _ _ _ _ c.requires (omega arith)

@@ -1,6 +1,6 @@
 use Rattle.std.proofs.Common.{arith}
 use Rattle.command_words.proofs.OptionNumbers.{read_within, wider}
-use Rattle.command_words.proofs.words.settings_of.Goals as goal
+use Rattle.command_words.proofs.settings.settings_of.Goals as goal
 
 pub side-columns-requires : goal.side-columns-requires
 side-columns-requires c = c.requires.1.0

@@ -2,7 +2,7 @@ use Rattle.std.proofs.Common.{inl, sym, ap, ◌∙◌}
 use Rattle.std.specs.Option.{unwrap_or}
 use Rattle.clap.specs.Words.{found_of, rows_of}
 use Rattle.command_words.proofs.OptionNumbers.{number_some}
-use Rattle.command_words.proofs.words.number.Goals as goal
+use Rattle.command_words.proofs.values.number.Goals as goal
 
 pub number_of-requires : goal.number_of-requires
 number_of-requires c = inl c.requires

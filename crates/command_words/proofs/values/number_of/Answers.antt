@@ -1,7 +1,7 @@
 use Rattle.std.specs.Str.Parse.{ExplainsUnsignedError, HasUnsignedDigitsIfOk, ParsesUnsigned}
 use Rattle.clap.specs.Words.{found_of}
 use Rattle.command_words.proofs.OptionNumbers.{number_got}
-use Rattle.command_words.proofs.words.number_of.Goals as goal
+use Rattle.command_words.proofs.values.number_of.Goals as goal
 
 pub returns : goal.returns
 returns c =
