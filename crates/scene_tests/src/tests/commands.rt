@@ -22,21 +22,13 @@ fn command_for(rt: &impl Abort, alloc: Global, given: &[&str]) -> Result<Command
     )
 }
 
-// The settings of a command, its name, and the two numbers of its own; none of `upgrade`, which has no settings.
+// The settings of a command, its name, and the two numbers of its own; none of a command that has no settings.
 fn parts(command: Command) -> Option<(Settings, &'static str, Option<(u32, u32)>)> {
     let (settings, name, own) = match command {
-        Command::Cull { settings } => (settings, "cull", None),
-        Command::Live {
-            settings,
-            rounds,
-            watch,
-        } => (settings, "live", Some((rounds, watch))),
-        Command::Demo {
-            settings,
-            seed,
-            triangles,
-        } => (settings, "demo", Some((seed, triangles))),
-        Command::Upgrade => return None,
+        Command::Cull(words) => (words.settings, "cull", None),
+        Command::Live(words) => (words.settings, "live", Some((words.rounds, words.watch))),
+        Command::Demo(words) => (words.settings, "demo", Some((words.seed, words.triangles))),
+        _ => return None,
     };
     Some((settings, name, own))
 }
