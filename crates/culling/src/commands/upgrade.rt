@@ -1,6 +1,5 @@
 //! The command `upgrade`: a scene of either version, written in version 2.
 ghost use Rattle.std.specs.Prelude.{◌≡◌};
-ghost use Rattle.cull_base.specs.Stream.{SinkSays};
 ghost use Rattle.culling.specs.Outcome.{status_by};
 ghost use Rattle.culling.specs.Runs.{AwaitsNote, Comes, streams};
 
@@ -11,17 +10,16 @@ use scene_reader::{read_scene, upgrade, write_scene};
 use std::alloc::Global;
 
 /// Reads a scene and writes it in version 2; nothing is noted.
-pub fn write_upgraded<S: Source, W: Sink>(
+pub fn write_upgraded<S: Source, W: Sink, E: Sink>(
     alloc: Global,
     input: &mut S,
     report: &mut W,
+    _notes: &mut E,
 ) -> Result<(), Failure>
-    // So it is whatever the notes say, which aren't written.
-    ensures outcome { (notes : SinkSays) →
-        let before = streams (S.says input.old) (W.says report.old) notes in
-        let after = streams (S.says input.new) (W.says report.new) notes in
+    ensures outcome { let before = streams (S.says input.old) (W.says report.old) (E.says _notes.old) in
+        let after = streams (S.says input.new) (W.says report.new) (E.says _notes.new) in
         Comes Command.Upgrade (status_by result) before after (AwaitsNote result)
-        (report.new ≡ report.old) (Unit {0}) }
+        (report.new ≡ report.old) (_notes.new ≡ _notes.old) }
 {
     let scene = read_scene(alloc, input)?;
     let upgraded = upgrade(scene);

@@ -1,7 +1,7 @@
 //! Culling a scene: from bytes to the report.
 ghost use Rattle.std.specs.Prelude.{◌≡◌, length};
 ghost use Rattle.cull_report.specs.Scene.{scene_header};
-ghost use Rattle.command_words.specs.Words.{AreInRange};
+ghost use Rattle.command_words.specs.Words.{IsWithinLimits};
 ghost use Rattle.culling.specs.FrameRuns.{LeavesFrames};
 ghost use Rattle.culling.specs.Outcome.{status_by};
 ghost use Rattle.culling.specs.Runs.{AwaitsNote, Comes, streams};
@@ -11,7 +11,7 @@ use crate::drawing::Plan;
 use crate::failure::Failure;
 use crate::frame_by_frame::report_frames;
 use crate::frames::{Beside, FrameLines};
-use command_words::{Command, Settings};
+use command_words::{Command, CullWords};
 use cull_base::{Sink, Source};
 use cull_report::write_header;
 use scene_reader::{Scene, read_scene};
@@ -43,21 +43,21 @@ pub fn report_scene<R: Threads + Wait + Sync, W: Sink, E: Sink, G: Gate>(
 pub fn cull<R: Threads + Wait + Sync, S: Source, W: Sink, E: Sink, G: Gate>(
     rt: &R,
     alloc: Global,
-    settings: &Settings,
+    words: &CullWords,
     input: &mut S,
     report: &mut W,
     notes: &mut E,
     gate: &G,
 ) -> Result<(), Failure>
-    requires settings { AreInRange settings.now }
+    requires limits { IsWithinLimits (Command.Cull words.now) }
     ensures outcome { let before = streams (S.says input.old) (W.says report.old) (E.says notes.old) in
         let after = streams (S.says input.new) (W.says report.new) (E.says notes.new) in
-        Comes (Command.Cull settings.now) (status_by result) before after (AwaitsNote result)
+        Comes (Command.Cull words.now) (status_by result) before after (AwaitsNote result)
         (report.new ≡ report.old) (notes.new ≡ notes.old) }
 {
     let scene = read_scene(alloc, input)?;
     let plan = Plan {
-        settings,
+        settings: &words.settings,
         lines: FrameLines::Report,
         beside: Beside::Nothing,
     };
