@@ -1,5 +1,5 @@
 -- An option's number, as its text is read, and the flag.
-use Rattle.std.proofs.Common.{◌≡◌, ◌∙◌, ◌≤◌, ◌==◌, ℕ, Bool, true, false, cond, pos, refl, sym, ap, subst, inl, inr, arith, List, [], ◌∷◌, codes, drop, get_or, map, Option, Some, None, Result, Ok, ◌⊎◌, is_some}
+use Rattle.std.proofs.Common.{◌≡◌, ◌∙◌, ◌≤◌, ◌==◌, ℕ, Bool, true, false, cond, pos, refl, sym, ap, subst, inl, inr, arith, List, [], ◌∷◌, codes, drop, Option, Some, None, Result, Ok, ◌⊎◌, is_some}
 use Rattle.std.specs.Prelude.{find}
 use Rattle.std.specs.Option.{IsSome, unwrap_or}
 use Rattle.std.specs.Str.{bytes_eq}
@@ -13,7 +13,6 @@ use Rattle.clap.proofs.CallerReads.{signed_reads}
 use Rattle.clap.proofs.WalkLemmas.{one_text-rows}
 use Rattle.command_words.specs.Table.{AnOption}
 use Rattle.command_words.specs.Words.{HasValue, HaveValues, IsFlag, IsNumbered, flag_said, number_said}
-use Rattle.command_words.proofs.OptionRules.{tail_of}
 
 no_plus : (ds : List ℕ) → IsNumeral 10 ds → without_leading_plus ds ≡ ds
 no_plus [] h = refl
@@ -41,9 +40,7 @@ value_within (x ∷ xs) least most h = go (x == 45) refl
 abbrev number_at : List Row → Text → ℕ
 number_at rows name = unwrap_or (number_said (one_of name rows)) 0
 
--- ---- of all options of a row some have their values
-
--- one that is found by its name
+-- of all options of a row one that is found by its name has its value
 pub value_of : (options : List AnOption) (o : AnOption) (rows : List Row) → find (λ x. bytes_eq x.name o.name) options ≡ Some o → HaveValues options rows → HasValue rows o
 value_of [] o rows is has = cc
 value_of (x ∷ rest) o rows is has = go (bytes_eq x.name o.name) is (λ later. value_of rest o rows later has.1)
@@ -51,13 +48,6 @@ value_of (x ∷ rest) o rows is has = go (bytes_eq x.name o.name) is (λ later. 
     go : (b : Bool) → cond b (Some x) (find (λ y. bytes_eq y.name o.name) rest) ≡ Some o → (find (λ y. bytes_eq y.name o.name) rest ≡ Some o → HasValue rows o) → HasValue rows o
     go true e rec = subst (HasValue rows) (ap (λ (p : Option AnOption). unwrap_or p x) e) has.0
     go false e rec = rec e
-
--- some that are, all of them
-pub values_of : (some options : List AnOption) (rows : List Row) → map (λ (o : AnOption). find (λ x. bytes_eq x.name o.name) options) some ≡ map (λ (o : AnOption). Some o) some
-    → HaveValues options rows → HaveValues some rows
-values_of [] options rows are has = tt
-values_of (o ∷ rest) options rows are has =
-    (value_of options o rows (ap (λ (l : List (Option AnOption)). get_or l 0 None) are) has, values_of rest options rows (ap (λ (l : List (Option AnOption)). tail_of l) are) has)
 
 -- the number is in the range
 pub read_within : (rows : List Row) (name : Text) (least most n : ℕ) → n ≡ number_at rows name → IsNumbered rows name least most → (least ≤ n) × (n ≤ most)
