@@ -12,7 +12,7 @@ use Rattle.clap.specs.declared.parser.matches.ArgMatches.TheViews.{out-ArgMatche
 use Rattle.clap.specs.declared.parser.matches.SubCommand.{SubCommand}
 use Rattle.command_words.specs.App.{the_app}
 use Rattle.command_words.specs.Table.{ACommand, AnOption, commands, row_named, row_of}
-use Rattle.command_words.specs.Words.{ArePlain, AreWords, HaveValues, IsEntered, asked_by, asked_in, command_of, own_values, row_by, stated, value_in}
+use Rattle.command_words.specs.Words.{ArePlain, AreWords, HaveValues, IsEntered, asked_by, asked_in, command_of, options_by, own_values, stated, value_in}
 use Rattle.command_words.specs.declared.table.Command.{Command}
 use Rattle.command_words.specs.declared.table.CommandKind.{CommandKind}
 use Rattle.command_words.specs.declared.rows.CommandRow.{CommandRow}
@@ -45,23 +45,23 @@ found_same values others p (x ∷ rest) same = go (p x) (found_same values other
     go true later = same x (inl refl)
     go false later = later
 
-own_same : (row : ACommand) (values others : AnOption → Option ℕ) → ((o : AnOption) → IsOf o row.options → values o ≡ others o) → own_values row values ≡ own_values row others
+own_same : (row : ACommand) (values others : AnOption → Option ℕ) → ((o : AnOption) → IsOf o row.options → values o ≡ others o) → own_values row.options values ≡ own_values row.options others
 own_same row values others same = λ i o. found_same values others (λ x. bytes_eq x.name o.name) row.options same i
 
--- a row of the table is the one of its kind, and is found by its name
+-- a row of the table has the options of its kind, and is found by its name
 record IsOwn (row : ACommand) : Type 0 where
-  kind : row_by row.kind ≡ row
+  options : options_by row.kind ≡ row.options
   named : row_named row.name ≡ Some row
 
-all_kinds : map (λ (row : ACommand). row_by row.kind) commands ≡ map (λ (row : ACommand). row) commands
-all_kinds = refl
+all_options : map (λ (row : ACommand). options_by row.kind) commands ≡ map (λ (row : ACommand). row.options) commands
+all_options = refl
 
 all_named : map (λ (row : ACommand). row_named row.name) commands ≡ map (λ (row : ACommand). Some row) commands
 all_named = refl
 
 is_own : (row : ACommand) → Contains commands row → IsOwn row
 is_own row c = record {
-  kind = agree_at (λ (r : ACommand). row_by r.kind) (λ (r : ACommand). r) commands row c.0 all_kinds c.1 c.2;
+  options = agree_at (λ (r : ACommand). options_by r.kind) (λ (r : ACommand). r.options) commands row c.0 all_options c.1 c.2;
   named = agree_at (λ (r : ACommand). row_named r.name) (λ (r : ACommand). Some r) commands row c.0 all_named c.1 c.2;
 }
 
@@ -71,7 +71,7 @@ plain_asked words c plain =
     let p = plain.2 in
     let t = taken row plain.1 p.program p.uses p.are_uses in
     let own = is_own row plain.1 in
-    ap command_of p.spelled ∙ asked _ _ t.no_fault t.entered ∙ ap (option_map (λ (r : ACommand). asked_by r.kind (own_values r (value_in t.rows)))) own.named
+    ap command_of p.spelled ∙ asked _ _ t.no_fault t.entered ∙ ap (option_map (λ (r : ACommand). asked_by r.kind (own_values r.options (value_in t.rows)))) own.named
     ∙ ap Some (ap (asked_by row.kind) (own_same row (value_in t.rows) (stated p.uses) t.values) ∙ p.asked)
 
 -- ---- the search for a row by its name
@@ -111,29 +111,29 @@ found_alike {Y} f g p (x ∷ rest) row same e = go (p x) e (λ later. found_alik
     go true e rec = subst (λ (r : ACommand). f r ≡ g r) (ap (λ o. unwrap_or o x) e) (ap (λ (l : List Y). get_or l 0 (f x)) same)
     go false e rec = rec e
 
-own_row : (name : Text) (row : ACommand) → row_named name ≡ Some row → row_by row.kind ≡ row
-own_row name row is = found_alike (λ (r : ACommand). row_by r.kind) (λ (r : ACommand). r) (λ r. bytes_eq r.name name) commands row all_kinds is
+own_options : (name : Text) (row : ACommand) → row_named name ≡ Some row → options_by row.kind ≡ row.options
+own_options name row is = found_alike (λ (r : ACommand). options_by r.kind) (λ (r : ACommand). r.options) (λ r. bytes_eq r.name name) commands row all_options is
 
 -- the options of the command that was found have their values
-pub kind_has : (name : Text) (rows : List Row) (kind : CommandKind) → Some kind ≡ option_map (λ row. row.kind) (row_named name) → IsEntered name rows → HaveValues (row_by kind).options rows
+pub kind_has : (name : Text) (rows : List Row) (kind : CommandKind) → Some kind ≡ option_map (λ row. row.kind) (row_named name) → IsEntered name rows → HaveValues (options_by kind) rows
 kind_has name rows kind found entered = go (row_named name) refl found entered
   where
-    go : (o : Option ACommand) → row_named name ≡ o → Some kind ≡ option_map (λ row. row.kind) o → IfSome o (λ row. HaveValues row.options rows) → HaveValues (row_by kind).options rows
+    go : (o : Option ACommand) → row_named name ≡ o → Some kind ≡ option_map (λ row. row.kind) o → IfSome o (λ row. HaveValues row.options rows) → HaveValues (options_by kind) rows
     go None is same has = cc
     go (Some row) is same has =
-        let own = own_row name row is in
+        let own = own_options name row is in
         let of_kind : row.kind ≡ kind = sym (ap (λ o. unwrap_or o kind) same) in
-        subst (λ (k : CommandKind). HaveValues (row_by k).options rows) of_kind (subst (λ (r : ACommand). HaveValues r.options rows) (sym own) has)
+        subst (λ (k : CommandKind). HaveValues (options_by k) rows) of_kind (subst (λ (os : List AnOption). HaveValues os rows) (sym own) has)
 
 -- and it asks for what it asks for by its kind
 pub kind_asks : (name : Text) (rows : List Row) (kind : Option CommandKind) → kind ≡ option_map (λ row. row.kind) (row_named name)
-    → option_map (λ k. asked_by k (own_values (row_by k) (value_in rows))) kind ≡ asked_in name rows
-kind_asks name rows kind is = ap (option_map (λ (k : CommandKind). asked_by k (own_values (row_by k) (value_in rows)))) is ∙ go (row_named name) refl
+    → option_map (λ k. asked_by k (own_values (options_by k) (value_in rows))) kind ≡ asked_in name rows
+kind_asks name rows kind is = ap (option_map (λ (k : CommandKind). asked_by k (own_values (options_by k) (value_in rows)))) is ∙ go (row_named name) refl
   where
     go : (o : Option ACommand) → row_named name ≡ o
-        → option_map (λ k. asked_by k (own_values (row_by k) (value_in rows))) (option_map (λ row. row.kind) o) ≡ option_map (λ row. asked_by row.kind (own_values row (value_in rows))) o
+        → option_map (λ k. asked_by k (own_values (options_by k) (value_in rows))) (option_map (λ row. row.kind) o) ≡ option_map (λ row. asked_by row.kind (own_values row.options (value_in rows))) o
     go None e = refl
-    go (Some row) e = ap (λ (r : ACommand). Some (asked_by row.kind (own_values r (value_in rows)))) (own_row name row e)
+    go (Some row) e = ap (λ (os : List AnOption). Some (asked_by row.kind (own_values os (value_in rows)))) (own_options name row e)
 
 -- ---- by what the matches say
 

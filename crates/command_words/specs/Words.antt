@@ -11,11 +11,11 @@ use Rattle.binning.specs.Cut.{cut_into}
 use Rattle.command_words.specs.App.{the_app}
 use Rattle.command_words.specs.Table.{ACommand, AnOption, Taken, commands, option_with, row_named, row_with}
 use Rattle.command_words.specs.declared.table.Command.{Command}
-use Rattle.command_words.specs.declared.table.Command.TheVariants.{Cull, Live, Demo, Upgrade}
+use Rattle.command_words.specs.declared.table.Command.TheVariants.{Cull, Live, Demo, Bare}
 use Rattle.command_words.specs.declared.settings.Settings.{Settings}
 use Rattle.command_words.specs.declared.table.CommandKind.{CommandKind}
 use Rattle.command_words.specs.declared.table.CommandKind.TheVariants as kinds
-use Rattle.command_words.specs.declared.table.TheConstants.{BATCH, BINS_X, BINS_Y, CULL, DEMO, EARLY, LIVE, ROUNDS, SEED, TRIANGLES, UPGRADE, WATCH, WORKERS}
+use Rattle.command_words.specs.declared.table.TheConstants.{BATCH, BINS_X, BINS_Y, CULL, DEMO, EARLY, LIVE, ROUNDS, SEED, TRIANGLES, WATCH, WORKERS}
 use Rattle.command_words.specs.declared.rows.Takes.TheVariants.{Number, Nothing}
 use Rattle.command_words.specs.declared.words.Refusal.{Refusal}
 use Rattle.command_words.specs.declared.words.Refusal.TheVariants as refusals
@@ -53,12 +53,12 @@ early = option_with (λ t. t.now) EARLY
 abbrev pub sharing : List AnOption
 sharing = workers ∷ bins_x ∷ bins_y ∷ batch ∷ early ∷ []
 
--- a command's row, by its kind
-abbrev pub row_by : CommandKind → ACommand
-row_by kinds.Cull = row_with (λ t. t.now) (λ o. o.now) CULL
-row_by kinds.Live = row_with (λ t. t.now) (λ o. o.now) LIVE
-row_by kinds.Demo = row_with (λ t. t.now) (λ o. o.now) DEMO
-row_by kinds.Upgrade = row_with (λ t. t.now) (λ o. o.now) UPGRADE
+-- the options of the command of a kind
+abbrev pub options_by : CommandKind → List AnOption
+options_by kinds.Cull = (row_with (λ t. t.now) (λ o. o.now) CULL).options
+options_by kinds.Live = (row_with (λ t. t.now) (λ o. o.now) LIVE).options
+options_by kinds.Demo = (row_with (λ t. t.now) (λ o. o.now) DEMO).options
+options_by (kinds.Bare command) = []
 
 -- ---- the ranges
 
@@ -79,7 +79,7 @@ abbrev pub IsWithinLimits : Command → Type 0
 IsWithinLimits (Cull words) = AreInRange words.settings
 IsWithinLimits (Live words) = AreInRange words.settings × ((1 ≤ words.rounds) × (words.rounds ≤ 8)) × ((1 ≤ words.watch) × (words.watch ≤ 8))
 IsWithinLimits (Demo words) = AreInRange words.settings × (words.triangles ≤ 65536)
-IsWithinLimits Upgrade = Unit {0}
+IsWithinLimits (Bare command) = Unit {0}
 
 -- the words are refused, and memory isn't wanted
 abbrev pub AreWords : Refusal → Type 0
@@ -130,15 +130,15 @@ asked_by kinds.Demo values = Demo (record {
   seed = number_of values seed;
   triangles = number_of values triangles;
 })
-asked_by kinds.Upgrade values = Upgrade
+asked_by (kinds.Bare command) values = Bare command
 
 -- the values of a command's own options, found by their names
-abbrev pub own_values : ACommand → (AnOption → Option ℕ) → AnOption → Option ℕ
-own_values row values o = option_and_then values (find (λ x. bytes_eq x.name o.name) row.options)
+abbrev pub own_values : List AnOption → (AnOption → Option ℕ) → AnOption → Option ℕ
+own_values options values o = option_and_then values (find (λ x. bytes_eq x.name o.name) options)
 
 -- what the command of this name asks for by its matches; none where no command has the name
 abbrev pub asked_in : Text → List Row → Option Command
-asked_in name rows = option_map (λ row. asked_by row.kind (own_values row (value_in rows))) (row_named name)
+asked_in name rows = option_map (λ row. asked_by row.kind (own_values row.options (value_in rows))) (row_named name)
 
 -- what the words ask for; none where `clap` refuses them
 unfoldable pub command_of : List Text → Option Command
@@ -222,7 +222,7 @@ pub record ArePlainFor (row : ACommand) (words : List Text) (c : Command) : Type
   pub uses : List Use
   pub are_uses : AreUses row.options uses
   pub spelled : words ≡ program ∷ row.name ∷ flat_map words_of_use uses
-  pub asked : asked_by row.kind (own_values row (stated uses)) ≡ c
+  pub asked : asked_by row.kind (own_values row.options (stated uses)) ≡ c
 
 -- plain words, and what they ask for
 abbrev pub ArePlain : List Text → Command → Type 0

@@ -9,7 +9,7 @@ mod values;
 mod words;
 
 pub use settings::Settings;
-pub use table::{Command, CullWords, DemoWords, LiveWords};
+pub use table::{BareCommand, Command, CullWords, DemoWords, LiveWords};
 pub use words::{Refusal, command_of};
 
 /// The version of the program and of the library for C.

@@ -2,7 +2,7 @@
 //! its options say. What a command line names and how clap reads it are definitions over it.
 ghost use Rattle.std.specs.Prelude.{◌≡◌};
 ghost use Rattle.clap.specs.Words.{found_of, rows_of};
-ghost use Rattle.command_words.specs.Words.{HaveValues, IsWithinLimits, asked_by, own_values, row_by, value_in};
+ghost use Rattle.command_words.specs.Words.{HaveValues, IsWithinLimits, asked_by, options_by, own_values, value_in};
 
 use crate::rows::{ACommand, AnOption, CommandRow, OptionRow, Takes};
 use crate::settings::{Settings, settings_of};
@@ -52,13 +52,20 @@ pub const EARLY: AnOption = OptionRow {
     help: "Settle objects that are hidden for good while a frame is drawn; the report stays the same",
 };
 
+/// A command without options.
+#[derive(Clone, Copy)]
+pub enum BareCommand {
+    /// A scene from the input; it is written in version 2.
+    Upgrade,
+}
+
 /// Which command it is.
 #[derive(Clone, Copy)]
 pub enum CommandKind {
     Cull,
     Live,
     Demo,
-    Upgrade,
+    Bare(BareCommand),
 }
 
 /// Reads a scene and writes its report.
@@ -129,7 +136,7 @@ Exit status:
 
 /// Reads a scene and writes it in the newest version of its layout.
 pub const UPGRADE: ACommand = CommandRow {
-    kind: CommandKind::Upgrade,
+    kind: CommandKind::Bare(BareCommand::Upgrade),
     name: "upgrade",
     about: "Reads a scene from standard input and writes it in version 2 to standard output",
     more: "Reads the bytes of a scene of version 1 or 2 from standard input, to their end.
@@ -182,14 +189,14 @@ pub enum Command {
     Live(LiveWords),
     /// A scene that a seed makes; its summary is written.
     Demo(DemoWords),
-    /// A scene from the input; it is written in version 2.
-    Upgrade,
+    /// What a command without options does.
+    Bare(BareCommand),
 }
 
 /// A command with the values of its options, where each has one.
 pub fn asked_by(kind: CommandKind, matches: &ArgMatches<'_>) -> Command
-    requires { HaveValues (row_by kind).options (rows_of (found_of matches.now)) }
-    ensures value { result ≡ asked_by kind (own_values (row_by kind) (value_in (rows_of (found_of matches.now)))) }
+    requires { HaveValues (options_by kind) (rows_of (found_of matches.now)) }
+    ensures value { result ≡ asked_by kind (own_values (options_by kind) (value_in (rows_of (found_of matches.now)))) }
     ensures limits { IsWithinLimits result }
 {
     match kind {
@@ -206,6 +213,6 @@ pub fn asked_by(kind: CommandKind, matches: &ArgMatches<'_>) -> Command
             seed: number(matches, &SEED),
             triangles: number(matches, &TRIANGLES),
         }),
-        CommandKind::Upgrade => Command::Upgrade,
+        CommandKind::Bare(command) => Command::Bare(command),
     }
 }

@@ -11,7 +11,8 @@ use Rattle.cull_report.specs.Hiding.{HidesTruly}
 use Rattle.cull_report.specs.Live.{Counts, HidesLive, IsRising, live_text}
 use Rattle.cull_report.specs.Scene.{report_text}
 use Rattle.command_words.specs.declared.table.Command.{Command}
-use Rattle.command_words.specs.declared.table.Command.TheVariants.{Cull, Live, Demo, Upgrade}
+use Rattle.command_words.specs.declared.table.BareCommand.TheVariants.{Upgrade}
+use Rattle.command_words.specs.declared.table.Command.TheVariants.{Cull, Live, Demo, Bare}
 use Rattle.command_words.specs.declared.table.CullWords.{CullWords}
 use Rattle.command_words.specs.declared.table.DemoWords.{DemoWords}
 use Rattle.command_words.specs.declared.table.LiveWords.{LiveWords}
@@ -86,11 +87,11 @@ done_demo words before after P Q h =
     let (counts, rising, is) = h.ends in
     subst (Appends before.report after.report) (ap report_of is ∙ append-nil (summary_text words.seed words.triangles)) w.1.reported
 
-pub done_upgrade : (before after : Streams) (P Q : Type 0) → Comes Upgrade statuses.Done before after IsNotedBehind P Q
+pub done_upgrade : (before after : Streams) (P Q : Type 0) → Comes (Bare Upgrade) statuses.Done before after IsNotedBehind P Q
     → (s : Parts) × HasScene before.input s × IfBytes before.input (λ bytes. after.input.left ≡ Some []) × Appends before.report after.report (layout (upgraded s))
 done_upgrade before after P Q h =
     let w = done_whole h.outcome before.report after.report (IsNotedBehind before.notes after.notes) h.leaves in
-    let (s, has, makes) = done_scene before.input h.outcome (Makes (work_of Upgrade) h.outcome) h.ends w.0 in
+    let (s, has, makes) = done_scene before.input h.outcome (Makes (work_of (Bare Upgrade)) h.outcome) h.ends w.0 in
     let (counts, rising, is) = makes in
     (s, has, h.taken refl refl, subst (Appends before.report after.report) (ap report_of is ∙ append-nil (layout (upgraded s))) w.1.reported)
 

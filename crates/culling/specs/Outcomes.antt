@@ -11,7 +11,8 @@ use Rattle.cull_report.specs.Scene.{frame_report, scene_header}
 use Rattle.clap.specs.Words.{Text}
 use Rattle.command_words.specs.Words.{command_of}
 use Rattle.command_words.specs.declared.table.Command.{Command}
-use Rattle.command_words.specs.declared.table.Command.TheVariants.{Cull, Live, Demo, Upgrade}
+use Rattle.command_words.specs.declared.table.BareCommand.TheVariants as bare
+use Rattle.command_words.specs.declared.table.Command.TheVariants.{Cull, Live, Demo, Bare}
 use Rattle.demo_scene.specs.Demo.{demo_of}
 use Rattle.culling.specs.Notes.{refusal_text, status_text}
 use Rattle.culling.specs.Summary.{summary_text}
@@ -115,7 +116,7 @@ work_of (Demo words) = record {
   watch = 0;
   outcome = λ s counts. text_alone (summary_text words.seed words.triangles);
 }
-work_of Upgrade = reading (λ s. text_alone (layout (upgraded s)))
+work_of (Bare bare.Upgrade) = reading (λ s. text_alone (layout (upgraded s)))
 
 -- the command reads a scene
 abbrev pub ReadsScene : Command → Type 0

@@ -6,12 +6,13 @@ ghost use Rattle.culling.specs.Outcome.{status_by};
 ghost use Rattle.culling.specs.Outcomes.{Asks, IfAsked, IsTrue, ReadsScene};
 ghost use Rattle.culling.specs.Runs.{AwaitsNote, Comes, IsComplete, IsUnasked, WithoutFault, streams};
 
+mod bare;
 mod cull;
 mod demo;
 mod live;
-mod upgrade;
 
 use crate::failure::{Failure, Status, end_refused};
+use bare::carry_out;
 use command_words::{Command, command_of};
 use cull::cull;
 use cull_base::{Sink, Source};
@@ -21,7 +22,6 @@ use std::alloc::Global;
 use std::sync::Wait;
 use std::thread::Threads;
 use tile_queues::Gate;
-use upgrade::write_upgraded;
 
 // Carries out a command.
 fn perform<R: Threads + Wait + Sync, S: Source, W: Sink, E: Sink, G: Gate>(
@@ -44,7 +44,7 @@ fn perform<R: Threads + Wait + Sync, S: Source, W: Sink, E: Sink, G: Gate>(
         Command::Cull(words) => cull(rt, alloc, words, input, report, notes, gate),
         Command::Live(words) => live(rt, alloc, words, input, report, notes, gate),
         Command::Demo(words) => demo(rt, alloc, words, report, notes, gate),
-        Command::Upgrade => write_upgraded(alloc, input, report, notes),
+        Command::Bare(command) => carry_out(alloc, command, input, report, notes),
     }
 }
 

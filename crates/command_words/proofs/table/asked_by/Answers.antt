@@ -3,15 +3,15 @@ use Rattle.std.specs.Prelude.{find}
 use Rattle.std.specs.Str.{bytes_eq}
 use Rattle.clap.specs.Words.{Row, found_of, rows_of}
 use Rattle.command_words.specs.Table.{AnOption}
-use Rattle.command_words.specs.Words.{HasValue, HaveValues, rounds, row_by, triangles, watch}
+use Rattle.command_words.specs.Words.{HasValue, HaveValues, options_by, rounds, triangles, watch}
 use Rattle.command_words.specs.declared.table.CommandKind.{CommandKind}
 use Rattle.command_words.specs.declared.table.CommandKind.TheVariants as kinds
 use Rattle.command_words.proofs.OptionNumbers.{read_within, value_of, wider}
 use Rattle.command_words.proofs.table.asked_by.Goals as goal
 
 -- of the one command that it is an option has its value
-one_of_row : (kind own : CommandKind) (o : AnOption) (rows : List Row) → kind ≡ own → find (λ x. bytes_eq x.name o.name) (row_by own).options ≡ Some o → HaveValues (row_by kind).options rows → HasValue rows o
-one_of_row kind own o rows is at has = value_of (row_by own).options o rows at (subst (λ (k : CommandKind). HaveValues (row_by k).options rows) is has)
+one_of_row : (kind own : CommandKind) (o : AnOption) (rows : List Row) → kind ≡ own → find (λ x. bytes_eq x.name o.name) (options_by own) ≡ Some o → HaveValues (options_by kind) rows → HasValue rows o
+one_of_row kind own o rows is at has = value_of (options_by own) o rows at (subst (λ (k : CommandKind). HaveValues (options_by k) rows) is has)
 
 pub number-requires : goal.number-requires
 number-requires c = wider _ _ _ _ _ (one_of_row c.args.kind kinds.Live rounds (rows_of (found_of c.args.matches.now)) (search rules) refl c.requires) (omega arith)
