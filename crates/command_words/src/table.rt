@@ -1,5 +1,5 @@
-//! The table of commands: what each is called, which options it has, what help says of both, and what it carries of what
-//! its options say. What a command line names and how clap reads it are definitions over it.
+//! The table of commands: what each is called, which options it has, what help says of both, and what it carries of
+//! what its options say. What a command line names and how clap reads it are definitions over it.
 ghost use Rattle.std.specs.Prelude.{◌≡◌};
 ghost use Rattle.clap.specs.Words.{found_of, rows_of};
 ghost use Rattle.command_words.specs.Words.{HaveValues, IsWithinLimits, asked_by, options_by, own_values, value_in};
@@ -196,7 +196,8 @@ pub enum Command {
 /// A command with the values of its options, where each has one.
 pub fn asked_by(kind: CommandKind, matches: &ArgMatches<'_>) -> Command
     requires { HaveValues (options_by kind) (rows_of (found_of matches.now)) }
-    ensures value { result ≡ asked_by kind (own_values (options_by kind) (value_in (rows_of (found_of matches.now)))) }
+    ensures value { result
+        ≡ asked_by kind (own_values (options_by kind) (value_in (rows_of (found_of matches.now)))) }
     ensures limits { IsWithinLimits result }
 {
     match kind {
