@@ -1,5 +1,5 @@
 //! What some command lines name, and what is said of those that are refused.
-use command_words::{Command, Refusal, Settings, VERSION, command_of};
+use command_words::{BareCommand, Command, Refusal, Settings, VERSION, command_of};
 use std::alloc::Global;
 use std::process::Abort;
 use std::test::*;
@@ -22,21 +22,21 @@ fn command_for(rt: &impl Abort, alloc: Global, given: &[&str]) -> Result<Command
     )
 }
 
-// The settings of a command, its name, and the two numbers of its own; `upgrade` has no settings.
+// The settings of a command, its name, and the two numbers of its own; a bare command has no settings.
 fn parts(command: Command) -> (Option<Settings>, &'static str, Option<(u32, u32)>) {
     match command {
-        Command::Cull { settings } => (Some(settings), "cull", None),
-        Command::Live {
-            settings,
-            rounds,
-            watch,
-        } => (Some(settings), "live", Some((rounds, watch))),
-        Command::Demo {
-            settings,
-            seed,
-            triangles,
-        } => (Some(settings), "demo", Some((seed, triangles))),
-        Command::Upgrade => (None, "upgrade", None),
+        Command::Cull(words) => (Some(words.settings), "cull", None),
+        Command::Live(words) => (
+            Some(words.settings),
+            "live",
+            Some((words.rounds, words.watch)),
+        ),
+        Command::Demo(words) => (
+            Some(words.settings),
+            "demo",
+            Some((words.seed, words.triangles)),
+        ),
+        Command::Bare(_) => (None, "a command without options", None),
     }
 }
 
@@ -164,7 +164,8 @@ fn ranges_and_defaults_stand_on_the_help_page(rt: HostRuntime) -> Result<(), Fai
 #[test]
 fn upgrade_has_no_options(rt: HostRuntime) -> Result<(), Fail> {
     let alloc = rt.alloc();
-    let Command::Upgrade = command_for(&rt, alloc, &["maskcull", "upgrade"])? else {
+    let Command::Bare(BareCommand::Upgrade) = command_for(&rt, alloc, &["maskcull", "upgrade"])?
+    else {
         return Err(Fail::from("the command that upgrades"));
     };
     for option in [["--workers", "2"], ["--batch", "7"], ["--early", "--early"]] {
