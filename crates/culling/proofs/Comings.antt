@@ -1,13 +1,14 @@
 -- How commands come to their outcomes.
-use Rattle.std.proofs.Common.{◌≡◌, ℕ, ◌+◌, ◌<◌, ◌≤◌, ◌++◌, List, [], length, map, take, arith, refl, sym, ap, ◌∙◌, subst, inl, inr, Option, Some, None, Result, Ok, Err, ◌⊎◌}
+use Rattle.std.proofs.Common.{◌≡◌, ℕ, ◌+◌, ◌<◌, ◌≤◌, ◌++◌, Bool, cond, List, [], length, map, take, arith, refl, sym, ap, ◌∙◌, subst, inl, inr, Option, Some, None, Result, Ok, Err, ◌⊎◌}
 use Rattle.std.specs.Prelude.{IfSome}
 use Rattle.std.specs.List.{flat_map, range_with_len}
+use Rattle.std.proofs.lemmas.Bool.{le-ltb, lt-ltb}
 use Rattle.std.proofs.lemmas.List.{append-nil}
 use Rattle.clap.specs.Words.{Text}
 use Rattle.cull_base.specs.Stream.{SinkSays, SourceSays, Appends, AppendsPrefix, IsNoted, Rose, Writes}
 use Rattle.cull_base.specs.declared.memory.SinkError.{SinkError}
 use Rattle.cull_base.proofs.Streams.{appends_then}
-use Rattle.scene_reader.specs.Layout.{Parts, IsScene, header_bytes, layout, upgraded}
+use Rattle.scene_reader.specs.Layout.{Parts, IsScene, header_bytes, layout}
 use Rattle.scene_reader.specs.Fault.{IsRefusal}
 use Rattle.scene_reader.specs.Reading.{TakesLayout}
 use Rattle.scene_reader.specs.declared.error.SceneError.{SceneError}
@@ -16,9 +17,12 @@ use Rattle.cull_report.proofs.Occluders.{hides_truly}
 use Rattle.cull_report.specs.Live.{Counts}
 use Rattle.cull_report.specs.Scene.{scene_header}
 use Rattle.command_words.specs.Words.{AreWords, command_of}
-use Rattle.command_words.specs.declared.command.Command.{Command}
-use Rattle.command_words.specs.declared.command.Command.TheVariants.{Cull, Live, Demo, Upgrade, Picture}
-use Rattle.command_words.specs.declared.settings.Settings.{Settings}
+use Rattle.command_words.specs.declared.table.Command.{Command}
+use Rattle.command_words.specs.declared.table.Command.TheVariants.{Cull, Live, Demo, Picture}
+use Rattle.command_words.specs.declared.table.CullWords.{CullWords}
+use Rattle.command_words.specs.declared.table.DemoWords.{DemoWords}
+use Rattle.command_words.specs.declared.table.LiveWords.{LiveWords}
+use Rattle.command_words.specs.declared.table.PictureWords.{PictureWords}
 use Rattle.command_words.specs.declared.words.Refusal.{Refusal}
 use Rattle.command_words.specs.declared.words.Refusal.TheVariants as refusals
 use Rattle.demo_scene.proofs.DemoScene.{demo_is_scene}
@@ -32,14 +36,14 @@ use Rattle.culling.specs.Frames.{lines_of}
 use Rattle.culling.specs.NotedLines.{CountsStay}
 use Rattle.culling.specs.Notes.{IsNotedBehind, IsNotedFirst, missing_text, note_by, note_text, refusal_text, status_text, usage_text}
 use Rattle.culling.specs.Outcome.{failure_of, refusal_status, sink_failure, status_by, status_of}
-use Rattle.culling.specs.Outcomes.{Ends, HasFault, HasScene, IfAsked, IfBytes, IsTrue, ReadsScene, OutcomeOf, joined, live_frames, note_alone, notes_at, notes_before, report_and, report_before, report_of, text_alone}
+use Rattle.culling.specs.Outcomes.{Ends, EndsBy, EndsByScene, IsAbout, Makes, Work, work_of, HasFault, HasScene, IfAsked, IfBytes, IsTrue, ReadsScene, OutcomeOf, joined, live_frames, note_alone, notes_at, notes_before, pictured, report_and, report_before, report_of, text_alone}
 use Rattle.culling.specs.Picture.{frame_picture}
 use Rattle.culling.specs.Runs.{AwaitsNote, Comes, HasCause, IsComplete, IsUnasked, Leaves, Streams, WithoutFault, streams}
 use Rattle.culling.specs.Summary.{demo_line, frames_summary, summary_text}
 use Rattle.culling.specs.declared.frames.Beside.TheVariants.{Nothing, Looks}
 use Rattle.culling.specs.declared.frames.FrameLines.TheVariants.{Report, Summary}
 use Rattle.culling.proofs.Fronts.{nothing_appended, rose_later}
-use Rattle.culling.proofs.FrameByFrame.{are_empty}
+use Rattle.culling.proofs.FrameByFrame.{are_empty, unseen, unseen_rises}
 use Rattle.culling.proofs.FrameTexts.{as_one_text, counts_same, never_done, none_at, unwritten, whole_leaves, without_notes}
 use Rattle.culling.proofs.OutcomeTexts.{header_some, joined_is, live_frames_are, not_empty, summary_some}
 use Rattle.culling.proofs.ScenePieces.{all_are_pieces, lines_hide}
@@ -57,19 +61,19 @@ nothing_front before text = (0, omega arith, nothing_appended before)
 
 -- ---- a scene that couldn't be read
 
+-- a command that reads a scene comes to what that comes to
+ends_read : (c : Command) (source : SourceSays) (o : OutcomeOf) → ReadsScene c → EndsByScene source o (Makes (work_of c) o) → Ends c source o
+ends_read c source o reads ends = subst (λ (own : Option (ℕ × ℕ)). EndsBy own source o (Makes (work_of c) o)) (sym reads) ends
+
 ends_refused : (c : Command) (source : SourceSays) (e : SceneError) → ReadsScene c → IsRefusal e → HasFault source e → Ends c source (note_alone statuses.Scene (refusal_text e))
-ends_refused (Cull settings) source e reads refusal fault = inr (inl (e, refusal, fault, refl))
-ends_refused (Live settings rounds watch) source e reads refusal fault = inr (inl (e, refusal, fault, refl))
-ends_refused (Demo settings seed m) source e reads refusal fault = absurd reads
-ends_refused Upgrade source e reads refusal fault = inr (inl (e, refusal, fault, refl))
-ends_refused (Picture settings frame) source e reads refusal fault = inr (inl (e, refusal, fault, refl))
+ends_refused c source e reads refusal fault = ends_read c source (note_alone statuses.Scene (refusal_text e)) reads (inr (inl (e, refusal, fault, refl)))
 
 ends_unread : (c : Command) (source : SourceSays) → ReadsScene c → Ends c source (note_alone statuses.ReadFault (status_text statuses.ReadFault))
-ends_unread (Cull settings) source reads = inr (inr refl)
-ends_unread (Live settings rounds watch) source reads = inr (inr refl)
-ends_unread (Demo settings seed m) source reads = absurd reads
-ends_unread Upgrade source reads = inr (inr refl)
-ends_unread (Picture settings frame) source reads = inr (inr refl)
+ends_unread c source reads = ends_read c source (note_alone statuses.ReadFault (status_text statuses.ReadFault)) reads (inr (inr refl))
+
+-- what is made where nothing was looked at
+pub made_unseen : (w : Work) (s : Parts) → Makes w (w.outcome s unseen) s
+made_unseen w s = (unseen, (λ frame lt. unseen_rises (Looks w.rounds w.watch) s frame), refl)
 
 comes_refused : (c : Command) (i0 i1 : SourceSays) (r n : SinkSays) (e : SceneError) (P Q : Type 0) → ReadsScene c → IsRefusal e → HasFault i0 e → P → Q
     → Comes c statuses.Scene (streams i0 r n) (streams i1 r n) (AwaitsNote (Err (Scene e))) P Q
@@ -200,23 +204,23 @@ none_left source after s takes = by source.left takes
     by None takes = tt
     by (Some bytes) takes = takes.1
 
-pub cull_comes : (settings : Settings) (s : Parts) (i0 i1 : SourceSays) (r0 r1 n0 n1 : SinkSays) (r : Result (Unit {0}) Failure) (P Q : Type 0) → IsScene s → TakesLayout i0 i1 s → Q
-    → LeavesFrames (scene_header s) Report Nothing s 0 (length s.cameras) r r0 r1 n0 n1 → Comes (Cull settings) (status_by r) (streams i0 r0 n0) (streams i1 r1 n1) (AwaitsNote r) P Q
-cull_comes settings s i0 i1 r0 r1 n0 n1 r P Q scene takes q w =
+pub cull_comes : (words : CullWords) (s : Parts) (i0 i1 : SourceSays) (r0 r1 n0 n1 : SinkSays) (r : Result (Unit {0}) Failure) (P Q : Type 0) → IsScene s → TakesLayout i0 i1 s → Q
+    → LeavesFrames (scene_header s) Report Nothing s 0 (length s.cameras) r r0 r1 n0 n1 → Comes (Cull words) (status_by r) (streams i0 r0 n0) (streams i1 r1 n1) (AwaitsNote r) P Q
+cull_comes words s i0 i1 r0 r1 n0 n1 r P Q scene takes q w =
     let o = report_and s [] in
-    texts_come (Cull settings) o i0 i1 r0 r1 n0 n1 r P Q (inl (s, has_scene i0 i1 s scene takes, refl)) refl (not_empty (scene_header s) (joined o.frames) (header_some s))
+    texts_come (Cull words) o i0 i1 r0 r1 n0 n1 r P Q (inl (s, has_scene i0 i1 s scene takes, made_unseen (work_of (Cull words)) s)) refl (not_empty (scene_header s) (joined o.frames) (header_some s))
     (λ reads. none_left i0 i1 s takes) (λ none. q)
     (without_notes (scene_header s) o.frames (map (λ (frame : ℕ). []) (range_with_len 0 (length s.cameras))) r r0 r1 n0 n1 (are_empty 0 (length s.cameras)) w.texts)
 
 live_noted : (s : Parts) (rounds watch : ℕ) (counts : Counts) → IsScene s → live_frames s rounds watch counts ≡ [] → ⊥
 live_noted s rounds watch counts scene is = omega (arith, ap length is, live_frames_are s rounds watch counts, scene.some_frames)
 
-pub live_comes : (settings : Settings) (s : Parts) (rounds watch : ℕ) (i0 i1 : SourceSays) (r0 r1 n0 n1 : SinkSays) (r : Result (Unit {0}) Failure) (P Q : Type 0) → IsScene s → TakesLayout i0 i1 s
-    → LeavesFrames (scene_header s) Report (Looks rounds watch) s 0 (length s.cameras) r r0 r1 n0 n1 → Comes (Live settings rounds watch) (status_by r) (streams i0 r0 n0) (streams i1 r1 n1) (AwaitsNote r) P Q
-live_comes settings s rounds watch i0 i1 r0 r1 n0 n1 r P Q scene takes w =
-    let o = report_and s (live_frames s rounds watch w.counts) in
-    texts_come (Live settings rounds watch) o i0 i1 r0 r1 n0 n1 r P Q (inl (s, has_scene i0 i1 s scene takes, (w.counts, (λ frame lt. w.rising frame), refl))) refl
-    (not_empty (scene_header s) (joined o.frames) (header_some s)) (λ reads. none_left i0 i1 s takes) (λ none. absurd (live_noted s rounds watch w.counts scene none)) w.texts
+pub live_comes : (words : LiveWords) (s : Parts) (i0 i1 : SourceSays) (r0 r1 n0 n1 : SinkSays) (r : Result (Unit {0}) Failure) (P Q : Type 0) → IsScene s → TakesLayout i0 i1 s
+    → LeavesFrames (scene_header s) Report (Looks words.rounds words.watch) s 0 (length s.cameras) r r0 r1 n0 n1 → Comes (Live words) (status_by r) (streams i0 r0 n0) (streams i1 r1 n1) (AwaitsNote r) P Q
+live_comes words s i0 i1 r0 r1 n0 n1 r P Q scene takes w =
+    let o = report_and s (live_frames s words.rounds words.watch w.counts) in
+    texts_come (Live words) o i0 i1 r0 r1 n0 n1 r P Q (inl (s, has_scene i0 i1 s scene takes, (w.counts, (λ frame lt. w.rising frame), refl))) refl
+    (not_empty (scene_header s) (joined o.frames) (header_some s)) (λ reads. none_left i0 i1 s takes) (λ none. absurd (live_noted s words.rounds words.watch w.counts scene none)) w.texts
 
 -- ---- `demo`
 
@@ -230,20 +234,25 @@ summary_is seed m =
     ap (λ (t : List ℕ). demo_line seed m ++ t) (joined_is (lines_of Summary (demo_of seed m)) (length (demo_of seed m).cameras)
     ∙ ap (λ n. flat_map (lines_of Summary (demo_of seed m)) (range_with_len 0 n)) (demo_frames seed m))
 
-pub demo_comes : (settings : Settings) (seed m : ℕ) (s : Parts) (i : SourceSays) (r0 r1 n0 n1 : SinkSays) (r : Result (Unit {0}) Failure) (P Q : Type 0) → s ≡ demo_of seed m → Q
-    → LeavesFrames (demo_line seed m) Summary Nothing s 0 (length s.cameras) r r0 r1 n0 n1 → Comes (Demo settings seed m) (status_by r) (streams i r0 n0) (streams i r1 n1) (AwaitsNote r) P Q
-demo_comes settings seed m s i r0 r1 n0 n1 r P Q is q w =
+pub demo_comes : (words : DemoWords) (s : Parts) (i : SourceSays) (r0 r1 n0 n1 : SinkSays) (r : Result (Unit {0}) Failure) (P Q : Type 0) → s ≡ demo_of words.seed words.triangles → Q
+    → LeavesFrames (demo_line words.seed words.triangles) Summary Nothing s 0 (length s.cameras) r r0 r1 n0 n1 → Comes (Demo words) (status_by r) (streams i r0 n0) (streams i r1 n1) (AwaitsNote r) P Q
+demo_comes words s i r0 r1 n0 n1 r P Q is q w =
+    let seed = words.seed in let m = words.triangles in
     let d = demo_of seed m in
     let head = demo_line seed m in
     let frames = map (lines_of Summary d) (range_with_len 0 (length d.cameras)) in
     let drawn = subst (λ (p : Parts). LeavesFrames head Summary Nothing p 0 (length p.cameras) r r0 r1 n0 n1) is w in
     let silent = without_notes head frames (map (λ (frame : ℕ). []) (range_with_len 0 (length d.cameras))) r r0 r1 n0 n1 (are_empty 0 (length d.cameras)) drawn.texts in
-    texts_come (Demo settings seed m) (text_alone (summary_text seed m)) i i r0 r1 n0 n1 r P Q refl refl (not_empty (summary_text seed m) [] (summary_some seed m)) (λ reads. absurd reads) (λ none. q)
-    (subst (λ (t : List ℕ). LeavesTexts (text_alone t) r r0 r1 n0 n1) (summary_is seed m) (as_one_text head frames r r0 r1 n0 n1 silent))
+    texts_come (Demo words) (text_alone (summary_text seed m)) i i r0 r1 n0 n1 r P Q (made_unseen (work_of (Demo words)) d) refl (not_empty (summary_text seed m) [] (summary_some seed m))
+    (λ reads. absurd cc) (λ none. q) (subst (λ (t : List ℕ). LeavesTexts (text_alone t) r r0 r1 n0 n1) (summary_is seed m) (as_one_text head frames r r0 r1 n0 n1 silent))
 
--- ---- one text on the report
+-- ---- one text of a scene that is read
 
--- it stands whole
+pub layout_some : (s : Parts) → 0 < length (layout s)
+unfolding layout header_bytes
+layout_some s = omega arith
+
+-- the text stands whole
 pub text_written : (text : List ℕ) (x : Unit {0}) (r0 r1 n : SinkSays) → Writes r0 r1 (Ok x) text → LeavesTexts (text_alone text) (Ok x) r0 r1 n n
 text_written text x r0 r1 n w =
     whole_leaves text [] [] r0 r1 n n x
@@ -253,48 +262,61 @@ text_written text x r0 r1 n w =
 pub text_unwritten : (text : List ℕ) (e : SinkError) (r0 r1 n : SinkSays) → Writes r0 r1 (Err e) text → LeavesTexts (text_alone text) (Err (sink_failure e)) r0 r1 n n
 text_unwritten text e r0 r1 n w = unwritten text text [] [] e r0 r1 n (append-nil text) (append-nil text) w
 
--- ---- `upgrade`
+-- the command makes this one text of a scene that it read
+abbrev pub MakesText : Command → Parts → List ℕ → Type 0
+MakesText c s text = ReadsScene c × ((work_of c).outcome s unseen ≡ text_alone text)
 
-layout_some : (s : Parts) → 0 < length (layout s)
-unfolding layout header_bytes
-layout_some s = omega arith
+text_comes : (c : Command) (s : Parts) (text : List ℕ) (i0 i1 : SourceSays) (r0 r1 n : SinkSays) (r : Result (Unit {0}) Failure) (P Q : Type 0) → MakesText c s text → 0 < length text → IsScene s
+    → TakesLayout i0 i1 s → Q → LeavesTexts (text_alone text) r r0 r1 n n → Comes c (status_by r) (streams i0 r0 n) (streams i1 r1 n) (AwaitsNote r) P Q
+text_comes c s text i0 i1 r0 r1 n r P Q makes some scene takes q l =
+    let made : Makes (work_of c) (text_alone text) s = subst (λ (o : OutcomeOf). Makes (work_of c) o s) makes.1 (made_unseen (work_of c) s) in
+    texts_come c (text_alone text) i0 i1 r0 r1 n n r P Q (ends_read c i0 (text_alone text) makes.0 (inl (s, has_scene i0 i1 s scene takes, made))) refl (not_empty text [] some)
+    (λ reads. none_left i0 i1 s takes) (λ none. q) l
 
--- the layout stands whole
-pub upgrade_written : (s : Parts) (x : Unit {0}) (r0 r1 n : SinkSays) → Writes r0 r1 (Ok x) (layout s) → LeavesTexts (text_alone (layout s)) (Ok x) r0 r1 n n
-upgrade_written s x r0 r1 n w = text_written (layout s) x r0 r1 n w
+pub written_comes : (c : Command) (s : Parts) (text : List ℕ) (i0 i1 : SourceSays) (r0 r1 n : SinkSays) (x : Unit {0}) (P Q : Type 0) → MakesText c s text → 0 < length text → IsScene s
+    → TakesLayout i0 i1 s → Q → Writes r0 r1 (Ok x) text → Comes c statuses.Done (streams i0 r0 n) (streams i1 r1 n) (AwaitsNote (Ok x)) P Q
+written_comes c s text i0 i1 r0 r1 n x P Q makes some scene takes q w = text_comes c s text i0 i1 r0 r1 n (Ok x) P Q makes some scene takes q (text_written text x r0 r1 n w)
 
--- a front of it stands
-pub upgrade_unwritten : (s : Parts) (e : SinkError) (r0 r1 n : SinkSays) → Writes r0 r1 (Err e) (layout s) → LeavesTexts (text_alone (layout s)) (Err (sink_failure e)) r0 r1 n n
-upgrade_unwritten s e r0 r1 n w = text_unwritten (layout s) e r0 r1 n w
-
-pub upgrade_comes : (s : Parts) (i0 i1 : SourceSays) (r0 r1 n : SinkSays) (r : Result (Unit {0}) Failure) (P : Type 0) → IsScene s → TakesLayout i0 i1 s
-    → LeavesTexts (text_alone (layout (upgraded s))) r r0 r1 n n → Comes Upgrade (status_by r) (streams i0 r0 n) (streams i1 r1 n) (AwaitsNote r) P (Unit {0})
-upgrade_comes s i0 i1 r0 r1 n r P scene takes l =
-    let text = layout (upgraded s) in
-    texts_come Upgrade (text_alone text) i0 i1 r0 r1 n n r P (Unit {0}) (inl (s, has_scene i0 i1 s scene takes, refl)) refl (not_empty text [] (layout_some (upgraded s)))
-    (λ reads. none_left i0 i1 s takes) (λ none. tt) l
+pub unwritten_comes : (c : Command) (s : Parts) (text : List ℕ) (i0 i1 : SourceSays) (r0 r1 n : SinkSays) (e : SinkError) (P Q : Type 0) → MakesText c s text → 0 < length text → IsScene s
+    → TakesLayout i0 i1 s → Q → Writes r0 r1 (Err e) text → Comes c (status_of (sink_failure e)) (streams i0 r0 n) (streams i1 r1 n) (AwaitsNote (Err (sink_failure e))) P Q
+unwritten_comes c s text i0 i1 r0 r1 n e P Q makes some scene takes q w =
+    text_comes c s text i0 i1 r0 r1 n (Err (sink_failure e)) P Q makes some scene takes q (text_unwritten text e r0 r1 n w)
 
 -- ---- `picture`
 
-pub picture_comes : (settings : Settings) (frame : ℕ) (s : Parts) (i0 i1 : SourceSays) (r0 r1 n : SinkSays) (r : Result (Unit {0}) Failure) (P : Type 0) → IsScene s → TakesLayout i0 i1 s → frame < length s.cameras
-    → LeavesTexts (text_alone (frame_picture s frame)) r r0 r1 n n → Comes (Picture settings frame) (status_by r) (streams i0 r0 n) (streams i1 r1 n) (AwaitsNote r) P (Unit {0})
-picture_comes settings frame s i0 i1 r0 r1 n r P scene takes lt l =
-    let text = frame_picture s frame in
-    texts_come (Picture settings frame) (text_alone text) i0 i1 r0 r1 n n r P (Unit {0}) (inl (s, has_scene i0 i1 s scene takes, inl (lt, refl))) refl (not_empty text [] (picture_not_empty s frame))
-    (λ reads. none_left i0 i1 s takes) (λ none. tt) l
+-- the outcome where there is such a frame, and where there is none
+pub pictured_there : (s : Parts) (frame : ℕ) → frame < length s.cameras → pictured s frame ≡ text_alone (frame_picture s frame)
+pictured_there s frame lt =
+    ap (λ (b : Bool). cond b (text_alone (frame_picture s frame)) (note_alone statuses.Frame (missing_text frame (length s.cameras)))) (lt-ltb frame (length s.cameras) lt)
+
+pub pictured_missing : (s : Parts) (frame : ℕ) → length s.cameras ≤ frame → pictured s frame ≡ note_alone statuses.Frame (missing_text frame (length s.cameras))
+pictured_missing s frame past =
+    ap (λ (b : Bool). cond b (text_alone (frame_picture s frame)) (note_alone statuses.Frame (missing_text frame (length s.cameras)))) (le-ltb frame (length s.cameras) past)
+
+pub picture_comes : (words : PictureWords) (s : Parts) (i0 i1 : SourceSays) (r0 r1 n : SinkSays) (r : Result (Unit {0}) Failure) (P Q : Type 0) → IsScene s → TakesLayout i0 i1 s
+    → words.frame < length s.cameras → Q → LeavesTexts (text_alone (frame_picture s words.frame)) r r0 r1 n n
+    → Comes (Picture words) (status_by r) (streams i0 r0 n) (streams i1 r1 n) (AwaitsNote r) P Q
+picture_comes words s i0 i1 r0 r1 n r P Q scene takes lt q l =
+    text_comes (Picture words) s (frame_picture s words.frame) i0 i1 r0 r1 n r P Q (refl, pictured_there s words.frame lt) (picture_not_empty s words.frame) scene takes q l
 
 -- the scene has no such frame
-pub missing_comes : (settings : Settings) (frame frames : ℕ) (s : Parts) (i0 i1 : SourceSays) (r n : SinkSays) (P Q : Type 0) → IsScene s → TakesLayout i0 i1 s → frames ≡ length s.cameras → frames ≤ frame → P → Q
-    → Comes (Picture settings frame) statuses.Frame (streams i0 r n) (streams i1 r n) (AwaitsNote (Err (Frame frame frames))) P Q
-missing_comes settings frame frames s i0 i1 r n P Q scene takes all past p q = record {
-  outcome = note_alone statuses.Frame (missing_text frame frames);
-  ends = inl (s, has_scene i0 i1 s scene takes, inr (omega (arith, all, past), ap (λ (k : ℕ). note_alone statuses.Frame (missing_text frame k)) all));
-  leaves = inl (refl, record { reported = nothing_appended r; noted_is = nothing_awaits n (Err (Frame frame frames)) (missing_text frame frames) refl });
-  causes = record { read = λ is. absurd cc; report = λ is. absurd cc; notes = λ is. absurd cc };
-  untouched = λ is. p;
-  unnoted = λ is. q;
-  taken = λ is. absurd cc;
-}
+pub missing_comes : (words : PictureWords) (frames : ℕ) (s : Parts) (i0 i1 : SourceSays) (r n : SinkSays) (P Q : Type 0) → IsScene s → TakesLayout i0 i1 s → frames ≡ length s.cameras
+    → frames ≤ words.frame → P → Q → Comes (Picture words) statuses.Frame (streams i0 r n) (streams i1 r n) (AwaitsNote (Err (Frame words.frame frames))) P Q
+missing_comes words frames s i0 i1 r n P Q scene takes all past p q =
+    let note : List ℕ = missing_text words.frame frames in
+    let o : OutcomeOf = note_alone statuses.Frame note in
+    let is : pictured s words.frame ≡ o =
+    pictured_missing s words.frame (omega (arith, all, past)) ∙ ap (λ (k : ℕ). note_alone statuses.Frame (missing_text words.frame k)) (sym all) in
+    let made : Makes (work_of (Picture words)) o s = subst (λ (x : OutcomeOf). Makes (work_of (Picture words)) x s) is (made_unseen (work_of (Picture words)) s) in
+    record {
+      outcome = o;
+      ends = inl (s, has_scene i0 i1 s scene takes, made);
+      leaves = inl (refl, record { reported = nothing_appended r; noted_is = nothing_awaits n (Err (Frame words.frame frames)) note refl });
+      causes = record { read = λ e. absurd cc; report = λ e. absurd cc; notes = λ e. absurd cc };
+      untouched = λ e. p;
+      unnoted = λ e. q;
+      taken = λ e. absurd cc;
+    }
 
 -- ---- the status's note
 
@@ -372,11 +394,14 @@ comes_done c x i0 i1 r0 r1 n0 n1 P Q h = record {
 
 -- memory ran out before the command was known
 some_ends : (c : Command) (source : SourceSays) → (o : OutcomeOf) × Ends c source o
-some_ends (Cull settings) source = (note_alone statuses.ReadFault (status_text statuses.ReadFault), inr (inr refl))
-some_ends (Live settings rounds watch) source = (note_alone statuses.ReadFault (status_text statuses.ReadFault), inr (inr refl))
-some_ends (Demo settings seed m) source = (text_alone (summary_text seed m), refl)
-some_ends Upgrade source = (note_alone statuses.ReadFault (status_text statuses.ReadFault), inr (inr refl))
-some_ends (Picture settings frame) source = (note_alone statuses.ReadFault (status_text statuses.ReadFault), inr (inr refl))
+some_ends c source = by (work_of c).own refl
+  where
+    by : (own : Option (ℕ × ℕ)) → (work_of c).own ≡ own → (o : OutcomeOf) × Ends c source o
+    by None reads = (note_alone statuses.ReadFault (status_text statuses.ReadFault), ends_unread c source reads)
+    by (Some own) is =
+        let w = work_of c in
+        let s = demo_of own.0 own.1 in
+        (w.outcome s unseen, subst (λ (own : Option (ℕ × ℕ)). EndsBy own source (w.outcome s unseen) (Makes w (w.outcome s unseen))) (sym is) (made_unseen w s))
 
 pub memory_comes : (c : Command) (i : SourceSays) (r n0 n1 : SinkSays) (P Q : Type 0) → P → IsNoted n0 n1 (status_text statuses.Memory)
     → Comes c statuses.Memory (streams i r n0) (streams i r n1) IsNotedBehind P (statuses.Memory ≡ statuses.Done → Q)
@@ -397,11 +422,13 @@ complete c status before after noted P Q h sound = elim h.leaves [
 ]
 
 pub truth : (c : Command) (source : SourceSays) → IsTrue c source
-truth (Cull settings) source = λ s has. hides_truly s has.scene (all_are_pieces s has.scene)
-truth (Live settings rounds watch) source = λ s has. (hides_truly s has.scene (all_are_pieces s has.scene), λ counts. lines_hide s rounds watch counts has.scene)
-truth (Demo settings seed m) source = λ few. let scene = demo_is_scene seed m few in hides_truly (demo_of seed m) scene (all_are_pieces (demo_of seed m) scene)
-truth Upgrade source = tt
-truth (Picture settings frame) source = λ s has lt. shows_truly s frame has.scene
+truth c source s about =
+    let scene = by (work_of c).own about in
+    (hides_truly s scene (all_are_pieces s scene), (λ counts. lines_hide s (work_of c).rounds (work_of c).watch counts scene), λ frame lt. shows_truly s frame scene)
+  where
+    by : (own : Option (ℕ × ℕ)) → IsAbout own source s → IsScene s
+    by None has = has.scene
+    by (Some own) is = subst (λ (p : Parts). IsScene p) (sym is.1) (demo_is_scene own.0 own.1 is.0)
 
 -- ---- what words ask for
 

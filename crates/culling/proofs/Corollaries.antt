@@ -1,6 +1,7 @@
 -- What follows for a user of `run` from what its command comes to: each lemma has a promise by its short name.
 use Rattle.std.proofs.Common.{◌≡◌, ℕ, ◌<◌, ◌≤◌, ◌++◌, List, [], length, take, arith, refl, sym, ap, ◌∙◌, subst, inl, inr, Option, Some, None, ◌⊎◌}
 use Rattle.std.specs.Prelude.{IfSome}
+use Rattle.std.proofs.lemmas.Bool.{cases_lt}
 use Rattle.std.proofs.lemmas.List.{append-nil}
 use Rattle.cull_base.specs.Stream.{SinkSays, SourceSays, Appends, Rose}
 use Rattle.scene_reader.specs.Layout.{Parts, IsScene, layout, upgraded}
@@ -11,16 +12,21 @@ use Rattle.scene_reader.proofs.OnlyScene.{layout_one}
 use Rattle.cull_report.specs.Hiding.{HidesTruly}
 use Rattle.cull_report.specs.Live.{Counts, HidesLive, IsRising, live_text}
 use Rattle.cull_report.specs.Scene.{report_text}
-use Rattle.command_words.specs.declared.command.Command.{Command}
-use Rattle.command_words.specs.declared.command.Command.TheVariants.{Cull, Live, Demo, Upgrade, Picture}
-use Rattle.command_words.specs.declared.settings.Settings.{Settings}
+use Rattle.command_words.specs.declared.table.Command.{Command}
+use Rattle.command_words.specs.declared.table.BareCommand.TheVariants.{Upgrade}
+use Rattle.command_words.specs.declared.table.Command.TheVariants.{Cull, Live, Demo, Picture, Bare}
+use Rattle.command_words.specs.declared.table.CullWords.{CullWords}
+use Rattle.command_words.specs.declared.table.DemoWords.{DemoWords}
+use Rattle.command_words.specs.declared.table.LiveWords.{LiveWords}
+use Rattle.command_words.specs.declared.table.PictureWords.{PictureWords}
 use Rattle.culling.specs.Notes.{IsNotedBehind}
+use Rattle.culling.specs.Outcomes.{Ends, EndsBy, EndsByScene, Makes, work_of, HasScene, IfBytes, OutcomeOf, ReadsScene, joined, live_frames, pictured, report_of}
 use Rattle.culling.specs.Picture.{ShowsTruly, frame_picture}
-use Rattle.culling.specs.Outcomes.{Ends, EndsByScene, HasScene, IfBytes, IsPictured, OutcomeOf, ReadsScene, joined, live_frames, report_and, report_of, text_alone}
 use Rattle.culling.specs.Runs.{Comes, IsCut, Leaves, LeavesWhole, Streams}
 use Rattle.culling.specs.Summary.{summary_text}
 use Rattle.culling.specs.declared.failure.Status.{Status}
 use Rattle.culling.specs.declared.failure.Status.TheVariants as statuses
+use Rattle.culling.proofs.Comings.{pictured_missing, pictured_there}
 use Rattle.culling.proofs.OutcomeTexts.{live_is, report_is}
 use Rattle.culling.proofs.ScenePieces.{all_are_pieces, lines_hide}
 use Rattle.culling.proofs.Shown.{shows_truly}
@@ -52,56 +58,67 @@ noted_exactly n0 n1 text h = elim h [
       subst (Appends n0 n1) (append-nil text) (subst (λ (k : ℕ). Appends n0 n1 (text ++ take k [])) none gained)
 ]
 
--- ---- done: the whole report of a scene, and what it calls occluded is hidden; of `live` its live text too; of `demo` the summary
+-- ---- done: the whole report of a scene, and what it calls occluded is hidden; of `live` its live text too; of `demo` the summary, of `upgrade` the layout,
+-- and of `picture` the picture of a frame that is there, where what it shows is drawn
 
-pub done_cull : (settings : Settings) (before after : Streams) (P Q : Type 0) → Comes (Cull settings) statuses.Done before after IsNotedBehind P Q
+pub done_cull : (words : CullWords) (before after : Streams) (P Q : Type 0) → Comes (Cull words) statuses.Done before after IsNotedBehind P Q
     → (s : Parts) × HasScene before.input s × IfBytes before.input (λ bytes. after.input.left ≡ Some []) × Appends before.report after.report (report_text s) × HidesTruly s
-done_cull settings before after P Q h =
+done_cull words before after P Q h =
     let w = done_whole h.outcome before.report after.report (IsNotedBehind before.notes after.notes) h.leaves in
-    let (s, has, is) = done_scene before.input h.outcome (λ s. h.outcome ≡ report_and s []) h.ends w.0 in
-    (s, has, h.taken refl tt, subst (Appends before.report after.report) (ap report_of is ∙ report_is s []) w.1.reported, hides_truly s has.scene (all_are_pieces s has.scene))
+    let (s, has, makes) = done_scene before.input h.outcome (Makes (work_of (Cull words)) h.outcome) h.ends w.0 in
+    let (counts, rising, is) = makes in
+    (s, has, h.taken refl refl, subst (Appends before.report after.report) (ap report_of is ∙ report_is s []) w.1.reported, hides_truly s has.scene (all_are_pieces s has.scene))
 
-pub done_live : (settings : Settings) (rounds watch : ℕ) (before after : Streams) (P Q : Type 0) → Comes (Live settings rounds watch) statuses.Done before after IsNotedBehind P Q
+pub done_live : (words : LiveWords) (before after : Streams) (P Q : Type 0) → Comes (Live words) statuses.Done before after IsNotedBehind P Q
     → (s : Parts) × HasScene before.input s × IfBytes before.input (λ bytes. after.input.left ≡ Some []) × Appends before.report after.report (report_text s) × HidesTruly s
-    × ((counts : Counts) × IsRising s rounds watch counts × Appends before.notes after.notes (live_text s rounds watch counts) × HidesLive s rounds watch counts)
-done_live settings rounds watch before after P Q h =
+    × ((counts : Counts) × IsRising s words.rounds words.watch counts × Appends before.notes after.notes (live_text s words.rounds words.watch counts) × HidesLive s words.rounds words.watch counts)
+done_live words before after P Q h =
     let r0 = before.report in let r1 = after.report in let n0 = before.notes in let n1 = after.notes in
     let w = done_whole h.outcome r0 r1 (IsNotedBehind n0 n1) h.leaves in
-    let (s, has, made) = done_scene before.input h.outcome (λ s. (counts : Counts) × IsRising s rounds watch counts × (h.outcome ≡ report_and s (live_frames s rounds watch counts))) h.ends w.0 in
-    let (counts, rising, is) = made in
-    let notes = live_frames s rounds watch counts in
+    let (s, has, makes) = done_scene before.input h.outcome (Makes (work_of (Live words)) h.outcome) h.ends w.0 in
+    let (counts, rising, is) = makes in
+    let notes = live_frames s words.rounds words.watch counts in
     let noted : IsNotedBehind n0 n1 (joined notes) [] = subst (λ (o : OutcomeOf). IsNotedBehind n0 n1 (joined o.notes) o.note) is w.1.noted_is in (
       s,
       has,
-      h.taken refl tt,
+      h.taken refl refl,
       subst (Appends r0 r1) (ap report_of is ∙ report_is s notes) w.1.reported,
       hides_truly s has.scene (all_are_pieces s has.scene),
-      (counts, rising, subst (Appends n0 n1) (live_is s rounds watch counts) (noted_exactly n0 n1 (joined notes) noted), lines_hide s rounds watch counts has.scene),
+      (counts, rising, subst (Appends n0 n1) (live_is s words.rounds words.watch counts) (noted_exactly n0 n1 (joined notes) noted), lines_hide s words.rounds words.watch counts has.scene),
     )
 
-pub done_demo : (settings : Settings) (seed m : ℕ) (before after : Streams) (P Q : Type 0) → Comes (Demo settings seed m) statuses.Done before after IsNotedBehind P Q → Appends before.report after.report (summary_text seed m)
-done_demo settings seed m before after P Q h =
+pub done_demo : (words : DemoWords) (before after : Streams) (P Q : Type 0) → Comes (Demo words) statuses.Done before after IsNotedBehind P Q
+    → Appends before.report after.report (summary_text words.seed words.triangles)
+done_demo words before after P Q h =
     let w = done_whole h.outcome before.report after.report (IsNotedBehind before.notes after.notes) h.leaves in
-    subst (Appends before.report after.report) (ap report_of h.ends ∙ append-nil (summary_text seed m)) w.1.reported
+    let (counts, rising, is) = h.ends in
+    subst (Appends before.report after.report) (ap report_of is ∙ append-nil (summary_text words.seed words.triangles)) w.1.reported
 
-pub done_upgrade : (before after : Streams) (P Q : Type 0) → Comes Upgrade statuses.Done before after IsNotedBehind P Q
+pub done_upgrade : (before after : Streams) (P Q : Type 0) → Comes (Bare Upgrade) statuses.Done before after IsNotedBehind P Q
     → (s : Parts) × HasScene before.input s × IfBytes before.input (λ bytes. after.input.left ≡ Some []) × Appends before.report after.report (layout (upgraded s))
 done_upgrade before after P Q h =
     let w = done_whole h.outcome before.report after.report (IsNotedBehind before.notes after.notes) h.leaves in
-    let (s, has, is) = done_scene before.input h.outcome (λ s. h.outcome ≡ text_alone (layout (upgraded s))) h.ends w.0 in
-    (s, has, h.taken refl tt, subst (Appends before.report after.report) (ap report_of is ∙ append-nil (layout (upgraded s))) w.1.reported)
+    let (s, has, makes) = done_scene before.input h.outcome (Makes (work_of (Bare Upgrade)) h.outcome) h.ends w.0 in
+    let (counts, rising, is) = makes in
+    (s, has, h.taken refl refl, subst (Appends before.report after.report) (ap report_of is ∙ append-nil (layout (upgraded s))) w.1.reported)
 
--- of `picture` the picture of a frame that is there, and what it shows is drawn
-pub done_picture : (settings : Settings) (frame : ℕ) (before after : Streams) (P Q : Type 0) → Comes (Picture settings frame) statuses.Done before after IsNotedBehind P Q
-    → (s : Parts) × HasScene before.input s × IfBytes before.input (λ bytes. after.input.left ≡ Some []) × (frame < length s.cameras) × Appends before.report after.report (frame_picture s frame) × ShowsTruly s frame
-done_picture settings frame before after P Q h =
+-- the frame is there
+done_there : (s : Parts) (frame : ℕ) → statuses.Done ≡ (pictured s frame).status → frame < length s.cameras
+done_there s frame done = elim (cases_lt frame (length s.cameras)) [
+  | inl lt ↦ lt
+  | inr past ↦ let bad : statuses.Done ≡ statuses.Frame = done ∙ ap (λ (x : OutcomeOf). x.status) (pictured_missing s frame past) in absurd cc
+]
+
+pub done_picture : (words : PictureWords) (before after : Streams) (P Q : Type 0) → Comes (Picture words) statuses.Done before after IsNotedBehind P Q
+    → (s : Parts) × HasScene before.input s × IfBytes before.input (λ bytes. after.input.left ≡ Some []) × (words.frame < length s.cameras)
+    × Appends before.report after.report (frame_picture s words.frame) × ShowsTruly s words.frame
+done_picture words before after P Q h =
     let w = done_whole h.outcome before.report after.report (IsNotedBehind before.notes after.notes) h.leaves in
-    let (s, has, made) = done_scene before.input h.outcome (λ s. IsPictured s frame h.outcome) h.ends w.0 in
-    elim made [
-      | inl shown ↦
-          (s, has, h.taken refl tt, shown.0, subst (Appends before.report after.report) (ap report_of shown.1 ∙ append-nil (frame_picture s frame)) w.1.reported, shows_truly s frame has.scene)
-      | inr missing ↦ let bad : statuses.Done ≡ statuses.Frame = w.0 ∙ ap (λ (x : OutcomeOf). x.status) missing.1 in absurd cc
-    ]
+    let (s, has, makes) = done_scene before.input h.outcome (Makes (work_of (Picture words)) h.outcome) h.ends w.0 in
+    let (counts, rising, is) = makes in
+    let lt = done_there s words.frame (w.0 ∙ ap (λ (x : OutcomeOf). x.status) is) in
+    let text = ap report_of (is ∙ pictured_there s words.frame lt) ∙ append-nil (frame_picture s words.frame) in
+    (s, has, h.taken refl refl, lt, subst (Appends before.report after.report) text w.1.reported, shows_truly s words.frame has.scene)
 
 -- ---- refused: bytes with a first fault end as Scene, ReadFault or Memory
 
@@ -134,12 +151,8 @@ by_scene source o made bytes e left fault ends = elim ends [
 
 ends_silent : (c : Command) (source : SourceSays) (o : OutcomeOf) (bytes : List ℕ) (e : SceneError) → ReadsScene c → source.left ≡ Some bytes → first_fault bytes ≡ Some e → Ends c source o
     → (report_of o ≡ []) × (o.notes ≡ []) × ((o.status ≡ statuses.Scene) ⊎ (o.status ≡ statuses.ReadFault))
-ends_silent (Cull settings) source o bytes e reads left fault ends = by_scene source o (λ s. o ≡ report_and s []) bytes e left fault ends
-ends_silent (Live settings rounds watch) source o bytes e reads left fault ends =
-    by_scene source o (λ s. (counts : Counts) × IsRising s rounds watch counts × (o ≡ report_and s (live_frames s rounds watch counts))) bytes e left fault ends
-ends_silent (Demo settings seed m) source o bytes e reads left fault ends = absurd reads
-ends_silent Upgrade source o bytes e reads left fault ends = by_scene source o (λ s. o ≡ text_alone (layout (upgraded s))) bytes e left fault ends
-ends_silent (Picture settings frame) source o bytes e reads left fault ends = by_scene source o (λ s. IsPictured s frame o) bytes e left fault ends
+ends_silent c source o bytes e reads left fault ends =
+    by_scene source o (Makes (work_of c) o) bytes e left fault (subst (λ (own : Option (ℕ × ℕ)). EndsBy own source o (Makes (work_of c) o)) reads ends)
 
 pub refused : (c : Command) (status : Status) (before after : Streams) (P Q : Type 0) (bytes : List ℕ) (e : SceneError) → ReadsScene c → before.input.left ≡ Some bytes → first_fault bytes ≡ Some e
     → Comes c status before after IsNotedBehind P Q → ((status ≡ statuses.Scene) ⊎ (status ≡ statuses.ReadFault) ⊎ (status ≡ statuses.Memory)) × P
@@ -154,10 +167,10 @@ refused c status before after P Q bytes e reads left fault h =
 
 -- ---- complete: a scene, and no fault of the input or the report: `cull` ends as Done, or memory ran out
 
-pub complete_cull : (settings : Settings) (status : Status) (before after : Streams) (P Q : Type 0) (s : Parts) (bytes : List ℕ) → before.input.left ≡ Some bytes → bytes ≡ layout s → IsScene s
-    → (Rose before.input.faults after.input.faults → ⊥) → (Rose before.report.faults after.report.faults → ⊥) → Comes (Cull settings) status before after IsNotedBehind P Q
+pub complete_cull : (words : CullWords) (status : Status) (before after : Streams) (P Q : Type 0) (s : Parts) (bytes : List ℕ) → before.input.left ≡ Some bytes → bytes ≡ layout s → IsScene s
+    → (Rose before.input.faults after.input.faults → ⊥) → (Rose before.report.faults after.report.faults → ⊥) → Comes (Cull words) status before after IsNotedBehind P Q
     → (status ≡ statuses.Done) ⊎ (status ≡ statuses.Memory)
-complete_cull settings status before after P Q s bytes left spelled scene no_read no_report h =
+complete_cull words status before after P Q s bytes left spelled scene no_read no_report h =
     let first : first_fault bytes ≡ None = ap first_fault spelled ∙ scene_first s scene in
     let (no_notes, which) = by_layout before.input h.outcome bytes left first h.ends in
     elim h.leaves [
@@ -168,10 +181,10 @@ complete_cull settings status before after P Q s bytes left spelled scene no_rea
       ]
     ]
   where
-    by_layout : (source : SourceSays) (o : OutcomeOf) (b : List ℕ) → source.left ≡ Some b → first_fault b ≡ None → EndsByScene source o (λ t. o ≡ report_and t [])
+    by_layout : (source : SourceSays) (o : OutcomeOf) (b : List ℕ) → source.left ≡ Some b → first_fault b ≡ None → EndsByScene source o (Makes (work_of (Cull words)) o)
         → (o.notes ≡ []) × ((o.status ≡ statuses.Done) ⊎ (o.status ≡ statuses.ReadFault))
     by_layout source o b is none ends = elim ends [
-      | inl made ↦ let (t, has, same) = made in (ap (λ (x : OutcomeOf). x.notes) same, inl (ap (λ (x : OutcomeOf). x.status) same))
+      | inl made ↦ let (t, has, makes) = made in let (counts, rising, same) = makes in (ap (λ (x : OutcomeOf). x.notes) same, inl (ap (λ (x : OutcomeOf). x.status) same))
       | inr rest ↦ elim rest [
         | inl bad ↦
             let (e, refusal, fault, same) = bad in
@@ -184,29 +197,29 @@ complete_cull settings status before after P Q s bytes left spelled scene no_rea
 
 -- ---- missing: a scene without the frame, and no fault of the input: `picture` ends as Frame with that note alone, or memory ran out
 
-pub missing_picture : (settings : Settings) (frame : ℕ) (status : Status) (before after : Streams) (P Q : Type 0) (s : Parts) (bytes : List ℕ) → before.input.left ≡ Some bytes → bytes ≡ layout s → IsScene s
-    → length s.cameras ≤ frame → (Rose before.input.faults after.input.faults → ⊥) → Comes (Picture settings frame) status before after IsNotedBehind P Q → ((status ≡ statuses.Frame) ⊎ (status ≡ statuses.Memory)) × P
-missing_picture settings frame status before after P Q s bytes left spelled scene past no_read h =
+pub missing_picture : (words : PictureWords) (status : Status) (before after : Streams) (P Q : Type 0) (s : Parts) (bytes : List ℕ) → before.input.left ≡ Some bytes → bytes ≡ layout s → IsScene s
+    → length s.cameras ≤ words.frame → (Rose before.input.faults after.input.faults → ⊥) → Comes (Picture words) status before after IsNotedBehind P Q
+    → ((status ≡ statuses.Frame) ⊎ (status ≡ statuses.Memory)) × P
+missing_picture words status before after P Q s bytes left spelled scene past no_read h =
     let first : first_fault bytes ≡ None = ap first_fault spelled ∙ scene_first s scene in
     let (no_report, no_notes, which) = by_layout before.input h.outcome left first h.ends in (
-      elim (silent_ends (Picture settings frame) status before after P Q h no_report no_notes) [
+      elim (silent_ends (Picture words) status before after P Q h no_report no_notes) [
         | inl same ↦ elim which [ inl missing ↦ inl (same ∙ missing) | inr unread ↦ absurd (no_read (h.causes.read (same ∙ unread))) ]
         | inr memory ↦ inr memory
       ],
       h.untouched no_report,
     )
   where
-    by_layout : (source : SourceSays) (o : OutcomeOf) → source.left ≡ Some bytes → first_fault bytes ≡ None → EndsByScene source o (λ t. IsPictured t frame o)
+    by_layout : (source : SourceSays) (o : OutcomeOf) → source.left ≡ Some bytes → first_fault bytes ≡ None → EndsByScene source o (Makes (work_of (Picture words)) o)
         → (report_of o ≡ []) × (o.notes ≡ []) × ((o.status ≡ statuses.Frame) ⊎ (o.status ≡ statuses.ReadFault))
     by_layout source o is none ends = elim ends [
       | inl made ↦
-          let (t, has, which) = made in
+          let (t, has, makes) = made in
+          let (counts, rising, outcome) = makes in
           let spelled_t : bytes ≡ layout t = subst (λ (l : Option (List ℕ)). IfSome l (λ b. b ≡ layout t)) is has.spelled in
           let same : s ≡ t = layout_one s t scene has.scene (sym spelled ∙ spelled_t) in
-          elim which [
-            | inl shown ↦ absurd (omega (arith, shown.0, past, ap (λ (p : Parts). length p.cameras) same))
-            | inr missing ↦ (ap report_of missing.1, ap (λ (x : OutcomeOf). x.notes) missing.1, inl (ap (λ (x : OutcomeOf). x.status) missing.1))
-          ]
+          let missing = outcome ∙ pictured_missing t words.frame (omega (arith, past, ap (λ (p : Parts). length p.cameras) same)) in
+          (ap report_of missing, ap (λ (x : OutcomeOf). x.notes) missing, inl (ap (λ (x : OutcomeOf). x.status) missing))
       | inr rest ↦ elim rest [
         | inl bad ↦
             let (e, refusal, fault, same) = bad in

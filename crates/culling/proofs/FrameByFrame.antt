@@ -80,14 +80,14 @@ split_rises beside s place c d before from frame = elim (cases_lt frame place) [
   | inr not_less ↦ subst (IsRisingBeside beside s frame) (sym (split_from place c d frame (omega arith))) (from frame)
 ]
 
-unseen : Counts
+pub unseen : Counts
 unseen frame r o t = 0
 
 none_rise : (beside : Beside) (s : Parts) (frame : ℕ) → IsRisingBeside beside s frame (λ r o t. 0)
 none_rise Nothing s frame = tt
 none_rise (Looks rounds watch) s frame = record { within = λ r o t is stated. omega arith; rises = λ r o p q t is then before stated stated_then. omega arith }
 
-unseen_rises : (beside : Beside) (s : Parts) → AreRising beside s unseen
+pub unseen_rises : (beside : Beside) (s : Parts) → AreRising beside s unseen
 unfolding unseen
 unseen_rises beside s frame = none_rise beside s frame
 

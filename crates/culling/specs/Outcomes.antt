@@ -1,5 +1,5 @@
 -- What a command comes to: from what its input says to a status, and to what the report and the notes gain.
-use Rattle.std.specs.Prelude.{ℕ, ◌≡◌, ◌⊎◌, ◌<◌, ◌≤◌, ◌++◌, List, [], length, map, take, slice_index_or, Some, IfSome}
+use Rattle.std.specs.Prelude.{ℕ, ◌≡◌, ◌⊎◌, ◌<◌, ◌≤◌, ◌++◌, nat_lt, if◌then◌else◌, List, [], length, map, take, slice_index_or, Option, Some, None, IfSome}
 use Rattle.std.specs.List.{flat_map, range_with_len}
 use Rattle.cull_base.specs.Stream.{SourceSays}
 use Rattle.scene_reader.specs.Layout.{Parts, IsScene, layout, upgraded}
@@ -10,8 +10,9 @@ use Rattle.cull_report.specs.Live.{Counts, HidesLive, IsRising, frame_live}
 use Rattle.cull_report.specs.Scene.{frame_report, scene_header}
 use Rattle.clap.specs.Words.{Text}
 use Rattle.command_words.specs.Words.{command_of}
-use Rattle.command_words.specs.declared.command.Command.{Command}
-use Rattle.command_words.specs.declared.command.Command.TheVariants.{Cull, Live, Demo, Upgrade, Picture}
+use Rattle.command_words.specs.declared.table.Command.{Command}
+use Rattle.command_words.specs.declared.table.BareCommand.TheVariants as bare
+use Rattle.command_words.specs.declared.table.Command.TheVariants.{Cull, Live, Demo, Picture, Bare}
 use Rattle.demo_scene.specs.Demo.{demo_of}
 use Rattle.culling.specs.Notes.{missing_text, refusal_text, status_text}
 use Rattle.culling.specs.Picture.{ShowsTruly, frame_picture}
@@ -69,11 +70,11 @@ report_and s notes = record {
 abbrev pub live_frames : Parts → ℕ → ℕ → Counts → List (List ℕ)
 live_frames s rounds watch counts = map (λ frame. frame_live s rounds watch (counts frame) frame) (range_with_len 0 (length s.cameras))
 
--- the picture of a frame, and where there is no such frame a note that says so
-abbrev pub IsPictured : Parts → ℕ → OutcomeOf → Type 0
-IsPictured s frame o =
-    ((frame < length s.cameras) × (o ≡ text_alone (frame_picture s frame)))
-    ⊎ ((length s.cameras ≤ frame) × (o ≡ note_alone statuses.Frame (missing_text frame (length s.cameras))))
+-- the picture of a frame; where there is no such frame, no text, and a note that says so
+abbrev pub pictured : Parts → ℕ → OutcomeOf
+pictured s frame =
+    if nat_lt frame (length s.cameras) then text_alone (frame_picture s frame)
+    else note_alone statuses.Frame (missing_text frame (length s.cameras))
 
 -- a fact of the bytes that are left in a source, where they are told
 abbrev pub IfBytes : SourceSays → (List ℕ → Type 0) → Type 0
@@ -95,32 +96,64 @@ EndsByScene source o made =
     ⊎ ((e : SceneError) × IsRefusal e × HasFault source e × (o ≡ note_alone statuses.Scene (refusal_text e)))
     ⊎ (o ≡ note_alone statuses.ReadFault (status_text statuses.ReadFault))
 
+-- What a command does: the seed and the number of triangles of the scene that it makes, none where it reads one; its rounds of looks, and at how many
+-- objects; and the outcome that it makes of the scene, by the counts of those looks.
+pub record Work : Type 0 where
+  pub own : Option (ℕ × ℕ)
+  pub rounds : ℕ
+  pub watch : ℕ
+  pub outcome : Parts → Counts → OutcomeOf
+
+-- a scene is read, and no object is looked at
+abbrev pub reading : (Parts → OutcomeOf) → Work
+reading outcome = record { own = None; rounds = 0; watch = 0; outcome = λ s counts. outcome s }
+
+-- what each command does
+abbrev pub work_of : Command → Work
+work_of (Cull words) = reading (λ s. report_and s [])
+work_of (Live words) = record {
+  own = None;
+  rounds = words.rounds;
+  watch = words.watch;
+  outcome = λ s counts. report_and s (live_frames s words.rounds words.watch counts);
+}
+work_of (Demo words) = record {
+  own = Some (words.seed, words.triangles);
+  rounds = 0;
+  watch = 0;
+  outcome = λ s counts. text_alone (summary_text words.seed words.triangles);
+}
+work_of (Picture words) = reading (λ s. pictured s words.frame)
+work_of (Bare bare.Upgrade) = reading (λ s. text_alone (layout (upgraded s)))
+
 -- the command reads a scene
 abbrev pub ReadsScene : Command → Type 0
-ReadsScene (Cull settings) = Unit {0}
-ReadsScene (Live settings rounds watch) = Unit {0}
-ReadsScene (Demo settings seed m) = ⊥
-ReadsScene Upgrade = Unit {0}
-ReadsScene (Picture settings frame) = Unit {0}
+ReadsScene c = (work_of c).own ≡ None
+
+-- the outcome is made of the scene, by counts that rise
+abbrev pub Makes : Work → OutcomeOf → Parts → Type 0
+Makes w o s = (counts : Counts) × IsRising s w.rounds w.watch counts × (o ≡ w.outcome s counts)
+
+-- so of a scene that is read, and so of one that the command makes
+abbrev pub EndsBy : Option (ℕ × ℕ) → SourceSays → OutcomeOf → (Parts → Type 0) → Type 0
+EndsBy None source o made = EndsByScene source o made
+EndsBy (Some own) source o made = made (demo_of own.0 own.1)
 
 -- the command comes to this outcome, from what its input says
 abbrev pub Ends : Command → SourceSays → OutcomeOf → Type 0
-Ends (Cull settings) source o = EndsByScene source o (λ s. o ≡ report_and s [])
-Ends (Live settings rounds watch) source o =
-    EndsByScene source o (λ s. (counts : Counts) × IsRising s rounds watch counts × (o ≡ report_and s (live_frames s rounds watch counts)))
-Ends (Demo settings seed m) source o = o ≡ text_alone (summary_text seed m)
-Ends Upgrade source o = EndsByScene source o (λ s. o ≡ text_alone (layout (upgraded s)))
-Ends (Picture settings frame) source o = EndsByScene source o (λ s. IsPictured s frame o)
+Ends c source o = EndsBy (work_of c).own source o (Makes (work_of c) o)
 
--- What the command's texts call occluded is hidden: what a live line does, by the members that it states, whatever the counts are.
--- `upgrade` calls nothing so. What a picture shows is drawn.
+-- the scene that a command is about: the input's, or the one that it makes
+abbrev pub IsAbout : Option (ℕ × ℕ) → SourceSays → Parts → Type 0
+IsAbout None source s = HasScene source s
+IsAbout (Some own) source s = (own.1 ≤ 65536) × (s ≡ demo_of own.0 own.1)
+
+-- What the report of a command's scene calls occluded is hidden, and what a live line does, by the members that it states, whatever the counts are. What a
+-- picture of one of its frames shows is drawn.
 abbrev pub IsTrue : Command → SourceSays → Type 0
-IsTrue (Cull settings) source = (s : Parts) → HasScene source s → HidesTruly s
-IsTrue (Live settings rounds watch) source =
-    (s : Parts) → HasScene source s → HidesTruly s × ((counts : Counts) → HidesLive s rounds watch counts)
-IsTrue (Demo settings seed m) source = m ≤ 65536 → HidesTruly (demo_of seed m)
-IsTrue Upgrade source = Unit {0}
-IsTrue (Picture settings frame) source = (s : Parts) → HasScene source s → frame < length s.cameras → ShowsTruly s frame
+IsTrue c source =
+    (s : Parts) → IsAbout (work_of c).own source s
+    → HidesTruly s × ((counts : Counts) → HidesLive s (work_of c).rounds (work_of c).watch counts) × ((frame : ℕ) → frame < length s.cameras → ShowsTruly s frame)
 
 -- ---- what words ask for
 

@@ -6,14 +6,20 @@ ghost use Rattle.culling.specs.Outcome.{status_by};
 ghost use Rattle.culling.specs.Outcomes.{Asks, IfAsked, IsTrue, ReadsScene};
 ghost use Rattle.culling.specs.Runs.{AwaitsNote, Comes, IsComplete, IsUnasked, WithoutFault, streams};
 
-use crate::cull::cull;
-use crate::demo::{Seeded, demo};
+mod bare;
+mod cull;
+mod demo;
+mod live;
+mod picture;
+
 use crate::failure::{Failure, Status, end_refused};
-use crate::live::{Looks, live};
-use crate::picture::picture;
-use crate::upgrade::write_upgraded;
+use bare::carry_out;
 use command_words::{Command, command_of};
+use cull::cull;
 use cull_base::{Sink, Source};
+use demo::demo;
+use live::live;
+use picture::picture;
 use std::alloc::Global;
 use std::sync::Wait;
 use std::thread::Threads;
@@ -37,35 +43,11 @@ fn perform<R: Threads + Wait + Sync, S: Source, W: Sink, E: Sink, G: Gate>(
     ensures unread { (ReadsScene command.now → ⊥) → input.new ≡ input.old }
 {
     match command {
-        Command::Cull { settings } => cull(rt, alloc, settings, input, report, notes, gate),
-        Command::Live {
-            settings,
-            rounds,
-            watch,
-        } => {
-            let looks = Looks {
-                settings,
-                rounds: *rounds,
-                watch: *watch,
-            };
-            live(rt, alloc, &looks, input, report, notes, gate)
-        }
-        Command::Demo {
-            settings,
-            seed,
-            triangles,
-        } => {
-            let seeded = Seeded {
-                settings,
-                seed: *seed,
-                triangles: *triangles,
-            };
-            demo(rt, alloc, &seeded, report, notes, gate)
-        }
-        Command::Upgrade => write_upgraded(alloc, input, report),
-        Command::Picture { settings, frame } => {
-            picture(rt, alloc, settings, *frame, input, report, gate)
-        }
+        Command::Cull(words) => cull(rt, alloc, words, input, report, notes, gate),
+        Command::Live(words) => live(rt, alloc, words, input, report, notes, gate),
+        Command::Demo(words) => demo(rt, alloc, words, report, notes, gate),
+        Command::Picture(words) => picture(rt, alloc, words, input, report, notes, gate),
+        Command::Bare(command) => carry_out(alloc, command, input, report, notes),
     }
 }
 

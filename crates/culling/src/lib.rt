@@ -3,18 +3,13 @@
 #![tactic(auto)]
 
 mod commands;
-mod cull;
-mod demo;
 mod drawing;
 mod failure;
 mod frame_by_frame;
 mod frames;
-mod live;
 mod live_caller;
 mod live_frame;
-mod picture;
 mod summary;
-mod upgrade;
 mod window;
 
 pub use commands::run;

@@ -16,18 +16,19 @@ use std::test::*;
 use std::thread::Threads;
 use tile_queues::OpenGate;
 
-// How `upgrade` of some bytes ends, and the bytes that it writes, at most so many in a write; the write of that number
+// How a command of some bytes ends, and the bytes that it writes, at most so many in a write; the write of that number
 // fails.
 fn written<R: Threads + Wait + Sync>(
     rt: &R,
     alloc: Global,
+    line: &str,
     bytes: Vec<u8>,
     most: usize,
     call: u64,
 ) -> Result<(Status, Vec<u8>), Fail>
     requires { 1 ≤ most }
 {
-    let words = words_of(alloc, UPGRADE)?;
+    let words = words_of(alloc, line)?;
     let mut input = BytesSource::new(bytes, 7, Vec::new(alloc));
     let (mut report, mut notes) = (sink(alloc, most, call)?, sink(alloc, LARGE, NEVER)?);
     let status = run(
@@ -48,7 +49,7 @@ fn upgraded<R: Threads + Wait + Sync + Abort>(
     alloc: Global,
     bytes: Vec<u8>,
 ) -> Result<Vec<u8>, Fail> {
-    let (status, made) = written(rt, alloc, bytes, LARGE, NEVER)?;
+    let (status, made) = written(rt, alloc, UPGRADE, bytes, LARGE, NEVER)?;
     assert_eq!(rt; status, Status::Done);
     Ok(made)
 }
@@ -188,11 +189,11 @@ fn each_write_of_an_upgrade_that_fails_leaves_a_front(rt: HostRuntime) -> Result
     let alloc = rt.alloc();
     let whole = second_scene(alloc)?;
     for call in 1..30 {
-        let (status, front) = written(&rt, alloc, first_scene(alloc)?, 7, call)?;
+        let (status, front) = written(&rt, alloc, UPGRADE, first_scene(alloc)?, 7, call)?;
         assert_eq!(rt; status, Status::ReportFault);
         assert!(rt; front.len() < whole.len() && whole.as_slice().starts_with(&front));
     }
-    let (status, made) = written(&rt, alloc, first_scene(alloc)?, 7, NEVER)?;
+    let (status, made) = written(&rt, alloc, UPGRADE, first_scene(alloc)?, 7, NEVER)?;
     assert_eq!(rt; (status, made.len()), (Status::Done, 186));
     Ok(())
 }

@@ -1,5 +1,5 @@
 //! What some command lines name, and what is said of those that are refused.
-use command_words::{Command, Refusal, Settings, VERSION, command_of};
+use command_words::{BareCommand, Command, Refusal, Settings, VERSION, command_of};
 use std::alloc::Global;
 use std::process::Abort;
 use std::test::*;
@@ -22,25 +22,24 @@ fn command_for(rt: &impl Abort, alloc: Global, given: &[&str]) -> Result<Command
     )
 }
 
-// The settings of a command, its name, and the two numbers of its own; none of `upgrade`, which has no settings. Of
-// `picture` the second number is 0.
-fn parts(command: Command) -> Option<(Settings, &'static str, Option<(u32, u32)>)> {
-    let (settings, name, own) = match command {
-        Command::Cull { settings } => (settings, "cull", None),
-        Command::Live {
-            settings,
-            rounds,
-            watch,
-        } => (settings, "live", Some((rounds, watch))),
-        Command::Demo {
-            settings,
-            seed,
-            triangles,
-        } => (settings, "demo", Some((seed, triangles))),
-        Command::Upgrade => return None,
-        Command::Picture { settings, frame } => (settings, "picture", Some((frame, 0))),
-    };
-    Some((settings, name, own))
+// The settings of a command, its name, and the two numbers of its own, of `picture` 0 in place of the second; a bare
+// command has no settings.
+fn parts(command: Command) -> (Option<Settings>, &'static str, Option<(u32, u32)>) {
+    match command {
+        Command::Cull(words) => (Some(words.settings), "cull", None),
+        Command::Live(words) => (
+            Some(words.settings),
+            "live",
+            Some((words.rounds, words.watch)),
+        ),
+        Command::Demo(words) => (
+            Some(words.settings),
+            "demo",
+            Some((words.seed, words.triangles)),
+        ),
+        Command::Picture(words) => (Some(words.settings), "picture", Some((words.frame, 0))),
+        Command::Bare(_) => (None, "a command without options", None),
+    }
 }
 
 // The workers, columns, rows and batch that a command line names, the command, and the two numbers of its own.
@@ -49,8 +48,8 @@ fn asked(
     alloc: Global,
     given: &[&str],
 ) -> Result<([u32; 4], &'static str, Option<(u32, u32)>), Fail> {
-    let named = command_for(rt, alloc, given)?;
-    let (settings, command, own) = parts(named).ok_or("a command with settings")?;
+    let (settings, command, own) = parts(command_for(rt, alloc, given)?);
+    let settings = settings.ok_or("a command with settings")?;
     let (columns, rows) = (settings.cut.columns(), settings.cut.rows());
     let sharing = [settings.workers, columns, rows, settings.batch];
     Ok((sharing, command, own))
@@ -108,8 +107,8 @@ fn the_flag_stands_anywhere_among_the_options(rt: HostRuntime) -> Result<(), Fai
         ),
         (&["maskcull", "cull", "--workers", "3", "--early"], 3, true),
     ] {
-        let named = command_for(&rt, alloc, given)?;
-        let (settings, _, _) = parts(named).ok_or("a command with settings")?;
+        let (settings, _, _) = parts(command_for(&rt, alloc, given)?);
+        let settings = settings.ok_or("a command with settings")?;
         assert_eq!(rt; (settings.workers, settings.early), (workers, is_early));
     }
     Ok(())
@@ -168,8 +167,10 @@ fn ranges_and_defaults_stand_on_the_help_page(rt: HostRuntime) -> Result<(), Fai
 #[test]
 fn upgrade_has_no_options(rt: HostRuntime) -> Result<(), Fail> {
     let alloc = rt.alloc();
-    let named = command_for(&rt, alloc, &["maskcull", "upgrade"])?;
-    assert!(rt; parts(named).is_none());
+    let Command::Bare(BareCommand::Upgrade) = command_for(&rt, alloc, &["maskcull", "upgrade"])?
+    else {
+        return Err(Fail::from("the command that upgrades"));
+    };
     for option in [["--workers", "2"], ["--batch", "7"], ["--early", "--early"]] {
         let [first, second] = option;
         let given = words(alloc, &["maskcull", "upgrade", first, second])?;
@@ -190,9 +191,8 @@ fn picture_asks_for_a_frame(rt: HostRuntime) -> Result<(), Fail> {
         let given = ["maskcull", "picture", first, second, third];
         assert_eq!(rt; asked(&rt, alloc, &given)?, (sharing, "picture", Some((frame, 0))));
     }
-    let named = command_for(&rt, alloc, &["maskcull", "picture"])?;
-    let (settings, _, _) = parts(named).ok_or("a command with settings")?;
-    assert!(rt; !settings.early);
+    let (settings, _, _) = parts(command_for(&rt, alloc, &["maskcull", "picture"])?);
+    assert!(rt; !settings.ok_or("a command with settings")?.early);
     let page = said(&rt, alloc, &["maskcull", "picture", "--help"])?;
     assert!(rt; page.contains("Which frame is drawn, 0 to 255 [default: 0]"));
     Ok(())

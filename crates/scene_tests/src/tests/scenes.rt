@@ -38,7 +38,7 @@ fn batch(count: u32, winding: Winding) -> Batch {
 fn in_batches(alloc: Global, batches: &[(u32, u8)]) -> Result<Vec<u8>, AllocError> {
     let mut bytes = Vec::from_slice(alloc, &FIRST_SCENE[..32])?;
     edit(&mut bytes, &[(4, 2)]);
-    bytes.extend_from_slice(&(batches.len() as u32).to_le_bytes())?;
+    bytes.extend_from_slice(&((batches.len() % 65536) as u32).to_le_bytes())?;
     bytes.extend_from_slice(&FIRST_SCENE[32..OBJECT])?;
     for (count, winding) in batches {
         bytes.extend_from_slice(&count.to_le_bytes())?;

@@ -51,6 +51,9 @@ returns-in-Err-perform-clause-truth g c =
     let source = g.S.Source.says c.args.input.now in
     asked_all (map string_bytes c.args.words.now) (λ command. IsTrue command source) (λ command. truth command source)
 
+pub returns-in-Err-perform-clause-unread : goal.returns-in-Err-perform-clause-unread
+returns-in-Err-perform-clause-unread g c none = c.in-Err-perform.ensures.unread (λ reads. none (c.in-Ok.command, c.in-Ok.ensures.some, reads))
+
 -- ---- the command did its work
 
 pub returns-in-Ok-perform-clause-outcome : goal.returns-in-Ok-perform-clause-outcome
