@@ -1,5 +1,5 @@
 //! The rule on bounds: none is nearer than the pieces that it comes of.
-ghost use Rattle.std.specs.Prelude.{◌≡◌, ℕ, ◌<◌, ◌≤◌, List};
+ghost use Rattle.std.specs.Prelude.{ℕ, ◌<◌, ◌≤◌, List};
 ghost use Rattle.std.specs.List.{Contains};
 ghost use Rattle.cull_base.specs.declared.place.Sub.{Sub};
 ghost use Rattle.cull_base.specs.Depth.{greatest_nearness};
