@@ -20,7 +20,7 @@ SIZES = ((2048, 2048), (1280, 720))
 
 def scene(size, triangles):
     """A scene of frames.py without objects, on a screen of another size."""
-    data = bytearray(frames.scene(1, triangles, 0))
+    data = bytearray(frames.scene(frames.Form(), 1, triangles, 0))
     struct.pack_into("<2H", data, 6, *size)
     return bytes(data)
 
