@@ -26,6 +26,6 @@ alike {A} f g a b (suc n) same =
     let x : a ≡ a + 0 = omega arith in let y : b + 0 ≡ b = omega arith in
     let first : f a ≡ g b = ap f x ∙ same 0 (omega arith) ∙ ap g y in
     let rest = alike f g (a + 1) (b + 1) n (λ k lt.
-        let p : (a + 1) + k ≡ a + suc k = omega arith in let q : b + suc k ≡ (b + 1) + k = omega arith in
-        ap f p ∙ same (suc k) (omega (arith, lt)) ∙ ap g q) in
+    let p : (a + 1) + k ≡ a + suc k = omega arith in let q : b + suc k ≡ (b + 1) + k = omega arith in
+    ap f p ∙ same (suc k) (omega (arith, lt)) ∙ ap g q) in
     λ i. first i ++ rest i

@@ -21,8 +21,11 @@ loop-piece-init g c =
     let states = state_in size (g.V.TileView.tile_of c.args.view.now) in
     let none : 0 ≡ c.rows_at_once-rows.result * 0 = omega arith in
     record {
-      written = ([], nothing_written (g.W.Sink.says c.args.sink.now),
-          c.head-text.ensures.value ∙ rows_begin size c.args.grade states ∙ ap (λ (n : ℕ). head_text size ++ row_lines size.width c.args.grade states 0 n) none);
+      written = (
+        [],
+        nothing_written (g.W.Sink.says c.args.sink.now),
+        c.head-text.ensures.value ∙ rows_begin size c.args.grade states ∙ ap (λ (n : ℕ). head_text size ++ row_lines size.width c.args.grade states 0 n) none,
+      );
       short = c.head-text.ensures.short;
       faults = omega arith;
       refusals = omega arith;
