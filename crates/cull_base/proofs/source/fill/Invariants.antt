@@ -1,10 +1,11 @@
-use Rattle.std.proofs.Common.{◌+◌, ◌≤◌, ◌-◌, length, take}
-use Rattle.scene_reader.specs.Reading.{Takes}
-use Rattle.scene_reader.proofs.intake.fill.Given as goal
+use Rattle.std.proofs.Common.{◌≡◌, ◌+◌, ◌≤◌, ◌-◌, length, take}
+use Rattle.cull_base.specs.Stream.{Takes}
+use Rattle.cull_base.proofs.source.fill.Given as goal
 
 abbrev pub invariant-loop-filled : goal.invariant-loop-filled
 invariant-loop-filled g l =
     record {
+      whole : length l.buffer ≡ length l.fn.buffer;
       within : l.filled ≤ length l.buffer;
       taken : Takes (g.S.Source.says l.fn.source).left (g.S.Source.says l.source).left (take l.filled l.buffer);
       faults : (g.S.Source.says l.fn.source).faults ≤ (g.S.Source.says l.source).faults;
