@@ -17,5 +17,4 @@ mod upgrade;
 mod window;
 
 pub use failure::{Failure, Status};
-pub use frames::{clip_frame, pieces_of};
 pub use run::run;

@@ -6,7 +6,7 @@ use Rattle.cull_base.specs.declared.scene_types.Tri.{Tri}
 use Rattle.snap_setup.specs.Pieces.{HasClips}
 use Rattle.cull_report.specs.Scene.{frame_list}
 use Rattle.cull_report.proofs.Forms.{clip_count, has_clips}
-use Rattle.culling.proofs.frames.occluders_of.Goals as goal
+use Rattle.cull_report.proofs.frame.occluders_of.Goals as goal
 
 pub invariant_of-result-2-clause-indices : goal.invariant_of-result-2-clause-indices
 invariant_of-result-2-clause-indices c =

@@ -2,8 +2,8 @@ use Rattle.std.proofs.Common.{◌≡◌, refl, subst, Result, Ok, Err}
 use Rattle.std.specs.Prelude.{IfOk}
 use Rattle.cull_base.specs.Tiles.{PieceList, FrameListOf}
 use Rattle.cull_base.specs.declared.memory.Memory.{Memory}
-use Rattle.culling.specs.DrawnPieces.{listed_by}
-use Rattle.culling.proofs.frames.pieces_of.Goals as goal
+use Rattle.cull_report.specs.Listed.{listed_by}
+use Rattle.cull_report.proofs.frame.pieces_of.Goals as goal
 
 listed : (r : Result FrameListOf Memory) (l : PieceList) → IfOk r (λ f. f.list.members ≡ l.members) → IfOk r (λ f. f.list.size ≡ l.size) → IfOk r (λ f. f.list ≡ l)
 listed (Ok f) l m d = rw (← m, ← d) refl

@@ -1,7 +1,7 @@
 use Rattle.std.proofs.Common.{ap, ◌∙◌, map, List, ℤ, [], get_or}
 use Rattle.camera_path.specs.Clip.{clip_of}
 use Rattle.cull_report.specs.Scene.{frame_clips}
-use Rattle.culling.proofs.frames.clip_frame.Goals as goal
+use Rattle.cull_report.proofs.frame.clip_frame.Goals as goal
 
 pub returns-clause-clips : goal.returns-clause-clips
 unfolding frame_clips
