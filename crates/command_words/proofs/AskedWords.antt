@@ -16,7 +16,7 @@ use Rattle.command_words.specs.App.{the_app}
 use Rattle.command_words.specs.Table.{ACommand, AnOption, batch, bins_x, bins_y, commands, early, rounds, row_by, row_named, row_of, seed, triangles, watch, workers}
 use Rattle.command_words.specs.Words.{ArePlain, AreWords, HaveValues, IsEntered, asked_by, asked_in, command_of, number_of, settings_by, stated, value_in}
 use Rattle.command_words.specs.declared.command.Command.{Command}
-use Rattle.command_words.specs.declared.command.Command.TheVariants.{Cull, Live, Demo, Upgrade}
+use Rattle.command_words.specs.declared.command.Command.TheVariants.{Cull, Live, Demo, Upgrade, Check}
 use Rattle.command_words.specs.declared.table.CommandKind.{CommandKind}
 use Rattle.command_words.specs.declared.table.CommandKind.TheVariants as kinds
 use Rattle.command_words.specs.declared.table.CommandRow.{CommandRow}
@@ -72,6 +72,12 @@ demo_same values others same = let all = seven kinds.Demo seed triangles refl va
 upgrade_same : AsksSame (row_by kinds.Upgrade)
 upgrade_same values others same = refl
 
+check_same : AsksSame (row_by kinds.Check)
+check_same values others same =
+    let n = ap (λ (v : Option ℕ). unwrap_or v 0) (same rounds (inl refl)) in
+    let m = ap (λ (v : Option ℕ). unwrap_or v 0) (same watch (inr (inl refl))) in
+    λ i. Check (n i) (m i)
+
 -- a row of the table is the one of its kind, is found by its name, and asks for what its options say
 record IsOwn (row : ACommand) : Type 0 where
   kind : row_by row.kind ≡ row
@@ -83,7 +89,10 @@ are_own = (
   record { kind = refl; named = refl; asks = cull_same },
   (
     record { kind = refl; named = refl; asks = live_same },
-    (record { kind = refl; named = refl; asks = demo_same }, (record { kind = refl; named = refl; asks = upgrade_same }, tt)),
+    (
+      record { kind = refl; named = refl; asks = demo_same },
+      (record { kind = refl; named = refl; asks = upgrade_same }, (record { kind = refl; named = refl; asks = check_same }, tt)),
+    ),
   ),
 )
 

@@ -184,7 +184,10 @@ are_commands = (
     record { walks = refl; passes = refl; found = refl; fine = fine_from (row_by kinds.Live) refl },
     (
       record { walks = refl; passes = refl; found = refl; fine = fine_from (row_by kinds.Demo) refl },
-      (record { walks = refl; passes = refl; found = refl; fine = fine_from (row_by kinds.Upgrade) refl }, tt),
+      (
+        record { walks = refl; passes = refl; found = refl; fine = fine_from (row_by kinds.Upgrade) refl },
+        (record { walks = refl; passes = refl; found = refl; fine = fine_from (row_by kinds.Check) refl }, tt),
+      ),
     ),
   ),
 )

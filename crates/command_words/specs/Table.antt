@@ -9,7 +9,7 @@ use Rattle.command_words.specs.declared.table.CommandRow.{CommandRow}
 use Rattle.command_words.specs.declared.table.OptionRow.{OptionRow}
 use Rattle.command_words.specs.declared.table.Takes.{Takes}
 use Rattle.command_words.specs.declared.table.Takes.TheVariants.{Number, Nothing}
-use Rattle.command_words.specs.declared.table.TheConstants.{BATCH, BINS_X, BINS_Y, COMMANDS, CULL, DEMO, EARLY, LIVE, ROUNDS, SEED, TRIANGLES, UPGRADE, WATCH, WORKERS}
+use Rattle.command_words.specs.declared.table.TheConstants.{BATCH, BINS_X, BINS_Y, CHECK, COMMANDS, CULL, DEMO, EARLY, LIVE, ROUNDS, SEED, TRIANGLES, UPGRADE, WATCH, WORKERS}
 
 -- what stands behind an option's name
 abbrev pub Taken : Type 0
@@ -83,6 +83,7 @@ row_by kinds.Cull = row_with (λ t. t.now) (λ o. o.now) CULL
 row_by kinds.Live = row_with (λ t. t.now) (λ o. o.now) LIVE
 row_by kinds.Demo = row_with (λ t. t.now) (λ o. o.now) DEMO
 row_by kinds.Upgrade = row_with (λ t. t.now) (λ o. o.now) UPGRADE
+row_by kinds.Check = row_with (λ t. t.now) (λ o. o.now) CHECK
 
 abbrev pub commands : List ACommand
 commands = map (row_with (λ t. t.now) (λ o. o.now)) COMMANDS.now

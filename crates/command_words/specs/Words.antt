@@ -11,7 +11,7 @@ use Rattle.binning.specs.Cut.{cut_into}
 use Rattle.command_words.specs.App.{the_app}
 use Rattle.command_words.specs.Table.{ACommand, AnOption, Taken, batch, bins_x, bins_y, commands, early, rounds, row_named, seed, triangles, watch, workers}
 use Rattle.command_words.specs.declared.command.Command.{Command}
-use Rattle.command_words.specs.declared.command.Command.TheVariants.{Cull, Live, Demo, Upgrade}
+use Rattle.command_words.specs.declared.command.Command.TheVariants.{Cull, Live, Demo, Upgrade, Check}
 use Rattle.command_words.specs.declared.settings.Settings.{Settings}
 use Rattle.command_words.specs.declared.table.CommandKind.{CommandKind}
 use Rattle.command_words.specs.declared.table.CommandKind.TheVariants as kinds
@@ -37,6 +37,7 @@ IsWithinLimits (Cull settings) = AreInRange settings
 IsWithinLimits (Live settings n m) = AreInRange settings × ((1 ≤ n) × (n ≤ 8)) × ((1 ≤ m) × (m ≤ 8))
 IsWithinLimits (Demo settings _ m) = AreInRange settings × (m ≤ 65536)
 IsWithinLimits Upgrade = Unit {0}
+IsWithinLimits (Check n m) = ((1 ≤ n) × (n ≤ 8)) × ((1 ≤ m) × (m ≤ 8))
 
 -- the words are refused, and memory isn't wanted
 abbrev pub AreWords : Refusal → Type 0
@@ -80,6 +81,7 @@ asked_by kinds.Cull values = Cull (settings_by values)
 asked_by kinds.Live values = Live (settings_by values) (number_of values rounds) (number_of values watch)
 asked_by kinds.Demo values = Demo (settings_by values) (number_of values seed) (number_of values triangles)
 asked_by kinds.Upgrade values = Upgrade
+asked_by kinds.Check values = Check (number_of values rounds) (number_of values watch)
 
 -- what the command of this name asks for by its matches; none where no command has the name
 abbrev pub asked_in : Text → List Row → Option Command

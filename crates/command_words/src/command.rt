@@ -23,4 +23,10 @@ pub enum Command {
     },
     /// A scene from the input; it is written in version 2.
     Upgrade,
+    /// The length of a scene, the scene and a log of `live` from the input; whether the log may be one of so many rounds
+    /// of looks at the first objects, of so many, is written. 1 to 8 each.
+    Check {
+        rounds: u32,
+        watch: u32,
+    },
 }

@@ -22,7 +22,8 @@ Exit status:
   4  the input couldn't be read
   5  the report couldn't be written
   6  the notes couldn't be written
-  7  out of memory";
+  7  out of memory
+  9  the log is refused";
 
 // An option of the table.
 fn argument<'a>(alloc: Global, option: &AnOption) -> Arg<'a>

@@ -31,6 +31,7 @@ pub enum CommandKind {
     Live,
     Demo,
     Upgrade,
+    Check,
 }
 
 /// A command: its name, what help says of it in a line and on its own page, and its options `O` in the page's order.
@@ -178,5 +179,29 @@ Exit status:
     options: &[],
 };
 
+/// Reads a scene and a log, and says whether `live` may have noted it.
+pub const CHECK: ACommand = CommandRow {
+    kind: CommandKind::Check,
+    name: "check",
+    about: "Reads a scene and a log of live from standard input, and says whether live may have noted the log",
+    more: "Reads from standard input four bytes with the length of a scene, lowest byte first, then so many bytes of the scene,
+then the log, to its end.
+Writes to standard output log accepted where the log is what live may note of the scene with these numbers of rounds and
+of objects: each line has the verdict after the pieces that it states, and within a frame no tile's count falls. Else
+writes log refused L, where L says how many lines in front are good.
+A log is standard error of a run of live that ended with status 0.
+Tells on standard error why a run isn't done.
+
+Exit status:
+  0  done: the log is accepted
+  2  the command line was refused, or help was printed
+  3  the input has no scene in front
+  4  the input couldn't be read
+  5  the answer couldn't be written
+  7  out of memory
+  9  the log is refused",
+    options: &[ROUNDS, WATCH],
+};
+
 /// The commands, in the order of the program's help.
-pub const COMMANDS: &[ACommand] = &[CULL, LIVE, DEMO, UPGRADE];
+pub const COMMANDS: &[ACommand] = &[CULL, LIVE, DEMO, UPGRADE, CHECK];

@@ -122,6 +122,11 @@ fn asked_by(kind: CommandKind, matches: &ArgMatches<'_>) -> Command
             triangles: number(matches, &TRIANGLES),
         },
         CommandKind::Upgrade => Command::Upgrade,
+        CommandKind::Check => {
+            let rounds = number(matches, &ROUNDS);
+            let watch = number(matches, &WATCH);
+            Command::Check { rounds, watch }
+        }
     }
 }
 

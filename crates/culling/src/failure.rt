@@ -3,6 +3,7 @@ ghost use Rattle.std.specs.Prelude.{◌≡◌, [], ◌∷◌, ◌++◌, ◌≤�
 
 use command_words::Refusal;
 use cull_base::{Memory, Sink, SinkError, write_whole};
+use live_check::LogError;
 use scene_reader::SceneError;
 use text_lines::Line;
 
@@ -23,6 +24,8 @@ pub enum Status {
     NotesFault,
     /// Out of memory.
     Memory,
+    /// The log that was checked is refused.
+    Log,
 }
 
 /// Why a run isn't done.
@@ -33,6 +36,7 @@ pub enum Failure {
     ReportFault,
     NotesFault,
     Memory,
+    Log,
 }
 
 impl From<SceneError> for Failure {
@@ -72,6 +76,19 @@ impl From<Memory> for Failure {
     }
 }
 
+impl From<LogError> for Failure {
+    ghost use Rattle.culling.specs.Outcome.{log_failure};
+
+    ghost from_gives = { λ e f. f ≡ log_failure e };
+
+    fn from(error: LogError) -> Failure {
+        match error {
+            LogError::Read => Failure::ReadFault,
+            LogError::Memory => Failure::Memory,
+        }
+    }
+}
+
 impl Status {
     ghost use Rattle.culling.specs.Outcome.{code_of};
 
@@ -87,6 +104,7 @@ impl Status {
             Status::ReportFault => 5,
             Status::NotesFault => 6,
             Status::Memory => 7,
+            Status::Log => 9,
         }
     }
 }
@@ -115,6 +133,7 @@ impl Failure {
             Failure::ReportFault => Status::ReportFault,
             Failure::NotesFault => Status::NotesFault,
             Failure::Memory => Status::Memory,
+            Failure::Log => Status::Log,
         }
     }
 
@@ -127,6 +146,8 @@ impl Failure {
             Failure::ReportFault => line_of(b"report fault"),
             // there is nowhere to note it
             Failure::NotesFault => Line::empty(),
+            // the report tells it
+            Failure::Log => Line::empty(),
             Failure::Memory => line_of(b"out of memory"),
         }
     }

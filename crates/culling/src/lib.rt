@@ -2,6 +2,7 @@
 //! sinks and any gate.
 #![tactic(auto)]
 
+mod check;
 mod cull;
 mod demo;
 mod drawing;

@@ -6,6 +6,7 @@ ghost use Rattle.culling.specs.Outcome.{status_by};
 ghost use Rattle.culling.specs.Outcomes.{Asks, IfAsked, IsTrue, ReadsScene};
 ghost use Rattle.culling.specs.Runs.{AwaitsNote, Comes, IsComplete, IsUnasked, WithoutFault, streams};
 
+use crate::check::check;
 use crate::cull::cull;
 use crate::demo::{Seeded, demo};
 use crate::failure::{Failure, Status, end_refused};
@@ -62,13 +63,15 @@ fn perform<R: Threads + Wait + Sync, S: Source, W: Sink, E: Sink, G: Gate>(
             demo(rt, alloc, &seeded, report, notes, gate)
         }
         Command::Upgrade => write_upgraded(alloc, input, report),
+        Command::Check { rounds, watch } => check(rt, alloc, *rounds, *watch, input, report),
     }
 }
 
 /// Runs a command, whatever its settings: `cull` reads a scene from the input and writes its report, `live` looks at
 /// the scene's first objects too while each frame is drawn, and notes what it saw, `demo` makes a scene and writes its
-/// summary, `upgrade` reads a scene and writes it in version 2. The gate is asked while frames are drawn. What is said of bytes holds where the input tells its bytes; a
-/// sink's claim where the sink tells its own.
+/// summary, `upgrade` reads a scene and writes it in version 2, `check` reads a scene and a log and writes whether `live`
+/// may have noted it. The gate is asked while frames are drawn. What is said of bytes holds where the input tells its
+/// bytes; a sink's claim where the sink tells its own.
 pub fn run<R: Threads + Wait + Sync, S: Source, W: Sink, E: Sink, G: Gate>(
     rt: &R,
     alloc: Global,

@@ -37,7 +37,12 @@ pub record AreGoodLines (s : Parts) (rounds watch : ℕ) (log : List ℕ) (n : �
   pub good : HasGoodLines s rounds watch log n
   pub greatest : (m : ℕ) → HasGoodLines s rounds watch log m → m ≤ n
 
--- what an answer says of a log, where its bytes are told, and of what is left of it
+-- an answer on a log
+abbrev pub IsJudged : Parts → ℕ → ℕ → List ℕ → LogAnswer → Type 0
+IsJudged s rounds watch log Accepted = IsAccepted s rounds watch log
+IsJudged s rounds watch log (Refused n) = (IsAccepted s rounds watch log → ⊥) × AreGoodLines s rounds watch log n
+
+-- the answer on what was left of a log, where its bytes are told; of an accepted one nothing is left
 abbrev pub IsAnswered : Parts → ℕ → ℕ → Option (List ℕ) → Option (List ℕ) → LogAnswer → Type 0
-IsAnswered s rounds watch before after Accepted = IfSome before (λ log. IsAccepted s rounds watch log × (after ≡ Some []))
-IsAnswered s rounds watch before after (Refused n) = IfSome before (λ log. (IsAccepted s rounds watch log → ⊥) × AreGoodLines s rounds watch log n)
+IsAnswered s rounds watch before after answer =
+    IfSome before (λ log. IsJudged s rounds watch log answer × (answer ≡ Accepted → after ≡ Some []))

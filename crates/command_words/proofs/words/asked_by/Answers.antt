@@ -34,3 +34,14 @@ pub returns-in-Demo-clause-limits : goal.returns-in-Demo-clause-limits
 returns-in-Demo-clause-limits c =
     let h = values_of c.args.kind kinds.Demo (rows_of (found_of c.args.matches.now)) (search rules) c.requires in
     (c.settings_of-in-Demo.ensures.range, (read_within _ _ _ _ _ c.number-in-Demo-2.ensures h.1.1.1.1.1.0).1)
+
+pub number-rounds-requires : goal.number-rounds-requires
+number-rounds-requires c = wider _ _ _ _ _ (values_of c.args.kind kinds.Check (rows_of (found_of c.args.matches.now)) (search rules) c.requires).0 (omega arith)
+
+pub number-watch-requires : goal.number-watch-requires
+number-watch-requires c = wider _ _ _ _ _ (values_of c.args.kind kinds.Check (rows_of (found_of c.args.matches.now)) (search rules) c.requires).1.0 (omega arith)
+
+pub returns-in-Check-clause-limits : goal.returns-in-Check-clause-limits
+returns-in-Check-clause-limits c =
+    let h = values_of c.args.kind kinds.Check (rows_of (found_of c.args.matches.now)) (search rules) c.requires in
+    (read_within _ _ _ _ _ c.number-rounds.ensures h.0, read_within _ _ _ _ _ c.number-watch.ensures h.1.0)
