@@ -1,11 +1,13 @@
 -- How commands come to their outcomes.
-use Rattle.std.proofs.Common.{◌≡◌, ℕ, zero, suc, ◌+◌, ◌<◌, ◌≤◌, ◌++◌, List, [], length, map, take, arith, refl, sym, ap, ◌∙◌, subst, inl, inr, Option, Some, None, Result, Ok, Err, ◌⊎◌}
-use Rattle.std.specs.Prelude.{IfSome, IsErrOf, slice_index_or}
+use Rattle.std.proofs.Common.{◌≡◌, ℕ, zero, suc, ◌+◌, ◌<◌, ◌≤◌, ◌++◌, List, [], ◌∷◌, length, map, take, arith, refl, sym, ap, ◌∙◌, subst, inl, inr, Option, Some, None, Result, Ok, Err, ◌⊎◌}
+use Rattle.std.specs.Prelude.{IfSome, IsErrOf, codes, slice_index_or}
+use Rattle.std.specs.Fmt.{decimal}
 use Rattle.std.specs.List.{flat_map, range_with_len}
 use Rattle.std.proofs.lemmas.List.{append-nil}
 use Rattle.clap.specs.Words.{Text}
 use Rattle.cull_base.specs.Stream.{SinkSays, SourceSays, Appends, AppendsPrefix, IsNoted, Rose, Writes}
 use Rattle.cull_base.specs.declared.memory.SinkError.{SinkError}
+use Rattle.cull_base.specs.declared.memory.SinkError.TheVariants as sinks
 use Rattle.cull_base.proofs.Streams.{appends_then}
 use Rattle.scene_reader.specs.Layout.{Parts, IsScene, header_bytes, layout, upgraded}
 use Rattle.scene_reader.specs.Fault.{IsRefusal}
@@ -15,32 +17,38 @@ use Rattle.scene_reader.specs.declared.error.SceneError.TheVariants as errors
 use Rattle.cull_report.proofs.Occluders.{hides_truly}
 use Rattle.cull_report.specs.Live.{Counts}
 use Rattle.cull_report.specs.Scene.{scene_header}
+use Rattle.live_check.specs.declared.answer.LogAnswer.{LogAnswer}
+use Rattle.live_check.specs.declared.answer.LogAnswer.TheVariants.{Accepted, Refused}
+use Rattle.live_check.specs.declared.answer.LogError.{LogError}
+use Rattle.live_check.specs.declared.answer.LogError.TheVariants as logs
 use Rattle.command_words.specs.Words.{AreWords, IsWithinLimits, command_of}
 use Rattle.command_words.specs.declared.command.Command.{Command}
-use Rattle.command_words.specs.declared.command.Command.TheVariants.{Cull, Live, Demo, Upgrade}
+use Rattle.command_words.specs.declared.command.Command.TheVariants.{Cull, Live, Demo, Upgrade, Check}
 use Rattle.command_words.specs.declared.settings.Settings.{Settings}
 use Rattle.command_words.specs.declared.words.Refusal.{Refusal}
 use Rattle.command_words.specs.declared.words.Refusal.TheVariants as refusals
 use Rattle.demo_scene.proofs.DemoScene.{demo_is_scene}
 use Rattle.demo_scene.specs.Demo.{demo_of, frame_count}
 use Rattle.culling.specs.declared.failure.Failure.{Failure}
-use Rattle.culling.specs.declared.failure.Failure.TheVariants.{Scene, ReadFault, ReportFault, NotesFault, Memory}
+use Rattle.culling.specs.declared.failure.Failure.TheVariants.{Scene, ReadFault, ReportFault, NotesFault, Memory, Log}
 use Rattle.culling.specs.declared.failure.Status.{Status}
 use Rattle.culling.specs.declared.failure.Status.TheVariants as statuses
 use Rattle.culling.specs.FrameRuns.{LeavesFrames, LeavesTexts}
 use Rattle.culling.specs.Frames.{lines_of}
+use Rattle.culling.specs.Checking.{IsNoNumber}
 use Rattle.culling.specs.NotedLines.{CountsStay}
 use Rattle.culling.specs.Notes.{IsNotedBehind, IsNotedFirst, note_by, note_text, refusal_text, status_text, usage_text}
-use Rattle.culling.specs.Outcome.{failure_of, refusal_status, sink_failure, status_by, status_of}
-use Rattle.culling.specs.Outcomes.{Ends, HasFault, HasScene, IfAsked, IfBytes, IsTrue, ReadsScene, OutcomeOf, joined, live_frames, note_alone, notes_at, notes_before, report_and, report_before, report_of, text_alone}
+use Rattle.culling.specs.Outcome.{failure_of, log_failure, refusal_status, sink_failure, status_by, status_of}
+use Rattle.culling.specs.Outcomes.{Ends, HasFault, HasScene, IfAsked, IfBytes, IsTrue, ReadsScene, OutcomeOf, answer_alone, answer_text, scene_bytes, joined, live_frames, note_alone, notes_at, notes_before, report_and, report_before, report_of, text_alone}
 use Rattle.culling.specs.Runs.{AwaitsNote, Comes, HasCause, IsComplete, IsCut, IsUnasked, Leaves, LeavesFront, LeavesWhole, Streams, WithoutFault, streams}
 use Rattle.culling.specs.Summary.{demo_line, frames_summary, summary_text}
 use Rattle.culling.specs.declared.frames.Beside.TheVariants.{Nothing, Looks}
 use Rattle.culling.specs.declared.frames.FrameLines.TheVariants.{Report, Summary}
+use Rattle.culling.proofs.Checking.{short_fault}
 use Rattle.culling.proofs.Fronts.{nothing_appended, rose_later}
 use Rattle.culling.proofs.FrameByFrame.{are_empty}
 use Rattle.culling.proofs.FrameTexts.{as_one_text, counts_same, never_done, none_at, unwritten, whole_leaves, without_notes}
-use Rattle.culling.proofs.OutcomeTexts.{header_some, joined_is, live_frames_are, not_empty, summary_some}
+use Rattle.culling.proofs.OutcomeTexts.{ended_by, header_some, joined_is, live_frames_are, not_empty, summary_some}
 use Rattle.culling.proofs.ScenePieces.{all_are_pieces, lines_hide}
 
 -- ---- what waits for its note
@@ -55,19 +63,21 @@ nothing_front before text = (0, omega arith, nothing_appended before)
 
 -- ---- a scene that couldn't be read
 
-ends_refused : (c : Command) (source : SourceSays) (e : SceneError) → ReadsScene c → IsRefusal e → HasFault source e → Ends c source (note_alone statuses.Scene (refusal_text e))
+ends_refused : (c : Command) (source : SourceSays) (e : SceneError) → ReadsScene c → IsRefusal e → HasFault c source e → Ends c source (note_alone statuses.Scene (refusal_text e))
 ends_refused (Cull settings) source e reads refusal fault = inr (inl (e, refusal, fault, refl))
 ends_refused (Live settings rounds watch) source e reads refusal fault = inr (inl (e, refusal, fault, refl))
 ends_refused (Demo settings seed m) source e reads refusal fault = absurd reads
 ends_refused Upgrade source e reads refusal fault = inr (inl (e, refusal, fault, refl))
+ends_refused (Check rounds watch) source e reads refusal fault = inr (inl (e, refusal, fault, refl))
 
 ends_unread : (c : Command) (source : SourceSays) → ReadsScene c → Ends c source (note_alone statuses.ReadFault (status_text statuses.ReadFault))
 ends_unread (Cull settings) source reads = inr (inr refl)
 ends_unread (Live settings rounds watch) source reads = inr (inr refl)
 ends_unread (Demo settings seed m) source reads = absurd reads
 ends_unread Upgrade source reads = inr (inr refl)
+ends_unread (Check rounds watch) source reads = inr (inr refl)
 
-comes_refused : (c : Command) (i0 i1 : SourceSays) (r n : SinkSays) (e : SceneError) (P Q : Type 0) → ReadsScene c → IsRefusal e → HasFault i0 e → P → Q
+comes_refused : (c : Command) (i0 i1 : SourceSays) (r n : SinkSays) (e : SceneError) (P Q : Type 0) → ReadsScene c → IsRefusal e → HasFault c i0 e → P → Q
     → Comes c statuses.Scene (streams i0 r n) (streams i1 r n) (AwaitsNote (Err (Scene e))) P Q
 comes_refused c i0 i1 r n e P Q reads refusal fault p q = record {
   outcome = note_alone statuses.Scene (refusal_text e);
@@ -121,7 +131,7 @@ comes_early c o i0 i1 r n0 n1 noted P Q ends none p q = record {
   taken = λ is. absurd cc;
 }
 
-pub failed_read : (c : Command) (i0 i1 : SourceSays) (r n : SinkSays) (e : SceneError) (P Q : Type 0) → ReadsScene c → (IsRefusal e → HasFault i0 e) → (e ≡ errors.Read → Rose i0.faults i1.faults) → P → Q
+pub failed_read : (c : Command) (i0 i1 : SourceSays) (r n : SinkSays) (e : SceneError) (P Q : Type 0) → ReadsScene c → (IsRefusal e → HasFault c i0 e) → (e ≡ errors.Read → Rose i0.faults i1.faults) → P → Q
     → Comes c (status_of (failure_of e)) (streams i0 r n) (streams i1 r n) (AwaitsNote (Err (failure_of e))) P Q
 failed_read c i0 i1 r n errors.Read P Q reads fault rose p q = comes_unread c i0 i1 r n P Q reads (rose refl) p q
 failed_read c i0 i1 r n errors.Memory P Q reads fault rose p q =
@@ -182,12 +192,13 @@ texts_come c o i0 i1 r0 r1 n0 n1 r P Q ends done some taken quiet l = record {
   taken = λ is. taken;
 }
 
-has_scene : (source after : SourceSays) (s : Parts) → IsScene s → TakesLayout source after s → HasScene source s
-has_scene source after s scene takes = record { scene = scene; spelled = by source.left takes }
+-- of a command whose scene bytes are all bytes
+has_scene : (c : Command) (source after : SourceSays) (s : Parts) → ((bytes : List ℕ) → scene_bytes c bytes ≡ bytes) → IsScene s → TakesLayout source after s → HasScene c source s
+has_scene c source after s whole scene takes = record { scene = scene; spelled = by source.left takes }
   where
-    by : (left : Option (List ℕ)) → IfSome left (λ bytes. (bytes ≡ layout s) × (after.left ≡ Some [])) → IfSome left (λ bytes. bytes ≡ layout s)
+    by : (left : Option (List ℕ)) → IfSome left (λ bytes. (bytes ≡ layout s) × (after.left ≡ Some [])) → IfSome left (λ bytes. scene_bytes c bytes ≡ layout s)
     by None takes = tt
-    by (Some bytes) takes = takes.0
+    by (Some bytes) takes = whole bytes ∙ takes.0
 
 none_left : (source after : SourceSays) (s : Parts) → TakesLayout source after s → IfBytes source (λ bytes. after.left ≡ Some [])
 none_left source after s takes = by source.left takes
@@ -200,7 +211,7 @@ pub cull_comes : (settings : Settings) (s : Parts) (i0 i1 : SourceSays) (r0 r1 n
     → LeavesFrames (scene_header s) Report Nothing s 0 (length s.cameras) r r0 r1 n0 n1 → Comes (Cull settings) (status_by r) (streams i0 r0 n0) (streams i1 r1 n1) (AwaitsNote r) P Q
 cull_comes settings s i0 i1 r0 r1 n0 n1 r P Q scene takes q w =
     let o = report_and s [] in
-    texts_come (Cull settings) o i0 i1 r0 r1 n0 n1 r P Q (inl (s, has_scene i0 i1 s scene takes, refl)) refl (not_empty (scene_header s) (joined o.frames) (header_some s))
+    texts_come (Cull settings) o i0 i1 r0 r1 n0 n1 r P Q (inl (s, has_scene (Cull settings) i0 i1 s (λ bytes. refl) scene takes, refl)) refl (not_empty (scene_header s) (joined o.frames) (header_some s))
     (λ reads. none_left i0 i1 s takes) (λ none. q)
     (without_notes (scene_header s) o.frames (map (λ (frame : ℕ). []) (range_with_len 0 (length s.cameras))) r r0 r1 n0 n1 (are_empty 0 (length s.cameras)) w.texts)
 
@@ -211,7 +222,7 @@ pub live_comes : (settings : Settings) (s : Parts) (rounds watch : ℕ) (i0 i1 :
     → LeavesFrames (scene_header s) Report (Looks rounds watch) s 0 (length s.cameras) r r0 r1 n0 n1 → Comes (Live settings rounds watch) (status_by r) (streams i0 r0 n0) (streams i1 r1 n1) (AwaitsNote r) P Q
 live_comes settings s rounds watch i0 i1 r0 r1 n0 n1 r P Q scene takes w =
     let o = report_and s (live_frames s rounds watch w.counts) in
-    texts_come (Live settings rounds watch) o i0 i1 r0 r1 n0 n1 r P Q (inl (s, has_scene i0 i1 s scene takes, (w.counts, (λ frame lt. w.rising frame), refl))) refl
+    texts_come (Live settings rounds watch) o i0 i1 r0 r1 n0 n1 r P Q (inl (s, has_scene (Live settings rounds watch) i0 i1 s (λ bytes. refl) scene takes, (w.counts, (λ frame lt. w.rising frame), refl))) refl
     (not_empty (scene_header s) (joined o.frames) (header_some s)) (λ reads. none_left i0 i1 s takes) (λ none. absurd (live_noted s rounds watch w.counts scene none)) w.texts
 
 -- ---- `demo`
@@ -239,7 +250,7 @@ demo_comes settings seed m s i r0 r1 n0 n1 r P Q is q w =
 
 -- ---- `upgrade`
 
-layout_some : (s : Parts) → 0 < length (layout s)
+pub layout_some : (s : Parts) → 0 < length (layout s)
 unfolding layout header_bytes
 layout_some s = omega arith
 
@@ -258,8 +269,109 @@ pub upgrade_comes : (s : Parts) (i0 i1 : SourceSays) (r0 r1 n : SinkSays) (r : R
     → LeavesTexts (text_alone (layout (upgraded s))) r r0 r1 n n → Comes Upgrade (status_by r) (streams i0 r0 n) (streams i1 r1 n) (AwaitsNote r) P (Unit {0})
 upgrade_comes s i0 i1 r0 r1 n r P scene takes l =
     let text = layout (upgraded s) in
-    texts_come Upgrade (text_alone text) i0 i1 r0 r1 n n r P (Unit {0}) (inl (s, has_scene i0 i1 s scene takes, refl)) refl (not_empty text [] (layout_some (upgraded s)))
+    texts_come Upgrade (text_alone text) i0 i1 r0 r1 n n r P (Unit {0}) (inl (s, has_scene Upgrade i0 i1 s (λ bytes. refl) scene takes, refl)) refl (not_empty text [] (layout_some (upgraded s)))
     (λ reads. none_left i0 i1 s takes) (λ none. tt) l
+
+-- ---- `check`
+
+answer_some : (answer : LogAnswer) → 0 < length (answer_text answer)
+answer_some Accepted = ended_by (codes "log" ∷ codes "accepted" ∷ [])
+answer_some (Refused n) = ended_by (codes "log" ∷ codes "refused" ∷ decimal n ∷ [])
+
+-- what becomes of an answer that was written
+abbrev pub result_by : LogAnswer → Result (Unit {0}) Failure
+result_by Accepted = Ok tt
+result_by (Refused n) = Err Log
+
+-- the answer's line stands whole, and nothing is noted
+pub answer_written : (c : Command) (answer : LogAnswer) (i0 i1 : SourceSays) (r0 r1 n : SinkSays) (P : Type 0) → Ends c i0 (answer_alone answer) → Appends r0 r1 (answer_text answer)
+    → (answer ≡ Accepted → IfBytes i0 (λ bytes. i1.left ≡ Some [])) → Comes c (status_by (result_by answer)) (streams i0 r0 n) (streams i1 r1 n) (AwaitsNote (result_by answer)) P (Unit {0})
+answer_written c Accepted i0 i1 r0 r1 n P ends gained taken = record {
+  outcome = answer_alone Accepted;
+  ends = ends;
+  leaves = inl (refl, record { reported = subst (Appends r0 r1) (sym (append-nil (answer_text Accepted))) gained; noted_is = nothing_awaits n (Ok tt) [] refl });
+  causes = record { read = λ is. absurd cc; report = λ is. absurd cc; notes = λ is. absurd cc };
+  untouched = λ is. absurd (not_empty (answer_text Accepted) [] (answer_some Accepted) is);
+  unnoted = λ is. tt;
+  taken = λ is reads. taken refl;
+}
+answer_written c (Refused good) i0 i1 r0 r1 n P ends gained taken = record {
+  outcome = answer_alone (Refused good);
+  ends = ends;
+  leaves = inl (refl, record { reported = subst (Appends r0 r1) (sym (append-nil (answer_text (Refused good)))) gained; noted_is = nothing_awaits n (Err Log) [] refl });
+  causes = record { read = λ is. absurd cc; report = λ is. absurd cc; notes = λ is. absurd cc };
+  untouched = λ is. absurd (not_empty (answer_text (Refused good)) [] (answer_some (Refused good)) is);
+  unnoted = λ is. tt;
+  taken = λ is. absurd cc;
+}
+
+-- a front of it stands
+pub answer_unwritten : (c : Command) (answer : LogAnswer) (e : SinkError) (i0 i1 : SourceSays) (r0 r1 n : SinkSays) (P : Type 0) → Ends c i0 (answer_alone answer) → Writes r0 r1 (Err e) (answer_text answer)
+    → Comes c (status_of (sink_failure e)) (streams i0 r0 n) (streams i1 r1 n) (AwaitsNote (Err (sink_failure e))) P (Unit {0})
+answer_unwritten c answer e i0 i1 r0 r1 n P ends w =
+    let text = answer_text answer in
+    let some = not_empty text [] (answer_some answer) in
+    let (m, lt, part) = w.err in
+    let front : AppendsPrefix r0 r1 (text ++ []) = subst (AppendsPrefix r0 r1) (sym (append-nil text)) (m, omega (arith, lt), part) in
+    by e front some w
+  where
+    front_of : (f : Failure) → AppendsPrefix r0 r1 (answer_text answer ++ []) → status_text (status_of f) ≡ note_text f → (status_of f ≡ statuses.NotesFault → ⊥)
+        → LeavesFront (answer_alone answer) (status_of f) r0 r1 (AwaitsNote (Err f) n n)
+    front_of f front noted not_notes = record {
+      frame = 0;
+      is_frame = λ some. some;
+      reported = front;
+      earlier = λ lt. absurd (omega arith);
+      size = 0;
+      within = omega arith;
+      whole = λ lt. absurd (omega arith);
+      noted_is = nothing_awaits n (Err f) (status_text (status_of f)) noted;
+      of_report = λ is. refl;
+      of_notes = λ is. absurd (not_notes is);
+    }
+
+    by : (e : SinkError) → AppendsPrefix r0 r1 (answer_text answer ++ []) → (answer_text answer ++ [] ≡ [] → ⊥) → Writes r0 r1 (Err e) (answer_text answer)
+        → Comes c (status_of (sink_failure e)) (streams i0 r0 n) (streams i1 r1 n) (AwaitsNote (Err (sink_failure e))) P (Unit {0})
+    by sinks.Failed front some w = record {
+      outcome = answer_alone answer;
+      ends = ends;
+      leaves = inr (inl refl, front_of ReportFault front refl (λ is. absurd cc));
+      causes = record { read = λ is. absurd cc; report = λ is. (some, w.failed refl); notes = λ is. absurd cc };
+      untouched = λ is. absurd (some is);
+      unnoted = λ is. tt;
+      taken = λ is. absurd cc;
+    }
+    by sinks.Memory front some w = record {
+      outcome = answer_alone answer;
+      ends = ends;
+      leaves = inr (inr (inr refl), front_of Memory front refl (λ is. absurd cc));
+      causes = record { read = λ is. absurd cc; report = λ is. absurd cc; notes = λ is. absurd cc };
+      untouched = λ is. absurd (some is);
+      unnoted = λ is. tt;
+      taken = λ is. absurd cc;
+    }
+
+-- there was no number in front, or the source failed
+pub no_number : (rounds watch : ℕ) (f : Failure) (i0 i1 : SourceSays) (r n : SinkSays) (P : Type 0) → IsNoNumber i0 i1 f → P
+    → Comes (Check rounds watch) (status_of f) (streams i0 r n) (streams i1 r n) (AwaitsNote (Err f)) P (Unit {0})
+no_number rounds watch f i0 i1 r n P none p = elim none [
+  | inl short ↦
+      let (bytes, takes, few, ended, is) = short in
+      let e = errors.Truncated 4 (length bytes) in
+      subst (λ (g : Failure). Comes (Check rounds watch) (status_of g) (streams i0 r n) (streams i1 r n) (AwaitsNote (Err g)) P (Unit {0})) (sym is)
+      (comes_refused (Check rounds watch) i0 i1 r n e P (Unit {0}) tt tt (short_fault rounds watch i0 i1 bytes takes few ended) p tt)
+  | inr failed ↦
+      subst (λ (g : Failure). Comes (Check rounds watch) (status_of g) (streams i0 r n) (streams i1 r n) (AwaitsNote (Err g)) P (Unit {0})) (sym failed.0)
+      (comes_unread (Check rounds watch) i0 i1 r n P (Unit {0}) tt failed.1 p tt)
+]
+
+-- the input couldn't be read behind the scene, or memory ran out before the answer
+pub log_unread : (c : Command) (e : LogError) (i0 i1 : SourceSays) (r n : SinkSays) (P : Type 0) → ReadsScene c → (e ≡ logs.Read → Rose i0.faults i1.faults) → P
+    → Comes c (status_of (log_failure e)) (streams i0 r n) (streams i1 r n) (AwaitsNote (Err (log_failure e))) P (Unit {0})
+log_unread c logs.Read i0 i1 r n P reads rose p = comes_unread c i0 i1 r n P (Unit {0}) reads (rose refl) p tt
+log_unread c logs.Memory i0 i1 r n P reads rose p =
+    comes_early c (note_alone statuses.ReadFault (status_text statuses.ReadFault)) i0 i1 r n n (AwaitsNote (Err Memory)) P (Unit {0}) (ends_unread c i0 reads)
+    (nothing_awaits n (Err Memory) (status_text statuses.Memory) refl) p tt
 
 -- ---- the status's note
 
@@ -341,6 +453,7 @@ some_ends (Cull settings) source = (note_alone statuses.ReadFault (status_text s
 some_ends (Live settings rounds watch) source = (note_alone statuses.ReadFault (status_text statuses.ReadFault), inr (inr refl))
 some_ends (Demo settings seed m) source = (text_alone (summary_text seed m), refl)
 some_ends Upgrade source = (note_alone statuses.ReadFault (status_text statuses.ReadFault), inr (inr refl))
+some_ends (Check rounds watch) source = (note_alone statuses.ReadFault (status_text statuses.ReadFault), inr (inr refl))
 
 pub memory_comes : (c : Command) (i : SourceSays) (r n0 n1 : SinkSays) (P Q : Type 0) → P → IsNoted n0 n1 (status_text statuses.Memory)
     → Comes c statuses.Memory (streams i r n0) (streams i r n1) IsNotedBehind P (statuses.Memory ≡ statuses.Done → Q)
@@ -365,6 +478,7 @@ truth (Cull settings) source = λ s has. hides_truly s has.scene (all_are_pieces
 truth (Live settings rounds watch) source = λ s has. (hides_truly s has.scene (all_are_pieces s has.scene), λ counts. lines_hide s rounds watch counts has.scene)
 truth (Demo settings seed m) source = λ few. let scene = demo_is_scene seed m few in hides_truly (demo_of seed m) scene (all_are_pieces (demo_of seed m) scene)
 truth Upgrade source = tt
+truth (Check rounds watch) source = tt
 
 -- ---- what words ask for
 

@@ -1,24 +1,30 @@
 -- What follows for a user of `run` from what its command comes to: each lemma has a promise by its short name.
-use Rattle.std.proofs.Common.{◌≡◌, ℕ, ◌+◌, ◌<◌, ◌≤◌, ◌++◌, List, [], length, take, arith, refl, sym, ap, ◌∙◌, subst, inl, inr, Option, Some, None, ◌⊎◌}
+use Rattle.std.proofs.Common.{◌≡◌, ℕ, ◌+◌, ◌<◌, ◌≤◌, ◌++◌, List, [], length, take, drop, nat_lt, arith, refl, sym, ap, ◌∙◌, subst, inl, inr, Option, Some, None, ◌⊎◌}
 use Rattle.std.specs.Prelude.{IfSome}
-use Rattle.std.proofs.lemmas.List.{append-nil, length-append}
+use Rattle.std.proofs.lemmas.Bool.{cond-false, le-ltb}
+use Rattle.std.proofs.lemmas.List.{append-nil, length-append, length-drop, length-take}
 use Rattle.cull_base.specs.Stream.{SinkSays, SourceSays, Appends, AppendsPrefix, Rose}
 use Rattle.scene_reader.specs.Layout.{Parts, IsScene, layout, upgraded}
-use Rattle.scene_reader.specs.Fault.{IsRefusal, first_fault}
+use Rattle.scene_reader.specs.Fault.{IsRefusal, first_fault, word_at}
 use Rattle.scene_reader.specs.declared.error.SceneError.{SceneError}
+use Rattle.scene_reader.specs.declared.error.SceneError.TheVariants.{Truncated}
 use Rattle.scene_reader.proofs.LayoutFirst.{scene_first}
 use Rattle.cull_report.specs.Hiding.{HidesTruly}
 use Rattle.cull_report.specs.Live.{Counts, HidesLive, IsRising, live_text}
 use Rattle.cull_report.specs.Scene.{report_text}
+use Rattle.live_check.specs.Logs.{AreGoodLines, IsAccepted, IsJudged}
+use Rattle.live_check.specs.declared.answer.LogAnswer.{LogAnswer}
+use Rattle.live_check.specs.declared.answer.LogAnswer.TheVariants.{Accepted, Refused}
 use Rattle.command_words.specs.declared.command.Command.{Command}
-use Rattle.command_words.specs.declared.command.Command.TheVariants.{Cull, Live, Demo, Upgrade}
+use Rattle.command_words.specs.declared.command.Command.TheVariants.{Cull, Live, Demo, Upgrade, Check}
 use Rattle.command_words.specs.declared.settings.Settings.{Settings}
 use Rattle.culling.specs.Notes.{IsNotedBehind, refusal_text, status_text}
-use Rattle.culling.specs.Outcomes.{Ends, EndsByScene, HasFault, HasScene, IfBytes, OutcomeOf, ReadsScene, joined, live_frames, note_alone, report_and, report_of, text_alone}
+use Rattle.culling.specs.Outcomes.{Ends, EndsByLog, EndsByScene, HasFault, HasScene, IfBytes, OutcomeOf, ReadsScene, answer_alone, answer_status, answer_text, input_fault, joined, live_frames, log_bytes, note_alone, report_and, report_of, scene_bytes, text_alone}
 use Rattle.culling.specs.Runs.{Comes, IsCut, Leaves, LeavesWhole, Streams, WithoutFault}
 use Rattle.culling.specs.Summary.{summary_text}
 use Rattle.culling.specs.declared.failure.Status.{Status}
 use Rattle.culling.specs.declared.failure.Status.TheVariants as statuses
+use Rattle.culling.proofs.Comings.{layout_some}
 use Rattle.culling.proofs.Fronts.{front_of_more}
 use Rattle.culling.proofs.OutcomeTexts.{live_is, report_is}
 use Rattle.culling.proofs.ScenePieces.{all_are_pieces, lines_hide}
@@ -33,8 +39,8 @@ done_whole : (o : OutcomeOf) (r0 r1 : SinkSays) (noted : List ℕ → List ℕ �
 done_whole o r0 r1 noted leaves = elim leaves [ inl whole ↦ whole | inr front ↦ absurd (cut_not_done front.0) ]
 
 -- Done comes of a scene
-done_scene : (source : SourceSays) (o : OutcomeOf) (made : Parts → Type 0) → EndsByScene source o made → statuses.Done ≡ o.status → (s : Parts) × HasScene source s × made s
-done_scene source o made ends is = elim ends [
+done_scene : (c : Command) (source : SourceSays) (o : OutcomeOf) (made : Parts → Type 0) → EndsByScene c source o made → statuses.Done ≡ o.status → (s : Parts) × HasScene c source s × made s
+done_scene c source o made ends is = elim ends [
   | inl scene ↦ scene
   | inr rest ↦ elim rest [
     | inl refused ↦ let (e, refusal, fault, same) = refused in let bad : statuses.Done ≡ statuses.Scene = is ∙ ap (λ (x : OutcomeOf). x.status) same in absurd cc
@@ -53,19 +59,19 @@ noted_exactly n0 n1 text h = elim h [
 -- ---- done: the whole report of a scene, and what it calls occluded is hidden; of `live` its live text too; of `demo` the summary
 
 pub done_cull : (settings : Settings) (before after : Streams) (P Q : Type 0) → Comes (Cull settings) statuses.Done before after IsNotedBehind P Q
-    → (s : Parts) × HasScene before.input s × IfBytes before.input (λ bytes. after.input.left ≡ Some []) × Appends before.report after.report (report_text s) × HidesTruly s
+    → (s : Parts) × HasScene (Cull settings) before.input s × IfBytes before.input (λ bytes. after.input.left ≡ Some []) × Appends before.report after.report (report_text s) × HidesTruly s
 done_cull settings before after P Q h =
     let w = done_whole h.outcome before.report after.report (IsNotedBehind before.notes after.notes) h.leaves in
-    let (s, has, is) = done_scene before.input h.outcome (λ s. h.outcome ≡ report_and s []) h.ends w.0 in
+    let (s, has, is) = done_scene (Cull settings) before.input h.outcome (λ s. h.outcome ≡ report_and s []) h.ends w.0 in
     (s, has, h.taken refl tt, subst (Appends before.report after.report) (ap report_of is ∙ report_is s []) w.1.reported, hides_truly s has.scene (all_are_pieces s has.scene))
 
 pub done_live : (settings : Settings) (rounds watch : ℕ) (before after : Streams) (P Q : Type 0) → Comes (Live settings rounds watch) statuses.Done before after IsNotedBehind P Q
-    → (s : Parts) × HasScene before.input s × IfBytes before.input (λ bytes. after.input.left ≡ Some []) × Appends before.report after.report (report_text s) × HidesTruly s
+    → (s : Parts) × HasScene (Live settings rounds watch) before.input s × IfBytes before.input (λ bytes. after.input.left ≡ Some []) × Appends before.report after.report (report_text s) × HidesTruly s
     × ((counts : Counts) × IsRising s rounds watch counts × Appends before.notes after.notes (live_text s rounds watch counts) × HidesLive s rounds watch counts)
 done_live settings rounds watch before after P Q h =
     let r0 = before.report in let r1 = after.report in let n0 = before.notes in let n1 = after.notes in
     let w = done_whole h.outcome r0 r1 (IsNotedBehind n0 n1) h.leaves in
-    let (s, has, made) = done_scene before.input h.outcome (λ s. (counts : Counts) × IsRising s rounds watch counts × (h.outcome ≡ report_and s (live_frames s rounds watch counts))) h.ends w.0 in
+    let (s, has, made) = done_scene (Live settings rounds watch) before.input h.outcome (λ s. (counts : Counts) × IsRising s rounds watch counts × (h.outcome ≡ report_and s (live_frames s rounds watch counts))) h.ends w.0 in
     let (counts, rising, is) = made in
     let notes = live_frames s rounds watch counts in
     let noted : IsNotedBehind n0 n1 (joined notes) [] = subst (λ (o : OutcomeOf). IsNotedBehind n0 n1 (joined o.notes) o.note) is w.1.noted_is in (
@@ -83,18 +89,86 @@ done_demo settings seed m before after P Q h =
     subst (Appends before.report after.report) (ap report_of h.ends ∙ append-nil (summary_text seed m)) w.1.reported
 
 pub done_upgrade : (before after : Streams) (P Q : Type 0) → Comes Upgrade statuses.Done before after IsNotedBehind P Q
-    → (s : Parts) × HasScene before.input s × IfBytes before.input (λ bytes. after.input.left ≡ Some []) × Appends before.report after.report (layout (upgraded s))
+    → (s : Parts) × HasScene Upgrade before.input s × IfBytes before.input (λ bytes. after.input.left ≡ Some []) × Appends before.report after.report (layout (upgraded s))
 done_upgrade before after P Q h =
     let w = done_whole h.outcome before.report after.report (IsNotedBehind before.notes after.notes) h.leaves in
-    let (s, has, is) = done_scene before.input h.outcome (λ s. h.outcome ≡ text_alone (layout (upgraded s))) h.ends w.0 in
+    let (s, has, is) = done_scene Upgrade before.input h.outcome (λ s. h.outcome ≡ text_alone (layout (upgraded s))) h.ends w.0 in
     (s, has, h.taken refl tt, subst (Appends before.report after.report) (ap report_of is ∙ append-nil (layout (upgraded s))) w.1.reported)
 
--- ---- refused: bytes with a first fault end as Scene, ReadFault or Memory
+-- ---- `check`: Done with an accepted log, Log with one that isn't, and exactly its line stands
 
-no_scene_at_fault : (source : SourceSays) (s : Parts) (bytes : List ℕ) (e : SceneError) → source.left ≡ Some bytes → first_fault bytes ≡ Some e → HasScene source s → ⊥
-no_scene_at_fault source s bytes e left fault has =
-    let spelled : bytes ≡ layout s = subst (λ (l : Option (List ℕ)). IfSome l (λ b. b ≡ layout s)) left has.spelled in
-    let none : Some e ≡ None = sym fault ∙ ap first_fault spelled ∙ scene_first s has.scene in
+-- the status is an answer's
+answer_of : (rounds watch : ℕ) (source : SourceSays) (o : OutcomeOf) (status : Status) → EndsByScene (Check rounds watch) source o (λ s. EndsByLog rounds watch source s o) → status ≡ o.status
+    → (status ≡ statuses.Scene → ⊥) → (status ≡ statuses.ReadFault → ⊥)
+    → (s : Parts) × HasScene (Check rounds watch) source s × EndsByLog rounds watch source s o
+answer_of rounds watch source o status ends is not_scene not_read = elim ends [
+  | inl made ↦ made
+  | inr rest ↦ elim rest [
+    | inl refused ↦ let (e, refusal, fault, same) = refused in absurd (not_scene (is ∙ ap (λ (x : OutcomeOf). x.status) same))
+    | inr unread ↦ absurd (not_read (is ∙ ap (λ (x : OutcomeOf). x.status) unread))
+  ]
+]
+
+pub done_check : (rounds watch : ℕ) (before after : Streams) (P Q : Type 0) → Comes (Check rounds watch) statuses.Done before after IsNotedBehind P Q
+    → (s : Parts) × HasScene (Check rounds watch) before.input s × IfBytes before.input (λ bytes. IsAccepted s rounds watch (log_bytes bytes))
+    × IfBytes before.input (λ bytes. after.input.left ≡ Some []) × Appends before.report after.report (answer_text Accepted)
+done_check rounds watch before after P Q h =
+    let w = done_whole h.outcome before.report after.report (IsNotedBehind before.notes after.notes) h.leaves in
+    let (s, has, made) = answer_of rounds watch before.input h.outcome statuses.Done h.ends w.0 (λ is. absurd cc) (λ is. absurd cc) in
+    let (answer, judged, is) = made in
+    by answer s has judged is (w.0 ∙ ap (λ (x : OutcomeOf). x.status) is) w.1.reported
+  where
+    by : (answer : LogAnswer) (s : Parts) → HasScene (Check rounds watch) before.input s → IfBytes before.input (λ bytes. IsJudged s rounds watch (log_bytes bytes) answer) → h.outcome ≡ answer_alone answer
+        → statuses.Done ≡ answer_status answer → Appends before.report after.report (report_of h.outcome)
+        → (s : Parts) × HasScene (Check rounds watch) before.input s × IfBytes before.input (λ bytes. IsAccepted s rounds watch (log_bytes bytes))
+        × IfBytes before.input (λ bytes. after.input.left ≡ Some []) × Appends before.report after.report (answer_text Accepted)
+    by Accepted s has judged is done reported =
+        (s, has, judged, h.taken refl tt, subst (Appends before.report after.report) (ap report_of is ∙ append-nil (answer_text Accepted)) reported)
+    by (Refused n) s has judged is done reported = absurd cc
+
+-- the log isn't accepted, its good lines are told, and nothing is noted
+pub log_check : (rounds watch : ℕ) (before after : Streams) (P Q : Type 0) → Comes (Check rounds watch) statuses.Log before after IsNotedBehind P Q
+    → (s : Parts) × HasScene (Check rounds watch) before.input s
+    × ((n : ℕ) × IfBytes before.input (λ bytes. (IsAccepted s rounds watch (log_bytes bytes) → ⊥) × AreGoodLines s rounds watch (log_bytes bytes) n)
+    × Appends before.report after.report (answer_text (Refused n)) × Appends before.notes after.notes [])
+log_check rounds watch before after P Q h =
+    let w = log_whole h.outcome before.report after.report (IsNotedBehind before.notes after.notes) h.leaves in
+    let (s, has, made) = answer_of rounds watch before.input h.outcome statuses.Log h.ends w.0 (λ is. absurd cc) (λ is. absurd cc) in
+    let (answer, judged, is) = made in
+    by answer s has judged is (w.0 ∙ ap (λ (x : OutcomeOf). x.status) is) w.1.reported w.1.noted_is
+  where
+    log_not_cut : IsCut statuses.Log → ⊥
+    log_not_cut cut = elim cut [ inl a ↦ absurd cc | inr rest ↦ elim rest [ inl b ↦ absurd cc | inr c ↦ absurd cc ] ]
+
+    log_whole : (o : OutcomeOf) (r0 r1 : SinkSays) (noted : List ℕ → List ℕ → Type 0) → Leaves o statuses.Log r0 r1 noted → (statuses.Log ≡ o.status) × LeavesWhole o r0 r1 noted
+    log_whole o r0 r1 noted leaves = elim leaves [ inl whole ↦ whole | inr front ↦ absurd (log_not_cut front.0) ]
+
+    by : (answer : LogAnswer) (s : Parts) → HasScene (Check rounds watch) before.input s → IfBytes before.input (λ bytes. IsJudged s rounds watch (log_bytes bytes) answer) → h.outcome ≡ answer_alone answer
+        → statuses.Log ≡ answer_status answer → Appends before.report after.report (report_of h.outcome) → IsNotedBehind before.notes after.notes (joined h.outcome.notes) h.outcome.note
+        → (s : Parts) × HasScene (Check rounds watch) before.input s
+        × ((n : ℕ) × IfBytes before.input (λ bytes. (IsAccepted s rounds watch (log_bytes bytes) → ⊥) × AreGoodLines s rounds watch (log_bytes bytes) n)
+        × Appends before.report after.report (answer_text (Refused n)) × Appends before.notes after.notes [])
+    by Accepted s has judged is log reported noted = absurd cc
+    by (Refused n) s has judged is log reported noted =
+        let quiet : IsNotedBehind before.notes after.notes [] [] = subst (λ (o : OutcomeOf). IsNotedBehind before.notes after.notes (joined o.notes) o.note) is noted in
+        (s, has, (n, judged, subst (Appends before.report after.report) (ap report_of is ∙ append-nil (answer_text (Refused n))) reported, noted_exactly before.notes after.notes [] quiet))
+
+-- ---- refused: an input with a first fault ends as Scene, ReadFault or Memory
+
+-- a scene's bytes have none
+scene_none : (c : Command) (s : Parts) (bytes : List ℕ) → IsScene s → scene_bytes c bytes ≡ layout s → input_fault c bytes ≡ None
+scene_none (Cull settings) s bytes scene is = ap first_fault is ∙ scene_first s scene
+scene_none (Live settings rounds watch) s bytes scene is = ap first_fault is ∙ scene_first s scene
+scene_none (Demo settings seed m) s bytes scene is = ap first_fault is ∙ scene_first s scene
+scene_none Upgrade s bytes scene is = ap first_fault is ∙ scene_first s scene
+scene_none (Check rounds watch) s bytes scene is =
+    let long : 4 ≤ length bytes = omega (arith, ap length is, layout_some s, length-take (word_at 0 bytes) (drop 4 bytes), length-drop 4 bytes) in
+    cond-false (nat_lt (length bytes) 4) (Some (Truncated 4 (length bytes))) (first_fault (scene_bytes (Check rounds watch) bytes)) (le-ltb (length bytes) 4 long) ∙ ap first_fault is ∙ scene_first s scene
+
+no_scene_at_fault : (c : Command) (source : SourceSays) (s : Parts) (bytes : List ℕ) (e : SceneError) → source.left ≡ Some bytes → input_fault c bytes ≡ Some e → HasScene c source s → ⊥
+no_scene_at_fault c source s bytes e left fault has =
+    let spelled : scene_bytes c bytes ≡ layout s = subst (λ (l : Option (List ℕ)). IfSome l (λ b. scene_bytes c b ≡ layout s)) left has.spelled in
+    let none : Some e ≡ None = sym fault ∙ scene_none c s bytes has.scene spelled in
     absurd cc
 
 -- a command without text for the report and the notes isn't cut by a sink
@@ -108,25 +182,26 @@ silent_ends c status before after P Q h no_report no_notes = elim h.leaves [
   ]
 ]
 
-by_scene : (source : SourceSays) (o : OutcomeOf) (made : Parts → Type 0) (bytes : List ℕ) (e : SceneError) → source.left ≡ Some bytes → first_fault bytes ≡ Some e → EndsByScene source o made
+by_scene : (c : Command) (source : SourceSays) (o : OutcomeOf) (made : Parts → Type 0) (bytes : List ℕ) (e : SceneError) → source.left ≡ Some bytes → input_fault c bytes ≡ Some e → EndsByScene c source o made
     → (report_of o ≡ []) × (o.notes ≡ []) × ((o.status ≡ statuses.Scene) ⊎ (o.status ≡ statuses.ReadFault))
-by_scene source o made bytes e left fault ends = elim ends [
-  | inl scene ↦ let (s, has, is) = scene in absurd (no_scene_at_fault source s bytes e left fault has)
+by_scene c source o made bytes e left fault ends = elim ends [
+  | inl scene ↦ let (s, has, is) = scene in absurd (no_scene_at_fault c source s bytes e left fault has)
   | inr rest ↦ elim rest [
     | inl refused ↦ let (f, refusal, first, same) = refused in (ap report_of same, ap (λ (x : OutcomeOf). x.notes) same, inl (ap (λ (x : OutcomeOf). x.status) same))
     | inr unread ↦ (ap report_of unread, ap (λ (x : OutcomeOf). x.notes) unread, inr (ap (λ (x : OutcomeOf). x.status) unread))
   ]
 ]
 
-ends_silent : (c : Command) (source : SourceSays) (o : OutcomeOf) (bytes : List ℕ) (e : SceneError) → ReadsScene c → source.left ≡ Some bytes → first_fault bytes ≡ Some e → Ends c source o
+ends_silent : (c : Command) (source : SourceSays) (o : OutcomeOf) (bytes : List ℕ) (e : SceneError) → ReadsScene c → source.left ≡ Some bytes → input_fault c bytes ≡ Some e → Ends c source o
     → (report_of o ≡ []) × (o.notes ≡ []) × ((o.status ≡ statuses.Scene) ⊎ (o.status ≡ statuses.ReadFault))
-ends_silent (Cull settings) source o bytes e reads left fault ends = by_scene source o (λ s. o ≡ report_and s []) bytes e left fault ends
+ends_silent (Cull settings) source o bytes e reads left fault ends = by_scene (Cull settings) source o (λ s. o ≡ report_and s []) bytes e left fault ends
 ends_silent (Live settings rounds watch) source o bytes e reads left fault ends =
-    by_scene source o (λ s. (counts : Counts) × IsRising s rounds watch counts × (o ≡ report_and s (live_frames s rounds watch counts))) bytes e left fault ends
+    by_scene (Live settings rounds watch) source o (λ s. (counts : Counts) × IsRising s rounds watch counts × (o ≡ report_and s (live_frames s rounds watch counts))) bytes e left fault ends
 ends_silent (Demo settings seed m) source o bytes e reads left fault ends = absurd reads
-ends_silent Upgrade source o bytes e reads left fault ends = by_scene source o (λ s. o ≡ text_alone (layout (upgraded s))) bytes e left fault ends
+ends_silent Upgrade source o bytes e reads left fault ends = by_scene Upgrade source o (λ s. o ≡ text_alone (layout (upgraded s))) bytes e left fault ends
+ends_silent (Check rounds watch) source o bytes e reads left fault ends = by_scene (Check rounds watch) source o (λ s. EndsByLog rounds watch source s o) bytes e left fault ends
 
-pub refused : (c : Command) (status : Status) (before after : Streams) (P Q : Type 0) (bytes : List ℕ) (e : SceneError) → ReadsScene c → before.input.left ≡ Some bytes → first_fault bytes ≡ Some e
+pub refused : (c : Command) (status : Status) (before after : Streams) (P Q : Type 0) (bytes : List ℕ) (e : SceneError) → ReadsScene c → before.input.left ≡ Some bytes → input_fault c bytes ≡ Some e
     → Comes c status before after IsNotedBehind P Q → ((status ≡ statuses.Scene) ⊎ (status ≡ statuses.ReadFault) ⊎ (status ≡ statuses.Memory)) × P
 refused c status before after P Q bytes e reads left fault h =
     let (no_report, no_notes, which) = ends_silent c before.input h.outcome bytes e reads left fault h.ends in (
@@ -153,7 +228,7 @@ complete_cull settings status before after P Q s bytes left spelled scene no_rea
       ]
     ]
   where
-    by_layout : (source : SourceSays) (o : OutcomeOf) (b : List ℕ) → source.left ≡ Some b → first_fault b ≡ None → EndsByScene source o (λ t. o ≡ report_and t [])
+    by_layout : (source : SourceSays) (o : OutcomeOf) (b : List ℕ) → source.left ≡ Some b → first_fault b ≡ None → EndsByScene (Cull settings) source o (λ t. o ≡ report_and t [])
         → (o.notes ≡ []) × ((o.status ≡ statuses.Done) ⊎ (o.status ≡ statuses.ReadFault))
     by_layout source o b is none ends = elim ends [
       | inl made ↦ let (t, has, same) = made in (ap (λ (x : OutcomeOf). x.notes) same, inl (ap (λ (x : OutcomeOf). x.status) same))

@@ -17,7 +17,7 @@ use Rattle.culling.specs.Outcome.{sink_failure, status_by, status_of}
 use Rattle.culling.specs.Outcomes.{OutcomeOf, joined, notes_at, report_of, text_alone}
 use Rattle.culling.specs.Runs.{AwaitsNote, IsCut, LeavesFront}
 use Rattle.culling.specs.declared.failure.Failure.{Failure}
-use Rattle.culling.specs.declared.failure.Failure.TheVariants.{Scene, ReadFault, ReportFault, NotesFault, Memory}
+use Rattle.culling.specs.declared.failure.Failure.TheVariants.{Scene, ReadFault, ReportFault, NotesFault, Memory, Log}
 use Rattle.culling.specs.declared.failure.Status.TheVariants as statuses
 use Rattle.culling.proofs.Fronts.{all_is_front, front_of_more, front_then, nothing_appended, rose_later}
 
@@ -73,6 +73,7 @@ never_done ReadFault is = absurd cc
 never_done ReportFault is = absurd cc
 never_done NotesFault is = absurd cc
 never_done Memory is = absurd cc
+never_done Log is = absurd cc
 
 -- a failure with this cause comes in an outcome's place, and its note needs no numbers
 abbrev IsNotedCut : Failure → Type 0
@@ -343,6 +344,7 @@ notes_failed ReadFault is = absurd cc
 notes_failed ReportFault is = absurd cc
 notes_failed NotesFault is = refl
 notes_failed Memory is = absurd cc
+notes_failed Log is = absurd cc
 
 report_failed : (f : Failure) → status_of f ≡ statuses.ReportFault → f ≡ ReportFault
 report_failed (Scene e) is = absurd cc
@@ -350,6 +352,7 @@ report_failed ReadFault is = absurd cc
 report_failed ReportFault is = refl
 report_failed NotesFault is = absurd cc
 report_failed Memory is = absurd cc
+report_failed Log is = absurd cc
 
 -- only a beginning of the report stands, up to the first frame's end, and nothing was noted
 pub unnoted : (head : List ℕ) (fs ns : List (List ℕ)) (f : Failure) (r0 r1 n : SinkSays) → AppendsPrefix r0 r1 (head ++ joined (take 1 fs)) → (f ≡ NotesFault → ⊥)
