@@ -22,7 +22,7 @@ fn command_for(rt: &impl Abort, alloc: Global, given: &[&str]) -> Result<Command
     )
 }
 
-// The settings of a command, its name, and the two numbers of its own; none of `upgrade`, which has no settings.
+// The settings of a command, its name, and the two numbers of its own; none of those that have no settings.
 fn parts(command: Command) -> Option<(Settings, &'static str, Option<(u32, u32)>)> {
     let (settings, name, own) = match command {
         Command::Cull { settings } => (settings, "cull", None),
@@ -36,7 +36,7 @@ fn parts(command: Command) -> Option<(Settings, &'static str, Option<(u32, u32)>
             seed,
             triangles,
         } => (settings, "demo", Some((seed, triangles))),
-        Command::Upgrade => return None,
+        Command::Upgrade | Command::Check { .. } => return None,
     };
     Some((settings, name, own))
 }
@@ -170,6 +170,32 @@ fn upgrade_has_no_options(rt: HostRuntime) -> Result<(), Fail> {
     for option in [["--workers", "2"], ["--batch", "7"], ["--early", "--early"]] {
         let [first, second] = option;
         let given = words(alloc, &["maskcull", "upgrade", first, second])?;
+        assert!(rt; command_of(alloc, &given).is_err());
+    }
+    Ok(())
+}
+
+// The rounds and the watched objects of `check`.
+fn checked(rt: &impl Abort, alloc: Global, given: &[&str]) -> Result<Option<(u32, u32)>, Fail> {
+    match command_for(rt, alloc, given)? {
+        Command::Check { rounds, watch } => Ok(Some((rounds, watch))),
+        _ => Ok(None),
+    }
+}
+
+#[test]
+fn check_has_two_options(rt: HostRuntime) -> Result<(), Fail> {
+    let alloc = rt.alloc();
+    for (given, own) in [
+        (["maskcull", "check"].as_slice(), (1, 1)),
+        (&["maskcull", "check", "--rounds=8"], (8, 1)),
+        (&["maskcull", "check", "--watch", "3", "--rounds", "2"], (2, 3)),
+    ] {
+        assert_eq!(rt; checked(&rt, alloc, given)?, Some(own));
+    }
+    for option in [["--workers", "2"], ["--rounds", "9"], ["--watch", "0"], ["--early", "--early"]] {
+        let [first, second] = option;
+        let given = words(alloc, &["maskcull", "check", first, second])?;
         assert!(rt; command_of(alloc, &given).is_err());
     }
     Ok(())
