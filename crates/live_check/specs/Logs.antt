@@ -1,6 +1,6 @@
 -- Logs that `live` may have written, and how many lines of another are good.
 use Rattle.std.specs.Prelude.{ℕ, ◌≡◌, ◌≤◌, List, [], ◌∷◌, ◌++◌, length, Option, Some, IfSome}
-use Rattle.std.specs.List.{All, flat_map}
+use Rattle.std.specs.List.{AllByRecursion, flat_map}
 use Rattle.scene_reader.specs.Layout.{Parts}
 use Rattle.cull_report.specs.Live.{Counts, IsRising, live_text}
 use Rattle.live_check.specs.declared.answer.LogAnswer.{LogAnswer}
@@ -14,13 +14,13 @@ pub record IsAccepted (s : Parts) (rounds watch : ℕ) (log : List ℕ) : Type 0
 
 -- bytes without a newline
 abbrev pub IsBare : List ℕ → Type 0
-IsBare bytes = All (λ b. b ≡ 10 → ⊥) bytes
+IsBare bytes = AllByRecursion (λ b. b ≡ 10 → ⊥) bytes
 
 -- a text is so many lines, each with its newline
 pub record AreLines (n : ℕ) (text : List ℕ) : Type 0 where
   pub lines : List (List ℕ)
   pub count : length lines ≡ n
-  pub bare : All IsBare lines
+  pub bare : AllByRecursion IsBare lines
   pub spelled : text ≡ flat_map (λ l. l ++ 10 ∷ []) lines
 
 -- the log has so many whole lines in front that are the first of some accepted log
