@@ -3,5 +3,7 @@ pub mod Digits
 pub mod Moves
 pub mod Small
 pub mod Texts
+pub mod Places
 pub mod Counts
 pub mod Answers
+pub mod Frames

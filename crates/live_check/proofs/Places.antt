@@ -135,7 +135,7 @@ objects_agree : (s : Parts) (watch frame : ℕ) (c d : ℕ → ℕ → ℕ → �
     → (o t : ℕ) → o < n → IsStated s frame o t → c r o t ≡ d r o t
 objects_agree s watch frame c d r zero scene lf lr le wc wd e o t lt stated = absurd (omega (arith, lt))
 objects_agree s watch frame c d r (suc n) scene lf lr le wc wd e o t lt stated =
-    let f = λ o. object_line s frame r o (c r o) in let g = λ o. object_line s frame r o (d r o) in
+    let f : ℕ → List ℕ = λ o. object_line s frame r o (c r o) in let g : ℕ → List ℕ = λ o. object_line s frame r o (d r o) in
     let next : suc n ≡ n + 1 = omega arith in
     let both : flat_map f (range_with_len 0 n) ++ f n ≡ flat_map g (range_with_len 0 n) ++ g n =
     sym (each_more f n) ∙ ap (λ (m : ℕ). flat_map f (range_with_len 0 m)) (sym next) ∙ e ∙ ap (λ (m : ℕ). flat_map g (range_with_len 0 m)) next ∙ each_more g n in
@@ -177,8 +177,8 @@ pub places_agree : (s : Parts) (rounds watch frame : ℕ) (c d : ℕ → ℕ →
 places_agree s rounds watch frame c d round object scene few lf lr lo rc rd e r o t in_round before stated =
     let eight = watched_few s rounds watch few in
     let w = watched s watch in
-    let line_c = λ (p q : ℕ) (less : p < round) (q_in : q < w) (u : ℕ) (st : IsStated s frame q u). rc.within p q u q_in (inl less) st in
-    let line_d = λ (p q : ℕ) (less : p < round) (q_in : q < w) (u : ℕ) (st : IsStated s frame q u). rd.within p q u q_in (inl less) st in
+    let line_c : (p q : ℕ) → p < round → q < w → AreWithin s watch c frame p q = λ p q less q_in u st. rc.within p q u q_in (inl less) st in
+    let line_d : (p q : ℕ) → p < round → q < w → AreWithin s watch d frame p q = λ p q less q_in u st. rd.within p q u q_in (inl less) st in
     let lines_c = rounds_lines s watch frame c round scene lf (omega (arith, lr, few.rounds_few)) eight line_c in
     let lines_d = rounds_lines s watch frame d round scene lf (omega (arith, lr, few.rounds_few)) eight line_d in
     let parts = equal_fronts (w * round) (frame_live s round watch c frame) (frame_live s round watch d frame) _ _ lines_c lines_d e in

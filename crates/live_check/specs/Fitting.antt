@@ -1,12 +1,15 @@
 -- Lines that fit those before them.
-use Rattle.std.specs.Prelude.{ℕ, ◌≡◌, ◌+◌, ◌*◌, ◌<◌, ◌≤◌, ◌⊎◌, List, ◌++◌, length, Option, IfSome}
+use Rattle.std.specs.Prelude.{ℕ, ◌≡◌, ◌+◌, ◌*◌, ◌<◌, ◌≤◌, ◌⊎◌, List, [], ◌∷◌, ◌++◌, length, Option}
 use Rattle.std.specs.List.{flat_map, range_with_len}
 use Rattle.cull_base.specs.Screen.{tile_count_of}
+use Rattle.cull_base.specs.Stream.{IsAtEnd}
 use Rattle.cull_base.specs.Tiles.{PieceList, tile_list}
 use Rattle.cull_base.specs.declared.clip.ClipVertex.{ClipVertex}
 use Rattle.scene_reader.specs.Layout.{Parts, IsScene}
 use Rattle.cull_report.specs.Live.{Counts, IsBefore, IsLine, IsRising, IsRisingIn, IsStated, frame_live, frames_live, live_text, object_line, round_lines, watched}
 use Rattle.cull_report.specs.Scene.{frame_clips, frame_list, size_of}
+use Rattle.live_check.specs.declared.answer.LogAnswer.{LogAnswer}
+use Rattle.live_check.specs.declared.answer.LogAnswer.TheVariants.{Accepted, Refused}
 use Rattle.live_check.specs.Waiting.{Came, NeverComes}
 
 -- The lines before line (round, object) of a frame: each of their counts is at most the length of its tile's list, and from each line to each later one no tile's
@@ -112,3 +115,8 @@ pub record LogStops (s : Parts) (rounds watch : ℕ) (before : Option (List ℕ)
   pub good : ℕ
   pub place : n ≡ (rounds * watched s watch) * frame + good
   pub stops : FrameStops s rounds watch frame middle good
+
+-- nothing waits and the log is at its end, or something follows behind so many lines
+abbrev pub AnswersEnd : ℕ → List ℕ → Option (List ℕ) → LogAnswer → Type 0
+AnswersEnd lines held left Accepted = (held ≡ []) × IsAtEnd left
+AnswersEnd lines held left (Refused n) = (n ≡ lines) × ((b : ℕ) × (rest : List ℕ) × (held ≡ b ∷ rest))

@@ -2,15 +2,15 @@
 ghost use Rattle.std.specs.Prelude.{◌≡◌, ℕ, ◌≤◌, None, IfOk, IfSome, IsErrOf};
 ghost use Rattle.cull_base.specs.Stream.{Rose};
 ghost use Rattle.cull_report.specs.Live.{watched};
-ghost use Rattle.live_check.specs.Fitting.{LogComes, LogStops};
+ghost use Rattle.live_check.specs.Fitting.{AnswersEnd, LogComes, LogStops};
 ghost use Rattle.live_check.specs.Logs.{IsAnswered};
-ghost use Rattle.live_check.specs.Waiting.{waiting};
+ghost use Rattle.live_check.specs.Waiting.{Fails, waiting};
 
 use crate::answer::{LogAnswer, LogError};
 use crate::frame::{Plan, takes_frame};
 use crate::tiles::Tiles;
 use crate::unread::Unread;
-use cull_base::{ClipVertex, Memory, Source};
+use cull_base::{ClipVertex, Failed, Memory, Source};
 use scene_reader::Scene;
 use std::alloc::Global;
 use std::sync::Wait;
@@ -23,6 +23,18 @@ fn watched_of(scene: &Scene, watch: u8) -> u32
     ensures few { result ≤ 8 }
 {
     scene.objects().len().min(usize::from(watch)) as u32
+}
+
+// Sees whether the log ends, behind so many lines that came.
+fn answer_at_end<S: Source>(unread: &mut Unread, log: &mut S, lines: u64) -> Result<LogAnswer, Failed>
+    ensures same { waiting unread.new (S.says log.new).left ≡ waiting unread.old (S.says log.old).left }
+    ensures answer { IfOk result (λ a. AnswersEnd lines unread.new (S.says log.new).left a) }
+    ensures fails { Fails (S.says log.old) (S.says log.new) result }
+{
+    match unread.peek(log)? {
+        Some(_) => Ok(LogAnswer::Refused(lines)),
+        None => Ok(LogAnswer::Accepted),
+    }
 }
 
 // Takes the lines of all frames, and tells how many came before the first that didn't, if there is one.
@@ -77,22 +89,21 @@ pub fn check_log<R: Threads + Wait + Sync, S: Source>(
     ensures read { IsErrOf result LogError.Read → Rose (S.says log.old).faults (S.says log.new).faults }
     ensures faults_stay { (S.says log.old).faults ≤ (S.says log.new).faults }
 {
+    // an accessor tells what is held of a scene
+    let _near = scene.near();
     let mut unread = Unread::new();
     let objects = watched_of(scene, watch);
-    let mut lines = 0;
-    if objects != 0 {
-        let plan = Plan {
-            scene,
-            rounds: u32::from(rounds),
-            objects,
-        };
-        if let Some(good) = takes_frames(rt, alloc, &plan, &mut unread, log)? {
-            return Ok(LogAnswer::Refused(good));
-        }
-        lines = u64::from(plan.rounds * plan.objects) * scene.cameras().len() as u64;
+    if objects == 0 {
+        return Ok(answer_at_end(&mut unread, log, 0)?);
     }
-    match unread.peek(log)? {
-        Some(_) => Ok(LogAnswer::Refused(lines)),
-        None => Ok(LogAnswer::Accepted),
+    let plan = Plan {
+        scene,
+        rounds: u32::from(rounds),
+        objects,
+    };
+    if let Some(good) = takes_frames(rt, alloc, &plan, &mut unread, log)? {
+        return Ok(LogAnswer::Refused(good));
     }
+    let lines = u64::from(plan.rounds * plan.objects) * scene.cameras().len() as u64;
+    Ok(answer_at_end(&mut unread, log, lines)?)
 }
