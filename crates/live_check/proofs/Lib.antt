@@ -7,3 +7,4 @@ pub mod Places
 pub mod Counts
 pub mod Answers
 pub mod Frames
+pub mod Rounds
