@@ -8,3 +8,4 @@ pub mod Counts
 pub mod Answers
 pub mod Frames
 pub mod Rounds
+pub mod LineParts

@@ -36,11 +36,17 @@ row_of span row = record { first_column = span.first_column; end_column = span.e
 abbrev pub MayState : TilesOf → TileSpan → (ℕ → ℕ) → Type 0
 MayState tiles span k = (t : ℕ) → IsIn tiles span t → (count_at tiles t ≤ k t) × (k t < 10 ^ 6)
 
+-- no others of its tiles came that may stand there
+abbrev pub AreOnly : TileSpan → TilesOf → Option (List ℕ) → (ℕ → ℕ) → Type 0
+AreOnly span old before stated =
+    IfSome before (λ bytes. (k : ℕ → ℕ) (more : List ℕ) → MayState old span k → IsBehindNumber more → bytes ≡ fields_of old.size span k ++ more → (t : ℕ) → IsIn old span t → k t ≡ stated t)
+
 -- the fields of a span's tiles came, and their counts are kept
 pub record AreStated (span : TileSpan) (old new : TilesOf) (before after : Option (List ℕ)) : Type 0 where
   pub may : MayState old span (λ t. slice_index new.stated t)
   pub others : (t : ℕ) → (IsIn old span t → ⊥) → slice_index new.stated t ≡ slice_index old.stated t
   pub came : Came before after (fields_of old.size span (λ t. slice_index new.stated t))
+  pub only : AreOnly span old before (λ t. slice_index new.stated t)
 
 -- no such fields come, whatever counts they might state
 abbrev pub AreNotStated : TileSpan → TilesOf → Option (List ℕ) → Type 0
@@ -53,6 +59,7 @@ pub record IsStatedOf (t : ℕ) (old new : TilesOf) (before after : Option (List
   pub may : (count_at old t ≤ count) × (count < 10 ^ 6)
   pub kept : new.stated ≡ slice_set old.stated t count
   pub came : Came before after (32 ∷ count_text (tile_count t count))
+  pub only : IfSome before (λ bytes. (k : ℕ) (more : List ℕ) → count_at old t ≤ k → k < 10 ^ 6 → IsBehindNumber more → bytes ≡ (32 ∷ count_text (tile_count t k)) ++ more → k ≡ count)
 
 abbrev pub IsNotStatedOf : ℕ → TilesOf → Option (List ℕ) → Type 0
 IsNotStatedOf t old before =

@@ -12,7 +12,7 @@ ghost use Rattle.live_check.specs.Waiting.{Fails, NeverComes, waiting};
 use crate::tiles::Tiles;
 use crate::unread::Unread;
 use crate::words::{take_verdict, takes_text};
-use cull_base::{ClipVertex, Failed, FrameList, Source, TileSpan};
+use cull_base::{ClipVertex, Failed, FrameList, Source, TileSpan, Verdict};
 use cull_report::object_verdict;
 use masked_update::PlainView;
 use scene_reader::Scene;
@@ -39,6 +39,13 @@ fn head_of(frame: u32, round: u32, object: u32) -> Line
     text.number(u64::from(object));
     text.push(b" ");
     text
+}
+
+fn is_same(seen: Verdict, told: Verdict) -> bool
+    ensures yes { result ≡ true → seen ≡ told }
+    ensures no { result ≡ false → seen ≡ told → ⊥ }
+{
+    seen == told
 }
 
 /// Takes the line of an object in a round, if the log goes on with one whose counts fit where the tiles stand and whose
@@ -74,12 +81,16 @@ pub fn takes_line<S: Source>(
     let Some(verdict) = take_verdict(unread, log)? else {
         return Ok(false);
     };
-    if !tiles.state(unread, log, span)? || !takes_text(unread, log, b"\n")? {
+    if !tiles.state(unread, log, span)? {
+        return Ok(false);
+    }
+    if !takes_text(unread, log, b"\n")? {
         return Ok(false);
     }
     if !tiles.advance(frame.list, span) {
         return Ok(false);
     }
     let view = PlainView::new(tiles.states());
-    Ok(object_verdict(frame.scene, frame.number, frame.clips, object, &view) == verdict)
+    let seen = object_verdict(frame.scene, frame.number, frame.clips, object, &view);
+    Ok(is_same(seen, verdict))
 }
