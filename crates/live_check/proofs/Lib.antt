@@ -9,3 +9,4 @@ pub mod Answers
 pub mod Frames
 pub mod Rounds
 pub mod LineParts
+pub mod Words

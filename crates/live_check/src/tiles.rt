@@ -115,13 +115,15 @@ impl Tiles {
         if !takes_text(unread, log, field_of(tile).as_slice())? {
             return Ok(false);
         }
-        match take_number(unread, log)? {
-            Some(count) if self.states[tile as usize].count() <= count => {
-                self.stated[tile as usize] = count;
-                Ok(true)
-            }
-            _ => Ok(false),
+        let Some(count) = take_number(unread, log)? else {
+            return Ok(false);
+        };
+        let own = self.states[tile as usize].count();
+        if count < own {
+            return Ok(false);
         }
+        self.stated[tile as usize] = count;
+        Ok(true)
     }
 
     // The same of the tiles of a span in a row.

@@ -39,28 +39,41 @@ impl Unread {
         }
     }
 
+    // The first byte that waits.
+    #[inline(always)]
+    fn first(&self) -> Option<u8>
+        ensures some { IfSome result (λ b. (rest : List ℕ) × (self.now ≡ b ∷ rest)) }
+        ensures none { result ≡ None → self.now ≡ [] }
+    {
+        if self.next < self.end {
+            Some(self.bytes[self.next])
+        } else {
+            None
+        }
+    }
+
     /// The next byte, which is still to be skipped, or none at the log's end. Err: the source failed.
     #[inline(always)]
     pub fn peek<S: Source>(&mut self, log: &mut S) -> Result<Option<u8>, Failed>
-        ensures same { waiting self.new (S.says log.new).left ≡ waiting self.old (S.says log.old).left }
+        ensures same { IfOk result (λ _. waiting self.new (S.says log.new).left
+            ≡ waiting self.old (S.says log.old).left) }
         ensures some { IfOk result (λ o. IfSome o (λ b. (rest : List ℕ) × (self.new ≡ b ∷ rest))) }
         ensures none { IfOk result (λ o. o ≡ None → (self.new ≡ []) × IsAtEnd (S.says log.new).left) }
         ensures failed { OnErr result (Rose (S.says log.old).faults (S.says log.new).faults) }
         ensures faults_stay { (S.says log.old).faults ≤ (S.says log.new).faults }
     {
-        if self.next == self.end {
-            self.refill(log)?;
+        if let Some(byte) = self.first() {
+            return Ok(Some(byte));
         }
-        if self.next == self.end {
-            return Ok(None);
-        }
-        Ok(Some(self.bytes[self.next]))
+        self.refill(log)?;
+        Ok(self.first())
     }
 
     // Takes as many bytes as there is room for, or all that are left. Condition: none waits.
     fn refill<S: Source>(&mut self, log: &mut S) -> Result<(), Failed>
         requires { self.old ≡ [] }
-        ensures same { waiting self.new (S.says log.new).left ≡ waiting self.old (S.says log.old).left }
+        ensures same { IfOk result (λ _. waiting self.new (S.says log.new).left
+            ≡ waiting self.old (S.says log.old).left) }
         ensures ended { IfOk result (λ _. self.new ≡ [] → IsAtEnd (S.says log.new).left) }
         ensures failed { OnErr result (Rose (S.says log.old).faults (S.says log.new).faults) }
         ensures faults_stay { (S.says log.old).faults ≤ (S.says log.new).faults }

@@ -11,6 +11,27 @@ use cull_base::{Failed, Source, Verdict};
 /// How many digits a count has at most: a tile's list has no more than 131,072 members.
 const DIGITS: u32 = 6;
 
+// Whether the log goes on with a byte, which is taken then.
+#[inline(always)]
+fn takes_byte<S: Source>(unread: &mut Unread, log: &mut S, byte: u8) -> Result<bool, Failed>
+    ensures came { IfOk result (λ b. b ≡ true
+        → Came (waiting unread.old (S.says log.old).left) (waiting unread.new (S.says log.new).left) (byte ∷ [])) }
+    ensures other { IfOk result (λ b. b ≡ false
+        → NeverComes (waiting unread.old (S.says log.old).left) (byte ∷ [])) }
+    ensures stays { IfOk result (λ b. b ≡ false
+        → waiting unread.new (S.says log.new).left ≡ waiting unread.old (S.says log.old).left) }
+    ensures fails { Fails (S.says log.old) (S.says log.new) result }
+{
+    let Some(next) = unread.peek(log)? else {
+        return Ok(false);
+    };
+    if next == byte {
+        unread.skip();
+        return Ok(true);
+    }
+    Ok(false)
+}
+
 /// Whether the log goes on with a text, which is taken then; else a front of it may be.
 pub fn takes_text<S: Source>(unread: &mut Unread, log: &mut S, text: &[u8]) -> Result<bool, Failed>
     ensures came { IfOk result (λ b. b ≡ true
@@ -20,9 +41,8 @@ pub fn takes_text<S: Source>(unread: &mut Unread, log: &mut S, text: &[u8]) -> R
     ensures fails { Fails (S.says log.old) (S.says log.new) result }
 {
     for place in 0..text.len() {
-        match unread.peek(log)? {
-            Some(byte) if byte == text[place] => unread.skip(),
-            _ => return Ok(false),
+        if !takes_byte(unread, log, text[place])? {
+            return Ok(false);
         }
     }
     Ok(true)
@@ -49,14 +69,14 @@ fn take_digit<S: Source>(unread: &mut Unread, log: &mut S) -> Result<Option<u32>
         × IfSome (waiting unread.old (S.says log.old).left) IsBehindNumber) }
     ensures fails { Fails (S.says log.old) (S.says log.new) result }
 {
-    let digit = match unread.peek(log)? {
-        Some(byte) => digit_of(byte),
-        None => None,
+    let Some(next) = unread.peek(log)? else {
+        return Ok(None);
     };
-    if digit.is_some() {
-        unread.skip();
-    }
-    Ok(digit)
+    let Some(digit) = digit_of(next) else {
+        return Ok(None);
+    };
+    unread.skip();
+    Ok(Some(digit))
 }
 
 /// The number of at most six digits, without zeros before it, that the log goes on with; it is taken. None where the
@@ -73,14 +93,15 @@ pub fn take_number<S: Source>(unread: &mut Unread, log: &mut S) -> Result<Option
     let Some(first) = take_digit(unread, log)? else {
         return Ok(None);
     };
+    if first == 0 {
+        return Ok(Some(0));
+    }
     let mut number = first;
-    if number != 0 {
-        for _ in 1..DIGITS {
-            let Some(digit) = take_digit(unread, log)? else {
-                break;
-            };
-            number = 10 * number + digit;
-        }
+    for _place in 1..DIGITS {
+        let Some(digit) = take_digit(unread, log)? else {
+            return Ok(Some(number));
+        };
+        number = 10 * number + digit;
     }
     Ok(Some(number))
 }
@@ -113,11 +134,10 @@ fn take_behind_o<S: Source>(unread: &mut Unread, log: &mut S) -> Result<Option<V
         → bytes ≡ rest ++ more → o ≡ Some v)) }
     ensures fails { Fails (S.says log.old) (S.says log.new) result }
 {
-    match unread.peek(log)? {
-        Some(b'c') => if_text(unread, log, b"ccluded", Verdict::Occluded),
-        Some(b'u') => if_text(unread, log, b"utside", Verdict::Outside),
-        _ => Ok(None),
+    if takes_byte(unread, log, b'c')? {
+        return if_text(unread, log, b"cluded", Verdict::Occluded);
     }
+    if_text(unread, log, b"utside", Verdict::Outside)
 }
 
 /// The verdict whose word the log goes on with; the word is taken. None where it goes on with no such word.
@@ -128,12 +148,8 @@ pub fn take_verdict<S: Source>(unread: &mut Unread, log: &mut S) -> Result<Optio
         (λ bytes. (v : Verdict) (more : List ℕ) → bytes ≡ verdict_word v ++ more → o ≡ Some v)) }
     ensures fails { Fails (S.says log.old) (S.says log.new) result }
 {
-    match unread.peek(log)? {
-        Some(b'v') => if_text(unread, log, b"visible", Verdict::Visible),
-        Some(b'o') => {
-            unread.skip();
-            take_behind_o(unread, log)
-        }
-        _ => Ok(None),
+    if takes_byte(unread, log, b'o')? {
+        return take_behind_o(unread, log);
     }
+    if_text(unread, log, b"visible", Verdict::Visible)
 }

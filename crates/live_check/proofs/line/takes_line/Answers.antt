@@ -65,7 +65,7 @@ returns-then-not-takes_text-2-clause-no g c k fits =
 pub advance-requires : goal.advance-requires
 advance-requires g c =
     let f = c.args.frame.now in let s = f.scene.now in
-    let stays = c.state.ensures.stays in
+    let stays = c.in_ok-state.ensures.stays in
     let fields = c.in_ok-state.ensures.yes c.if-not-state.false in
     record {
       standing = record {
@@ -87,7 +87,7 @@ returns-then-not-advance-clause-no g c k fits =
     let (t, within, past) = c.advance.ensures.past c.if-not-advance.true in
     subst (NeverComes _) (sym (line_parts s f.number c.args.round c.args.object k))
     (never_behind _ _ head _ came (never_word _ _ c.in-Some.verdict (prefixed_verdict s f.number k c.args.object) _ (rw c.in-Some.is at c.in_ok-take_verdict.ensures.came)
-    (λ same. never_past s f.number c.args.object c.args.span.now c.args.tiles.now size c.requires.span k f.laid.scene fits _ _ t fields.only (rw c.state.ensures.stays.size at within)
+    (λ same. never_past s f.number c.args.object c.args.span.now c.args.tiles.now size c.requires.span k f.laid.scene fits _ _ t fields.only (rw c.in_ok-state.ensures.stays.size at within)
     (subst (λ (l : PieceList). length (tile_list t l) < slice_index c.state.new.self.stated t) f.laid.list_is past))))
 
 pub object_verdict-requires : goal.object_verdict-requires
@@ -121,7 +121,7 @@ returns-clause-no g c other k fits =
     (λ same. never_other s f.number c.args.object c.args.span.now c.args.tiles.now size c.requires.span k f.laid.scene fits _ _ fields.only (λ agree.
     c.is_same.ensures.no other
     (verdict_there s f.number c.args.object list c.advance.new.self k c.object_verdict-seen.result f.laid.scene f.laid.list_is (ap (λ (l : PieceList). l.size) f.laid.list_is ∙ list_size s f.number) c.advance.ensures.standing
-    (λ t stated. agree t stated ∙ sym (moved.stated t (in_span s f.number c.args.object c.args.span.now c.state.new.self (c.state.ensures.stays.size ∙ size) c.requires.span t stated))) answered ∙ sym same)))))
+    (λ t stated. agree t stated ∙ sym (moved.stated t (in_span s f.number c.args.object c.args.span.now c.state.new.self (c.in_ok-state.ensures.stays.size ∙ size) c.requires.span t stated))) answered ∙ sym same)))))
 
 pub returns-clause-yes : goal.returns-clause-yes
 returns-clause-yes g c is =
@@ -129,7 +129,7 @@ returns-clause-yes g c is =
     let came = subst (Came _ _) c.head_of.ensures (c.in_ok-takes_text.ensures.came c.if-not-takes_text.false) in
     let size = c.requires.standing.size ∙ ap (λ (l : PieceList). l.size) f.laid.list_is ∙ list_size s f.number in
     let moved = c.advance.ensures.moved c.if-not-advance.false in
-    let stays = c.state.ensures.stays in
+    let stays = c.in_ok-state.ensures.stays in
     let answered = from_place (λ (o : Object). c.object_verdict-seen.result ≡ verdict_in s f.number (λ t. tile_at c.advance.new.self.states t) o) s.objects c.args.object (Mesh 0 0) c.requires.object
     (rw c.states.ensures.states at c.object_verdict-seen.ensures.verdict) in
     let list_is_of = ap (λ (l : PieceList). l.size) f.laid.list_is ∙ list_size s f.number in
