@@ -10,3 +10,4 @@ pub mod Frames
 pub mod Rounds
 pub mod LineParts
 pub mod Words
+pub mod Stating

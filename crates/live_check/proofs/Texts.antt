@@ -92,12 +92,12 @@ line_parts s frame round object k =
 -- ---- fields
 
 -- fields go on with a space, or with what follows them
-behind_fields : (ts : List ℕ) (k : ℕ → ℕ) (r : List ℕ) → IsBehindNumber r → IsBehindNumber (fields_by ts k ++ r)
+pub behind_fields : (ts : List ℕ) (k : ℕ → ℕ) (r : List ℕ) → IsBehindNumber r → IsBehindNumber (fields_by ts k ++ r)
 behind_fields [] k r br = br
 behind_fields (t ∷ ts) k r br = λ digit. omega (arith, digit.0)
 
 -- a field in front of others
-field_parts : (t n : ℕ) (more r : List ℕ) → ((32 ∷ count_text (tile_count t n)) ++ more) ++ r ≡ 32 ∷ (decimal t ++ (58 ∷ (decimal n ++ (more ++ r))))
+pub field_parts : (t n : ℕ) (more r : List ℕ) → ((32 ∷ count_text (tile_count t n)) ++ more) ++ r ≡ 32 ∷ (decimal t ++ (58 ∷ (decimal n ++ (more ++ r))))
 field_parts t n more r =
     append_assoc (32 ∷ count_text (tile_count t n)) more r
     ∙ ap (λ (x : List ℕ). 32 ∷ x) (append_assoc (decimal t) (58 ∷ decimal n) (more ++ r))

@@ -11,7 +11,7 @@ use Rattle.masked_update.specs.Taken.{taken_by}
 use Rattle.masked_update.specs.TileOf.{tile_at}
 use Rattle.cull_report.specs.Live.{count_text, tile_count}
 use Rattle.cull_report.specs.LivePieces.{counts_text}
-use Rattle.live_check.specs.Standing.{IsIn, TilesOf, count_at}
+use Rattle.live_check.specs.Standing.{AreWhole, IsIn, StaysStanding, TilesOf, count_at}
 use Rattle.live_check.specs.Waiting.{Came, IsBehindNumber}
 
 -- ---- what a line states
@@ -28,10 +28,6 @@ tiles_of size span = filter (λ t. has_tile span (tile_place size t)) (range_wit
 abbrev pub fields_of : Dimensions → TileSpan → (ℕ → ℕ) → List ℕ
 fields_of size span k = counts_text (map (λ t. tile_count t (k t)) (tiles_of size span))
 
--- of a span the tiles in a row
-abbrev pub row_of : TileSpan → ℕ → TileSpan
-row_of span row = record { first_column = span.first_column; end_column = span.end_column; first_row = row; end_row = row + 1 }
-
 -- counts that a span's tiles may state: none is below the tile's own, and each has six digits at most
 abbrev pub MayState : TilesOf → TileSpan → (ℕ → ℕ) → Type 0
 MayState tiles span k = (t : ℕ) → IsIn tiles span t → (count_at tiles t ≤ k t) × (k t < 10 ^ 6)
@@ -47,6 +43,24 @@ pub record AreStated (span : TileSpan) (old new : TilesOf) (before after : Optio
   pub others : (t : ℕ) → (IsIn old span t → ⊥) → slice_index new.stated t ≡ slice_index old.stated t
   pub came : Came before after (fields_of old.size span (λ t. slice_index new.stated t))
   pub only : AreOnly span old before (λ t. slice_index new.stated t)
+
+-- the fields of the first n tiles, as far as they stand in a span
+abbrev pub fields_before : Dimensions → TileSpan → ℕ → (ℕ → ℕ) → List ℕ
+fields_before size span n k = counts_text (map (λ t. tile_count t (k t)) (filter (λ t. has_tile span (tile_place size t)) (range_with_len 0 n)))
+
+-- a tile of a span that is one of the first n
+abbrev pub IsBefore : Dimensions → TileSpan → ℕ → ℕ → Type 0
+IsBefore size span n t = (t < n) × (has_tile span (tile_place size t) ≡ true)
+
+-- the fields of the first n tiles came, as far as they stand in the span
+pub record StatedTo (span : TileSpan) (n : ℕ) (old new : TilesOf) (before after : Option (List ℕ)) : Type 0 where
+  pub stays : StaysStanding old new
+  pub whole : AreWhole new
+  pub may : (t : ℕ) → IsBefore old.size span n t → (count_at old t ≤ slice_index new.stated t) × (slice_index new.stated t < 10 ^ 6)
+  pub others : (t : ℕ) → (IsBefore old.size span n t → ⊥) → slice_index new.stated t ≡ slice_index old.stated t
+  pub came : Came before after (fields_before old.size span n (λ t. slice_index new.stated t))
+  pub only : IfSome before (λ bytes. (k : ℕ → ℕ) (more : List ℕ) → ((t : ℕ) → IsBefore old.size span n t → (count_at old t ≤ k t) × (k t < 10 ^ 6)) → IsBehindNumber more → bytes ≡ fields_before old.size span n k ++ more
+      → (t : ℕ) → IsBefore old.size span n t → k t ≡ slice_index new.stated t)
 
 -- no such fields come, whatever counts they might state
 abbrev pub AreNotStated : TileSpan → TilesOf → Option (List ℕ) → Type 0

@@ -1,13 +1,14 @@
 //! The tiles of a frame: each stands at some members of its list, and is moved forward from line to line. None is drawn
 //! anew within a frame.
-ghost use Rattle.std.specs.Prelude.{◌≡◌, ℕ, ◌+◌, ◌*◌, ◌<◌, ◌≤◌, ◌&&◌, true, false, nat_eq, length, slice_index, slice_index_or, IfOk};
+ghost use Rattle.std.specs.Prelude.{◌≡◌, ℕ, ◌+◌, ◌*◌, ◌<◌, ◌≤◌, ◌&&◌, true, false, nat_eq, List, length};
+ghost use Rattle.std.specs.Prelude.{Option, slice_index, slice_index_or, IfOk};
 ghost use Rattle.cull_base.specs.Piece.{Piece};
 ghost use Rattle.cull_base.specs.Screen.{tile_columns_of, tile_count_of, tile_place, tile_rows_of};
 ghost use Rattle.cull_base.specs.Span.{IsSpan, has_tile};
 ghost use Rattle.cull_base.specs.Tiles.{tile_list};
-ghost use Rattle.live_check.specs.Moving.{AreNotStated, AreStated, IsNotStatedOf, IsStatedOf, TookWhere};
-ghost use Rattle.live_check.specs.Moving.{field_head, is_met_in, is_short_at, row_of};
-ghost use Rattle.live_check.specs.Standing.{AreStanding, AreWhole, HaveMoved, IsIn, StaysStanding, count_at};
+ghost use Rattle.live_check.specs.Moving.{AreNotStated, AreStated, IsNotStatedOf, IsStatedOf, StatedTo, TookWhere};
+ghost use Rattle.live_check.specs.Moving.{field_head, is_met_in, is_short_at};
+ghost use Rattle.live_check.specs.Standing.{AreStanding, AreWhole, HaveMoved, IsIn, StaysStanding, TilesOf, count_at};
 ghost use Rattle.live_check.specs.Waiting.{Fails, waiting};
 
 use crate::unread::Unread;
@@ -126,7 +127,7 @@ impl Tiles {
         Ok(true)
     }
 
-    // The same of the tiles of a span in a row.
+    // The same of the tiles of a span in a row, behind the fields of the rows above it.
     fn state_row<S: Source>(
         &mut self,
         unread: &mut Unread,
@@ -136,10 +137,14 @@ impl Tiles {
     ) -> Result<bool, Failed>
         requires span { IsSpan self.old.size span.now }
         requires row { (span.now.first_row ≤ row) × (row < span.now.end_row) }
-        ensures yes { IfOk result (λ b. b ≡ true → AreStated (row_of span.now row) self.old self.new
-            (waiting unread.old (S.says log.old).left) (waiting unread.new (S.says log.new).left)) }
-        ensures no { IfOk result (λ b. b ≡ false → AreNotStated (row_of span.now row) self.old
-            (waiting unread.old (S.says log.old).left)) }
+        ensures yes { IfOk result (λ b. b ≡ true → (first : TilesOf) (before : Option (List ℕ))
+            → StatedTo span.now (row * tile_columns_of first.size) first self.old before
+            (waiting unread.old (S.says log.old).left)
+            → StatedTo span.now ((row + 1) * tile_columns_of first.size) first self.new before
+            (waiting unread.new (S.says log.new).left)) }
+        ensures no { IfOk result (λ b. b ≡ false → (first : TilesOf) (before : Option (List ℕ))
+            → StatedTo span.now (row * tile_columns_of first.size) first self.old before
+            (waiting unread.old (S.says log.old).left) → AreNotStated span.now first before) }
         ensures stays { StaysStanding self.old self.new }
         ensures fails { Fails (S.says log.old) (S.says log.new) result }
     {
