@@ -1,24 +1,32 @@
 -- The fields of a span's tiles, tile after tile.
-use Rattle.std.proofs.Common.{◌≡◌, ℕ, zero, suc, ◌+◌, ◌-◌, ◌*◌, ◌^◌, ◌<◌, ◌≤◌, Bool, true, false, cond, List, [], ◌∷◌, ◌++◌, length, map, set, get_or-set_other, get_or-set_same, length-set, Option, Some, None, option_map, append_assoc, arith, refl, sym, ap, ◌∙◌, subst, inl, inr}
+use Rattle.std.proofs.Common.{◌≡◌, ◌⊎◌, ℕ, zero, suc, ◌+◌, ◌-◌, ◌*◌, ◌/◌, ◌^◌, ◌<◌, ◌≤◌, Bool, true, false, cond, List, [], ◌∷◌, ◌++◌, length, map, set, get_or-set_other, get_or-set_same, length-set, Option, Some, None, option_map, append_assoc, arith, refl, sym, ap, ◌∙◌, subst, inl, inr}
 use Rattle.std.specs.Prelude.{IfSome, slice_index}
 use Rattle.std.specs.Fmt.{decimal}
 use Rattle.std.specs.List.{filter, range_with_len}
+use Rattle.std.proofs.Math.Nat.{mul-le-mul_right}
 use Rattle.std.proofs.lemmas.Bool.{cases_lt}
+use Rattle.std.proofs.lemmas.Bool.Decides.{nat_tests}
 use Rattle.std.proofs.lemmas.Grind.{flat_map-append}
 use Rattle.std.proofs.lemmas.List.{append-nil, append_cancel_left}
+use Rattle.std.proofs.lemmas.Nat.{le-div}
 use Rattle.std.proofs.lemmas.Option.{same_Some}
 use Rattle.cull_base.specs.declared.tile_span.TileSpan.{TileSpan}
-use Rattle.cull_base.specs.Screen.{Dimensions, tile_count_of, tile_place}
-use Rattle.cull_base.specs.Span.{has_tile}
+use Rattle.cull_base.specs.declared.place.Tile.{Tile}
+use Rattle.cull_base.specs.Screen.{Dimensions, tile_columns_of, tile_count_of, tile_place, tile_rows_of}
+use Rattle.cull_base.specs.Span.{IsSpan, has_tile}
+use Rattle.cull_base.proofs.Places.{row_below}
+use Rattle.masked_update.proofs.Grid.{number_below}
+use Rattle.masked_update.proofs.Tiles.{place_of_number}
 use Rattle.masked_update.specs.TileOf.{TileOf, tile_at}
 use Rattle.cull_report.specs.Live.{count_text, tile_count}
 use Rattle.cull_report.specs.LivePieces.{counts_text}
 use Rattle.cull_report.proofs.HeldTiles.{kept_more}
 use Rattle.cull_report.proofs.LiveSnapshots.{kept_alike}
-use Rattle.live_check.specs.Moving.{AreNotStated, AreStated, IsBefore, IsNotStatedOf, IsStatedOf, StatedTo, fields_before, fields_of}
+use Rattle.live_check.specs.Moving.{AreNotStated, AreStated, IsBefore, IsNotStatedOf, IsStatedOf, StatedTo, field_head, fields_before, fields_of}
 use Rattle.live_check.specs.Standing.{AreWhole, IsIn, StaysStanding, TilesOf, count_at}
-use Rattle.live_check.specs.Waiting.{Came, IsBehindNumber}
+use Rattle.live_check.specs.Waiting.{Came, IsBehindNumber, NeverComes}
 use Rattle.live_check.proofs.Frames.{came_as, came_none, came_then}
+use Rattle.live_check.proofs.Words.{OnlyNumber}
 
 -- ---- the text of one tile more
 
@@ -175,7 +183,168 @@ module _ (span : TileSpan) (n : ℕ) (old new : TilesOf) (a b : Option (List ℕ
                 subst (λ (u : ℕ). k u ≡ slice_index now.stated u) same (last ∙ sym (ap (λ (xs : List ℕ). slice_index xs n) one.kept ∙ get_or-set_same new.stated n one.count 0 room))
           ]
 
+-- ---- the fields behind one
+
+-- the fields of the tiles behind the first n + 1
+rest_of_fields : (size : Dimensions) (span : TileSpan) (n j : ℕ) (k : ℕ → ℕ)
+    → (more : List ℕ) × (fields_before size span ((n + 1) + j) k ≡ fields_before size span (n + 1) k ++ more) × ((r : List ℕ) → IsBehindNumber r → IsBehindNumber (more ++ r))
+rest_of_fields size span n zero k =
+    ([], ap (λ (m : ℕ). fields_before size span m k) (let e : (n + 1) + 0 ≡ n + 1 = omega arith in e) ∙ sym (append-nil (fields_before size span (n + 1) k)), λ r behind. behind)
+rest_of_fields size span n (suc j) k =
+    let (more, is, ends) = rest_of_fields size span n j k in by more is ends (has_tile span (tile_place size ((n + 1) + j))) refl
+  where
+    next : (n + 1) + suc j ≡ ((n + 1) + j) + 1
+    next = omega arith
+
+    by : (more : List ℕ) → fields_before size span ((n + 1) + j) k ≡ fields_before size span (n + 1) k ++ more → ((r : List ℕ) → IsBehindNumber r → IsBehindNumber (more ++ r)) → (h : Bool) → has_tile span (tile_place size ((n + 1) + j)) ≡ h
+        → (more : List ℕ) × (fields_before size span ((n + 1) + suc j) k ≡ fields_before size span (n + 1) k ++ more) × ((r : List ℕ) → IsBehindNumber r → IsBehindNumber (more ++ r))
+    by more is ends false off = (more, ap (λ (m : ℕ). fields_before size span m k) next ∙ fields_quiet size span ((n + 1) + j) k off ∙ is, ends)
+    by more is ends true has =
+        let one = field ((n + 1) + j) (k ((n + 1) + j)) in (
+          more ++ one,
+          ap (λ (m : ℕ). fields_before size span m k) next ∙ fields_more size span ((n + 1) + j) k has ∙ ap (λ (text : List ℕ). text ++ one) is ∙ append_assoc (fields_before size span (n + 1) k) more one,
+          λ r behind. subst IsBehindNumber (sym (append_assoc more one r)) (ends (one ++ r) (λ digit. omega (arith, digit.0)))
+        )
+
+pub fields_split : (size : Dimensions) (span : TileSpan) (n : ℕ) → n < tile_count_of size → has_tile span (tile_place size n) ≡ true → (k : ℕ → ℕ)
+    → (more : List ℕ) × (fields_of size span k ≡ fields_before size span n k ++ (field n (k n) ++ more)) × ((r : List ℕ) → IsBehindNumber r → IsBehindNumber (more ++ r))
+fields_split size span n lt has k =
+    let j = tile_count_of size - (n + 1) in
+    let whole : (n + 1) + j ≡ tile_count_of size = omega (arith, lt) in
+    let (more, is, ends) = rest_of_fields size span n j k in (
+      more,
+      ap (λ (m : ℕ). fields_before size span m k) (sym whole) ∙ is ∙ ap (λ (text : List ℕ). text ++ more) (fields_more size span n k has) ∙ append_assoc (fields_before size span n k) (field n (k n)) more,
+      ends
+    )
+
+-- ---- one tile's field, in its parts
+
+field_by : (t k : ℕ) → field t k ≡ field_head t ++ decimal k
+field_by t k = ap (λ (x : List ℕ). 32 ∷ x) (sym (append_assoc (decimal t) (58 ∷ []) (decimal k)))
+
+pub not_head : (a : Option (List ℕ)) (t : ℕ) (old : TilesOf) → NeverComes a (field_head t) → IsNotStatedOf t old a
+not_head None t old never = tt
+not_head (Some log) t old never = λ k more le small behind e. never (decimal k ++ more) (e ∙ ap (λ (x : List ℕ). x ++ more) (field_by t k) ∙ append_assoc (field_head t) (decimal k) more)
+
+-- behind the head
+after_head : (log rest : List ℕ) (t k : ℕ) (more : List ℕ) → Came (Some log) (Some rest) (field_head t) → log ≡ field t k ++ more → rest ≡ decimal k ++ more
+after_head log rest t k more came e =
+    append_cancel_left (field_head t) rest (decimal k ++ more) (sym (same_Some log (field_head t ++ rest) came) ∙ e ∙ ap (λ (x : List ℕ). x ++ more) (field_by t k) ∙ append_assoc (field_head t) (decimal k) more)
+
+pub not_number : (a b : Option (List ℕ)) (t : ℕ) (old : TilesOf) → Came a b (field_head t)
+    → IfSome b (λ bytes. (k : ℕ) (more : List ℕ) → k < 10 ^ 6 → IsBehindNumber more → bytes ≡ decimal k ++ more → ◌≡◌ {A = Option ℕ} None (Some k)) → IsNotStatedOf t old a
+not_number None b t old came none = tt
+not_number (Some log) None t old came none = let no : ◌≡◌ {A = Option (List ℕ)} (Some log) None = came in absurd cc
+not_number (Some log) (Some rest) t old came none = λ k more le small behind e. let no = none k more small behind (after_head log rest t k more came e) in absurd cc
+
+pub not_count : (a b : Option (List ℕ)) (t n : ℕ) (old : TilesOf) → Came a b (field_head t) → OnlyNumber b n → n < count_at old t → IsNotStatedOf t old a
+not_count None b t n old came only lt = tt
+not_count (Some log) None t n old came only lt = let no : ◌≡◌ {A = Option (List ℕ)} (Some log) None = came in absurd cc
+not_count (Some log) (Some rest) t n old came only lt = λ k more le small behind e.
+    let same = same_Some n k (only k more small behind (after_head log rest t k more came e)) in omega (arith, same, le, lt)
+
+pub is_stated_of : (a b c : Option (List ℕ)) (t n : ℕ) (old new : TilesOf) → Came a b (field_head t) → Came b c (decimal n) → OnlyNumber b n → n < 10 ^ 6 → count_at old t ≤ n → new.stated ≡ set old.stated t n → IsStatedOf t old new a c
+is_stated_of a b c t n old new head number only small le kept = record {
+  count = n;
+  may = (le, small);
+  kept = kept;
+  came = came_as a c _ _ (sym (field_by t n)) (came_then a b c (field_head t) (decimal n) head number);
+  only = by a b head only;
+}
+  where
+    by : (o p : Option (List ℕ)) → Came o p (field_head t) → OnlyNumber p n → IfSome o (λ bytes. (k : ℕ) (more : List ℕ) → count_at old t ≤ k → k < 10 ^ 6 → IsBehindNumber more → bytes ≡ field t k ++ more → k ≡ n)
+    by None p came is = tt
+    by (Some log) None came is = let no : ◌≡◌ {A = Option (List ℕ)} (Some log) None = came in absurd cc
+    by (Some log) (Some rest) came is = λ k more le small behind e. sym (same_Some n k (is k more small behind (after_head log rest t k more came e)))
+
 -- ---- all of them
 
 pub stated_all : (span : TileSpan) (old new : TilesOf) (a b : Option (List ℕ)) → StatedTo span (tile_count_of old.size) old new a b → AreStated span old new a b
 stated_all span old new a b s = record { may = s.may; others = s.others; came = s.came; only = s.only }
+
+-- ---- row by row
+
+-- a tile of a row that stands in a span
+in_row : (size : Dimensions) (span : TileSpan) (row column : ℕ) → IsSpan size span → span.first_row ≤ row → row < span.end_row → span.first_column ≤ column → column < span.end_column
+    → (row * tile_columns_of size + column < tile_count_of size) × (has_tile span (tile_place size (row * tile_columns_of size + column)) ≡ true)
+in_row size span row column is top bottom left right =
+    let rows = is.rows_within in let columns = is.columns_within in
+    let below : row < tile_rows_of size = omega (arith, rows, bottom) in
+    let lt : column < tile_columns_of size = omega (arith, columns, right) in
+    let has : has_tile span (record { column = column; row = row }) ≡ true = grind (arith, nat_tests) in
+    (number_below row (tile_rows_of size) column (tile_columns_of size) below lt, ap (has_tile span) (place_of_number size row column lt) ∙ has)
+
+-- and one that stands in none of its columns
+no_column : (size : Dimensions) (span : TileSpan) (row t : ℕ) → row * tile_columns_of size ≤ t → t < (row + 1) * tile_columns_of size → (t < row * tile_columns_of size + span.first_column) ⊎ (row * tile_columns_of size + span.end_column ≤ t)
+    → has_tile span (tile_place size t) ≡ false
+no_column size span row t from before off =
+    let column = t - row * tile_columns_of size in
+    let lt : column < tile_columns_of size = omega (arith, from, before) in
+    let is : t ≡ row * tile_columns_of size + column = omega (arith, from) in
+    let none : has_tile span (record { column = column; row = row }) ≡ false = elim off [
+      | inl first ↦ (let short : column < span.first_column = omega (arith, first, from) in grind (arith, nat_tests))
+      | inr end ↦ (let past : span.end_column ≤ column = omega (arith, end, from) in grind (arith, nat_tests))
+    ] in
+    ap (λ (n : ℕ). has_tile span (tile_place size n)) is ∙ ap (has_tile span) (place_of_number size row column lt) ∙ none
+
+-- the fields of a row begin, and end
+pub row_begun : (span : TileSpan) (row : ℕ) (old new : TilesOf) (a b : Option (List ℕ)) → IsSpan old.size span → StatedTo span (row * tile_columns_of old.size) old new a b → StatedTo span (row * tile_columns_of old.size + span.first_column) old new a b
+row_begun span row old new a b is s =
+    let some = is.columns in let within = is.columns_within in
+    stated_over span (row * tile_columns_of old.size) span.first_column old new a b (λ t le lt. no_column old.size span row t le (omega (arith, lt, some, within)) (inl lt)) s
+
+pub row_ended : (span : TileSpan) (row column : ℕ) (old new : TilesOf) (a b : Option (List ℕ)) → IsSpan old.size span → span.end_column ≤ column → column ≤ tile_columns_of old.size
+    → StatedTo span (row * tile_columns_of old.size + column) old new a b → StatedTo span ((row + 1) * tile_columns_of old.size) old new a b
+row_ended span row column old new a b is end within s =
+    let n = row * tile_columns_of old.size + column in
+    let j = tile_columns_of old.size - column in
+    let all : n + j ≡ (row + 1) * tile_columns_of old.size = omega (arith, within) in
+    subst (λ (m : ℕ). StatedTo span m old new a b) all
+    (stated_over span n j old new a b (λ t le lt. no_column old.size span row t (omega (arith, le)) (omega (arith, lt, all)) (inr (omega (arith, le, end)))) s)
+
+-- the next column of a row
+pub column_more : (span : TileSpan) (row column : ℕ) (old new now : TilesOf) (a b c : Option (List ℕ)) → IsSpan old.size span → (span.first_row ≤ row) × (row < span.end_row) → span.first_column ≤ column → column < span.end_column
+    → StaysStanding new now → AreWhole now → IsStatedOf (row * tile_columns_of old.size + column) new now b c
+    → StatedTo span (row * tile_columns_of old.size + column) old new a b → StatedTo span (row * tile_columns_of old.size + (column + 1)) old now a c
+column_more span row column old new now a b c is rows left right stays whole one s =
+    let on = in_row old.size span row column is rows.0 rows.1 left right in
+    let next : (row * tile_columns_of old.size + column) + 1 ≡ row * tile_columns_of old.size + (column + 1) = omega arith in
+    subst (λ (m : ℕ). StatedTo span m old now a c) next (stated_more span (row * tile_columns_of old.size + column) old new a b on.1 s now c on.0 stays whole one)
+
+pub column_stops : (span : TileSpan) (row column : ℕ) (old new : TilesOf) (a b : Option (List ℕ)) → IsSpan old.size span → (span.first_row ≤ row) × (row < span.end_row) → span.first_column ≤ column → column < span.end_column
+    → IsNotStatedOf (row * tile_columns_of old.size + column) new b → StatedTo span (row * tile_columns_of old.size + column) old new a b → AreNotStated span old a
+column_stops span row column old new a b is rows left right never s =
+    let on = in_row old.size span row column is rows.0 rows.1 left right in
+    let n = row * tile_columns_of old.size + column in
+    stated_stops span n old new a b on.1 s on.0 (fields_split old.size span n on.0 on.1) never
+
+pub on_row : (size : Dimensions) (span : TileSpan) (row column : ℕ) → IsSpan size span → (span.first_row ≤ row) × (row < span.end_row) → span.first_column ≤ column → column < span.end_column
+    → (row * tile_columns_of size + column < tile_count_of size) × (has_tile span (tile_place size (row * tile_columns_of size + column)) ≡ true)
+on_row size span row column is rows left right = in_row size span row column is rows.0 rows.1 left right
+
+-- the rows above a span have none of its tiles, nor have those below it
+pub rows_begun : (span : TileSpan) (tiles : TilesOf) (a : Option (List ℕ)) → 0 < tile_columns_of tiles.size → AreWhole tiles → StatedTo span (span.first_row * tile_columns_of tiles.size) tiles tiles a a
+rows_begun span tiles a some whole =
+    let n = span.first_row * tile_columns_of tiles.size in
+    let e : 0 + n ≡ n = omega arith in
+    subst (λ (m : ℕ). StatedTo span m tiles tiles a a) e
+    (stated_over span 0 n tiles tiles a a (λ t le lt. no_row span (tile_place tiles.size t) (row_below t (tile_columns_of tiles.size) span.first_row some (omega (arith, lt)))) (stated_none span tiles a whole))
+  where
+    no_row : (s : TileSpan) (place : Tile) → place.row < s.first_row → has_tile s place ≡ false
+    no_row s place lt = grind (arith, nat_tests)
+
+pub rows_ended : (span : TileSpan) (row : ℕ) (old new : TilesOf) (a b : Option (List ℕ)) → IsSpan old.size span → 0 < tile_columns_of old.size → span.end_row ≤ row → row ≤ tile_rows_of old.size
+    → StatedTo span (row * tile_columns_of old.size) old new a b → AreStated span old new a b
+rows_ended span row old new a b is some end within s =
+    let n = row * tile_columns_of old.size in
+    let few : n ≤ tile_count_of old.size = mul-le-mul_right (tile_columns_of old.size) within in
+    let j = tile_count_of old.size - n in
+    let all : n + j ≡ tile_count_of old.size = omega (arith, few) in
+    stated_all span old new a b (subst (λ (m : ℕ). StatedTo span m old new a b) all
+    (stated_over span n j old new a b (λ t le lt. past_rows span (tile_place old.size t) (omega (arith, end, row_from t le))) s))
+  where
+    past_rows : (s : TileSpan) (place : Tile) → s.end_row ≤ place.row → has_tile s place ≡ false
+    past_rows s place le = grind (arith, nat_tests)
+
+    row_from : (t : ℕ) → row * tile_columns_of old.size ≤ t → row ≤ t / tile_columns_of old.size
+    row_from t le = le-div row t (tile_columns_of old.size) some le

@@ -173,6 +173,8 @@ impl Tiles {
         ensures stays { StaysStanding self.old self.new }
         ensures fails { Fails (S.says log.old) (S.says log.new) result }
     {
+        // an accessor tells that a screen has columns
+        let _columns = self.size.tile_columns();
         for row in span.first_row..span.end_row {
             if !self.state_row(unread, log, span, row)? {
                 return Ok(false);
