@@ -11,3 +11,4 @@ pub mod Rounds
 pub mod LineParts
 pub mod Words
 pub mod Stating
+pub mod Held

@@ -275,7 +275,7 @@ in_row size span row column is top bottom left right =
     (number_below row (tile_rows_of size) column (tile_columns_of size) below lt, ap (has_tile span) (place_of_number size row column lt) ∙ has)
 
 -- and one that stands in none of its columns
-no_column : (size : Dimensions) (span : TileSpan) (row t : ℕ) → row * tile_columns_of size ≤ t → t < (row + 1) * tile_columns_of size → (t < row * tile_columns_of size + span.first_column) ⊎ (row * tile_columns_of size + span.end_column ≤ t)
+pub no_column : (size : Dimensions) (span : TileSpan) (row t : ℕ) → row * tile_columns_of size ≤ t → t < (row + 1) * tile_columns_of size → (t < row * tile_columns_of size + span.first_column) ⊎ (row * tile_columns_of size + span.end_column ≤ t)
     → has_tile span (tile_place size t) ≡ false
 no_column size span row t from before off =
     let column = t - row * tile_columns_of size in
@@ -322,6 +322,15 @@ pub on_row : (size : Dimensions) (span : TileSpan) (row column : ℕ) → IsSpan
     → (row * tile_columns_of size + column < tile_count_of size) × (has_tile span (tile_place size (row * tile_columns_of size + column)) ≡ true)
 on_row size span row column is rows left right = in_row size span row column is rows.0 rows.1 left right
 
+pub no_row : (s : TileSpan) (place : Tile) → place.row < s.first_row → has_tile s place ≡ false
+no_row s place lt = grind (arith, nat_tests)
+
+pub past_rows : (s : TileSpan) (place : Tile) → s.end_row ≤ place.row → has_tile s place ≡ false
+past_rows s place le = grind (arith, nat_tests)
+
+pub row_from : (size : Dimensions) (row t : ℕ) → 0 < tile_columns_of size → row * tile_columns_of size ≤ t → row ≤ t / tile_columns_of size
+row_from size row t some le = le-div row t (tile_columns_of size) some le
+
 -- the rows above a span have none of its tiles, nor have those below it
 pub rows_begun : (span : TileSpan) (tiles : TilesOf) (a : Option (List ℕ)) → 0 < tile_columns_of tiles.size → AreWhole tiles → StatedTo span (span.first_row * tile_columns_of tiles.size) tiles tiles a a
 rows_begun span tiles a some whole =
@@ -329,9 +338,6 @@ rows_begun span tiles a some whole =
     let e : 0 + n ≡ n = omega arith in
     subst (λ (m : ℕ). StatedTo span m tiles tiles a a) e
     (stated_over span 0 n tiles tiles a a (λ t le lt. no_row span (tile_place tiles.size t) (row_below t (tile_columns_of tiles.size) span.first_row some (omega (arith, lt)))) (stated_none span tiles a whole))
-  where
-    no_row : (s : TileSpan) (place : Tile) → place.row < s.first_row → has_tile s place ≡ false
-    no_row s place lt = grind (arith, nat_tests)
 
 pub rows_ended : (span : TileSpan) (row : ℕ) (old new : TilesOf) (a b : Option (List ℕ)) → IsSpan old.size span → 0 < tile_columns_of old.size → span.end_row ≤ row → row ≤ tile_rows_of old.size
     → StatedTo span (row * tile_columns_of old.size) old new a b → AreStated span old new a b
@@ -341,10 +347,4 @@ rows_ended span row old new a b is some end within s =
     let j = tile_count_of old.size - n in
     let all : n + j ≡ tile_count_of old.size = omega (arith, few) in
     stated_all span old new a b (subst (λ (m : ℕ). StatedTo span m old new a b) all
-    (stated_over span n j old new a b (λ t le lt. past_rows span (tile_place old.size t) (omega (arith, end, row_from t le))) s))
-  where
-    past_rows : (s : TileSpan) (place : Tile) → s.end_row ≤ place.row → has_tile s place ≡ false
-    past_rows s place le = grind (arith, nat_tests)
-
-    row_from : (t : ℕ) → row * tile_columns_of old.size ≤ t → row ≤ t / tile_columns_of old.size
-    row_from t le = le-div row t (tile_columns_of old.size) some le
+    (stated_over span n j old new a b (λ t le lt. past_rows span (tile_place old.size t) (omega (arith, end, row_from old.size row t some le))) s))

@@ -111,6 +111,7 @@ impl Tiles {
         ensures no { IfOk result (λ b. b ≡ false → IsNotStatedOf tile self.old
             (waiting unread.old (S.says log.old).left)) }
         ensures stays { StaysStanding self.old self.new }
+        ensures whole { AreWhole self.new }
         ensures fails { Fails (S.says log.old) (S.says log.new) result }
     {
         if !takes_text(unread, log, field_of(tile).as_slice())? {
@@ -199,7 +200,8 @@ impl Tiles {
         ensures some { 0 < result → (t : ℕ) × IsIn self.now span.now t × (is_short_at self.now t place ≡ true) }
         ensures few { result ≤ 16384 }
     {
-        let columns = self.size.tile_columns();
+        // accessors tell how few they are
+        let (columns, _rows) = (self.size.tile_columns(), self.size.tile_rows());
         let mut short = 0;
         for row in span.first_row..span.end_row {
             for column in span.first_column..span.end_column {

@@ -34,7 +34,7 @@ loop-column-preserved g c =
       stated = λ first before size s.
           let span = subst (λ (d : Dimensions). IsSpan d c.args.span.now) (sym size) c.requires.span in
           let n : c.args.row * c.tile_columns.result + c.loop-column.column ≡ c.args.row * tile_columns_of first.size + c.loop-column.column = ap (λ (k : ℕ). c.args.row * k + c.loop-column.column) (columns ∙ ap tile_columns_of (sym size)) in
-          column_more c.args.span.now c.args.row c.loop-column.column first c.loop-column.self c.state_tile.new.self before _ _ span c.requires.row c.loop-column.auto.column c.loop-column-test.true tile.stays c.state_tile.new.self.invariant
+          column_more c.args.span.now c.args.row c.loop-column.column first c.loop-column.self c.state_tile.new.self before _ _ span c.requires.row c.loop-column.auto.column c.loop-column-test.true tile.stays tile.whole
           (subst (λ (t : ℕ). IsStatedOf t c.loop-column.self c.state_tile.new.self _ _) n (tile.yes c.if-not-state_tile.false)) (i.stated first before size s);
       faults = omega (arith, i.faults, tile.fails.faults_stay);
     }

@@ -34,3 +34,7 @@ returns-clause-stays g c = let v = c.self.view_is in record { size = ap (λ (x :
 pub invariant_of-self : goal.invariant_of-self
 invariant_of-self g c =
     let i = c.self.invariant in record { states = i.states; behind = i.behind; stated = length-set c.self.inside.stated.items c.args.tile c.in-Some.count ∙ i.stated }
+
+pub returns-clause-whole : goal.returns-clause-whole
+returns-clause-whole g c =
+    let i = c.self.invariant in record { states = i.states; behind = i.behind; stated = length-set c.self.inside.stated.items c.args.tile c.in-Some.count ∙ i.stated }
