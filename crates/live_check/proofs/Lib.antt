@@ -12,3 +12,4 @@ pub mod LineParts
 pub mod Words
 pub mod Stating
 pub mod Held
+pub mod Taking

@@ -237,7 +237,9 @@ impl Tiles {
     fn take_at(&mut self, piece: &PieceSetup, place: Tile, index: u32) -> bool
         requires column { place.column < tile_columns_of self.old.size }
         requires row { place.row < tile_rows_of self.old.size }
-        requires few { (t : ℕ) → count_at self.old t < 131072 }
+        requires index { index < 131072 }
+        requires few { let t = place.row * tile_columns_of self.old.size + place.column in
+            is_short_at self.old t index ≡ true → count_at self.old t < 131072 }
         ensures took { TookWhere (λ t. nat_eq t (place.row * tile_columns_of self.old.size + place.column))
             piece.now index self.old self.new }
     {
@@ -255,11 +257,15 @@ impl Tiles {
     // many of them have the stated count then.
     fn take_in(&mut self, tri: &ScreenTri, reached: &TileSpan, index: u32) -> u32
         requires span { IsSpan self.old.size reached.now }
-        requires few { (t : ℕ) → count_at self.old t < 131072 }
+        requires index { index < 131072 }
+        requires few { (t : ℕ) → t < tile_count_of self.old.size
+            → is_short_at self.old t index ≡ true → count_at self.old t < 131072 }
         ensures took { TookWhere (λ t. has_tile reached.now (tile_place self.old.size t))
             tri.now index self.old self.new }
     {
         let piece = PieceSetup::of(tri);
+        // accessors tell how few tiles there are
+        let (_columns, _rows) = (self.size.tile_columns(), self.size.tile_rows());
         let mut done = 0;
         for row in reached.first_row..reached.end_row {
             for column in reached.first_column..reached.end_column {
@@ -283,6 +289,8 @@ impl Tiles {
         ensures took { (x : Piece) → slice_index_or list.now.list.members index x ≡ x
             → TookWhere (is_met_in self.old.size span.now x) x index self.old self.new }
     {
+        // an accessor tells how few pieces there are
+        let _len = list.len();
         let tri = list.get(index);
         let reached = TileSpan::of(&tri.boxed(), self.size).cut(span);
         if self.short_in(&reached, index) == 0 {
