@@ -13,3 +13,4 @@ pub mod Words
 pub mod Stating
 pub mod Held
 pub mod Taking
+pub mod Advance
