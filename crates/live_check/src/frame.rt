@@ -89,6 +89,7 @@ fn takes_round<S: Source>(
         → AreLast frame.now.scene.now watch frame.now.number counts round 0 (count_at tiles.old)
         → IfOk result (λ o. IfSome o (λ n. RoundStops frame.now.scene.now watch frame.now.number counts round
         (waiting unread.old (S.says log.old).left) n)) }
+    ensures within { IfOk result (λ o. IfSome o (λ n. n < objects)) }
     ensures standing { IfOk result (λ o. o ≡ None → AreStanding frame.now.list.now.list tiles.new) }
     ensures fails { Fails (S.says log.old) (S.says log.new) result }
 {
@@ -121,6 +122,7 @@ fn takes_rounds<S: Source>(
         → IfOk result (λ o. IfSome o (λ n. FrameStops frame.now.scene.now plan.now.rounds watch frame.now.number
         (waiting unread.old (S.says log.old).left) n)) }
     ensures few { IfOk result (λ o. IfSome o (λ n. n < 64)) }
+    ensures standing { IfOk result (λ o. o ≡ None → AreStanding frame.now.list.now.list tiles.new) }
     ensures fails { Fails (S.says log.old) (S.says log.new) result }
 {
     for round in 0..plan.rounds {
@@ -157,7 +159,7 @@ pub fn takes_frame<R: Threads + Wait + Sync, S: Source>(
         (waiting unread.old (S.says log.old).left) n)) }
     ensures few { IfOk result (λ o. IfSome o (λ n. n < 64)) }
     ensures places { length clips.new ≡ length clips.old }
-    ensures size { tiles.new.size ≡ tiles.old.size }
+    ensures size { IfOk result (λ o. o ≡ None → tiles.new.size ≡ tiles.old.size) }
     ensures read { IsErrOf result LogError.Read → Rose (S.says log.old).faults (S.says log.new).faults }
     ensures faults_stay { (S.says log.old).faults ≤ (S.says log.new).faults }
 {

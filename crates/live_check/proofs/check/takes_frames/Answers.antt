@@ -16,11 +16,11 @@ loop-number-preserved g c =
     let i = c.loop-number.invariant in
     let s = c.args.plan.now.scene.now in
     record {
-      places = c.takes_frame-stop.ensures.places ∙ i.places;
-      size = c.takes_frame-stop.ensures.size ∙ i.size;
+      places = c.in_ok-stop.ensures.places ∙ i.places;
+      size = c.in_ok-stop.ensures.size c.in-None.is ∙ i.size;
       came = λ watch objects.
           next_frame s c.args.plan.now.rounds watch c.loop-number.number _ _ _ (i.came watch objects) (rw c.in-None.is at (c.in_ok-stop.ensures.comes watch objects));
-      faults = omega (arith, i.faults, c.takes_frame-stop.ensures.faults_stay);
+      faults = omega (arith, i.faults, c.in_ok-stop.ensures.faults_stay);
     }
 
 pub returns-in-Some-clause-stops : goal.returns-in-Some-clause-stops

@@ -42,3 +42,9 @@ pub returns-clause-comes : goal.returns-clause-comes
 returns-clause-comes g c counts watch objects rising last =
     let i = c.loop-object.invariant in
     λ is. round_end _ watch _ counts c.args.round c.loop-object.object _ _ _ (omega (arith, c.loop-object-test.false, c.loop-object.auto.object-end, objects)) (i.came counts watch objects rising last)
+
+pub returns-then-not-takes_line-clause-within : goal.returns-then-not-takes_line-clause-within
+returns-then-not-takes_line-clause-within g c = c.loop-object-test.true
+
+pub returns-clause-standing : goal.returns-clause-standing
+returns-clause-standing g c _ = c.loop-object.invariant.standing

@@ -1,8 +1,7 @@
-use Rattle.std.proofs.Common.{◌≡◌, ℕ, ◌<◌, ◌≤◌, length, get_or, arith, sym, ap, ◌∙◌, subst}
+use Rattle.std.proofs.Common.{◌≡◌, ℕ, ◌<◌, ◌≤◌, [], length, get_or, arith, sym, ap, ◌∙◌, subst}
 use Rattle.std.proofs.lemmas.Bool.{eqb-true}
 use Rattle.std.proofs.lemmas.Bool.Decides.{nat_tests}
 use Rattle.std.proofs.lemmas.List.{get_or_default}
-use Rattle.cull_base.specs.declared.scene_types.Tri.{Tri}
 use Rattle.cull_base.specs.Piece.{Piece}
 use Rattle.cull_base.specs.Screen.{Dimensions}
 use Rattle.cull_base.specs.Span.{IsSpan}
@@ -33,6 +32,10 @@ take_member-requires c = record {
   span = subst (λ (d : Dimensions). IsSpan d c.args.span.now) (sym c.loop-index.invariant.size) c.requires.span;
   standing = c.loop-index.invariant.standing;
 }
+
+-- what stands past a list's end, where nothing is read
+some_piece : Piece
+some_piece = record { xs = []; ys = []; qs = [] }
 
 -- the next member
 pub loop-index-preserved : goal.loop-index-preserved
