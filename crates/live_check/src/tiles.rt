@@ -1,11 +1,12 @@
 //! The tiles of a frame: each stands at some members of its list, and is moved forward from line to line. None is drawn
 //! anew within a frame.
 ghost use Rattle.std.specs.Prelude.{◌≡◌, ℕ, ◌+◌, ◌*◌, ◌<◌, ◌≤◌, ◌&&◌, true, false, nat_eq, List, length};
-ghost use Rattle.std.specs.Prelude.{Option, slice_index, slice_index_or, IfOk};
+ghost use Rattle.std.specs.Prelude.{Option, slice_index, slice_index_or, slice_set, IfOk};
 ghost use Rattle.cull_base.specs.Piece.{Piece};
 ghost use Rattle.cull_base.specs.Screen.{tile_columns_of, tile_count_of, tile_place, tile_rows_of};
 ghost use Rattle.cull_base.specs.Span.{IsSpan, has_tile};
 ghost use Rattle.cull_base.specs.Tiles.{tile_list};
+ghost use Rattle.masked_update.specs.TileOf.{empty_tile};
 ghost use Rattle.live_check.specs.Moving.{AreNotStated, AreStated, IsNotStatedOf, IsStatedOf, StatedTo, TookWhere};
 ghost use Rattle.live_check.specs.Moving.{field_head, is_met_in, is_short_at};
 ghost use Rattle.live_check.specs.Standing.{AreStanding, AreWhole, HaveMoved, IsIn, StaysStanding, TilesOf, count_at};
@@ -84,10 +85,23 @@ impl Tiles {
         ensures size { self.new.size ≡ self.old.size }
         ensures whole { AreWhole self.new }
     {
-        for tile in 0..self.states.len() {
-            self.states[tile] = TileState::empty();
-            self.behind[tile] = 0;
+        let count = self.size.tile_count();
+        for tile in 0..count {
+            self.clear(tile);
         }
+    }
+
+    // Empties one tile.
+    fn clear(&mut self, tile: u32)
+        requires { tile < tile_count_of self.old.size }
+        ensures states { self.new.states ≡ slice_set self.old.states tile empty_tile }
+        ensures behind { self.new.behind ≡ slice_set self.old.behind tile 0 }
+        ensures stated { self.new.stated ≡ self.old.stated }
+        ensures size { self.new.size ≡ self.old.size }
+        ensures whole { AreWhole self.new }
+    {
+        self.states[tile as usize] = TileState::empty();
+        self.behind[tile as usize] = 0;
     }
 
     /// The tiles' states, by their numbers.
