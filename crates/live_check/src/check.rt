@@ -72,9 +72,9 @@ fn takes_frames<R: Threads + Wait + Sync, S: Source>(
 
 /// Whether a log may be one that `live` writes for a scene, with so many rounds of looks at the first objects, of so
 /// many: each line is the verdict after the members that it states, and within a frame no tile's count falls. Accepted
-/// only where it is such a log, and nothing is left of it then. Refused only where it isn't, with the number of its good
-/// lines; what is behind the first bad byte isn't judged. Err: Read only where the log's count of faults rose, or Memory
-/// at any time. Conditions: rounds and watch are 1 to 8.
+/// only where it is such a log, and nothing is left of it then. Refused only where it isn't, with the number of its
+/// good lines; what is behind the first bad byte isn't judged. Err: Read only where the log's count of faults rose, or
+/// Memory at any time. Conditions: rounds and watch are 1 to 8.
 pub fn check_log<R: Threads + Wait + Sync, S: Source>(
     rt: &R,
     alloc: Global,

@@ -64,8 +64,8 @@ fn spans_of(scene: &Scene, frame: u32, clips: &[ClipVertex], objects: u32) -> Sp
     spans
 }
 
-// Takes the lines of a round and tells the first object whose line doesn't come, if there is one. What is said holds for
-// any counts of the lines before the round.
+// Takes the lines of a round and tells the first object whose line doesn't come, if there is one. What is said holds
+// for any counts of the lines before the round.
 fn takes_round<S: Source>(
     frame: &Laid,
     objects: u32,
@@ -135,9 +135,9 @@ fn takes_rounds<S: Source>(
     Ok(None)
 }
 
-/// Takes the lines of a frame, and tells how many came before the first that didn't, if there is one. Its clip vertices,
-/// its list and the areas of the watched objects are made here. Conditions: there is such a frame, there is a place for
-/// each vertex, and the tiles are those of the scene's screen.
+/// Takes the lines of a frame, and tells how many came before the first that didn't, if there is one. Its clip
+/// vertices, its list and the areas of the watched objects are made here. Conditions: there is such a frame, there is a
+/// place for each vertex, and the tiles are those of the scene's screen.
 pub fn takes_frame<R: Threads + Wait + Sync, S: Source>(
     rt: &R,
     alloc: Global,

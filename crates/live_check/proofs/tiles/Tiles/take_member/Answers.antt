@@ -13,7 +13,7 @@ use Rattle.live_check.proofs.Taking.{took_alike, took_none}
 use Rattle.live_check.proofs.tiles.Tiles.take_member.Goals as goal
 
 -- the tiles that the member's box reaches within the span are those that it meets
-reached_is : (c : goal.At-short_in) (t : ℕ) → t < tile_count_of c.args.self.now.size → has_tile c.reached.result (tile_place c.args.self.now.size t) ≡ is_met_in c.args.self.now.size c.args.span.now c.get.result.now t
+reached_is : (c : goal.After-reached) (t : ℕ) → t < tile_count_of c.args.self.now.size → has_tile c.reached.result (tile_place c.args.self.now.size t) ≡ is_met_in c.args.self.now.size c.args.span.now c.get.result.now t
 reached_is c t lt =
     let size = c.args.self.now.size in
     let tiles : HasTilesOf c.of.result size (box_of c.get.result.now) = subst (λ (d : Dimensions). HasTilesOf c.of.result d (box_of c.get.result.now)) (ap (λ (x : TilesOf). x.size) c.self.view_is) (subst (HasTilesOf c.of.result _) c.boxed.ensures c.of.ensures.tiles) in
@@ -21,7 +21,7 @@ reached_is c t lt =
     ∙ and_comm (meets (box_of c.get.result.now) (tile_rect_of size t)) (has_tile c.args.span.now (tile_place size t))
 
 -- the member is the one that is meant
-member_is : (c : goal.At-short_in) (x : Piece) → slice_index_or c.args.list.now.list.members c.args.index x ≡ x → c.get.result.now ≡ x
+member_is : (c : goal.After-reached) (x : Piece) → slice_index_or c.args.list.now.list.members c.args.index x ≡ x → c.get.result.now ≡ x
 member_is c x is = c.get.ensures ∙ get_or_default c.args.list.now.list.members c.args.index c.get.result.now x c.requires.index ∙ is
 
 pub short_in-requires : goal.short_in-requires
