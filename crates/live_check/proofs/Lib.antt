@@ -5,7 +5,7 @@ pub mod Small
 pub mod Texts
 pub mod Places
 pub mod Counts
-pub mod Answers
+pub mod Judging
 pub mod Frames
 pub mod Rounds
 pub mod LineParts

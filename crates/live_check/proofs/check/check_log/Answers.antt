@@ -1,7 +1,7 @@
 use Rattle.std.proofs.Common.{◌≡◌, ℕ, ◌*◌, ◌≤◌, List, length, Option, arith, sym, ap, ◌∙◌, subst}
 use Rattle.live_check.specs.Fitting.{LogComes, LogStops}
 use Rattle.live_check.specs.Waiting.{waiting}
-use Rattle.live_check.proofs.Answers.{answer_end, answer_stops, nothing_watched, waiting_none}
+use Rattle.live_check.proofs.Judging.{answer_end, answer_stops, nothing_watched, waiting_none}
 use Rattle.live_check.proofs.Places.{AreFew}
 use Rattle.live_check.proofs.check.check_log.Goals as goal
 
