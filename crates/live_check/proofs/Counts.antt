@@ -1,10 +1,10 @@
 -- Counts that fit so far go on: with whole lists behind them.
-use Rattle.std.proofs.Common.{◌≡◌, ℕ, zero, suc, ◌+◌, ◌<◌, ◌≤◌, ◌⊎◌, Bool, true, false, cond, ◌&&◌, ◌||◌, nat_lt, nat_eq, List, [], ◌++◌, length, arith, refl, sym, ap, ◌∙◌, subst, inl, inr}
+use Rattle.std.proofs.Common.{◌≡◌, ℕ, ◌+◌, ◌<◌, ◌≤◌, ◌⊎◌, Bool, true, false, cond, ◌&&◌, ◌||◌, nat_lt, nat_eq, List, [], ◌++◌, length, arith, refl, sym, ap, ◌∙◌, subst, inl, inr}
 use Rattle.std.specs.List.{flat_map, range_with_len}
 use Rattle.std.proofs.lemmas.Bool.{cases_eq, cases_lt, eq-eqb, le-ltb, lt-ltb, ne_eqb}
 use Rattle.cull_base.specs.Tiles.{tile_list}
 use Rattle.scene_reader.specs.Layout.{Parts}
-use Rattle.cull_report.specs.Live.{Counts, IsBefore, IsLine, IsRising, IsRisingIn, IsStated, frame_live, frames_live, object_line, watched}
+use Rattle.cull_report.specs.Live.{Counts, IsBefore, IsRising, IsRisingIn, IsStated, frame_live, frames_live, object_line, watched}
 use Rattle.cull_report.specs.Scene.{frame_list}
 use Rattle.cull_report.proofs.LiveTexts.{frame_live-alike, frames_live-alike, lines_before-alike}
 use Rattle.live_check.specs.Fitting.{IsNext, IsRisingTo, lines_to}

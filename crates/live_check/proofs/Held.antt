@@ -1,8 +1,8 @@
 -- What holds of the tiles of a span, looked at row by row.
-use Rattle.std.proofs.Common.{◌≡◌, ◌⊎◌, ℕ, ◌+◌, ◌-◌, ◌*◌, ◌/◌, ◌<◌, ◌≤◌, Bool, true, false, arith, refl, sym, ap, ◌∙◌, subst, inl, inr}
+use Rattle.std.proofs.Common.{◌≡◌, ℕ, ◌+◌, ◌*◌, ◌<◌, ◌≤◌, true, false, arith, sym, ◌∙◌, subst, inl, inr}
 use Rattle.std.proofs.lemmas.Bool.{cases_lt}
 use Rattle.cull_base.specs.declared.tile_span.TileSpan.{TileSpan}
-use Rattle.cull_base.specs.Screen.{Dimensions, tile_columns_of, tile_count_of, tile_place, tile_rows_of}
+use Rattle.cull_base.specs.Screen.{Dimensions, tile_columns_of, tile_place}
 use Rattle.cull_base.specs.Span.{IsSpan, has_tile}
 use Rattle.cull_base.proofs.Places.{row_below}
 use Rattle.live_check.specs.Moving.{IsBefore}

@@ -1,15 +1,15 @@
 -- Tiles that move forward along a frame's list.
-use Rattle.std.proofs.Common.{◌≡◌, ℕ, ◌+◌, ◌<◌, ◌≤◌, Bool, true, false, not, cond, List, [], ◌∷◌, ◌++◌, length, take, get_or, filter, arith, refl, sym, ap, ◌∙◌, subst}
+use Rattle.std.proofs.Common.{◌≡◌, ℕ, ◌+◌, ◌<◌, ◌≤◌, Bool, true, false, cond, List, [], ◌∷◌, ◌++◌, length, take, get_or, filter, arith, refl, sym, ap, ◌∙◌}
 use Rattle.std.proofs.Math.Seq.{take-length}
-use Rattle.std.proofs.lemmas.List.{append-nil, length-append, take_more}
+use Rattle.std.proofs.lemmas.List.{length-append, take_more}
 use Rattle.std.proofs.lemmas.List.Elements.{filter-append}
 use Rattle.cull_base.specs.Piece.{Piece, box_of}
 use Rattle.cull_base.specs.Rectangle.{meets}
 use Rattle.cull_base.specs.Screen.{tile_rect_of}
 use Rattle.cull_base.specs.Tiles.{PieceList, tile_list}
-use Rattle.masked_update.specs.Taken.{IsMember, standing_at, taken_by}
-use Rattle.masked_update.specs.TileOf.{TileOf, empty_tile}
-use Rattle.masked_update.proofs.TileLists.{next_taken, none_taken}
+use Rattle.masked_update.specs.Taken.{standing_at}
+use Rattle.masked_update.specs.TileOf.{empty_tile}
+use Rattle.masked_update.proofs.TileLists.{none_taken}
 use Rattle.live_check.specs.Standing.{StandsBehind, met_before}
 
 -- some members fewer are kept

@@ -1,14 +1,14 @@
 -- The lines of a round, and of a frame, one after the other: their counts go on rising.
 use Rattle.std.proofs.Common.{◌≡◌, ℕ, ◌+◌, ◌*◌, ◌<◌, ◌≤◌, ◌⊎◌, Bool, true, false, cond, ◌&&◌, nat_eq, List, [], ◌++◌, Option, arith, refl, sym, ap, ◌∙◌, subst, inl, inr}
 use Rattle.std.specs.List.{flat_map, range_with_len}
-use Rattle.std.proofs.lemmas.Bool.{cases_eq, cases_lt, eq-eqb, ne_eqb}
+use Rattle.std.proofs.lemmas.Bool.{cases_lt, eq-eqb, ne_eqb}
 use Rattle.cull_base.specs.Rectangle.{meets}
 use Rattle.cull_base.specs.Screen.{tile_count_of, tile_rect_of}
 use Rattle.scene_reader.specs.Layout.{Parts}
 use Rattle.cull_report.specs.Live.{IsBefore, IsStated, frame_live, object_at, object_line, round_lines, watched}
 use Rattle.cull_report.specs.Scene.{object_area, size_of}
 use Rattle.cull_report.proofs.LiveTexts.{frame_live-alike, frame_live-more, frame_live-none, lines_before-alike, lines_before-more}
-use Rattle.live_check.specs.Fitting.{AreBefore, AreLast, FitsAt, FrameComes, FrameStops, IsNext, IsRisingTo, LineComes, RoundComes, RoundStops}
+use Rattle.live_check.specs.Fitting.{AreBefore, AreLast, FitsAt, FrameComes, FrameStops, IsRisingTo, LineComes, RoundComes, RoundStops}
 use Rattle.live_check.specs.Waiting.{Came, NeverComes}
 use Rattle.live_check.proofs.Frames.{came_as, came_none, came_then}
 

@@ -1,5 +1,5 @@
 -- The fields of a span's tiles, tile after tile.
-use Rattle.std.proofs.Common.{◌≡◌, ◌⊎◌, ℕ, zero, suc, ◌+◌, ◌-◌, ◌*◌, ◌/◌, ◌^◌, ◌<◌, ◌≤◌, Bool, true, false, cond, List, [], ◌∷◌, ◌++◌, length, map, set, get_or-set_other, get_or-set_same, length-set, Option, Some, None, option_map, append_assoc, arith, refl, sym, ap, ◌∙◌, subst, inl, inr}
+use Rattle.std.proofs.Common.{◌≡◌, ◌⊎◌, ℕ, zero, suc, ◌+◌, ◌-◌, ◌*◌, ◌/◌, ◌^◌, ◌<◌, ◌≤◌, Bool, true, false, List, [], ◌∷◌, ◌++◌, length, map, set, get_or-set_other, get_or-set_same, Option, Some, None, option_map, append_assoc, arith, refl, sym, ap, ◌∙◌, subst, inl, inr}
 use Rattle.std.specs.Prelude.{IfSome, slice_index}
 use Rattle.std.specs.Fmt.{decimal}
 use Rattle.std.specs.List.{filter, range_with_len}
@@ -23,7 +23,7 @@ use Rattle.cull_report.specs.LivePieces.{counts_text}
 use Rattle.cull_report.proofs.HeldTiles.{kept_more}
 use Rattle.cull_report.proofs.LiveSnapshots.{kept_alike}
 use Rattle.live_check.specs.Moving.{AreNotStated, AreStated, IsBefore, IsNotStatedOf, IsStatedOf, StatedTo, field_head, fields_before, fields_of}
-use Rattle.live_check.specs.Standing.{AreWhole, IsIn, StaysStanding, TilesOf, count_at}
+use Rattle.live_check.specs.Standing.{AreWhole, StaysStanding, TilesOf, count_at}
 use Rattle.live_check.specs.Waiting.{Came, IsBehindNumber, NeverComes}
 use Rattle.live_check.proofs.Frames.{came_as, came_none, came_then}
 use Rattle.live_check.proofs.Words.{OnlyNumber}

@@ -1,5 +1,5 @@
 -- A piece that the short tiles of a span take, tile after tile.
-use Rattle.std.proofs.Common.{◌≡◌, ◌⊎◌, ℕ, ◌+◌, ◌*◌, ◌/◌, ◌<◌, ◌≤◌, Bool, true, false, ◌&&◌, cond, nat_eq, nat_le, nat_lt, List, length, set, get_or-set_other, get_or-set_same, arith, refl, sym, ap, ◌∙◌, subst, inl, inr}
+use Rattle.std.proofs.Common.{◌≡◌, ℕ, ◌+◌, ◌*◌, ◌<◌, ◌≤◌, Bool, true, false, ◌&&◌, cond, nat_eq, nat_le, nat_lt, List, set, get_or-set_other, get_or-set_same, arith, refl, sym, ap, ◌∙◌, subst, inl, inr}
 use Rattle.std.specs.Prelude.{slice_index}
 use Rattle.std.proofs.lemmas.Bool.{cases_lt, eqb-true, lt-ltb}
 use Rattle.std.proofs.lemmas.Bool.Decides.{nat_tests}
@@ -12,7 +12,7 @@ use Rattle.masked_update.specs.Taken.{taken_by}
 use Rattle.masked_update.specs.TileOf.{TileOf, empty_tile, tile_at}
 use Rattle.live_check.specs.Moving.{TookIf, TookWhere, is_short_at}
 use Rattle.live_check.specs.Standing.{AreWhole, TilesOf, count_at}
-use Rattle.live_check.proofs.Stating.{no_column, no_row, on_row, past_rows, row_from}
+use Rattle.live_check.proofs.Stating.{no_column, no_row, past_rows, row_from}
 
 -- ---- tests
 

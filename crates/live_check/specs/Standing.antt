@@ -1,9 +1,7 @@
 -- The tiles of a frame that is checked: each stands at some members of its list, and moves forward.
 use Rattle.std.specs.Prelude.{ℕ, ◌≡◌, ◌<◌, ◌≤◌, List, length, take, true, slice_index}
-use Rattle.cull_base.specs.declared.rect.Rect.{Rect}
 use Rattle.cull_base.specs.declared.tile_span.TileSpan.{TileSpan}
-use Rattle.cull_base.specs.Rectangle.{meets}
-use Rattle.cull_base.specs.Screen.{Dimensions, tile_count_of, tile_place, tile_rect_of}
+use Rattle.cull_base.specs.Screen.{Dimensions, tile_count_of, tile_place}
 use Rattle.cull_base.specs.Span.{has_tile}
 use Rattle.cull_base.specs.Tiles.{PieceList, tile_list}
 use Rattle.masked_update.specs.Taken.{standing_at}

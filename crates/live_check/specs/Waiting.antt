@@ -1,5 +1,5 @@
 -- The bytes of a log that are still to be looked at: those in a buffer, and then what is left of the source.
-use Rattle.std.specs.Prelude.{ℕ, ◌≡◌, ◌<◌, ◌≤◌, ◌⊎◌, List, [], ◌∷◌, ◌++◌, length, Option, Some, option_map, IfSome, Result, IfOk, OnErr}
+use Rattle.std.specs.Prelude.{ℕ, ◌≡◌, ◌<◌, ◌≤◌, List, [], ◌∷◌, ◌++◌, Option, option_map, IfSome, Result, OnErr}
 use Rattle.cull_base.specs.Stream.{SourceSays, Rose}
 
 abbrev pub waiting : List ℕ → Option (List ℕ) → Option (List ℕ)

@@ -1,4 +1,4 @@
-use Rattle.std.proofs.Common.{◌<◌, ◌≤◌, arith, ◌∙◌}
+use Rattle.std.proofs.Common.{arith, ◌∙◌}
 use Rattle.live_check.specs.Waiting.{waiting}
 use Rattle.live_check.proofs.Frames.{first_frames, last_frames, next_frame, stopped_frame}
 use Rattle.live_check.proofs.check.takes_frames.Goals as goal

@@ -1,5 +1,4 @@
 use Rattle.std.proofs.Common.{◌≡◌, ℕ, ◌<◌, ◌≤◌, length}
-use Rattle.cull_base.specs.Stream.{Rose}
 use Rattle.cull_report.specs.Live.{Counts, IsRisingIn, frames_live, watched}
 use Rattle.cull_report.specs.Scene.{size_of}
 use Rattle.live_check.specs.Waiting.{Came, waiting}

@@ -1,4 +1,4 @@
-use Rattle.std.proofs.Common.{◌≡◌, ◌<◌, ◌≤◌, arith, refl, sym, ap, ◌∙◌, subst}
+use Rattle.std.proofs.Common.{◌≡◌, arith}
 use Rattle.live_check.proofs.Rounds.{round_begin, round_end, round_next, round_stop}
 use Rattle.live_check.proofs.frame.takes_round.Goals as goal
 

@@ -1,4 +1,4 @@
-use Rattle.std.proofs.Common.{◌≡◌, ◌+◌, ◌<◌, arith, refl, sym, ◌∙◌}
+use Rattle.std.proofs.Common.{◌≡◌, ◌+◌, arith, sym}
 use Rattle.live_check.proofs.Words.{behind_byte, behind_from, behind_none, came_byte, came_from}
 use Rattle.live_check.proofs.words.take_digit.Goals as goal
 

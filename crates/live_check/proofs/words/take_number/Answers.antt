@@ -1,4 +1,4 @@
-use Rattle.std.proofs.Common.{◌≡◌, ℕ, ◌+◌, ◌*◌, ◌^◌, ◌<◌, ◌≤◌, arith, refl, sym, ◌∙◌, subst}
+use Rattle.std.proofs.Common.{◌≡◌, ℕ, suc, ◌+◌, ◌*◌, ◌^◌, ◌<◌, ◌≤◌, arith, ◌∙◌}
 use Rattle.live_check.proofs.Words.{length_first, number_first, number_longer, number_more, only_ended, only_long, only_none, only_zero}
 use Rattle.live_check.proofs.words.take_number.Goals as goal
 

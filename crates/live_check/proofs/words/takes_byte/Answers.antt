@@ -1,4 +1,4 @@
-use Rattle.std.proofs.Common.{◌≡◌, refl, sym, ◌∙◌}
+use Rattle.std.proofs.Common.{arith, ◌≡◌}
 use Rattle.live_check.proofs.Words.{came_byte, came_from, never_byte, never_from, never_none}
 use Rattle.live_check.proofs.words.takes_byte.Goals as goal
 

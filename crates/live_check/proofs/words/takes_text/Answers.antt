@@ -1,4 +1,4 @@
-use Rattle.std.proofs.Common.{◌≡◌, length, arith, refl, ◌∙◌}
+use Rattle.std.proofs.Common.{◌≡◌, length, arith}
 use Rattle.std.proofs.Math.Seq.{take-length}
 use Rattle.live_check.proofs.Frames.{came_as, came_none}
 use Rattle.live_check.proofs.Words.{text_next, text_stops}

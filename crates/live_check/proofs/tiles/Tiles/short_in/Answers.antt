@@ -1,4 +1,4 @@
-use Rattle.std.proofs.Common.{◌≡◌, ℕ, ◌+◌, ◌*◌, ◌<◌, ◌≤◌, true, false, arith, sym, ap, ◌∙◌, subst}
+use Rattle.std.proofs.Common.{◌≡◌, ℕ, ◌+◌, ◌*◌, true, false, arith, sym, ap, ◌∙◌}
 use Rattle.cull_base.specs.Screen.{tile_columns_of, tile_rows_of}
 use Rattle.live_check.specs.Moving.{is_short_at}
 use Rattle.live_check.specs.Standing.{TilesOf}

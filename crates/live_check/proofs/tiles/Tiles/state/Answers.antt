@@ -1,4 +1,4 @@
-use Rattle.std.proofs.Common.{◌≡◌, ◌<◌, ◌≤◌, arith, refl, sym, ap, ◌∙◌, subst}
+use Rattle.std.proofs.Common.{◌≡◌, arith, refl, sym, ap, ◌∙◌, subst}
 use Rattle.cull_base.specs.Screen.{Dimensions, tile_columns_of}
 use Rattle.cull_base.specs.Span.{IsSpan}
 use Rattle.live_check.specs.Standing.{TilesOf}

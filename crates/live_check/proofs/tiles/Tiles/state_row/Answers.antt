@@ -1,5 +1,5 @@
-use Rattle.std.proofs.Common.{◌≡◌, ℕ, ◌+◌, ◌*◌, ◌<◌, ◌≤◌, arith, refl, sym, ap, ◌∙◌, subst}
-use Rattle.cull_base.specs.Screen.{Dimensions, tile_columns_of, tile_count_of}
+use Rattle.std.proofs.Common.{◌≡◌, ℕ, ◌+◌, ◌*◌, arith, refl, sym, ap, ◌∙◌, subst}
+use Rattle.cull_base.specs.Screen.{Dimensions, tile_columns_of}
 use Rattle.cull_base.specs.Span.{IsSpan}
 use Rattle.live_check.specs.Moving.{IsNotStatedOf, IsStatedOf}
 use Rattle.live_check.specs.Standing.{TilesOf}

@@ -1,5 +1,4 @@
-use Rattle.std.proofs.Common.{◌≡◌, ℕ, ◌<◌, ◌≤◌, List, length, length-set, set, arith, refl, sym, ap, ◌∙◌, subst}
-use Rattle.cull_base.specs.Screen.{tile_count_of}
+use Rattle.std.proofs.Common.{◌≡◌, length-set, set, arith, ap, ◌∙◌, subst}
 use Rattle.live_check.specs.Standing.{TilesOf, count_at}
 use Rattle.live_check.specs.Waiting.{Came, NeverComes}
 use Rattle.live_check.proofs.Stating.{is_stated_of, not_count, not_head, not_number}

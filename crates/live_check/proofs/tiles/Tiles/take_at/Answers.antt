@@ -1,6 +1,6 @@
-use Rattle.std.proofs.Common.{◌≡◌, ℕ, ◌+◌, ◌*◌, ◌<◌, true, false, List, length-set, set, arith, refl, sym, ap, ◌∙◌, subst}
+use Rattle.std.proofs.Common.{◌≡◌, ℕ, ◌+◌, ◌*◌, true, false, set, sym, ap, ◌∙◌, subst}
 use Rattle.cull_base.specs.declared.place.Tile.{Tile}
-use Rattle.cull_base.specs.Screen.{tile_columns_of, tile_count_of, tile_rows_of}
+use Rattle.cull_base.specs.Screen.{tile_columns_of, tile_rows_of}
 use Rattle.masked_update.specs.Taken.{taken_at}
 use Rattle.masked_update.specs.TileOf.{TileOf, tile_at}
 use Rattle.masked_update.proofs.Grid.{number_below}

@@ -1,4 +1,3 @@
-use Rattle.std.proofs.Common.{refl, ◌∙◌}
 use Rattle.live_check.proofs.unread.Unread.peek.Goals as goal
 
 pub returns-in-Some-clause-some : goal.returns-in-Some-clause-some

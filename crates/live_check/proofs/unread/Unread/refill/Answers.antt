@@ -1,4 +1,4 @@
-use Rattle.std.proofs.Common.{length, arith}
+use Rattle.std.proofs.Common.{arith}
 use Rattle.live_check.proofs.Words.{none_taken, refilled}
 use Rattle.live_check.proofs.unread.Unread.refill.Goals as goal
 
