@@ -3,12 +3,12 @@ use Rattle.std.specs.Prelude.{slice_index}
 use Rattle.std.proofs.lemmas.Bool.{cases_lt}
 use Rattle.cull_base.specs.Screen.{tile_count_of}
 use Rattle.masked_update.specs.TileOf.{TileOf, empty_tile, tile_at}
-use Rattle.live_check.specs.Standing.{StandsBehind, TilesOf}
+use Rattle.live_check.specs.Standing.{AreWhole, StandsBehind, TilesOf}
 use Rattle.live_check.proofs.Moves.{stands_none}
 use Rattle.live_check.proofs.tiles.Tiles.empty.Goals as goal
 
 pub loop-tile-init : goal.loop-tile-init
-loop-tile-init c = record { size = refl; whole = rw (← c.self.view_is) c.self.invariant; states = λ t lt. absurd (omega (arith, lt)); behind = λ t lt. absurd (omega (arith, lt)) }
+loop-tile-init c = record { size = refl; whole = subst AreWhole c.self.view_is c.self.invariant; states = λ t lt. absurd (omega (arith, lt)); behind = λ t lt. absurd (omega (arith, lt)) }
 
 pub clear-requires : goal.clear-requires
 clear-requires c = rw c.loop-tile.invariant.size (omega (arith, c.loop-tile-test.true, c.tile_count-count.ensures.value, ap (λ (x : TilesOf). tile_count_of x.size) c.self.view_is))

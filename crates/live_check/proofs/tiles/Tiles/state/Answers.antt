@@ -1,14 +1,14 @@
 use Rattle.std.proofs.Common.{◌≡◌, arith, refl, sym, ap, ◌∙◌, subst}
 use Rattle.cull_base.specs.Screen.{Dimensions, tile_columns_of}
 use Rattle.cull_base.specs.Span.{IsSpan}
-use Rattle.live_check.specs.Standing.{TilesOf}
+use Rattle.live_check.specs.Standing.{AreWhole, TilesOf}
 use Rattle.live_check.proofs.Stating.{rows_begun, rows_ended}
 use Rattle.live_check.proofs.tiles.Tiles.state.Goals as goal
 
 pub loop-row-init : goal.loop-row-init
 loop-row-init g c = record {
   stays = record { size = refl; states = refl; behind = refl };
-  stated = rows_begun c.args.span.now c.args.self.now _ (omega (arith, c.tile_columns-columns.ensures.some, c.tile_columns-columns.ensures.value, ap (λ (x : TilesOf). tile_columns_of x.size) c.self.view_is)) (rw (← c.self.view_is) c.self.invariant);
+  stated = rows_begun c.args.span.now c.args.self.now _ (omega (arith, c.tile_columns-columns.ensures.some, c.tile_columns-columns.ensures.value, ap (λ (x : TilesOf). tile_columns_of x.size) c.self.view_is)) (subst AreWhole c.self.view_is c.self.invariant);
   faults = omega arith;
 }
 
