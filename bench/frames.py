@@ -3,21 +3,27 @@
 
 usage: bench/frames.py PROGRAM [--triangles 1000,20000,65536] [--rectangles 500] [--rounds 5]
                        [--workers 1,2,4] [--bins 4] [--batch 64] [--path 64]
+                       [--grade narrow|wide] [--near 16] [--scene-batches 1]
 
 Each scene has random triangles between near and far, as a camera that looks down the z axis sees them, and random
 rectangles as objects. A frame's time is the shortest of --rounds runs of the program, less that of a run without
 triangles and with one rectangle, so that start-up isn't counted; reading the scene and writing the report are. With
 more than one worker the screen is cut into --bins columns and rows of bins, and the workers share the frame. With
 --path the same picture is drawn that many times, by cameras in a row, and workers take frames side by side; the time
-of a fourth of them is subtracted, so that reading isn't counted either.
+of a fourth of them is subtracted, so that reading isn't counted either. With --grade the scenes are of version 2 and
+have this grade, and their triangles come in --scene-batches; without it they are of version 1. With --near the near
+distance is another, and all coordinates and distances are multiplied by a 64th of it, rounded up: the picture stays
+what it is.
 Measure on a quiet machine."""
 import argparse
 import struct
 import subprocess
 import time
 
-WIDTH, HEIGHT, NEAR = 1280, 720, 16
+WIDTH, HEIGHT = 1280, 720
+FIRST_NEAR = 16
 IDENTITY = (65536, 0, 0, 0, 0, 65536, 0, 0, 0, 0, 65536, 0)
+GRADES = ("narrow", "wide")
 
 
 class Numbers:
@@ -31,23 +37,48 @@ class Numbers:
         return (self.state >> 33) % end
 
 
-def scene(seed, triangles, rectangles, frames=1):
+class Form:
+    """What a scene is apart from its picture: its near distance, and in version 2 a grade and a number of batches. In
+    version 1 the grade is None."""
+
+    def __init__(self, near=FIRST_NEAR, grade=None, parts=1):
+        self.near, self.grade, self.parts = near, grade, parts
+        # so many units are one of the scenes with the first near distance
+        self.unit = -(-near // 64)
+
+    def header(self, frames, *counts):
+        """The header with the numbers of vertices, occluder triangles, object triangles and objects."""
+        if self.grade is None:
+            return struct.pack("<4s4H2BH4I", b"MSOC", 1, WIDTH, HEIGHT, self.near, 0, 0, frames, *counts)
+        grade = GRADES.index(self.grade)
+        return struct.pack("<4s4H2BH5I", b"MSOC", 2, WIDTH, HEIGHT, self.near, 0, grade, frames, *counts, self.parts)
+
+    def batches(self, triangles):
+        """The table of batches: as equal as can be, and none drops a triangle."""
+        if self.grade is None:
+            return b""
+        ends = [triangles * part // self.parts for part in range(self.parts + 1)]
+        return b"".join(struct.pack("<IB", end - first, 0) for first, end in zip(ends, ends[1:]))
+
+
+def scene(form, seed, triangles, rectangles, frames=1):
     numbers = Numbers(seed)
     vertices = bytearray()
     for _ in range(triangles):
         x, y, z = numbers.below(16001) - 8000, numbers.below(4001) - 2000, 200 + numbers.below(16000)
         for _ in range(3):
             vx, vy, vz = x + numbers.below(801) - 400, y + numbers.below(801) - 400, z + numbers.below(201) - 100
-            vertices += struct.pack("<3i", 36864 * vx >> 16, vy, vz)
+            vertices += struct.pack("<3i", *(form.unit * number for number in (36864 * vx >> 16, vy, vz)))
     indices = struct.pack(f"<{3 * triangles}I", *range(3 * triangles))
     objects = bytearray()
     for _ in range(rectangles):
         w, h = 8 + numbers.below(120), 8 + numbers.below(120)
         x, y = numbers.below(WIDTH - w), numbers.below(HEIGHT - h)
-        objects += struct.pack("<B6i", 0, x, y, x + w, y + h, NEAR + 200 + numbers.below(16000), 0)
-    counts = (3 * triangles, triangles, 0, rectangles)
-    header = struct.pack("<4sHHHHBBHIIII", b"MSOC", 1, WIDTH, HEIGHT, NEAR, 0, 0, frames, *counts)
-    return header + vertices + indices + objects + frames * struct.pack("<12i", *IDENTITY)
+        distance = form.unit * (FIRST_NEAR + 200 + numbers.below(16000))
+        objects += struct.pack("<B6i", 0, x, y, x + w, y + h, distance, 0)
+    header = form.header(frames, 3 * triangles, triangles, 0, rectangles)
+    cameras = frames * struct.pack("<12i", *IDENTITY)
+    return header + vertices + indices + form.batches(triangles) + objects + cameras
 
 
 def words(workers, bins, batch):
@@ -65,11 +96,11 @@ def seconds(program, words, data, rounds):
     return least
 
 
-def path(program, triangles, rectangles, workers, frames, rounds):
+def path(program, form, triangles, rectangles, workers, frames, rounds):
     """Seconds a frame along a path."""
     few = frames // 4
     options = ["cull", "--workers", str(workers)]
-    times = [seconds(program, options, scene(1, triangles, rectangles, n), rounds) for n in (few, frames)]
+    times = [seconds(program, options, scene(form, 1, triangles, rectangles, n), rounds) for n in (few, frames)]
     return (times[1] - times[0]) / (frames - few)
 
 
@@ -83,15 +114,19 @@ def main():
     parser.add_argument("--bins", type=int, default=4)
     parser.add_argument("--batch", type=int, default=64)
     parser.add_argument("--path", type=int, default=0)
+    parser.add_argument("--grade", choices=GRADES)
+    parser.add_argument("--near", type=int, default=FIRST_NEAR)
+    parser.add_argument("--scene-batches", type=int, default=1)
     args = parser.parse_args()
-    empty = seconds(args.program, ["cull"], scene(1, 0, 1), args.rounds)
+    form = Form(args.near, args.grade, args.scene_batches)
+    empty = seconds(args.program, ["cull"], scene(form, 1, 0, 1), args.rounds)
     for triangles in map(int, args.triangles.split(",")):
-        data = scene(1, triangles, args.rectangles)
+        data = scene(form, 1, triangles, args.rectangles)
         for workers in map(int, args.workers.split(",")):
             frame = seconds(args.program, words(workers, args.bins, args.batch), data, args.rounds) - empty
             print(f"{triangles:>7} triangles, {args.rectangles} rectangles, {workers} workers: {1000 * frame:.2f} ms")
             if args.path:
-                frame = path(args.program, triangles, args.rectangles, workers, args.path, args.rounds)
+                frame = path(args.program, form, triangles, args.rectangles, workers, args.path, args.rounds)
                 print(f"{'':>7} along a path of {args.path} frames: {1000 * frame:.2f} ms, {1 / frame:.0f} a second")
 
 

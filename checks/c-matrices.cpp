@@ -10,10 +10,10 @@
 // are, and the truth is reckoned in whole numbers of 128 bits, whatever flags this file is compiled with. In the
 // matrix's row for z there is no number: it may not be read. Looked at is
 //
-// - each sample of the screen: what is held there is at most 16777215 times 8/7 of the near distance, where the library's
-//   near plane stands, over the distance at which the true plane, or the nearer of two, is seen through the sample;
-//   and the sample is seen within the true triangle, or one of two, or beside it by no more than the margin that a box
-//   is asked wider by;
+// - each sample of the screen: what is held there is at most 16777215 times 8/7 of the near distance, where the
+//   library's near plane stands, over the distance at which the true plane, or the nearer of two, is seen through the
+//   sample; and the sample is seen within the true triangle, or one of two, or beside it by no more than the margin
+//   that a box is asked wider by;
 // - each box and mesh that is called occluded: each corner of it has a point of the true triangle or parallelogram
 //   strictly in front of it, on the ray from the eye, at the near distance or farther; so all between them has. A
 //   corner beside the screen doesn't count, nor one within two pixels of its edge, where an occluder may end a little

@@ -7,8 +7,9 @@
 // numbers below 2^24, so floats hold them as they are, and the truth is reckoned in whole numbers of 128 bits, whatever
 // flags this file is compiled with. Looked at is
 //
-// - each sample of the screen: what is held there is at most 16777215 times 8/7 of the near distance, where the library's
-//   near plane stands, over the distance at which the true plane, or the nearer of two, is seen through the sample;
+// - each sample of the screen: what is held there is at most 16777215 times 8/7 of the near distance, where the
+//   library's near plane stands, over the distance at which the true plane, or the nearer of two, is seen through the
+//   sample;
 // - each box that is called hidden: each corner, and so each point, of it has a point of the triangle or parallelogram
 //   strictly in front of it, on the ray from the eye, at the near distance or farther. A corner beside the screen
 //   doesn't count, nor one within two pixels of its edge, where an occluder may end a little beside the true one.

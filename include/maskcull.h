@@ -233,10 +233,11 @@ uint32_t maskcull_test_mesh(const maskcull_setup *setup, const maskcull_tile *ti
 /* What a subtile of a tile holds; zeros where there is no such tile or subtile. */
 maskcull_subtile_state maskcull_subtile(const maskcull_tile *tiles, size_t tile_count, size_t tile, uint32_t subtile);
 
-/* Writes what the tiles hold as a picture: the element at y * row_stride + x is the nearness, from 0 to 65535, that
- * something drawn has at least at the sample of pixel (x, y), or 0; what is nearer, in the wide grade, is written as
- * 65535. No other element is written. `out` has out_count
- * elements, and row_stride is how many of them lie from one row to the next: the width, or more.
+/* Writes what the tiles hold as a picture: the element at y * row_stride + x is the nearness that something drawn has
+ * at least at the sample of pixel (x, y), or 0. In the wide grade it is divided by 256 and rounded down, so in either
+ * grade it goes to 65535. More than that, as of tiles that were drawn wide and are shown narrow, is written as 65535.
+ * No other element is written. `out` has out_count elements, and row_stride is how many of them lie from one row to the
+ * next: the width, or more.
  * BAD_SETUP, BAD_TILES, BAD_ROOM (row_stride below the width, or out_count below (height - 1) * row_stride + width). */
 uint32_t maskcull_nearness(const maskcull_setup *setup, const maskcull_tile *tiles, size_t tile_count,
                            uint16_t *out, size_t out_count, size_t row_stride);

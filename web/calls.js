@@ -12,9 +12,13 @@ export const KEEPS_BOTH = 0;
 export const DROPS_CLOCKWISE = 1;
 export const DROPS_COUNTERCLOCKWISE = 2;
 
+/** Grades: whether nearness goes to 65535 or to 16777215, and so how finely distances are told apart. */
+export const NARROW = 0;
+export const WIDE = 16;
+
 /**
- * What is wrong, in a sentence. Its kind is 'engine', 'module', 'memory', 'screen', 'near', 'winding', 'array',
- * 'index' or 'number'.
+ * What is wrong, in a sentence. Its kind is 'engine', 'module', 'memory', 'screen', 'near', 'winding', 'grade',
+ * 'array', 'index' or 'number'.
  */
 export class MaskcullError extends Error {
     /**
@@ -154,15 +158,21 @@ class Words {
 }
 
 /**
- * A screen in pixels, its near distance, and which triangles aren't drawn on it.
- * @typedef {{ width: number, height: number, near: number, winding?: number }} Screen
+ * A screen in pixels, its near distance, which triangles aren't drawn on it, and its grade.
+ * @typedef {{ width: number, height: number, near: number, winding?: number, grade?: number }} Screen
  */
+
+/** @param {number} winding */
+function demandWinding(winding) {
+    if ([KEEPS_BOTH, DROPS_CLOCKWISE, DROPS_COUNTERCLOCKWISE].includes(winding)) return;
+    throw new MaskcullError('winding', `There is no winding ${winding}: it is 0, 1 or 2.`);
+}
 
 /**
  * @param {any} exports
  * @param {Screen} screen
  */
-function demandSetup(exports, { width, height, near, winding = KEEPS_BOTH }) {
+function demandSetup(exports, { width, height, near, winding = KEEPS_BOTH, grade = NARROW }) {
     if (!isWhole(width) || !isWhole(height) || exports.maskcull_tile_count(width, height) === 0) {
         throw new MaskcullError('screen', `A screen of ${width} by ${height} pixels can't be: the width is a multiple `
             + 'of 8 and the height one of 4, each above 0 and up to 2048.');
@@ -170,8 +180,9 @@ function demandSetup(exports, { width, height, near, winding = KEEPS_BOTH }) {
     if (!isWhole(near) || near < 1 || near > 1024) {
         throw new MaskcullError('near', `A near distance of ${near} can't be: it is a whole number from 1 to 1024.`);
     }
-    if (![KEEPS_BOTH, DROPS_CLOCKWISE, DROPS_COUNTERCLOCKWISE].includes(winding)) {
-        throw new MaskcullError('winding', `There is no winding ${winding}: it is 0, 1 or 2.`);
+    demandWinding(winding);
+    if (![NARROW, WIDE].includes(grade)) {
+        throw new MaskcullError('grade', `There is no grade ${grade}: it is 0 or 16.`);
     }
 }
 
@@ -189,6 +200,7 @@ export class Calls {
     #room;
     #setupAndTiles;
     #askedAt;
+    #grade;
     // How many vertices and triangles there is room for.
     #vertexCount = 0;
     #triangleCount = 0;
@@ -207,7 +219,7 @@ export class Calls {
      */
     constructor(exports, screen) {
         demandSetup(exports, screen);
-        const { width, height, near, winding = KEEPS_BOTH } = screen;
+        const { width, height, near, winding = KEEPS_BOTH, grade = NARROW } = screen;
         // The module's own data end at __heap_base. After them lie the setup, what is tested, a subtile that is
         // answered, the tiles, and room for the vertices and triangles of a call.
         const setup = Math.ceil(Number(exports.__heap_base.value) / 16) * 16;
@@ -223,8 +235,18 @@ export class Calls {
         this.#setupAndTiles = [setup, this.#tiles, this.tileCount].map(BigInt);
         this.#askedAt = BigInt(this.#asked);
         this.#words.reach(this.#room);
-        this.#words.unsigned.set([width, height, near, winding], setup / 4);
+        this.#grade = grade;
+        this.#words.unsigned.set([width, height, near, winding + grade], setup / 4);
         this.clear();
+    }
+
+    /**
+     * Sets which occluder triangles aren't drawn from now on.
+     * @param {number} winding
+     */
+    setWinding(winding) {
+        demandWinding(winding);
+        this.#words.unsigned[Number(this.#setupAndTiles[0]) / 4 + 3] = winding + this.#grade;
     }
 
     /** Empties all tiles. */

@@ -10,7 +10,12 @@ export const DROPS_CLOCKWISE: 1;
 export const DROPS_COUNTERCLOCKWISE: 2;
 export type Winding = 0 | 1 | 2;
 
-/** A screen in pixels, its near distance, and which triangles aren't drawn on it. */
+/** Grades: whether nearness goes to 65535 or to 16777215, and so how finely distances are told apart. */
+export const NARROW: 0;
+export const WIDE: 16;
+export type Grade = 0 | 16;
+
+/** A screen in pixels, its near distance, which triangles aren't drawn on it, and its grade. */
 export interface Screen {
     /** A multiple of 8, from 8 to 2048. */
     width: number;
@@ -23,6 +28,8 @@ export interface Screen {
     near: number;
     /** KEEPS_BOTH if it is left out. */
     winding?: Winding;
+    /** For Calls, NARROW if it is left out. A Frame is narrow. */
+    grade?: Grade;
 }
 
 /** Three numbers of vertices for each triangle. */
@@ -31,7 +38,8 @@ export type Indices = Uint16Array | Uint32Array;
 /** What is wrong, in a sentence. */
 export class MaskcullError extends Error {
     constructor(kind: string, sentence: string);
-    kind: 'engine' | 'module' | 'memory' | 'screen' | 'near' | 'winding' | 'array' | 'index' | 'number';
+    kind: 'engine' | 'module' | 'memory' | 'screen' | 'near' | 'winding' | 'grade' | 'array' | 'index'
+        | 'number';
 }
 
 /** Compiles the module: out/maskcull.wasm beside maskcull.js if neither an address nor bytes are given. */
@@ -87,6 +95,9 @@ export class Calls {
 
     /** Empties all tiles. */
     clear(): void;
+
+    /** Sets which occluder triangles aren't drawn from now on. */
+    setWinding(winding: Winding): void;
 
     /** Draws occluder triangles, after all that were drawn before. A vertex is x, y and w. */
     draw(vertices: Int32Array, triangles: Uint32Array): void;

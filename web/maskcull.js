@@ -19,10 +19,11 @@
 // slit is narrower than a pixel of the frame, since a pixel is tested at its centre; or narrower than three pixels if
 // the occluders are at the near plane and rounding moves their edges. So make the frame as large as the picture, or let
 // occluders lie within what is drawn.
-import { Calls, MaskcullError, OCCLUDED, OUTSIDE, VISIBLE, countOf, demandAmong, start } from './calls.js';
+import { Calls, MaskcullError, NARROW, OCCLUDED, OUTSIDE, VISIBLE, countOf, demandAmong, start } from './calls.js';
 
 export {
-    Calls, DROPS_CLOCKWISE, DROPS_COUNTERCLOCKWISE, KEEPS_BOTH, MaskcullError, OCCLUDED, OUTSIDE, VISIBLE, loadModule,
+    Calls, DROPS_CLOCKWISE, DROPS_COUNTERCLOCKWISE, KEEPS_BOTH, MaskcullError, NARROW, OCCLUDED, OUTSIDE, VISIBLE, WIDE,
+    loadModule,
 } from './calls.js';
 
 /** @typedef {import('./calls.js').Screen} Screen */
@@ -153,7 +154,7 @@ export class Frame {
         if (!(this.#scale > 0 && this.#scale < Infinity)) {
             throw new MaskcullError('near', `A near distance of ${screen.near} can't be: it is a number above 0.`);
         }
-        this.calls = new Calls(exports, { ...screen, near: FINEST });
+        this.calls = new Calls(exports, { ...screen, near: FINEST, grade: NARROW });
     }
 
     /** Empties all tiles. */

@@ -2,20 +2,22 @@
  *
  *     cc -std=c11 -O2 -Iinclude examples/c/measure.c crates/maskcull_c/out/libmaskcull_c.a -pthread -o measure
  *     ./measure
+ *     ./measure wide
  *
  * The triangles are those of bench/frames.py: random ones between near and far, the same for the same seed. A frame is
  * a clearing and a draw of all; with four threads each draws all triangles onto a quarter of the rows of tiles, and
- * starting them is part of it. Measure on a quiet machine. */
+ * starting them is part of it. The second line measures the same in the wide grade. Measure on a quiet machine. */
 #define _POSIX_C_SOURCE 200809L
 #include "maskcull.h"
 
 #include <pthread.h>
 #include <stdio.h>
+#include <string.h>
 #include <time.h>
 
 enum { WIDTH = 1280, HEIGHT = 720, NEAR = 16, TRIANGLES = 20000, FEW = 1000, MOST_THREADS = 4, ROUNDS = 9 };
 
-static const maskcull_setup setup = {WIDTH, HEIGHT, NEAR, MASKCULL_KEEPS_BOTH};
+static maskcull_setup setup = {WIDTH, HEIGHT, NEAR, MASKCULL_KEEPS_BOTH};
 
 /* All tiles, and what is drawn on them. */
 typedef struct scene {
@@ -186,9 +188,12 @@ static void print_times(const scene *s)
     printf("                      %9.3f ms by four threads\n", least(draw_frame_by_threads, s, 1, clear) / 1e6);
 }
 
-int main(void)
+int main(int argc, char **argv)
 {
     scene s = {NULL, 0, NULL, NULL};
+    if (argc > 1 && strcmp(argv[1], "wide") == 0) {
+        setup.winding += MASKCULL_WIDE;
+    }
     s.tiles = maskcull_open(WIDTH, HEIGHT, &s.tile_count);
     s.vertices = malloc(3 * TRIANGLES * sizeof *s.vertices);
     s.triangles = malloc(TRIANGLES * sizeof *s.triangles);

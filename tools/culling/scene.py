@@ -41,21 +41,12 @@ class Scene:
         ]
 
     def as_bytes(self):
-        """A scene whose triangles are one batch: of version 1 where it is narrow, of version 2 where it is wide."""
-        (count, winding), = self.batches
+        """Of version 1 where the scene is narrow and its triangles are one batch, otherwise of version 2."""
         tables = (self.vertices, self.occluders, self.objects, self.cameras, self.object_triangles)
-        narrow = msoc.scene(self.size, self.near, *tables, winding)
-        return narrow if self.top == NARROW_TOP else widened(narrow, count, winding)
-
-
-def widened(narrow, count, winding):
-    """The bytes of version 2 and of the wide grade, for a scene of version 1."""
-    header = bytearray(narrow[:32] + struct.pack("<I", 1))
-    struct.pack_into("<H", header, 4, 2)
-    header[12], header[13] = 0, 1
-    vertices, = struct.unpack_from("<I", narrow, 16)
-    end = 32 + 12 * (vertices + count)
-    return bytes(header) + narrow[32:end] + struct.pack(BATCH, count, winding) + narrow[end:]
+        if self.top == NARROW_TOP and len(self.batches) == 1:
+            return msoc.scene(self.size, self.near, *tables, winding=self.batches[0][1])
+        grade = msoc.WIDE if self.top == WIDE_TOP else msoc.NARROW
+        return msoc.scene(self.size, self.near, *tables, grade=grade, batches=self.batches)
 
 
 def read_scene(stored):

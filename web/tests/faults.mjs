@@ -72,7 +72,11 @@ const ATTEMPTS = {
         ...[0, -1, NaN, Infinity, undefined].map((near) => () => make({ near })),
         ...[0, 1.5, 1025, NaN].map((near) => () => makeCalls({ near })),
     ],
-    winding: [3, -1, NaN].map((winding) => () => make({ winding })),
+    winding: [
+        ...[3, -1, NaN].map((winding) => () => make({ winding })),
+        ...[16, undefined].map((winding) => (frame) => frame.calls.setWinding(winding)),
+    ],
+    grade: [1, 32, NaN].map((grade) => () => makeCalls({ near: 16, grade })),
     array: [
         (frame) => frame.draw([...WALL], QUAD, CLIP_FROM_VIEW),
         (frame) => frame.draw(WALL.subarray(1), QUAD, CLIP_FROM_VIEW),

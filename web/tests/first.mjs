@@ -1,15 +1,17 @@
 // examples/c/first.c once more, call by call on the module itself: what it prints has to come out.
 import assert from 'node:assert/strict';
 import fs from 'node:fs';
-import { growBy } from '../calls.js';
+import { KEEPS_BOTH, WIDE, growBy } from '../calls.js';
 import { module } from './module.mjs';
 
 const WIDTH = 64, HEIGHT = 32, NEAR = 16, TILES = 8, TILE_ROWS = 4, TILE_BYTES = 100;
 const PIECE_BYTES = 36, TRIANGLE_BYTES = 12;
 const WALL = [-48, 48, 48, 0, 48, 48, 0, -48, 48, -48, -48, 48]; // clockwise from the upper left corner
+const FAR_WALL = [-4000, 4000, 4000, 0, 4000, 4000, 0, -4000, 4000, -4000, -4000, 4000];
 const QUAD = [0, 1, 2, 0, 2, 3];
 const WORDS = {
-    0: 'done', 1: 'bad setup', 2: 'bad tiles', 3: 'bad index', 5: 'bad room', 16: 'visible', 17: 'occluded', 18: 'outside',
+    0: 'done', 1: 'bad setup', 2: 'bad tiles', 3: 'bad index', 5: 'bad room',
+    16: 'visible', 17: 'occluded', 18: 'outside',
 };
 
 const { exports } = await WebAssembly.instantiate(module, {});
@@ -37,9 +39,9 @@ const tiles = emptyTiles();
 const wall = placed(WALL), quad = placed(QUAD);
 const count = BigInt(TILES), drawn = [wall, 4n, quad, 2n];
 
-function saySubtile(what, tile) {
+function saySubtile(what, tile, of = tiles) {
     const held = placed([0, 0, 0]);
-    exports.maskcull_subtile(held, tiles, count, tile, 0);
+    exports.maskcull_subtile(held, of, count, tile, 0);
     const [reference, working, mask] = new Uint32Array(exports.memory.buffer, Number(held), 3);
     lines.push(`${what}: ${reference} ${working} ${mask.toString(16).padStart(8, '0')}`);
 }
@@ -139,6 +141,15 @@ function showPicture() {
         shade === (i % stride < WIDTH / 2 ? 21845 : i % stride < WIDTH ? 0 : 7)));
 }
 
+function tellDistancesApart(grade, winding) {
+    const chosen = placed([WIDTH, HEIGHT, NEAR, winding]), over = placed([4, 4, 28, 28]), anew = emptyTiles();
+    lines.push(grade);
+    say('a wall far off', exports.maskcull_draw(chosen, anew, count, placed(FAR_WALL), 4n, quad, 2n));
+    saySubtile('the first subtile', 0n, anew);
+    say('an area a little behind it', exports.maskcull_test(chosen, anew, count, over, 4001));
+    say('as near as it', exports.maskcull_test(chosen, anew, count, over, 4000));
+}
+
 export function checkFirst() {
     lines.push(`tiles: ${exports.maskcull_tile_count(WIDTH, HEIGHT)}, of a width of 60: `
         + `${exports.maskcull_tile_count(60, HEIGHT)}`);
@@ -156,6 +167,10 @@ export function checkFirst() {
     showPicture();
     exports.maskcull_clear(tiles, count);
     sayWhether('a cleared tile is zero bytes', bytesOf(tiles).every((byte) => byte === 0));
+    tellDistancesApart('narrow', KEEPS_BOTH);
+    tellDistancesApart('wide', KEEPS_BOTH + WIDE);
+    say('wide, with a winding of 3', exports.maskcull_draw(placed([WIDTH, HEIGHT, NEAR, 3 + WIDE]), tiles, count,
+        ...drawn));
     // The line with null is of inline code in maskcull.h.
     const expected = fs.readFileSync(new URL('../../examples/c/first.stdout', import.meta.url), 'utf8').trimEnd();
     assert.deepEqual(lines, expected.split('\n').filter((line) => !line.endsWith(': null')));

@@ -3,11 +3,11 @@
 import assert from 'node:assert/strict';
 import { spawn } from 'node:child_process';
 import { fileURLToPath } from 'node:url';
-import { Calls, OCCLUDED, OUTSIDE, VISIBLE } from '../maskcull.js';
+import { Calls, NARROW, OCCLUDED, OUTSIDE, VISIBLE, WIDE } from '../maskcull.js';
 import { module } from './module.mjs';
 
 const WORDS = { [VISIBLE]: 'visible', [OCCLUDED]: 'occluded', [OUTSIDE]: 'outside' };
-const HEADER_BYTES = 32, OBJECT_BYTES = 25;
+const HEADER_BYTES = 32, BATCH_BYTES = 5, OBJECT_BYTES = 25;
 const RECTANGLE = 0, BOX = 1;
 const MOST = 0x7fffffff; // past the guard, as all beyond it
 const WRITERS = 4;
@@ -15,13 +15,20 @@ const WRITERS = 4;
 /** The parts of a scene; docs/FORMAT.md has the table of offsets. */
 function sceneOf(bytes) {
     const short = (offset) => bytes.readUInt16LE(offset), counts = [16, 20, 24, 28].map((at) => bytes.readUInt32LE(at));
-    let end = HEADER_BYTES;
+    const isSecond = short(4) === 2, batchCount = isSecond ? bytes.readUInt32LE(HEADER_BYTES) : 0;
+    let end = HEADER_BYTES + (isSecond ? 4 : 0);
     const numbers = (type, count) => {
         end += 4 * count;
         return new type(Uint8Array.from(bytes.subarray(end - 4 * count, end)).buffer);
     };
     const vertices = numbers(Int32Array, 3 * counts[0]);
-    const occluders = numbers(Uint32Array, 3 * counts[1]), meshes = numbers(Uint32Array, 3 * counts[2]);
+    const occluders = numbers(Uint32Array, 3 * counts[1]), firstBatch = end;
+    end += BATCH_BYTES * batchCount;
+    const batches = isSecond ? Array.from({ length: batchCount }, (_, k) => {
+        const at = firstBatch + BATCH_BYTES * k;
+        return { count: bytes.readUInt32LE(at), winding: bytes[at + 4] };
+    }) : [{ count: counts[1], winding: bytes[12] }];
+    const meshes = numbers(Uint32Array, 3 * counts[2]);
     const objects = Array.from({ length: counts[3] }, (_, k) => {
         const at = end + OBJECT_BYTES * k;
         return { kind: bytes[at], numbers: [0, 1, 2, 3, 4, 5].map((number) => bytes.readInt32LE(at + 1 + 4 * number)) };
@@ -29,8 +36,8 @@ function sceneOf(bytes) {
     end += OBJECT_BYTES * counts[3];
     const cameras = Array.from({ length: short(14) }, () => numbers(Int32Array, 12));
     assert.equal(end, bytes.length);
-    const screen = { width: short(6), height: short(8), near: short(10), winding: bytes[12] };
-    return { screen, vertices, occluders, meshes, objects, cameras };
+    const screen = { width: short(6), height: short(8), near: short(10), grade: bytes[13] ? WIDE : NARROW };
+    return { screen, vertices, occluders, batches, meshes, objects, cameras };
 }
 
 /** x, y and w of vertices as a camera sees them: whole numbers below 2^53, and then of 32 bits. */
@@ -57,7 +64,12 @@ async function linesOf(scene) {
     return scene.cameras.flatMap((camera) => {
         const clips = clipsOf(scene.vertices, camera);
         calls.clear();
-        calls.draw(clips, scene.occluders);
+        let first = 0;
+        for (const { count, winding } of scene.batches) {
+            calls.setWinding(winding);
+            calls.draw(clips, scene.occluders.subarray(3 * first, 3 * (first + count)));
+            first += count;
+        }
         return scene.objects.map((object, k) => `${k} ${WORDS[verdictOf(calls, object, clips, scene.meshes, camera)]}`);
     });
 }

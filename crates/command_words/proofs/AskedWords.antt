@@ -1,30 +1,26 @@
 -- What words ask for, by what `clap` makes of them.
-use Rattle.std.proofs.Common.{◌≡◌, ◌∙◌, ◌<◌, ◌≤◌, ◌+◌, ℕ, map, Bool, true, false, cond, refl, sym, ap, subst, inl, inr, zero, suc, arith, List, [], ◌∷◌, length, option_map, Option, Some, None, Result, IfOk, IfErr, is_some, drop, get_or, slice_index_or}
+use Rattle.std.proofs.Common.{◌≡◌, ◌∙◌, ◌<◌, ◌≤◌, ◌+◌, ℕ, map, Bool, true, false, cond, refl, sym, ap, subst, inl, inr, zero, suc, arith, List, [], ◌∷◌, length, option_map, Option, Some, None, Result, IfOk, IfErr, drop, get_or}
 use Rattle.std.specs.Prelude.{Box, Contains, IfSome, find, option_and_then}
 use Rattle.std.specs.Borrow.{Bor}
 use Rattle.std.specs.Box.{box_value}
-use Rattle.std.specs.List.{AllByRecursion}
 use Rattle.std.specs.Option.{ok_or, unwrap_or}
 use Rattle.std.specs.Str.{bytes_eq}
-use Rattle.binning.specs.Cut.{cut_into}
 use Rattle.clap.specs.Walk.{is_empty}
 use Rattle.clap.specs.Words.{Row, Text, fault_of, subcommand_name_of, subcommand_of, subcommand_rows, subcommand_rows_of}
 use Rattle.clap.specs.declared.parser.matches.ArgMatches.{ArgMatches}
 use Rattle.clap.specs.declared.parser.matches.ArgMatches.TheViews.{out-ArgMatches, out-SubCommand}
 use Rattle.clap.specs.declared.parser.matches.SubCommand.{SubCommand}
 use Rattle.command_words.specs.App.{the_app}
-use Rattle.command_words.specs.Table.{ACommand, AnOption, batch, bins_x, bins_y, commands, early, rounds, row_by, row_named, row_of, seed, triangles, watch, workers}
-use Rattle.command_words.specs.Words.{ArePlain, AreWords, HaveValues, IsEntered, asked_by, asked_in, command_of, number_of, settings_by, stated, value_in}
-use Rattle.command_words.specs.declared.command.Command.{Command}
-use Rattle.command_words.specs.declared.command.Command.TheVariants.{Cull, Live, Demo, Upgrade, Check}
+use Rattle.command_words.specs.Table.{ACommand, AnOption, commands, row_named, row_of}
+use Rattle.command_words.specs.Words.{ArePlain, AreWords, HaveValues, IsEntered, asked_by, asked_in, command_of, options_by, own_values, stated, value_in}
+use Rattle.command_words.specs.declared.table.Command.{Command}
 use Rattle.command_words.specs.declared.table.CommandKind.{CommandKind}
-use Rattle.command_words.specs.declared.table.CommandKind.TheVariants as kinds
-use Rattle.command_words.specs.declared.table.CommandRow.{CommandRow}
-use Rattle.command_words.specs.declared.table.OptionRow.{OptionRow}
+use Rattle.command_words.specs.declared.rows.CommandRow.{CommandRow}
+use Rattle.command_words.specs.declared.rows.OptionRow.{OptionRow}
 use Rattle.command_words.specs.declared.words.Refusal.{Refusal}
 use Rattle.command_words.specs.declared.words.Refusal.TheVariants as refusals
-use Rattle.command_words.proofs.OptionRules.{IsOf}
-use Rattle.command_words.proofs.PlainWords.{at, taken}
+use Rattle.command_words.proofs.OptionRules.{IsOf, tail_of}
+use Rattle.command_words.proofs.PlainWords.{agree_at, taken}
 use Rattle.command_words.proofs.TakenWords.{entered_values}
 
 pub asked : (words : List Text) (sub : Option (Text × List Row)) → fault_of the_app words ≡ [] → subcommand_of the_app words ≡ sub
@@ -41,63 +37,33 @@ none_asked words fails = ap (λ b. cond b (option_and_then (λ p. asked_in p.0 p
 -- ---- plain words ask for what they say
 
 -- what a command asks for is that of the values of its own options
-abbrev AsksSame : ACommand → Type 0
-AsksSame row = (values others : AnOption → Option ℕ) → ((o : AnOption) → IsOf o row.options → values o ≡ others o) → asked_by row.kind values ≡ asked_by row.kind others
+found_same : (values others : AnOption → Option ℕ) (p : AnOption → Bool) (options : List AnOption) → ((o : AnOption) → IsOf o options → values o ≡ others o) → option_and_then values (find p options) ≡ option_and_then others (find p options)
+found_same values others p [] same = refl
+found_same values others p (x ∷ rest) same = go (p x) (found_same values others p rest (λ o of. same o (inr of)))
+  where
+    go : (b : Bool) → option_and_then values (find p rest) ≡ option_and_then others (find p rest) → option_and_then values (cond b (Some x) (find p rest)) ≡ option_and_then others (cond b (Some x) (find p rest))
+    go true later = same x (inl refl)
+    go false later = later
 
-settings_same : (values others : AnOption → Option ℕ) → values workers ≡ others workers → values bins_x ≡ others bins_x → values bins_y ≡ others bins_y → values batch ≡ others batch
-    → values early ≡ others early → settings_by values ≡ settings_by others
-settings_same values others w x y b e =
-    λ i. record { workers = unwrap_or (w i) 0; cut = cut_into (unwrap_or (x i) 0) (unwrap_or (y i) 0); batch = unwrap_or (b i) 0; early = is_some (e i) }
+own_same : (row : ACommand) (values others : AnOption → Option ℕ) → ((o : AnOption) → IsOf o row.options → values o ≡ others o) → own_values row.options values ≡ own_values row.options others
+own_same row values others same = λ i o. found_same values others (λ x. bytes_eq x.name o.name) row.options same i
 
-cull_same : AsksSame (row_by kinds.Cull)
-cull_same values others same =
-    ap Cull (settings_same values others (same workers (inl refl)) (same bins_x (inr (inl refl))) (same bins_y (inr (inr (inl refl)))) (same batch (inr (inr (inr (inl refl))))) (same early (inr (inr (inr (inr (inl refl)))))))
-
-seven : (kind : CommandKind) (first second : AnOption) → (row_by kind).options ≡ workers ∷ bins_x ∷ bins_y ∷ batch ∷ first ∷ second ∷ early ∷ [] → (values others : AnOption → Option ℕ)
-    → ((o : AnOption) → IsOf o (row_by kind).options → values o ≡ others o) → (settings_by values ≡ settings_by others) × (number_of values first ≡ number_of others first) × (number_of values second ≡ number_of others second)
-seven kind first second is values others same =
-    let of : (o : AnOption) → IsOf o (workers ∷ bins_x ∷ bins_y ∷ batch ∷ first ∷ second ∷ early ∷ []) → values o ≡ others o = λ o at. same o (subst (IsOf o) (sym is) at) in (
-      settings_same values others (of workers (inl refl)) (of bins_x (inr (inl refl))) (of bins_y (inr (inr (inl refl)))) (of batch (inr (inr (inr (inl refl)))))
-          (of early (inr (inr (inr (inr (inr (inr (inl refl)))))))),
-      ap (λ n. unwrap_or n 0) (of first (inr (inr (inr (inr (inl refl)))))),
-      ap (λ n. unwrap_or n 0) (of second (inr (inr (inr (inr (inr (inl refl))))))),
-    )
-
-live_same : AsksSame (row_by kinds.Live)
-live_same values others same = let all = seven kinds.Live rounds watch refl values others same in λ i. Live (all.0 i) (all.1 i) (all.2 i)
-
-demo_same : AsksSame (row_by kinds.Demo)
-demo_same values others same = let all = seven kinds.Demo seed triangles refl values others same in λ i. Demo (all.0 i) (all.1 i) (all.2 i)
-
-upgrade_same : AsksSame (row_by kinds.Upgrade)
-upgrade_same values others same = refl
-
-check_same : AsksSame (row_by kinds.Check)
-check_same values others same =
-    let n = ap (λ (v : Option ℕ). unwrap_or v 0) (same rounds (inl refl)) in
-    let m = ap (λ (v : Option ℕ). unwrap_or v 0) (same watch (inr (inl refl))) in
-    λ i. Check (n i) (m i)
-
--- a row of the table is the one of its kind, is found by its name, and asks for what its options say
+-- a row of the table has the options of its kind, and is found by its name
 record IsOwn (row : ACommand) : Type 0 where
-  kind : row_by row.kind ≡ row
+  options : options_by row.kind ≡ row.options
   named : row_named row.name ≡ Some row
-  asks : AsksSame row
 
-are_own : AllByRecursion IsOwn commands
-are_own = (
-  record { kind = refl; named = refl; asks = cull_same },
-  (
-    record { kind = refl; named = refl; asks = live_same },
-    (
-      record { kind = refl; named = refl; asks = demo_same },
-      (record { kind = refl; named = refl; asks = upgrade_same }, (record { kind = refl; named = refl; asks = check_same }, tt)),
-    ),
-  ),
-)
+all_options : map (λ (row : ACommand). options_by row.kind) commands ≡ map (λ (row : ACommand). row.options) commands
+all_options = refl
+
+all_named : map (λ (row : ACommand). row_named row.name) commands ≡ map (λ (row : ACommand). Some row) commands
+all_named = refl
 
 is_own : (row : ACommand) → Contains commands row → IsOwn row
-is_own row c = at IsOwn commands row c.0 are_own c.1 c.2
+is_own row c = record {
+  options = agree_at (λ (r : ACommand). options_by r.kind) (λ (r : ACommand). r.options) commands row c.0 all_options c.1 c.2;
+  named = agree_at (λ (r : ACommand). row_named r.name) (λ (r : ACommand). Some r) commands row c.0 all_named c.1 c.2;
+}
 
 pub plain_asked : (words : List Text) (c : Command) → ArePlain words c → command_of words ≡ Some c
 plain_asked words c plain =
@@ -105,8 +71,8 @@ plain_asked words c plain =
     let p = plain.2 in
     let t = taken row plain.1 p.program p.uses p.are_uses in
     let own = is_own row plain.1 in
-    ap command_of p.spelled ∙ asked _ _ t.no_fault t.entered ∙ ap (option_map (λ (r : ACommand). asked_by r.kind (value_in t.rows))) own.named
-    ∙ ap Some (own.asks (value_in t.rows) (stated p.uses) t.values ∙ p.asked)
+    ap command_of p.spelled ∙ asked _ _ t.no_fault t.entered ∙ ap (option_map (λ (r : ACommand). asked_by r.kind (own_values r.options (value_in t.rows)))) own.named
+    ∙ ap Some (ap (asked_by row.kind) (own_same row (value_in t.rows) (stated p.uses) t.values) ∙ p.asked)
 
 -- ---- the search for a row by its name
 
@@ -136,33 +102,38 @@ no_row name [] (suc k) le = refl
 no_row name (x ∷ rest) zero le = absurd (omega arith)
 no_row name (x ∷ rest) (suc k) le = no_row name rest k (omega arith)
 
-found_all : (P : ACommand → Type 0) (p : ACommand → Bool) (rows : List ACommand) (row : ACommand) → AllByRecursion P rows → find p rows ≡ Some row → P row
-found_all P p [] row all e = cc
-found_all P p (x ∷ rest) row all e = go (p x) e (λ later. found_all P p rest row all.1 later)
+-- functions that agree on all rows agree on one that was found
+found_alike : {Y : Type 0} (f g : ACommand → Y) (p : ACommand → Bool) (rows : List ACommand) (row : ACommand) → map f rows ≡ map g rows → find p rows ≡ Some row → f row ≡ g row
+found_alike {Y} f g p [] row same e = cc
+found_alike {Y} f g p (x ∷ rest) row same e = go (p x) e (λ later. found_alike f g p rest row (ap (λ (l : List Y). tail_of l) same) later)
   where
-    go : (b : Bool) → cond b (Some x) (find p rest) ≡ Some row → (find p rest ≡ Some row → P row) → P row
-    go true e rec = subst P (ap (λ o. unwrap_or o x) e) all.0
+    go : (b : Bool) → cond b (Some x) (find p rest) ≡ Some row → (find p rest ≡ Some row → f row ≡ g row) → f row ≡ g row
+    go true e rec = subst (λ (r : ACommand). f r ≡ g r) (ap (λ o. unwrap_or o x) e) (ap (λ (l : List Y). get_or l 0 (f x)) same)
     go false e rec = rec e
 
+own_options : (name : Text) (row : ACommand) → row_named name ≡ Some row → options_by row.kind ≡ row.options
+own_options name row is = found_alike (λ (r : ACommand). options_by r.kind) (λ (r : ACommand). r.options) (λ r. bytes_eq r.name name) commands row all_options is
+
 -- the options of the command that was found have their values
-pub kind_has : (name : Text) (rows : List Row) (kind : CommandKind) → Some kind ≡ option_map (λ row. row.kind) (row_named name) → IsEntered name rows → HaveValues (row_by kind).options rows
+pub kind_has : (name : Text) (rows : List Row) (kind : CommandKind) → Some kind ≡ option_map (λ row. row.kind) (row_named name) → IsEntered name rows → HaveValues (options_by kind) rows
 kind_has name rows kind found entered = go (row_named name) refl found entered
   where
-    go : (o : Option ACommand) → row_named name ≡ o → Some kind ≡ option_map (λ row. row.kind) o → IfSome o (λ row. HaveValues row.options rows) → HaveValues (row_by kind).options rows
+    go : (o : Option ACommand) → row_named name ≡ o → Some kind ≡ option_map (λ row. row.kind) o → IfSome o (λ row. HaveValues row.options rows) → HaveValues (options_by kind) rows
     go None is same has = cc
     go (Some row) is same has =
-        let own : row_by row.kind ≡ row = (found_all IsOwn (λ r. bytes_eq r.name name) commands row are_own is).kind in
+        let own = own_options name row is in
         let of_kind : row.kind ≡ kind = sym (ap (λ o. unwrap_or o kind) same) in
-        subst (λ (k : CommandKind). HaveValues (row_by k).options rows) of_kind (subst (λ (r : ACommand). HaveValues r.options rows) (sym own) has)
+        subst (λ (k : CommandKind). HaveValues (options_by k) rows) of_kind (subst (λ (os : List AnOption). HaveValues os rows) (sym own) has)
 
 -- and it asks for what it asks for by its kind
 pub kind_asks : (name : Text) (rows : List Row) (kind : Option CommandKind) → kind ≡ option_map (λ row. row.kind) (row_named name)
-    → option_map (λ k. asked_by k (value_in rows)) kind ≡ asked_in name rows
-kind_asks name rows kind is = ap (option_map (λ (k : CommandKind). asked_by k (value_in rows))) is ∙ go (row_named name)
+    → option_map (λ k. asked_by k (own_values (options_by k) (value_in rows))) kind ≡ asked_in name rows
+kind_asks name rows kind is = ap (option_map (λ (k : CommandKind). asked_by k (own_values (options_by k) (value_in rows)))) is ∙ go (row_named name) refl
   where
-    go : (o : Option ACommand) → option_map (λ k. asked_by k (value_in rows)) (option_map (λ row. row.kind) o) ≡ option_map (λ row. asked_by row.kind (value_in rows)) o
-    go None = refl
-    go (Some row) = refl
+    go : (o : Option ACommand) → row_named name ≡ o
+        → option_map (λ k. asked_by k (own_values (options_by k) (value_in rows))) (option_map (λ row. row.kind) o) ≡ option_map (λ row. asked_by row.kind (own_values row.options (value_in rows))) o
+    go None e = refl
+    go (Some row) e = ap (λ (os : List AnOption). Some (asked_by row.kind (own_values os (value_in rows)))) (own_options name row e)
 
 -- ---- by what the matches say
 

@@ -5,8 +5,8 @@ use Rattle.std.proofs.lemmas.List.{take_all, take_more}
 use Rattle.std.specs.Borrow.{Bor}
 use Rattle.command_words.specs.App.{rule_for, shape_for}
 use Rattle.command_words.specs.Table.{option_of, row_of}
-use Rattle.command_words.specs.declared.table.CommandRow.{CommandRow}
-use Rattle.command_words.specs.declared.table.OptionRow.{OptionRow}
+use Rattle.command_words.specs.declared.rows.CommandRow.{CommandRow}
+use Rattle.command_words.specs.declared.rows.OptionRow.{OptionRow}
 use Rattle.clap.specs.Simple.{new_shape}
 use Rattle.clap.specs.Words.{AddsArg, AddsSubcommand, App, FailsBy, HasKind, HasMatchesOf, Kinds, Rule, Shape, Text, app_of, fault_of, is_simple, kind_of, rule_of, subcommand_of, subcommand_rows_of, with_rule, with_subcommand}
 use Rattle.clap.specs.Walk.{is_empty}

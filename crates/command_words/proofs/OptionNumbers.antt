@@ -1,6 +1,8 @@
 -- An option's number, as its text is read, and the flag.
 use Rattle.std.proofs.Common.{◌≡◌, ◌∙◌, ◌≤◌, ◌==◌, ℕ, Bool, true, false, cond, pos, refl, sym, ap, subst, inl, inr, arith, List, [], ◌∷◌, codes, drop, Option, Some, None, Result, Ok, ◌⊎◌, is_some}
+use Rattle.std.specs.Prelude.{find}
 use Rattle.std.specs.Option.{IsSome, unwrap_or}
+use Rattle.std.specs.Str.{bytes_eq}
 use Rattle.std.specs.Str.Parse.{IsNumeral, ParsesUnsigned, digits_value, without_leading_plus}
 use Rattle.std.proofs.lemmas.Bool.{ne_eqb}
 use Rattle.std.proofs.lemmas.Int.{ints}
@@ -9,7 +11,8 @@ use Rattle.clap.specs.Words.{IsSignedIn, ReadsOne, Row, Text, one_of, one_text, 
 use Rattle.clap.specs.declared.parser.matches.Found.{Found}
 use Rattle.clap.proofs.CallerReads.{signed_reads}
 use Rattle.clap.proofs.WalkLemmas.{one_text-rows}
-use Rattle.command_words.specs.Words.{IsFlag, IsNumbered, flag_said, number_said}
+use Rattle.command_words.specs.Table.{AnOption}
+use Rattle.command_words.specs.Words.{HasValue, HaveValues, IsFlag, IsNumbered, flag_said, number_said}
 
 no_plus : (ds : List ℕ) → IsNumeral 10 ds → without_leading_plus ds ≡ ds
 no_plus [] h = refl
@@ -36,6 +39,15 @@ value_within (x ∷ xs) least most h = go (x == 45) refl
 -- the number, of an option that has one
 abbrev number_at : List Row → Text → ℕ
 number_at rows name = unwrap_or (number_said (one_of name rows)) 0
+
+-- of all options of a row one that is found by its name has its value
+pub value_of : (options : List AnOption) (o : AnOption) (rows : List Row) → find (λ x. bytes_eq x.name o.name) options ≡ Some o → HaveValues options rows → HasValue rows o
+value_of [] o rows is has = cc
+value_of (x ∷ rest) o rows is has = go (bytes_eq x.name o.name) is (λ later. value_of rest o rows later has.1)
+  where
+    go : (b : Bool) → cond b (Some x) (find (λ y. bytes_eq y.name o.name) rest) ≡ Some o → (find (λ y. bytes_eq y.name o.name) rest ≡ Some o → HasValue rows o) → HasValue rows o
+    go true e rec = subst (HasValue rows) (ap (λ (p : Option AnOption). unwrap_or p x) e) has.0
+    go false e rec = rec e
 
 -- the number is in the range
 pub read_within : (rows : List Row) (name : Text) (least most n : ℕ) → n ≡ number_at rows name → IsNumbered rows name least most → (least ≤ n) × (n ≤ most)

@@ -22,6 +22,11 @@ ready_help = with_index 1 (filled help_rule)
 abbrev pub rules_for : List AnOption → List Rule
 rules_for options = map ready options ++ ready_help ∷ []
 
+-- what is behind the first
+abbrev pub tail_of : {Y : Type 0} → List Y → List Y
+tail_of [] = []
+tail_of (y ∷ ys) = ys
+
 -- no two options have one name
 abbrev pub are_apart : List AnOption → Bool
 are_apart [] = true

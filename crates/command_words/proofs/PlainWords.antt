@@ -18,11 +18,10 @@ use Rattle.clap.proofs.CutLemmas.{Lacks}
 use Rattle.clap.proofs.FaultLemmas.{stopped_fault}
 use Rattle.clap.proofs.WalkLemmas.{both, walk_stopped}
 use Rattle.command_words.specs.App.{the_app}
-use Rattle.command_words.specs.Table.{ACommand, AnOption, Taken, commands, row_by}
+use Rattle.command_words.specs.Table.{ACommand, AnOption, Taken, commands}
 use Rattle.command_words.specs.Words.{AreApart, AreUses, Use, stated, value_in, words_of_use}
-use Rattle.command_words.specs.declared.table.CommandKind.TheVariants as kinds
-use Rattle.command_words.specs.declared.table.Takes.TheVariants.{Number, Nothing}
-use Rattle.command_words.proofs.OptionRules.{are_apart, is_no, IsOf, of_contained, rules_for, same_option}
+use Rattle.command_words.specs.declared.rows.Takes.TheVariants.{Number, Nothing}
+use Rattle.command_words.proofs.OptionRules.{are_apart, is_no, IsOf, of_contained, rules_for, same_option, tail_of}
 use Rattle.command_words.proofs.UseRows.{IsSmall, neither, row_for}
 use Rattle.command_words.proofs.UseWalk.{AreFine, AreNew, HasDefault, IsFine, IsUse, Passes, all_pass, between, leaf, settled_is, settles}
 use Rattle.command_words.proofs.UseDefaults.{defaults_pass, has_row-more, none_required, value_last}
@@ -175,38 +174,42 @@ record IsCommand (row : ACommand) : Type 0 where
   found : find (λ s. answers_to row.name (label_of s)) program_built.subs ≡ Some (leaf_of row)
   fine : AreFine row.options
 
--- each row of the table is found by its name, and its options are fine
-are_commands : AllByRecursion IsCommand commands
+-- each row of the table is found by its name, and its options are fine: two lists that are worked out, however many rows there are
+all_walk : map (λ (row : ACommand). walked top.rules names start row.name) commands ≡ map (λ (row : ACommand). stopped_at row.name []) commands
 unfolding walked
-are_commands = (
-  record { walks = refl; passes = refl; found = refl; fine = fine_from (row_by kinds.Cull) refl },
-  (
-    record { walks = refl; passes = refl; found = refl; fine = fine_from (row_by kinds.Live) refl },
-    (
-      record { walks = refl; passes = refl; found = refl; fine = fine_from (row_by kinds.Demo) refl },
-      (
-        record { walks = refl; passes = refl; found = refl; fine = fine_from (row_by kinds.Upgrade) refl },
-        (record { walks = refl; passes = refl; found = refl; fine = fine_from (row_by kinds.Check) refl }, tt),
-      ),
-    ),
-  ),
-)
+all_walk = refl
 
--- what holds of each row, at one of them
-pub at : (P : ACommand → Type 0) (rows : List ACommand) (row : ACommand) (k : ℕ) → AllByRecursion P rows → k < length rows → slice_index_or rows k row ≡ row → P row
-at P [] row k all lt is = absurd (omega arith)
-at P (x ∷ rest) row zero all lt is = subst P is all.0
-at P (x ∷ rest) row (suc k) all lt is = at P rest row k all.1 (omega arith) is
+all_quiet : map (λ (row : ACommand). turn_fault top names start row.name) commands ≡ map (λ (row : ACommand). []) commands
+unfolding walked
+all_quiet = refl
+
+all_found : map (λ (row : ACommand). find (λ s. answers_to row.name (label_of s)) program_built.subs) commands ≡ map (λ (row : ACommand). Some (leaf_of row)) commands
+unfolding walked
+all_found = refl
+
+all_fine : map are_fine commands ≡ map (λ (row : ACommand). true) commands
+all_fine = refl
+
+-- functions that agree on a list agree on each of it
+pub agree_at : {Y : Type 0} (f g : ACommand → Y) (rows : List ACommand) (row : ACommand) (k : ℕ) → map f rows ≡ map g rows → k < length rows → slice_index_or rows k row ≡ row → f row ≡ g row
+agree_at {Y} f g [] row k same lt is = absurd (omega arith)
+agree_at {Y} f g (x ∷ rest) row zero same lt is = subst (λ (r : ACommand). f r ≡ g r) is (ap (λ (l : List Y). slice_index_or l 0 (f x)) same)
+agree_at {Y} f g (x ∷ rest) row (suc k) same lt is = agree_at f g rest row k (ap (λ (l : List Y). tail_of l) same) (omega arith) is
 
 is_command : (row : ACommand) → Contains commands row → IsCommand row
-is_command row c = at IsCommand commands row c.0 are_commands c.1 c.2
+is_command row c = record {
+  walks = agree_at (λ (r : ACommand). walked top.rules names start r.name) (λ (r : ACommand). stopped_at r.name []) commands row c.0 all_walk c.1 c.2;
+  passes = agree_at (λ (r : ACommand). turn_fault top names start r.name) (λ (r : ACommand). []) commands row c.0 all_quiet c.1 c.2;
+  found = agree_at (λ (r : ACommand). find (λ s. answers_to r.name (label_of s)) program_built.subs) (λ (r : ACommand). Some (leaf_of r)) commands row c.0 all_found c.1 c.2;
+  fine = fine_from row (agree_at are_fine (λ (r : ACommand). true) commands row c.0 all_fine c.1 c.2);
+}
 
-fine_all : (rows : List ACommand) → AllByRecursion IsCommand rows → AllByRecursion (λ row. AreFine row.options) rows
-fine_all [] all = tt
-fine_all (x ∷ rest) all = (all.0.fine, fine_all rest all.1)
+fine_all : (rows : List ACommand) → map are_fine rows ≡ map (λ (row : ACommand). true) rows → AllByRecursion (λ row. AreFine row.options) rows
+fine_all [] same = tt
+fine_all (x ∷ rest) same = (fine_from x (ap (λ (l : List Bool). slice_index_or l 0 true) same), fine_all rest (ap (λ (l : List Bool). tail_of l) same))
 
 pub commands_fine : AllByRecursion (λ row. AreFine row.options) commands
-commands_fine = fine_all commands are_commands
+commands_fine = fine_all commands all_fine
 
 module _ (row : ACommand) (is : IsCommand row) (program : Text) (rest : List Text) where
   walk_is : walk top.rules names nothing_held (row.name ∷ rest) ≡ stopped_at row.name rest

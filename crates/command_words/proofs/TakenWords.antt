@@ -20,7 +20,7 @@ use Rattle.clap.specs.declared.error.kind.ErrorKind.TheVariants.{ArgumentConflic
 use Rattle.command_words.specs.App.{the_app}
 use Rattle.command_words.specs.Table.{ACommand, AnOption, Taken, commands}
 use Rattle.command_words.specs.Words.{HasValue, HasValueBy, HaveValues, IsEntered, IsNumbered}
-use Rattle.command_words.specs.declared.table.Takes.TheVariants.{Number, Nothing}
+use Rattle.command_words.specs.declared.rows.Takes.TheVariants.{Number, Nothing}
 use Rattle.command_words.proofs.UseDefaults.{default_row, found_last}
 use Rattle.command_words.proofs.PlainWords.{commands_fine, fault_behind, leaf_of, names, program_built, start, top}
 use Rattle.clap.specs.Values.{read_as}

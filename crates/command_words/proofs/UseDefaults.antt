@@ -17,7 +17,7 @@ use Rattle.clap.specs.declared.builder.value_parser.ValueParser.TheVariants.{Sig
 use Rattle.clap.specs.declared.parser.matches.ValueSource.TheVariants.{CommandLine, DefaultValue}
 use Rattle.command_words.specs.Table.{AnOption, Taken}
 use Rattle.command_words.specs.Words.{IsIn, Use, default_by, stated, value_by, value_in}
-use Rattle.command_words.specs.declared.table.Takes.TheVariants.{Number, Nothing}
+use Rattle.command_words.specs.declared.rows.Takes.TheVariants.{Number, Nothing}
 use Rattle.command_words.proofs.DecimalWords.{bare_number, number_read}
 use Rattle.command_words.proofs.OptionRules.{IsOf, apart_from, are_apart, differs_back, ready, ready_by, ready_help, rules_for, same_option, same_text}
 use Rattle.command_words.proofs.UseRows.{IsSmall, at_row-missing, kept_by, row_by, row_for}

@@ -12,7 +12,7 @@ use Rattle.clap.specs.declared.parser.matches.ValueSource.{ValueSource}
 use Rattle.clap.specs.declared.parser.matches.ValueSource.TheVariants.{CommandLine}
 use Rattle.command_words.specs.Table.{Taken}
 use Rattle.command_words.specs.Words.{IsIn, Use}
-use Rattle.command_words.specs.declared.table.Takes.TheVariants.{Number, Nothing}
+use Rattle.command_words.specs.declared.rows.Takes.TheVariants.{Number, Nothing}
 use Rattle.command_words.proofs.DecimalWords.{number_accepted}
 use Rattle.command_words.proofs.OptionRules.{ready_by}
 

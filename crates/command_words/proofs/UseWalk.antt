@@ -17,7 +17,7 @@ use Rattle.clap.proofs.CutLemmas.{Lacks}
 use Rattle.clap.proofs.LexerLemmas.{name_and_value-at, name_and_value-without}
 use Rattle.command_words.specs.Table.{AnOption, Taken}
 use Rattle.command_words.specs.Words.{IsInRange, Use, words_by, words_of_use}
-use Rattle.command_words.specs.declared.table.Takes.TheVariants.{Number, Nothing}
+use Rattle.command_words.specs.declared.rows.Takes.TheVariants.{Number, Nothing}
 use Rattle.command_words.proofs.DecimalWords.{bare_number}
 use Rattle.command_words.proofs.OptionRules.{IsOf, are_apart, found_id, found_long, ready, rules_for, same_text}
 use Rattle.command_words.proofs.UseRows.{IsSmall, flag_new, given_for, new_by, passes_by, row_for}

@@ -7,7 +7,7 @@ use Rattle.clap.specs.declared.builder.action.ArgAction.TheVariants.{SetTrue}
 use Rattle.clap.specs.declared.builder.value_parser.ValueParser.{ValueParser}
 use Rattle.clap.specs.declared.builder.value_parser.ValueParser.TheVariants.{Signed}
 use Rattle.command_words.specs.Table.{ACommand, AnOption, Taken, commands}
-use Rattle.command_words.specs.declared.table.Takes.TheVariants.{Number, Nothing}
+use Rattle.command_words.specs.declared.rows.Takes.TheVariants.{Number, Nothing}
 
 abbrev pub default_texts : Taken → List Text
 default_texts (Number least most (Some text)) = text ∷ []

@@ -1,15 +1,13 @@
--- The table of commands, as `src/table.rt` has it, with texts in place of references.
-use Rattle.std.specs.Prelude.{List, [], ◌∷◌, Option, find, map, option_map}
+-- The rows of the table in `src/table.rt`, with texts in place of references.
+use Rattle.std.specs.Prelude.{List, Option, find, map, option_map}
 use Rattle.std.specs.Borrow.{Bor}
 use Rattle.std.specs.Str.{bytes_eq}
 use Rattle.clap.specs.Words.{Text}
-use Rattle.command_words.specs.declared.table.CommandKind.{CommandKind}
-use Rattle.command_words.specs.declared.table.CommandKind.TheVariants as kinds
-use Rattle.command_words.specs.declared.table.CommandRow.{CommandRow}
-use Rattle.command_words.specs.declared.table.OptionRow.{OptionRow}
-use Rattle.command_words.specs.declared.table.Takes.{Takes}
-use Rattle.command_words.specs.declared.table.Takes.TheVariants.{Number, Nothing}
-use Rattle.command_words.specs.declared.table.TheConstants.{BATCH, BINS_X, BINS_Y, CHECK, COMMANDS, CULL, DEMO, EARLY, LIVE, ROUNDS, SEED, TRIANGLES, UPGRADE, WATCH, WORKERS}
+use Rattle.command_words.specs.declared.rows.CommandRow.{CommandRow}
+use Rattle.command_words.specs.declared.rows.OptionRow.{OptionRow}
+use Rattle.command_words.specs.declared.rows.Takes.{Takes}
+use Rattle.command_words.specs.declared.rows.Takes.TheVariants.{Number, Nothing}
+use Rattle.command_words.specs.declared.table.TheConstants.{COMMANDS}
 
 -- what stands behind an option's name
 abbrev pub Taken : Type 0
@@ -46,44 +44,6 @@ abbrev pub row_of : CommandRow (Bor Text) (Bor (List (OptionRow (Bor Text)))) �
 row_of = row_with (λ t. t.now) (λ o. o.now)
 
 -- ---- the table
-
-abbrev pub workers : AnOption
-workers = option_with (λ t. t.now) WORKERS
-
-abbrev pub bins_x : AnOption
-bins_x = option_with (λ t. t.now) BINS_X
-
-abbrev pub bins_y : AnOption
-bins_y = option_with (λ t. t.now) BINS_Y
-
-abbrev pub batch : AnOption
-batch = option_with (λ t. t.now) BATCH
-
-abbrev pub rounds : AnOption
-rounds = option_with (λ t. t.now) ROUNDS
-
-abbrev pub watch : AnOption
-watch = option_with (λ t. t.now) WATCH
-
-abbrev pub seed : AnOption
-seed = option_with (λ t. t.now) SEED
-
-abbrev pub triangles : AnOption
-triangles = option_with (λ t. t.now) TRIANGLES
-
-abbrev pub early : AnOption
-early = option_with (λ t. t.now) EARLY
-
--- the options by which frames are cut and shared
-abbrev pub sharing : List AnOption
-sharing = workers ∷ bins_x ∷ bins_y ∷ batch ∷ early ∷ []
-
-abbrev pub row_by : CommandKind → ACommand
-row_by kinds.Cull = row_with (λ t. t.now) (λ o. o.now) CULL
-row_by kinds.Live = row_with (λ t. t.now) (λ o. o.now) LIVE
-row_by kinds.Demo = row_with (λ t. t.now) (λ o. o.now) DEMO
-row_by kinds.Upgrade = row_with (λ t. t.now) (λ o. o.now) UPGRADE
-row_by kinds.Check = row_with (λ t. t.now) (λ o. o.now) CHECK
 
 abbrev pub commands : List ACommand
 commands = map (row_with (λ t. t.now) (λ o. o.now)) COMMANDS.now

@@ -9,15 +9,59 @@ use Rattle.clap.specs.Walk.{is_empty}
 use Rattle.clap.specs.Words.{IsSignedIn, Row, Text, one_of, without_minus, subcommand_of, fault_of}
 use Rattle.binning.specs.Cut.{cut_into}
 use Rattle.command_words.specs.App.{the_app}
-use Rattle.command_words.specs.Table.{ACommand, AnOption, Taken, batch, bins_x, bins_y, commands, early, rounds, row_named, seed, triangles, watch, workers}
-use Rattle.command_words.specs.declared.command.Command.{Command}
-use Rattle.command_words.specs.declared.command.Command.TheVariants.{Cull, Live, Demo, Upgrade, Check}
+use Rattle.command_words.specs.Table.{ACommand, AnOption, Taken, commands, option_with, row_named, row_with}
+use Rattle.command_words.specs.declared.table.Command.{Command}
+use Rattle.command_words.specs.declared.table.Command.TheVariants.{Cull, Live, Demo, Check, Bare}
 use Rattle.command_words.specs.declared.settings.Settings.{Settings}
 use Rattle.command_words.specs.declared.table.CommandKind.{CommandKind}
 use Rattle.command_words.specs.declared.table.CommandKind.TheVariants as kinds
-use Rattle.command_words.specs.declared.table.Takes.TheVariants.{Number, Nothing}
+use Rattle.command_words.specs.declared.table.TheConstants.{BATCH, BINS_X, BINS_Y, CHECK, CULL, DEMO, EARLY, LIVE, ROUNDS, SEED, TRIANGLES, WATCH, WORKERS}
+use Rattle.command_words.specs.declared.rows.Takes.TheVariants.{Number, Nothing}
 use Rattle.command_words.specs.declared.words.Refusal.{Refusal}
 use Rattle.command_words.specs.declared.words.Refusal.TheVariants as refusals
+
+-- ---- the options and the rows, by their names
+
+abbrev pub workers : AnOption
+workers = option_with (λ t. t.now) WORKERS
+
+abbrev pub bins_x : AnOption
+bins_x = option_with (λ t. t.now) BINS_X
+
+abbrev pub bins_y : AnOption
+bins_y = option_with (λ t. t.now) BINS_Y
+
+abbrev pub batch : AnOption
+batch = option_with (λ t. t.now) BATCH
+
+abbrev pub rounds : AnOption
+rounds = option_with (λ t. t.now) ROUNDS
+
+abbrev pub watch : AnOption
+watch = option_with (λ t. t.now) WATCH
+
+abbrev pub seed : AnOption
+seed = option_with (λ t. t.now) SEED
+
+abbrev pub triangles : AnOption
+triangles = option_with (λ t. t.now) TRIANGLES
+
+abbrev pub early : AnOption
+early = option_with (λ t. t.now) EARLY
+
+-- the options by which frames are cut and shared
+abbrev pub sharing : List AnOption
+sharing = workers ∷ bins_x ∷ bins_y ∷ batch ∷ early ∷ []
+
+-- the options of the command of a kind
+abbrev pub options_by : CommandKind → List AnOption
+options_by kinds.Cull = (row_with (λ t. t.now) (λ o. o.now) CULL).options
+options_by kinds.Live = (row_with (λ t. t.now) (λ o. o.now) LIVE).options
+options_by kinds.Demo = (row_with (λ t. t.now) (λ o. o.now) DEMO).options
+options_by kinds.Check = (row_with (λ t. t.now) (λ o. o.now) CHECK).options
+options_by (kinds.Bare command) = []
+
+-- ---- the ranges
 
 -- the option may have this number; a flag has none, which is written as 0
 abbrev pub IsIn : Taken → ℕ → Type 0
@@ -33,11 +77,11 @@ pub record AreInRange (s : Settings) : Type 0 where
 
 -- such commands can be done: the ranges of the table lie within
 abbrev pub IsWithinLimits : Command → Type 0
-IsWithinLimits (Cull settings) = AreInRange settings
-IsWithinLimits (Live settings n m) = AreInRange settings × ((1 ≤ n) × (n ≤ 8)) × ((1 ≤ m) × (m ≤ 8))
-IsWithinLimits (Demo settings _ m) = AreInRange settings × (m ≤ 65536)
-IsWithinLimits Upgrade = Unit {0}
-IsWithinLimits (Check n m) = ((1 ≤ n) × (n ≤ 8)) × ((1 ≤ m) × (m ≤ 8))
+IsWithinLimits (Cull words) = AreInRange words.settings
+IsWithinLimits (Live words) = AreInRange words.settings × ((1 ≤ words.rounds) × (words.rounds ≤ 8)) × ((1 ≤ words.watch) × (words.watch ≤ 8))
+IsWithinLimits (Demo words) = AreInRange words.settings × (words.triangles ≤ 65536)
+IsWithinLimits (Check words) = ((1 ≤ words.rounds) × (words.rounds ≤ 8)) × ((1 ≤ words.watch) × (words.watch ≤ 8))
+IsWithinLimits (Bare command) = Unit {0}
 
 -- the words are refused, and memory isn't wanted
 abbrev pub AreWords : Refusal → Type 0
@@ -77,15 +121,30 @@ settings_by values = record {
 
 -- what a command asks for, where its options have these values
 abbrev pub asked_by : CommandKind → (AnOption → Option ℕ) → Command
-asked_by kinds.Cull values = Cull (settings_by values)
-asked_by kinds.Live values = Live (settings_by values) (number_of values rounds) (number_of values watch)
-asked_by kinds.Demo values = Demo (settings_by values) (number_of values seed) (number_of values triangles)
-asked_by kinds.Upgrade values = Upgrade
-asked_by kinds.Check values = Check (number_of values rounds) (number_of values watch)
+asked_by kinds.Cull values = Cull (record { settings = settings_by values })
+asked_by kinds.Live values = Live (record {
+  settings = settings_by values;
+  rounds = number_of values rounds;
+  watch = number_of values watch;
+})
+asked_by kinds.Demo values = Demo (record {
+  settings = settings_by values;
+  seed = number_of values seed;
+  triangles = number_of values triangles;
+})
+asked_by kinds.Check values = Check (record {
+  rounds = number_of values rounds;
+  watch = number_of values watch;
+})
+asked_by (kinds.Bare command) values = Bare command
+
+-- the values of a command's own options, found by their names
+abbrev pub own_values : List AnOption → (AnOption → Option ℕ) → AnOption → Option ℕ
+own_values options values o = option_and_then values (find (λ x. bytes_eq x.name o.name) options)
 
 -- what the command of this name asks for by its matches; none where no command has the name
 abbrev pub asked_in : Text → List Row → Option Command
-asked_in name rows = option_map (λ row. asked_by row.kind (value_in rows)) (row_named name)
+asked_in name rows = option_map (λ row. asked_by row.kind (own_values row.options (value_in rows))) (row_named name)
 
 -- what the words ask for; none where `clap` refuses them
 unfoldable pub command_of : List Text → Option Command
@@ -169,7 +228,7 @@ pub record ArePlainFor (row : ACommand) (words : List Text) (c : Command) : Type
   pub uses : List Use
   pub are_uses : AreUses row.options uses
   pub spelled : words ≡ program ∷ row.name ∷ flat_map words_of_use uses
-  pub asked : asked_by row.kind (stated uses) ≡ c
+  pub asked : asked_by row.kind (own_values row.options (stated uses)) ≡ c
 
 -- plain words, and what they ask for
 abbrev pub ArePlain : List Text → Command → Type 0

@@ -1,14 +1,15 @@
 //! The program's command line: the table of commands, and what a command line names by it.
 #![tactic(auto)]
 
-mod command;
 mod program;
+mod rows;
 mod settings;
 mod table;
+mod values;
 mod words;
 
-pub use command::Command;
 pub use settings::Settings;
+pub use table::{BareCommand, Command, CullWords, DemoWords, LiveWords};
 pub use words::{Refusal, command_of};
 
 /// The version of the program and of the library for C.

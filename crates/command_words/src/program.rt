@@ -6,7 +6,8 @@ ghost use Rattle.command_words.specs.App.{rule_for, shape_for, the_app};
 ghost use Rattle.command_words.specs.Table.{option_of, row_of};
 
 use crate::VERSION;
-use crate::table::{ACommand, AnOption, COMMANDS, Takes};
+use crate::rows::{ACommand, AnOption, Takes};
+use crate::table::COMMANDS;
 use clap::error::ErrorKind;
 use clap::{Arg, ArgAction, Command, Error, value_parser};
 use std::alloc::Global;

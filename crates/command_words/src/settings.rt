@@ -1,5 +1,12 @@
 //! How a frame is cut and shared. No setting changes the report.
+ghost use Rattle.std.specs.Prelude.{◌≡◌};
+ghost use Rattle.clap.specs.Words.{found_of, rows_of};
+ghost use Rattle.command_words.specs.Words.{AreInRange, HaveValues, settings_by, sharing, value_in};
+
+use crate::table::{BATCH, BINS_X, BINS_Y, EARLY, WORKERS};
+use crate::values::{is_given, number, side};
 use binning::Cut;
+use clap::ArgMatches;
 
 /// How many threads draw, into which bins the screen is cut, and how many pieces a batch has at least. Bins and batches
 /// are for a frame that threads share.
@@ -13,4 +20,20 @@ pub struct Settings {
     pub batch: u32,
     /// Whether objects that references hide are settled while a frame is drawn.
     pub early: bool,
+}
+
+/// The settings, where each of their options has its value.
+pub fn settings_of(matches: &ArgMatches<'_>) -> Settings
+    requires { HaveValues sharing (rows_of (found_of matches.now)) }
+    ensures value { result ≡ settings_by (value_in (rows_of (found_of matches.now))) }
+    ensures range { AreInRange result }
+{
+    let columns = side(matches, &BINS_X);
+    let rows = side(matches, &BINS_Y);
+    Settings {
+        workers: number(matches, &WORKERS),
+        cut: Cut::new(columns, rows).unwrap(),
+        batch: number(matches, &BATCH),
+        early: is_given(matches, &EARLY),
+    }
 }

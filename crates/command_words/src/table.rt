@@ -1,54 +1,13 @@
-//! The table of commands: what each is called, which options it has, and what help says of both. What a command line
-//! names and how clap reads it are definitions over it.
+//! The table of commands: what each is called, which options it has, what help says of both, and what it carries of
+//! what its options say. What a command line names and how clap reads it are definitions over it.
+ghost use Rattle.std.specs.Prelude.{◌≡◌};
+ghost use Rattle.clap.specs.Words.{found_of, rows_of};
+ghost use Rattle.command_words.specs.Words.{HaveValues, IsWithinLimits, asked_by, options_by, own_values, value_in};
 
-/// What stands behind an option's name. `T` is a text: a constant whose type has a reference for a field can't be named
-/// in specs/.
-#[derive(Clone, Copy)]
-pub enum Takes<T> {
-    /// A number from `least` to `most`, and the text of the one that stands where the option isn't given; without such
-    /// a default the option has no value then.
-    Number {
-        least: u32,
-        most: u32,
-        default: Option<T>,
-    },
-    /// Nothing: the option is a flag, given or not.
-    Nothing,
-}
-
-/// An option: its name behind two hyphens, what it takes, and what help says of it.
-#[derive(Clone, Copy)]
-pub struct OptionRow<T> {
-    pub name: T,
-    pub takes: Takes<T>,
-    pub help: T,
-}
-
-/// Which command it is.
-#[derive(Clone, Copy)]
-pub enum CommandKind {
-    Cull,
-    Live,
-    Demo,
-    Upgrade,
-    Check,
-}
-
-/// A command: its name, what help says of it in a line and on its own page, and its options `O` in the page's order.
-#[derive(Clone, Copy)]
-pub struct CommandRow<T, O> {
-    pub kind: CommandKind,
-    pub name: T,
-    pub about: T,
-    pub more: T,
-    pub options: O,
-}
-
-/// An option of the table.
-pub type AnOption = OptionRow<&'static str>;
-
-/// A command of the table.
-pub type ACommand = CommandRow<&'static str, &'static [AnOption]>;
+use crate::rows::{ACommand, AnOption, CommandRow, OptionRow, Takes};
+use crate::settings::{Settings, settings_of};
+use crate::values::number;
+use clap::ArgMatches;
 
 // An option with a number, whose help tells the range. The default is decimal text without leading zeros.
 macro_rules! number {
@@ -92,6 +51,23 @@ pub const EARLY: AnOption = OptionRow {
     takes: Takes::Nothing,
     help: "Settle objects that are hidden for good while a frame is drawn; the report stays the same",
 };
+
+/// A command without options.
+#[derive(Clone, Copy)]
+pub enum BareCommand {
+    /// A scene from the input; it is written in version 2.
+    Upgrade,
+}
+
+/// Which command it is.
+#[derive(Clone, Copy)]
+pub enum CommandKind {
+    Cull,
+    Live,
+    Demo,
+    Check,
+    Bare(BareCommand),
+}
 
 /// Reads a scene and writes its report.
 pub const CULL: ACommand = CommandRow {
@@ -161,12 +137,12 @@ Exit status:
 
 /// Reads a scene and writes it in the newest version of its layout.
 pub const UPGRADE: ACommand = CommandRow {
-    kind: CommandKind::Upgrade,
+    kind: CommandKind::Bare(BareCommand::Upgrade),
     name: "upgrade",
     about: "Reads a scene from standard input and writes it in version 2 to standard output",
     more: "Reads the bytes of a scene of version 1 or 2 from standard input, to their end.
-Writes to standard output the same scene in version 2. Its report stays the same: a scene of version 1 is narrow, and its
-occluder triangles are one batch with its winding. To make it wide set byte 13 to 1.
+Writes to standard output the same scene in version 2. Its report stays the same: a scene of version 1 is narrow, and
+its occluder triangles are one batch with its winding. To make it wide set byte 13 to 1.
 Tells on standard error why a run isn't done.
 
 Exit status:
@@ -205,3 +181,79 @@ Exit status:
 
 /// The commands, in the order of the program's help.
 pub const COMMANDS: &[ACommand] = &[CULL, LIVE, DEMO, UPGRADE, CHECK];
+
+/// What `cull` is to do.
+#[derive(Clone, Copy)]
+pub struct CullWords {
+    pub settings: Settings,
+}
+
+/// What `live` is to do: so many rounds of looks at the first objects, of so many, while each frame is drawn. 1 to 8
+/// each.
+#[derive(Clone, Copy)]
+pub struct LiveWords {
+    pub settings: Settings,
+    pub rounds: u32,
+    pub watch: u32,
+}
+
+/// What `demo` is to do: the seed that makes the scene, and its number of triangles, at most 65,536.
+#[derive(Clone, Copy)]
+pub struct DemoWords {
+    pub settings: Settings,
+    pub seed: u32,
+    pub triangles: u32,
+}
+
+/// What `check` is to do: whether the log may be one of so many rounds of looks at the first objects, of so many. 1 to 8
+/// each.
+#[derive(Clone, Copy)]
+pub struct CheckWords {
+    pub rounds: u32,
+    pub watch: u32,
+}
+
+/// A command, with what its options say.
+#[derive(Clone, Copy)]
+pub enum Command {
+    /// A scene from the input; its report is written.
+    Cull(CullWords),
+    /// The same, with looks at its first objects; what they show is noted.
+    Live(LiveWords),
+    /// A scene that a seed makes; its summary is written.
+    Demo(DemoWords),
+    /// The length of a scene, the scene and a log of `live` from the input; whether `live` may have noted it is written.
+    Check(CheckWords),
+    /// What a command without options does.
+    Bare(BareCommand),
+}
+
+/// A command with the values of its options, where each has one.
+pub fn asked_by(kind: CommandKind, matches: &ArgMatches<'_>) -> Command
+    requires { HaveValues (options_by kind) (rows_of (found_of matches.now)) }
+    ensures value { result
+        ≡ asked_by kind (own_values (options_by kind) (value_in (rows_of (found_of matches.now)))) }
+    ensures limits { IsWithinLimits result }
+{
+    match kind {
+        CommandKind::Cull => Command::Cull(CullWords {
+            settings: settings_of(matches),
+        }),
+        CommandKind::Live => Command::Live(LiveWords {
+            settings: settings_of(matches),
+            rounds: number(matches, &ROUNDS),
+            watch: number(matches, &WATCH),
+        }),
+        CommandKind::Demo => Command::Demo(DemoWords {
+            settings: settings_of(matches),
+            seed: number(matches, &SEED),
+            triangles: number(matches, &TRIANGLES),
+        }),
+        CommandKind::Check => {
+            let rounds = number(matches, &ROUNDS);
+            let watch = number(matches, &WATCH);
+            Command::Check(CheckWords { rounds, watch })
+        }
+        CommandKind::Bare(command) => Command::Bare(command),
+    }
+}

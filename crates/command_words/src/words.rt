@@ -1,19 +1,14 @@
 //! The command line, read by `clap`: what it names by the table, or why it is refused.
-ghost use Rattle.std.specs.Prelude.{◌≡◌, ℕ, ◌≤◌, ◌⊎◌, IfOk, IfErr, IfSome, None, Some, [], is_some, map, string_bytes, false, option_map, unwrap_or};
+ghost use Rattle.std.specs.Prelude.{◌≡◌, ◌⊎◌, IfOk, IfErr, IfSome, None, Some, [], map, string_bytes, false, option_map};
 ghost use Rattle.clap.specs.Walk.{is_empty};
-ghost use Rattle.clap.specs.Words.{fault_of, found_of, kind_of, one_of, rows_of, subcommand_of, subcommand_rows_of};
+ghost use Rattle.clap.specs.Words.{fault_of, found_of, kind_of, rows_of, subcommand_of, subcommand_rows_of};
 ghost use Rattle.command_words.specs.App.{the_app};
-ghost use Rattle.command_words.specs.Table.{row_among, row_by, row_of, sharing};
-ghost use Rattle.command_words.specs.Words.{AreInRange, ArePlain, AreWords, HaveValues, IsEntered, IsFlag, IsNumbered, IsWithinLimits, asked_by, asked_in, command_of, flag_said, number_said, settings_by, value_in};
+ghost use Rattle.command_words.specs.Table.{row_among, row_of};
+ghost use Rattle.command_words.specs.Words.{ArePlain, AreWords, IsEntered, IsWithinLimits, asked_in, command_of};
 
-use crate::command::Command;
 use crate::program::program;
-use crate::settings::Settings;
-use crate::table::{
-    ACommand, AnOption, BATCH, BINS_X, BINS_Y, COMMANDS, CommandKind, EARLY, ROUNDS, SEED,
-    TRIANGLES, WATCH, WORKERS,
-};
-use binning::Cut;
+use crate::rows::ACommand;
+use crate::table::{COMMANDS, Command, CommandKind, asked_by};
 use clap::error::ErrorKind;
 use clap::{ArgMatches, Error};
 use std::alloc::Global;
@@ -45,88 +40,6 @@ fn refused_with(alloc: Global, error: &Error) -> Refusal
     match error.kind() {
         ErrorKind::OutOfMemory => Refusal::Memory,
         _ => Refusal::Words(format!(in alloc; "{error}").ok()),
-    }
-}
-
-// The number of an option, if it has one.
-fn number_of(matches: &ArgMatches<'_>, option: &AnOption) -> Option<u32>
-    requires { IsNumbered (rows_of (found_of matches.now)) option.now.name.now 0 4294967295
-        ⊎ (one_of option.now.name.now (rows_of (found_of matches.now)) ≡ None) }
-    ensures { result ≡ number_said (one_of option.now.name.now (rows_of (found_of matches.now))) }
-{
-    matches.get_one::<u32>(option.name)
-}
-
-// The number of an option that has one.
-fn number(matches: &ArgMatches<'_>, option: &AnOption) -> u32
-    requires { IsNumbered (rows_of (found_of matches.now)) option.now.name.now 0 4294967295 }
-    ensures { result
-        ≡ unwrap_or (number_said (one_of option.now.name.now (rows_of (found_of matches.now)))) 0 }
-{
-    number_of(matches, option).unwrap()
-}
-
-// The number of columns or rows of bins, 1 to 8.
-fn side(matches: &ArgMatches<'_>, option: &AnOption) -> u8
-    requires { IsNumbered (rows_of (found_of matches.now)) option.now.name.now 1 8 }
-    ensures value { result
-        ≡ unwrap_or (number_said (one_of option.now.name.now (rows_of (found_of matches.now)))) 0 }
-    ensures some { 1 ≤ result }
-    ensures few { result ≤ 8 }
-{
-    number(matches, option) as u8
-}
-
-// Whether a flag is given.
-fn is_given(matches: &ArgMatches<'_>, option: &AnOption) -> bool
-    requires { IsFlag option.now.name.now (rows_of (found_of matches.now)) }
-    ensures { result ≡ is_some (flag_said (one_of option.now.name.now (rows_of (found_of matches.now)))) }
-{
-    matches.get_flag(option.name)
-}
-
-// The settings, where each of their options has its value.
-fn settings_of(matches: &ArgMatches<'_>) -> Settings
-    requires { HaveValues sharing (rows_of (found_of matches.now)) }
-    ensures value { result ≡ settings_by (value_in (rows_of (found_of matches.now))) }
-    ensures range { AreInRange result }
-{
-    let columns = side(matches, &BINS_X);
-    let rows = side(matches, &BINS_Y);
-    Settings {
-        workers: number(matches, &WORKERS),
-        cut: Cut::new(columns, rows).unwrap(),
-        batch: number(matches, &BATCH),
-        early: is_given(matches, &EARLY),
-    }
-}
-
-// A command with the values of its options, where each has one.
-fn asked_by(kind: CommandKind, matches: &ArgMatches<'_>) -> Command
-    requires { HaveValues (row_by kind).options (rows_of (found_of matches.now)) }
-    ensures value { result ≡ asked_by kind (value_in (rows_of (found_of matches.now))) }
-    ensures limits { IsWithinLimits result }
-{
-    match kind {
-        CommandKind::Cull => Command::Cull {
-            settings: settings_of(matches),
-        },
-        CommandKind::Live => Command::Live {
-            settings: settings_of(matches),
-            rounds: number(matches, &ROUNDS),
-            watch: number(matches, &WATCH),
-        },
-        CommandKind::Demo => Command::Demo {
-            settings: settings_of(matches),
-            seed: number(matches, &SEED),
-            triangles: number(matches, &TRIANGLES),
-        },
-        CommandKind::Upgrade => Command::Upgrade,
-        CommandKind::Check => {
-            let rounds = number(matches, &ROUNDS);
-            let watch = number(matches, &WATCH);
-            Command::Check { rounds, watch }
-        }
     }
 }
 

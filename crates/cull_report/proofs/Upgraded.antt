@@ -1,5 +1,5 @@
 -- The texts of a scene don't speak of its version.
-use Rattle.std.proofs.Common.{◌≡◌, ℕ, ◌++◌, List, length, map, refl}
+use Rattle.std.proofs.Common.{◌≡◌, ℕ, ◌++◌, length, map, refl}
 use Rattle.std.specs.List.{flat_map, range_with_len}
 use Rattle.cull_base.specs.declared.scene_types.Object.{Object}
 use Rattle.cull_base.specs.declared.scene_types.Object.TheVariants.{Area, Block, Mesh}
@@ -8,7 +8,7 @@ use Rattle.cull_base.specs.Shape.{area_of, verdict_of}
 use Rattle.masked_update.specs.Taken.{standing_at}
 use Rattle.masked_update.specs.Views.{state_in}
 use Rattle.scene_reader.specs.Layout.{Parts, upgraded}
-use Rattle.cull_report.specs.Live.{Counts, live_line, live_text, frame_live, frames_live, object_at, object_line, tile_count, tiles_met, watched}
+use Rattle.cull_report.specs.Live.{live_line, frame_live, frames_live, object_at, object_line, tile_count, tiles_met, watched}
 use Rattle.cull_report.specs.Scene.{frame_clips, frame_list, frame_verdicts, frames_text, object_shape, report_text, scene_header, size_of}
 use Rattle.cull_report.specs.Text.{frame_text}
 use Rattle.cull_report.specs.Upgraded.{KeepsReport, KeepsLive}

@@ -1,6 +1,5 @@
 -- The tiles of cells that are closed after a whole list.
-use Rattle.std.proofs.Common.{◌≡◌, ℕ, ◌<◌, List, [], ◌∷◌, length, arith, ap, ◌∙◌}
-use Rattle.std.specs.Prelude.{slice_index_or}
+use Rattle.std.proofs.Common.{◌≡◌, ◌<◌, List, [], ◌∷◌, length, arith, ap, ◌∙◌}
 use Rattle.std.proofs.Math.Seq.{take-length}
 use Rattle.atomic_table.specs.Seated.{TableId}
 use Rattle.cull_base.specs.Piece.{Piece}

@@ -1,6 +1,6 @@
 -- How commands come to their outcomes.
-use Rattle.std.proofs.Common.{◌≡◌, ℕ, zero, suc, ◌+◌, ◌<◌, ◌≤◌, ◌++◌, List, [], ◌∷◌, length, map, take, arith, refl, sym, ap, ◌∙◌, subst, inl, inr, Option, Some, None, Result, Ok, Err, ◌⊎◌}
-use Rattle.std.specs.Prelude.{IfSome, IsErrOf, codes, slice_index_or}
+use Rattle.std.proofs.Common.{◌≡◌, ℕ, ◌+◌, ◌<◌, ◌≤◌, ◌++◌, List, [], ◌∷◌, length, map, take, arith, refl, sym, ap, ◌∙◌, subst, inl, inr, Option, Some, None, Result, Ok, Err, ◌⊎◌}
+use Rattle.std.specs.Prelude.{IfSome, codes}
 use Rattle.std.specs.Fmt.{decimal}
 use Rattle.std.specs.List.{flat_map, range_with_len}
 use Rattle.std.proofs.lemmas.List.{append-nil}
@@ -9,9 +9,9 @@ use Rattle.cull_base.specs.Stream.{SinkSays, SourceSays, Appends, AppendsPrefix,
 use Rattle.cull_base.specs.declared.memory.SinkError.{SinkError}
 use Rattle.cull_base.specs.declared.memory.SinkError.TheVariants as sinks
 use Rattle.cull_base.proofs.Streams.{appends_then}
-use Rattle.scene_reader.specs.Layout.{Parts, IsScene, header_bytes, layout, upgraded}
+use Rattle.scene_reader.specs.Layout.{Parts, IsScene, header_bytes, layout}
 use Rattle.scene_reader.specs.Fault.{IsRefusal}
-use Rattle.scene_reader.specs.Reading.{HasFirstFault, TakesLayout}
+use Rattle.scene_reader.specs.Reading.{TakesLayout}
 use Rattle.scene_reader.specs.declared.error.SceneError.{SceneError}
 use Rattle.scene_reader.specs.declared.error.SceneError.TheVariants as errors
 use Rattle.cull_report.proofs.Occluders.{hides_truly}
@@ -21,16 +21,19 @@ use Rattle.live_check.specs.declared.answer.LogAnswer.{LogAnswer}
 use Rattle.live_check.specs.declared.answer.LogAnswer.TheVariants.{Accepted, Refused}
 use Rattle.live_check.specs.declared.answer.LogError.{LogError}
 use Rattle.live_check.specs.declared.answer.LogError.TheVariants as logs
-use Rattle.command_words.specs.Words.{AreWords, IsWithinLimits, command_of}
-use Rattle.command_words.specs.declared.command.Command.{Command}
-use Rattle.command_words.specs.declared.command.Command.TheVariants.{Cull, Live, Demo, Upgrade, Check}
-use Rattle.command_words.specs.declared.settings.Settings.{Settings}
+use Rattle.command_words.specs.Words.{AreWords, command_of}
+use Rattle.command_words.specs.declared.table.Command.{Command}
+use Rattle.command_words.specs.declared.table.Command.TheVariants.{Cull, Live, Demo, Check}
+use Rattle.command_words.specs.declared.table.CheckWords.{CheckWords}
+use Rattle.command_words.specs.declared.table.CullWords.{CullWords}
+use Rattle.command_words.specs.declared.table.DemoWords.{DemoWords}
+use Rattle.command_words.specs.declared.table.LiveWords.{LiveWords}
 use Rattle.command_words.specs.declared.words.Refusal.{Refusal}
 use Rattle.command_words.specs.declared.words.Refusal.TheVariants as refusals
 use Rattle.demo_scene.proofs.DemoScene.{demo_is_scene}
 use Rattle.demo_scene.specs.Demo.{demo_of, frame_count}
 use Rattle.culling.specs.declared.failure.Failure.{Failure}
-use Rattle.culling.specs.declared.failure.Failure.TheVariants.{Scene, ReadFault, ReportFault, NotesFault, Memory, Log}
+use Rattle.culling.specs.declared.failure.Failure.TheVariants.{Scene, ReadFault, ReportFault, Memory, Log}
 use Rattle.culling.specs.declared.failure.Status.{Status}
 use Rattle.culling.specs.declared.failure.Status.TheVariants as statuses
 use Rattle.culling.specs.FrameRuns.{LeavesFrames, LeavesTexts}
@@ -39,14 +42,14 @@ use Rattle.culling.specs.Checking.{IsNoNumber}
 use Rattle.culling.specs.NotedLines.{CountsStay}
 use Rattle.culling.specs.Notes.{IsNotedBehind, IsNotedFirst, note_by, note_text, refusal_text, status_text, usage_text}
 use Rattle.culling.specs.Outcome.{failure_of, log_failure, refusal_status, sink_failure, status_by, status_of}
-use Rattle.culling.specs.Outcomes.{Ends, HasFault, HasScene, IfAsked, IfBytes, IsTrue, ReadsScene, OutcomeOf, answer_alone, answer_text, scene_bytes, joined, live_frames, note_alone, notes_at, notes_before, report_and, report_before, report_of, text_alone}
-use Rattle.culling.specs.Runs.{AwaitsNote, Comes, HasCause, IsComplete, IsCut, IsUnasked, Leaves, LeavesFront, LeavesWhole, Streams, WithoutFault, streams}
+use Rattle.culling.specs.Outcomes.{Ends, EndsBy, EndsByScene, IsAbout, Makes, MakesBy, Making, work_of, HasFault, HasScene, IfAsked, IfBytes, IsTrue, ReadsScene, OutcomeOf, answer_alone, answer_text, joined, live_frames, note_alone, notes_at, notes_before, report_and, report_before, report_of, scene_bytes, scene_bytes_by, text_alone}
+use Rattle.culling.specs.Runs.{AwaitsNote, Comes, HasCause, IsComplete, IsUnasked, Leaves, LeavesFront, Streams, WithoutFault, streams}
 use Rattle.culling.specs.Summary.{demo_line, frames_summary, summary_text}
 use Rattle.culling.specs.declared.frames.Beside.TheVariants.{Nothing, Looks}
 use Rattle.culling.specs.declared.frames.FrameLines.TheVariants.{Report, Summary}
 use Rattle.culling.proofs.Checking.{short_fault}
 use Rattle.culling.proofs.Fronts.{nothing_appended, rose_later}
-use Rattle.culling.proofs.FrameByFrame.{are_empty}
+use Rattle.culling.proofs.FrameByFrame.{are_empty, unseen, unseen_rises}
 use Rattle.culling.proofs.FrameTexts.{as_one_text, counts_same, never_done, none_at, unwritten, whole_leaves, without_notes}
 use Rattle.culling.proofs.OutcomeTexts.{ended_by, header_some, joined_is, live_frames_are, not_empty, summary_some}
 use Rattle.culling.proofs.ScenePieces.{all_are_pieces, lines_hide}
@@ -63,19 +66,19 @@ nothing_front before text = (0, omega arith, nothing_appended before)
 
 -- ---- a scene that couldn't be read
 
+-- a command that reads a scene comes to what that comes to
+ends_read : (c : Command) (source : SourceSays) (o : OutcomeOf) → ReadsScene c → EndsByScene c source o (Makes (work_of c) source.left o) → Ends c source o
+ends_read c source o reads ends = subst (λ (own : Option (ℕ × ℕ)). EndsBy own c source o) (sym reads) ends
+
 ends_refused : (c : Command) (source : SourceSays) (e : SceneError) → ReadsScene c → IsRefusal e → HasFault c source e → Ends c source (note_alone statuses.Scene (refusal_text e))
-ends_refused (Cull settings) source e reads refusal fault = inr (inl (e, refusal, fault, refl))
-ends_refused (Live settings rounds watch) source e reads refusal fault = inr (inl (e, refusal, fault, refl))
-ends_refused (Demo settings seed m) source e reads refusal fault = absurd reads
-ends_refused Upgrade source e reads refusal fault = inr (inl (e, refusal, fault, refl))
-ends_refused (Check rounds watch) source e reads refusal fault = inr (inl (e, refusal, fault, refl))
+ends_refused c source e reads refusal fault = ends_read c source (note_alone statuses.Scene (refusal_text e)) reads (inr (inl (e, refusal, fault, refl)))
 
 ends_unread : (c : Command) (source : SourceSays) → ReadsScene c → Ends c source (note_alone statuses.ReadFault (status_text statuses.ReadFault))
-ends_unread (Cull settings) source reads = inr (inr refl)
-ends_unread (Live settings rounds watch) source reads = inr (inr refl)
-ends_unread (Demo settings seed m) source reads = absurd reads
-ends_unread Upgrade source reads = inr (inr refl)
-ends_unread (Check rounds watch) source reads = inr (inr refl)
+ends_unread c source reads = ends_read c source (note_alone statuses.ReadFault (status_text statuses.ReadFault)) reads (inr (inr refl))
+
+-- what is made where nothing was looked at
+made_unseen : (outcome : Making) (rounds watch : ℕ) (left : Option (List ℕ)) (s : Parts) → MakesBy (Some outcome) rounds watch left (outcome s unseen) s
+made_unseen outcome rounds watch left s = (unseen, (λ frame lt. unseen_rises (Looks rounds watch) s frame), refl)
 
 comes_refused : (c : Command) (i0 i1 : SourceSays) (r n : SinkSays) (e : SceneError) (P Q : Type 0) → ReadsScene c → IsRefusal e → HasFault c i0 e → P → Q
     → Comes c statuses.Scene (streams i0 r n) (streams i1 r n) (AwaitsNote (Err (Scene e))) P Q
@@ -207,23 +210,23 @@ none_left source after s takes = by source.left takes
     by None takes = tt
     by (Some bytes) takes = takes.1
 
-pub cull_comes : (settings : Settings) (s : Parts) (i0 i1 : SourceSays) (r0 r1 n0 n1 : SinkSays) (r : Result (Unit {0}) Failure) (P Q : Type 0) → IsScene s → TakesLayout i0 i1 s → Q
-    → LeavesFrames (scene_header s) Report Nothing s 0 (length s.cameras) r r0 r1 n0 n1 → Comes (Cull settings) (status_by r) (streams i0 r0 n0) (streams i1 r1 n1) (AwaitsNote r) P Q
-cull_comes settings s i0 i1 r0 r1 n0 n1 r P Q scene takes q w =
+pub cull_comes : (words : CullWords) (s : Parts) (i0 i1 : SourceSays) (r0 r1 n0 n1 : SinkSays) (r : Result (Unit {0}) Failure) (P Q : Type 0) → IsScene s → TakesLayout i0 i1 s → Q
+    → LeavesFrames (scene_header s) Report Nothing s 0 (length s.cameras) r r0 r1 n0 n1 → Comes (Cull words) (status_by r) (streams i0 r0 n0) (streams i1 r1 n1) (AwaitsNote r) P Q
+cull_comes words s i0 i1 r0 r1 n0 n1 r P Q scene takes q w =
     let o = report_and s [] in
-    texts_come (Cull settings) o i0 i1 r0 r1 n0 n1 r P Q (inl (s, has_scene (Cull settings) i0 i1 s (λ bytes. refl) scene takes, refl)) refl (not_empty (scene_header s) (joined o.frames) (header_some s))
+    texts_come (Cull words) o i0 i1 r0 r1 n0 n1 r P Q (inl (s, has_scene (Cull words) i0 i1 s (λ bytes. refl) scene takes, made_unseen (λ t counts. report_and t []) 0 0 i0.left s)) refl (not_empty (scene_header s) (joined o.frames) (header_some s))
     (λ reads. none_left i0 i1 s takes) (λ none. q)
     (without_notes (scene_header s) o.frames (map (λ (frame : ℕ). []) (range_with_len 0 (length s.cameras))) r r0 r1 n0 n1 (are_empty 0 (length s.cameras)) w.texts)
 
 live_noted : (s : Parts) (rounds watch : ℕ) (counts : Counts) → IsScene s → live_frames s rounds watch counts ≡ [] → ⊥
 live_noted s rounds watch counts scene is = omega (arith, ap length is, live_frames_are s rounds watch counts, scene.some_frames)
 
-pub live_comes : (settings : Settings) (s : Parts) (rounds watch : ℕ) (i0 i1 : SourceSays) (r0 r1 n0 n1 : SinkSays) (r : Result (Unit {0}) Failure) (P Q : Type 0) → IsScene s → TakesLayout i0 i1 s
-    → LeavesFrames (scene_header s) Report (Looks rounds watch) s 0 (length s.cameras) r r0 r1 n0 n1 → Comes (Live settings rounds watch) (status_by r) (streams i0 r0 n0) (streams i1 r1 n1) (AwaitsNote r) P Q
-live_comes settings s rounds watch i0 i1 r0 r1 n0 n1 r P Q scene takes w =
-    let o = report_and s (live_frames s rounds watch w.counts) in
-    texts_come (Live settings rounds watch) o i0 i1 r0 r1 n0 n1 r P Q (inl (s, has_scene (Live settings rounds watch) i0 i1 s (λ bytes. refl) scene takes, (w.counts, (λ frame lt. w.rising frame), refl))) refl
-    (not_empty (scene_header s) (joined o.frames) (header_some s)) (λ reads. none_left i0 i1 s takes) (λ none. absurd (live_noted s rounds watch w.counts scene none)) w.texts
+pub live_comes : (words : LiveWords) (s : Parts) (i0 i1 : SourceSays) (r0 r1 n0 n1 : SinkSays) (r : Result (Unit {0}) Failure) (P Q : Type 0) → IsScene s → TakesLayout i0 i1 s
+    → LeavesFrames (scene_header s) Report (Looks words.rounds words.watch) s 0 (length s.cameras) r r0 r1 n0 n1 → Comes (Live words) (status_by r) (streams i0 r0 n0) (streams i1 r1 n1) (AwaitsNote r) P Q
+live_comes words s i0 i1 r0 r1 n0 n1 r P Q scene takes w =
+    let o = report_and s (live_frames s words.rounds words.watch w.counts) in
+    texts_come (Live words) o i0 i1 r0 r1 n0 n1 r P Q (inl (s, has_scene (Live words) i0 i1 s (λ bytes. refl) scene takes, (w.counts, (λ frame lt. w.rising frame), refl))) refl
+    (not_empty (scene_header s) (joined o.frames) (header_some s)) (λ reads. none_left i0 i1 s takes) (λ none. absurd (live_noted s words.rounds words.watch w.counts scene none)) w.texts
 
 -- ---- `demo`
 
@@ -237,40 +240,68 @@ summary_is seed m =
     ap (λ (t : List ℕ). demo_line seed m ++ t) (joined_is (lines_of Summary (demo_of seed m)) (length (demo_of seed m).cameras)
     ∙ ap (λ n. flat_map (lines_of Summary (demo_of seed m)) (range_with_len 0 n)) (demo_frames seed m))
 
-pub demo_comes : (settings : Settings) (seed m : ℕ) (s : Parts) (i : SourceSays) (r0 r1 n0 n1 : SinkSays) (r : Result (Unit {0}) Failure) (P Q : Type 0) → s ≡ demo_of seed m → Q
-    → LeavesFrames (demo_line seed m) Summary Nothing s 0 (length s.cameras) r r0 r1 n0 n1 → Comes (Demo settings seed m) (status_by r) (streams i r0 n0) (streams i r1 n1) (AwaitsNote r) P Q
-demo_comes settings seed m s i r0 r1 n0 n1 r P Q is q w =
+pub demo_comes : (words : DemoWords) (s : Parts) (i : SourceSays) (r0 r1 n0 n1 : SinkSays) (r : Result (Unit {0}) Failure) (P Q : Type 0) → s ≡ demo_of words.seed words.triangles → Q
+    → LeavesFrames (demo_line words.seed words.triangles) Summary Nothing s 0 (length s.cameras) r r0 r1 n0 n1 → Comes (Demo words) (status_by r) (streams i r0 n0) (streams i r1 n1) (AwaitsNote r) P Q
+demo_comes words s i r0 r1 n0 n1 r P Q is q w =
+    let seed = words.seed in let m = words.triangles in
     let d = demo_of seed m in
     let head = demo_line seed m in
     let frames = map (lines_of Summary d) (range_with_len 0 (length d.cameras)) in
     let drawn = subst (λ (p : Parts). LeavesFrames head Summary Nothing p 0 (length p.cameras) r r0 r1 n0 n1) is w in
     let silent = without_notes head frames (map (λ (frame : ℕ). []) (range_with_len 0 (length d.cameras))) r r0 r1 n0 n1 (are_empty 0 (length d.cameras)) drawn.texts in
-    texts_come (Demo settings seed m) (text_alone (summary_text seed m)) i i r0 r1 n0 n1 r P Q refl refl (not_empty (summary_text seed m) [] (summary_some seed m)) (λ reads. absurd reads) (λ none. q)
-    (subst (λ (t : List ℕ). LeavesTexts (text_alone t) r r0 r1 n0 n1) (summary_is seed m) (as_one_text head frames r r0 r1 n0 n1 silent))
+    texts_come (Demo words) (text_alone (summary_text seed m)) i i r0 r1 n0 n1 r P Q (made_unseen (λ t counts. text_alone (summary_text seed m)) 0 0 None d) refl (not_empty (summary_text seed m) [] (summary_some seed m))
+    (λ reads. absurd cc) (λ none. q) (subst (λ (t : List ℕ). LeavesTexts (text_alone t) r r0 r1 n0 n1) (summary_is seed m) (as_one_text head frames r r0 r1 n0 n1 silent))
 
--- ---- `upgrade`
+-- ---- one text of a scene that is read
 
 pub layout_some : (s : Parts) → 0 < length (layout s)
 unfolding layout header_bytes
 layout_some s = omega arith
 
--- the layout stands whole
-pub upgrade_written : (s : Parts) (x : Unit {0}) (r0 r1 n : SinkSays) → Writes r0 r1 (Ok x) (layout s) → LeavesTexts (text_alone (layout s)) (Ok x) r0 r1 n n
-upgrade_written s x r0 r1 n w =
-    let text = layout s in
+-- the text stands whole
+text_written : (text : List ℕ) (x : Unit {0}) (r0 r1 n : SinkSays) → Writes r0 r1 (Ok x) text → LeavesTexts (text_alone text) (Ok x) r0 r1 n n
+text_written text x r0 r1 n w =
     whole_leaves text [] [] r0 r1 n n x
     (record { reported = subst (Appends r0 r1) (sym (append-nil text)) w.ok; noted = nothing_appended n; report_stays = w.faults_stay; stay = counts_same n })
 
 -- a front of it stands
-pub upgrade_unwritten : (s : Parts) (e : SinkError) (r0 r1 n : SinkSays) → Writes r0 r1 (Err e) (layout s) → LeavesTexts (text_alone (layout s)) (Err (sink_failure e)) r0 r1 n n
-upgrade_unwritten s e r0 r1 n w = let text = layout s in unwritten text text [] [] e r0 r1 n (append-nil text) (append-nil text) w
+text_unwritten : (text : List ℕ) (e : SinkError) (r0 r1 n : SinkSays) → Writes r0 r1 (Err e) text → LeavesTexts (text_alone text) (Err (sink_failure e)) r0 r1 n n
+text_unwritten text e r0 r1 n w = unwritten text text [] [] e r0 r1 n (append-nil text) (append-nil text) w
 
-pub upgrade_comes : (s : Parts) (i0 i1 : SourceSays) (r0 r1 n : SinkSays) (r : Result (Unit {0}) Failure) (P : Type 0) → IsScene s → TakesLayout i0 i1 s
-    → LeavesTexts (text_alone (layout (upgraded s))) r r0 r1 n n → Comes Upgrade (status_by r) (streams i0 r0 n) (streams i1 r1 n) (AwaitsNote r) P (Unit {0})
-upgrade_comes s i0 i1 r0 r1 n r P scene takes l =
-    let text = layout (upgraded s) in
-    texts_come Upgrade (text_alone text) i0 i1 r0 r1 n n r P (Unit {0}) (inl (s, has_scene Upgrade i0 i1 s (λ bytes. refl) scene takes, refl)) refl (not_empty text [] (layout_some (upgraded s)))
-    (λ reads. none_left i0 i1 s takes) (λ none. tt) l
+-- the command makes this one text of a scene that it read
+abbrev pub IsTextBy : Option Making → Parts → List ℕ → Type 0
+IsTextBy (Some outcome) s text = outcome s unseen ≡ text_alone text
+IsTextBy None s text = ⊥
+
+abbrev pub MakesText : Command → Parts → List ℕ → Type 0
+MakesText c s text = ReadsScene c × IsTextBy (work_of c).outcome s text
+
+made_text : (outcome : Option Making) (rounds watch : ℕ) (left : Option (List ℕ)) (s : Parts) (text : List ℕ) → IsTextBy outcome s text → MakesBy outcome rounds watch left (text_alone text) s
+made_text (Some outcome) rounds watch left s text is = (unseen, (λ frame lt. unseen_rises (Looks rounds watch) s frame), sym is)
+made_text None rounds watch left s text is = absurd is
+
+-- and all bytes are the scene's
+reads_all : (outcome : Option Making) (s : Parts) (text : List ℕ) → IsTextBy outcome s text → (bytes : List ℕ) → scene_bytes_by outcome bytes ≡ bytes
+reads_all (Some outcome) s text is bytes = refl
+reads_all None s text is bytes = absurd is
+
+text_comes : (c : Command) (s : Parts) (text : List ℕ) (i0 i1 : SourceSays) (r0 r1 n : SinkSays) (r : Result (Unit {0}) Failure) (P Q : Type 0) → MakesText c s text → 0 < length text → IsScene s
+    → TakesLayout i0 i1 s → Q → LeavesTexts (text_alone text) r r0 r1 n n → Comes c (status_by r) (streams i0 r0 n) (streams i1 r1 n) (AwaitsNote r) P Q
+text_comes c s text i0 i1 r0 r1 n r P Q makes some scene takes q l =
+    let w = work_of c in
+    let made : Makes w i0.left (text_alone text) s = made_text w.outcome w.rounds w.watch i0.left s text makes.1 in
+    let has = has_scene c i0 i1 s (reads_all w.outcome s text makes.1) scene takes in
+    texts_come c (text_alone text) i0 i1 r0 r1 n n r P Q (ends_read c i0 (text_alone text) makes.0 (inl (s, has, made))) refl (not_empty text [] some)
+    (λ reads. none_left i0 i1 s takes) (λ none. q) l
+
+pub written_comes : (c : Command) (s : Parts) (text : List ℕ) (i0 i1 : SourceSays) (r0 r1 n : SinkSays) (x : Unit {0}) (P Q : Type 0) → MakesText c s text → 0 < length text → IsScene s
+    → TakesLayout i0 i1 s → Q → Writes r0 r1 (Ok x) text → Comes c statuses.Done (streams i0 r0 n) (streams i1 r1 n) (AwaitsNote (Ok x)) P Q
+written_comes c s text i0 i1 r0 r1 n x P Q makes some scene takes q w = text_comes c s text i0 i1 r0 r1 n (Ok x) P Q makes some scene takes q (text_written text x r0 r1 n w)
+
+pub unwritten_comes : (c : Command) (s : Parts) (text : List ℕ) (i0 i1 : SourceSays) (r0 r1 n : SinkSays) (e : SinkError) (P Q : Type 0) → MakesText c s text → 0 < length text → IsScene s
+    → TakesLayout i0 i1 s → Q → Writes r0 r1 (Err e) text → Comes c (status_of (sink_failure e)) (streams i0 r0 n) (streams i1 r1 n) (AwaitsNote (Err (sink_failure e))) P Q
+unwritten_comes c s text i0 i1 r0 r1 n e P Q makes some scene takes q w =
+    text_comes c s text i0 i1 r0 r1 n (Err (sink_failure e)) P Q makes some scene takes q (text_unwritten text e r0 r1 n w)
 
 -- ---- `check`
 
@@ -284,31 +315,31 @@ result_by Accepted = Ok tt
 result_by (Refused n) = Err Log
 
 -- the answer's line stands whole, and nothing is noted
-pub answer_written : (c : Command) (answer : LogAnswer) (i0 i1 : SourceSays) (r0 r1 n : SinkSays) (P : Type 0) → Ends c i0 (answer_alone answer) → Appends r0 r1 (answer_text answer)
-    → (answer ≡ Accepted → IfBytes i0 (λ bytes. i1.left ≡ Some [])) → Comes c (status_by (result_by answer)) (streams i0 r0 n) (streams i1 r1 n) (AwaitsNote (result_by answer)) P (Unit {0})
-answer_written c Accepted i0 i1 r0 r1 n P ends gained taken = record {
+pub answer_written : (c : Command) (answer : LogAnswer) (i0 i1 : SourceSays) (r0 r1 n : SinkSays) (P Q : Type 0) → Ends c i0 (answer_alone answer) → Appends r0 r1 (answer_text answer) → Q
+    → (answer ≡ Accepted → IfBytes i0 (λ bytes. i1.left ≡ Some [])) → Comes c (status_by (result_by answer)) (streams i0 r0 n) (streams i1 r1 n) (AwaitsNote (result_by answer)) P Q
+answer_written c Accepted i0 i1 r0 r1 n P Q ends gained q taken = record {
   outcome = answer_alone Accepted;
   ends = ends;
   leaves = inl (refl, record { reported = subst (Appends r0 r1) (sym (append-nil (answer_text Accepted))) gained; noted_is = nothing_awaits n (Ok tt) [] refl });
   causes = record { read = λ is. absurd cc; report = λ is. absurd cc; notes = λ is. absurd cc };
   untouched = λ is. absurd (not_empty (answer_text Accepted) [] (answer_some Accepted) is);
-  unnoted = λ is. tt;
+  unnoted = λ is. q;
   taken = λ is reads. taken refl;
 }
-answer_written c (Refused good) i0 i1 r0 r1 n P ends gained taken = record {
+answer_written c (Refused good) i0 i1 r0 r1 n P Q ends gained q taken = record {
   outcome = answer_alone (Refused good);
   ends = ends;
   leaves = inl (refl, record { reported = subst (Appends r0 r1) (sym (append-nil (answer_text (Refused good)))) gained; noted_is = nothing_awaits n (Err Log) [] refl });
   causes = record { read = λ is. absurd cc; report = λ is. absurd cc; notes = λ is. absurd cc };
   untouched = λ is. absurd (not_empty (answer_text (Refused good)) [] (answer_some (Refused good)) is);
-  unnoted = λ is. tt;
+  unnoted = λ is. q;
   taken = λ is. absurd cc;
 }
 
 -- a front of it stands
-pub answer_unwritten : (c : Command) (answer : LogAnswer) (e : SinkError) (i0 i1 : SourceSays) (r0 r1 n : SinkSays) (P : Type 0) → Ends c i0 (answer_alone answer) → Writes r0 r1 (Err e) (answer_text answer)
-    → Comes c (status_of (sink_failure e)) (streams i0 r0 n) (streams i1 r1 n) (AwaitsNote (Err (sink_failure e))) P (Unit {0})
-answer_unwritten c answer e i0 i1 r0 r1 n P ends w =
+pub answer_unwritten : (c : Command) (answer : LogAnswer) (e : SinkError) (i0 i1 : SourceSays) (r0 r1 n : SinkSays) (P Q : Type 0) → Ends c i0 (answer_alone answer) → Writes r0 r1 (Err e) (answer_text answer) → Q
+    → Comes c (status_of (sink_failure e)) (streams i0 r0 n) (streams i1 r1 n) (AwaitsNote (Err (sink_failure e))) P Q
+answer_unwritten c answer e i0 i1 r0 r1 n P Q ends w q =
     let text = answer_text answer in
     let some = not_empty text [] (answer_some answer) in
     let (m, lt, part) = w.err in
@@ -331,14 +362,14 @@ answer_unwritten c answer e i0 i1 r0 r1 n P ends w =
     }
 
     by : (e : SinkError) → AppendsPrefix r0 r1 (answer_text answer ++ []) → (answer_text answer ++ [] ≡ [] → ⊥) → Writes r0 r1 (Err e) (answer_text answer)
-        → Comes c (status_of (sink_failure e)) (streams i0 r0 n) (streams i1 r1 n) (AwaitsNote (Err (sink_failure e))) P (Unit {0})
+        → Comes c (status_of (sink_failure e)) (streams i0 r0 n) (streams i1 r1 n) (AwaitsNote (Err (sink_failure e))) P Q
     by sinks.Failed front some w = record {
       outcome = answer_alone answer;
       ends = ends;
       leaves = inr (inl refl, front_of ReportFault front refl (λ is. absurd cc));
       causes = record { read = λ is. absurd cc; report = λ is. (some, w.failed refl); notes = λ is. absurd cc };
       untouched = λ is. absurd (some is);
-      unnoted = λ is. tt;
+      unnoted = λ is. q;
       taken = λ is. absurd cc;
     }
     by sinks.Memory front some w = record {
@@ -347,31 +378,31 @@ answer_unwritten c answer e i0 i1 r0 r1 n P ends w =
       leaves = inr (inr (inr refl), front_of Memory front refl (λ is. absurd cc));
       causes = record { read = λ is. absurd cc; report = λ is. absurd cc; notes = λ is. absurd cc };
       untouched = λ is. absurd (some is);
-      unnoted = λ is. tt;
+      unnoted = λ is. q;
       taken = λ is. absurd cc;
     }
 
 -- there was no number in front, or the source failed
-pub no_number : (rounds watch : ℕ) (f : Failure) (i0 i1 : SourceSays) (r n : SinkSays) (P : Type 0) → IsNoNumber i0 i1 f → P
-    → Comes (Check rounds watch) (status_of f) (streams i0 r n) (streams i1 r n) (AwaitsNote (Err f)) P (Unit {0})
-no_number rounds watch f i0 i1 r n P none p = elim none [
+pub no_number : (words : CheckWords) (f : Failure) (i0 i1 : SourceSays) (r n : SinkSays) (P Q : Type 0) → IsNoNumber i0 i1 f → P → Q
+    → Comes (Check words) (status_of f) (streams i0 r n) (streams i1 r n) (AwaitsNote (Err f)) P Q
+no_number words f i0 i1 r n P Q none p q = elim none [
   | inl short ↦
       let (bytes, takes, few, ended, is) = short in
       let e = errors.Truncated 4 (length bytes) in
-      subst (λ (g : Failure). Comes (Check rounds watch) (status_of g) (streams i0 r n) (streams i1 r n) (AwaitsNote (Err g)) P (Unit {0})) (sym is)
-      (comes_refused (Check rounds watch) i0 i1 r n e P (Unit {0}) tt tt (short_fault rounds watch i0 i1 bytes takes few ended) p tt)
+      subst (λ (g : Failure). Comes (Check words) (status_of g) (streams i0 r n) (streams i1 r n) (AwaitsNote (Err g)) P Q) (sym is)
+      (comes_refused (Check words) i0 i1 r n e P Q refl tt (short_fault words i0 i1 bytes takes few ended) p q)
   | inr failed ↦
-      subst (λ (g : Failure). Comes (Check rounds watch) (status_of g) (streams i0 r n) (streams i1 r n) (AwaitsNote (Err g)) P (Unit {0})) (sym failed.0)
-      (comes_unread (Check rounds watch) i0 i1 r n P (Unit {0}) tt failed.1 p tt)
+      subst (λ (g : Failure). Comes (Check words) (status_of g) (streams i0 r n) (streams i1 r n) (AwaitsNote (Err g)) P Q) (sym failed.0)
+      (comes_unread (Check words) i0 i1 r n P Q refl failed.1 p q)
 ]
 
 -- the input couldn't be read behind the scene, or memory ran out before the answer
-pub log_unread : (c : Command) (e : LogError) (i0 i1 : SourceSays) (r n : SinkSays) (P : Type 0) → ReadsScene c → (e ≡ logs.Read → Rose i0.faults i1.faults) → P
-    → Comes c (status_of (log_failure e)) (streams i0 r n) (streams i1 r n) (AwaitsNote (Err (log_failure e))) P (Unit {0})
-log_unread c logs.Read i0 i1 r n P reads rose p = comes_unread c i0 i1 r n P (Unit {0}) reads (rose refl) p tt
-log_unread c logs.Memory i0 i1 r n P reads rose p =
-    comes_early c (note_alone statuses.ReadFault (status_text statuses.ReadFault)) i0 i1 r n n (AwaitsNote (Err Memory)) P (Unit {0}) (ends_unread c i0 reads)
-    (nothing_awaits n (Err Memory) (status_text statuses.Memory) refl) p tt
+pub log_unread : (c : Command) (e : LogError) (i0 i1 : SourceSays) (r n : SinkSays) (P Q : Type 0) → ReadsScene c → (e ≡ logs.Read → Rose i0.faults i1.faults) → P → Q
+    → Comes c (status_of (log_failure e)) (streams i0 r n) (streams i1 r n) (AwaitsNote (Err (log_failure e))) P Q
+log_unread c logs.Read i0 i1 r n P Q reads rose p q = comes_unread c i0 i1 r n P Q reads (rose refl) p q
+log_unread c logs.Memory i0 i1 r n P Q reads rose p q =
+    comes_early c (note_alone statuses.ReadFault (status_text statuses.ReadFault)) i0 i1 r n n (AwaitsNote (Err Memory)) P Q (ends_unread c i0 reads)
+    (nothing_awaits n (Err Memory) (status_text statuses.Memory) refl) p q
 
 -- ---- the status's note
 
@@ -447,13 +478,20 @@ comes_done c x i0 i1 r0 r1 n0 n1 P Q h = record {
   taken = h.taken;
 }
 
+made_some : (outcome : Option Making) (rounds watch : ℕ) (s : Parts) → (o : OutcomeOf) × MakesBy outcome rounds watch None o s
+made_some (Some outcome) rounds watch s = (outcome s unseen, made_unseen outcome rounds watch None s)
+made_some None rounds watch s = (answer_alone Accepted, (Accepted, tt, refl))
+
 -- memory ran out before the command was known
 some_ends : (c : Command) (source : SourceSays) → (o : OutcomeOf) × Ends c source o
-some_ends (Cull settings) source = (note_alone statuses.ReadFault (status_text statuses.ReadFault), inr (inr refl))
-some_ends (Live settings rounds watch) source = (note_alone statuses.ReadFault (status_text statuses.ReadFault), inr (inr refl))
-some_ends (Demo settings seed m) source = (text_alone (summary_text seed m), refl)
-some_ends Upgrade source = (note_alone statuses.ReadFault (status_text statuses.ReadFault), inr (inr refl))
-some_ends (Check rounds watch) source = (note_alone statuses.ReadFault (status_text statuses.ReadFault), inr (inr refl))
+some_ends c source = by (work_of c).own refl
+  where
+    by : (own : Option (ℕ × ℕ)) → (work_of c).own ≡ own → (o : OutcomeOf) × Ends c source o
+    by None reads = (note_alone statuses.ReadFault (status_text statuses.ReadFault), ends_unread c source reads)
+    by (Some own) is =
+        let w = work_of c in
+        let (o, made) = made_some w.outcome w.rounds w.watch (demo_of own.0 own.1) in
+        (o, subst (λ (own : Option (ℕ × ℕ)). EndsBy own c source o) (sym is) made)
 
 pub memory_comes : (c : Command) (i : SourceSays) (r n0 n1 : SinkSays) (P Q : Type 0) → P → IsNoted n0 n1 (status_text statuses.Memory)
     → Comes c statuses.Memory (streams i r n0) (streams i r n1) IsNotedBehind P (statuses.Memory ≡ statuses.Done → Q)
@@ -474,11 +512,13 @@ complete c status before after noted P Q h sound = elim h.leaves [
 ]
 
 pub truth : (c : Command) (source : SourceSays) → IsTrue c source
-truth (Cull settings) source = λ s has. hides_truly s has.scene (all_are_pieces s has.scene)
-truth (Live settings rounds watch) source = λ s has. (hides_truly s has.scene (all_are_pieces s has.scene), λ counts. lines_hide s rounds watch counts has.scene)
-truth (Demo settings seed m) source = λ few. let scene = demo_is_scene seed m few in hides_truly (demo_of seed m) scene (all_are_pieces (demo_of seed m) scene)
-truth Upgrade source = tt
-truth (Check rounds watch) source = tt
+truth c source s about =
+    let scene = by (work_of c).own about in
+    (hides_truly s scene (all_are_pieces s scene), λ counts. lines_hide s (work_of c).rounds (work_of c).watch counts scene)
+  where
+    by : (own : Option (ℕ × ℕ)) → IsAbout own c source s → IsScene s
+    by None has = has.scene
+    by (Some own) is = subst (λ (p : Parts). IsScene p) (sym is.1) (demo_is_scene own.0 own.1 is.0)
 
 -- ---- what words ask for
 

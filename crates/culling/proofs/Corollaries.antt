@@ -1,11 +1,11 @@
 -- What follows for a user of `run` from what its command comes to: each lemma has a promise by its short name.
-use Rattle.std.proofs.Common.{◌≡◌, ℕ, ◌+◌, ◌<◌, ◌≤◌, ◌++◌, List, [], length, take, drop, nat_lt, arith, refl, sym, ap, ◌∙◌, subst, inl, inr, Option, Some, None, ◌⊎◌}
+use Rattle.std.proofs.Common.{◌≡◌, ℕ, ◌≤◌, ◌++◌, List, [], length, take, drop, nat_lt, arith, refl, sym, ap, ◌∙◌, subst, inl, inr, Option, Some, None, ◌⊎◌}
 use Rattle.std.specs.Prelude.{IfSome}
 use Rattle.std.proofs.lemmas.Bool.{cond-false, le-ltb}
-use Rattle.std.proofs.lemmas.List.{append-nil, length-append, length-drop, length-take}
-use Rattle.cull_base.specs.Stream.{SinkSays, SourceSays, Appends, AppendsPrefix, Rose}
+use Rattle.std.proofs.lemmas.List.{append-nil, length-drop, length-take}
+use Rattle.cull_base.specs.Stream.{SinkSays, SourceSays, Appends, Rose}
 use Rattle.scene_reader.specs.Layout.{Parts, IsScene, layout, upgraded}
-use Rattle.scene_reader.specs.Fault.{IsRefusal, first_fault, word_at}
+use Rattle.scene_reader.specs.Fault.{first_fault, word_at}
 use Rattle.scene_reader.specs.declared.error.SceneError.{SceneError}
 use Rattle.scene_reader.specs.declared.error.SceneError.TheVariants.{Truncated}
 use Rattle.scene_reader.proofs.LayoutFirst.{scene_first}
@@ -15,17 +15,20 @@ use Rattle.cull_report.specs.Scene.{report_text}
 use Rattle.live_check.specs.Logs.{AreGoodLines, IsAccepted, IsJudged}
 use Rattle.live_check.specs.declared.answer.LogAnswer.{LogAnswer}
 use Rattle.live_check.specs.declared.answer.LogAnswer.TheVariants.{Accepted, Refused}
-use Rattle.command_words.specs.declared.command.Command.{Command}
-use Rattle.command_words.specs.declared.command.Command.TheVariants.{Cull, Live, Demo, Upgrade, Check}
-use Rattle.command_words.specs.declared.settings.Settings.{Settings}
-use Rattle.culling.specs.Notes.{IsNotedBehind, refusal_text, status_text}
-use Rattle.culling.specs.Outcomes.{Ends, EndsByLog, EndsByScene, HasFault, HasScene, IfBytes, OutcomeOf, ReadsScene, answer_alone, answer_status, answer_text, input_fault, joined, live_frames, log_bytes, note_alone, report_and, report_of, scene_bytes, text_alone}
-use Rattle.culling.specs.Runs.{Comes, IsCut, Leaves, LeavesWhole, Streams, WithoutFault}
+use Rattle.command_words.specs.declared.table.Command.{Command}
+use Rattle.command_words.specs.declared.table.BareCommand.TheVariants.{Upgrade}
+use Rattle.command_words.specs.declared.table.Command.TheVariants.{Cull, Live, Demo, Check, Bare}
+use Rattle.command_words.specs.declared.table.CheckWords.{CheckWords}
+use Rattle.command_words.specs.declared.table.CullWords.{CullWords}
+use Rattle.command_words.specs.declared.table.DemoWords.{DemoWords}
+use Rattle.command_words.specs.declared.table.LiveWords.{LiveWords}
+use Rattle.culling.specs.Notes.{IsNotedBehind}
+use Rattle.culling.specs.Outcomes.{Ends, EndsBy, EndsByScene, Makes, Making, work_of, HasScene, IfBytes, OutcomeOf, ReadsScene, answer_alone, answer_status, answer_text, input_fault, input_fault_by, joined, live_frames, log_bytes, report_of, scene_bytes, scene_bytes_by}
+use Rattle.culling.specs.Runs.{Comes, IsCut, Leaves, LeavesWhole, Streams}
 use Rattle.culling.specs.Summary.{summary_text}
 use Rattle.culling.specs.declared.failure.Status.{Status}
 use Rattle.culling.specs.declared.failure.Status.TheVariants as statuses
 use Rattle.culling.proofs.Comings.{layout_some}
-use Rattle.culling.proofs.Fronts.{front_of_more}
 use Rattle.culling.proofs.OutcomeTexts.{live_is, report_is}
 use Rattle.culling.proofs.ScenePieces.{all_are_pieces, lines_hide}
 use Rattle.cull_report.proofs.Occluders.{hides_truly}
@@ -58,50 +61,54 @@ noted_exactly n0 n1 text h = elim h [
 
 -- ---- done: the whole report of a scene, and what it calls occluded is hidden; of `live` its live text too; of `demo` the summary
 
-pub done_cull : (settings : Settings) (before after : Streams) (P Q : Type 0) → Comes (Cull settings) statuses.Done before after IsNotedBehind P Q
-    → (s : Parts) × HasScene (Cull settings) before.input s × IfBytes before.input (λ bytes. after.input.left ≡ Some []) × Appends before.report after.report (report_text s) × HidesTruly s
-done_cull settings before after P Q h =
+pub done_cull : (words : CullWords) (before after : Streams) (P Q : Type 0) → Comes (Cull words) statuses.Done before after IsNotedBehind P Q
+    → (s : Parts) × HasScene (Cull words) before.input s × IfBytes before.input (λ bytes. after.input.left ≡ Some []) × Appends before.report after.report (report_text s) × HidesTruly s
+done_cull words before after P Q h =
     let w = done_whole h.outcome before.report after.report (IsNotedBehind before.notes after.notes) h.leaves in
-    let (s, has, is) = done_scene (Cull settings) before.input h.outcome (λ s. h.outcome ≡ report_and s []) h.ends w.0 in
-    (s, has, h.taken refl tt, subst (Appends before.report after.report) (ap report_of is ∙ report_is s []) w.1.reported, hides_truly s has.scene (all_are_pieces s has.scene))
+    let (s, has, makes) = done_scene (Cull words) before.input h.outcome (Makes (work_of (Cull words)) before.input.left h.outcome) h.ends w.0 in
+    let (counts, rising, is) = makes in
+    (s, has, h.taken refl refl, subst (Appends before.report after.report) (ap report_of is ∙ report_is s []) w.1.reported, hides_truly s has.scene (all_are_pieces s has.scene))
 
-pub done_live : (settings : Settings) (rounds watch : ℕ) (before after : Streams) (P Q : Type 0) → Comes (Live settings rounds watch) statuses.Done before after IsNotedBehind P Q
-    → (s : Parts) × HasScene (Live settings rounds watch) before.input s × IfBytes before.input (λ bytes. after.input.left ≡ Some []) × Appends before.report after.report (report_text s) × HidesTruly s
-    × ((counts : Counts) × IsRising s rounds watch counts × Appends before.notes after.notes (live_text s rounds watch counts) × HidesLive s rounds watch counts)
-done_live settings rounds watch before after P Q h =
+pub done_live : (words : LiveWords) (before after : Streams) (P Q : Type 0) → Comes (Live words) statuses.Done before after IsNotedBehind P Q
+    → (s : Parts) × HasScene (Live words) before.input s × IfBytes before.input (λ bytes. after.input.left ≡ Some []) × Appends before.report after.report (report_text s) × HidesTruly s
+    × ((counts : Counts) × IsRising s words.rounds words.watch counts × Appends before.notes after.notes (live_text s words.rounds words.watch counts) × HidesLive s words.rounds words.watch counts)
+done_live words before after P Q h =
     let r0 = before.report in let r1 = after.report in let n0 = before.notes in let n1 = after.notes in
     let w = done_whole h.outcome r0 r1 (IsNotedBehind n0 n1) h.leaves in
-    let (s, has, made) = done_scene (Live settings rounds watch) before.input h.outcome (λ s. (counts : Counts) × IsRising s rounds watch counts × (h.outcome ≡ report_and s (live_frames s rounds watch counts))) h.ends w.0 in
-    let (counts, rising, is) = made in
-    let notes = live_frames s rounds watch counts in
+    let (s, has, makes) = done_scene (Live words) before.input h.outcome (Makes (work_of (Live words)) before.input.left h.outcome) h.ends w.0 in
+    let (counts, rising, is) = makes in
+    let notes = live_frames s words.rounds words.watch counts in
     let noted : IsNotedBehind n0 n1 (joined notes) [] = subst (λ (o : OutcomeOf). IsNotedBehind n0 n1 (joined o.notes) o.note) is w.1.noted_is in (
       s,
       has,
-      h.taken refl tt,
+      h.taken refl refl,
       subst (Appends r0 r1) (ap report_of is ∙ report_is s notes) w.1.reported,
       hides_truly s has.scene (all_are_pieces s has.scene),
-      (counts, rising, subst (Appends n0 n1) (live_is s rounds watch counts) (noted_exactly n0 n1 (joined notes) noted), lines_hide s rounds watch counts has.scene),
+      (counts, rising, subst (Appends n0 n1) (live_is s words.rounds words.watch counts) (noted_exactly n0 n1 (joined notes) noted), lines_hide s words.rounds words.watch counts has.scene),
     )
 
-pub done_demo : (settings : Settings) (seed m : ℕ) (before after : Streams) (P Q : Type 0) → Comes (Demo settings seed m) statuses.Done before after IsNotedBehind P Q → Appends before.report after.report (summary_text seed m)
-done_demo settings seed m before after P Q h =
+pub done_demo : (words : DemoWords) (before after : Streams) (P Q : Type 0) → Comes (Demo words) statuses.Done before after IsNotedBehind P Q
+    → Appends before.report after.report (summary_text words.seed words.triangles)
+done_demo words before after P Q h =
     let w = done_whole h.outcome before.report after.report (IsNotedBehind before.notes after.notes) h.leaves in
-    subst (Appends before.report after.report) (ap report_of h.ends ∙ append-nil (summary_text seed m)) w.1.reported
+    let (counts, rising, is) = h.ends in
+    subst (Appends before.report after.report) (ap report_of is ∙ append-nil (summary_text words.seed words.triangles)) w.1.reported
 
-pub done_upgrade : (before after : Streams) (P Q : Type 0) → Comes Upgrade statuses.Done before after IsNotedBehind P Q
-    → (s : Parts) × HasScene Upgrade before.input s × IfBytes before.input (λ bytes. after.input.left ≡ Some []) × Appends before.report after.report (layout (upgraded s))
+pub done_upgrade : (before after : Streams) (P Q : Type 0) → Comes (Bare Upgrade) statuses.Done before after IsNotedBehind P Q
+    → (s : Parts) × HasScene (Bare Upgrade) before.input s × IfBytes before.input (λ bytes. after.input.left ≡ Some []) × Appends before.report after.report (layout (upgraded s))
 done_upgrade before after P Q h =
     let w = done_whole h.outcome before.report after.report (IsNotedBehind before.notes after.notes) h.leaves in
-    let (s, has, is) = done_scene Upgrade before.input h.outcome (λ s. h.outcome ≡ text_alone (layout (upgraded s))) h.ends w.0 in
-    (s, has, h.taken refl tt, subst (Appends before.report after.report) (ap report_of is ∙ append-nil (layout (upgraded s))) w.1.reported)
+    let (s, has, makes) = done_scene (Bare Upgrade) before.input h.outcome (Makes (work_of (Bare Upgrade)) before.input.left h.outcome) h.ends w.0 in
+    let (counts, rising, is) = makes in
+    (s, has, h.taken refl refl, subst (Appends before.report after.report) (ap report_of is ∙ append-nil (layout (upgraded s))) w.1.reported)
 
 -- ---- `check`: Done with an accepted log, Log with one that isn't, and exactly its line stands
 
 -- the status is an answer's
-answer_of : (rounds watch : ℕ) (source : SourceSays) (o : OutcomeOf) (status : Status) → EndsByScene (Check rounds watch) source o (λ s. EndsByLog rounds watch source s o) → status ≡ o.status
+answer_of : (words : CheckWords) (source : SourceSays) (o : OutcomeOf) (status : Status) → EndsByScene (Check words) source o (Makes (work_of (Check words)) source.left o) → status ≡ o.status
     → (status ≡ statuses.Scene → ⊥) → (status ≡ statuses.ReadFault → ⊥)
-    → (s : Parts) × HasScene (Check rounds watch) source s × EndsByLog rounds watch source s o
-answer_of rounds watch source o status ends is not_scene not_read = elim ends [
+    → (s : Parts) × HasScene (Check words) source s × Makes (work_of (Check words)) source.left o s
+answer_of words source o status ends is not_scene not_read = elim ends [
   | inl made ↦ made
   | inr rest ↦ elim rest [
     | inl refused ↦ let (e, refusal, fault, same) = refused in absurd (not_scene (is ∙ ap (λ (x : OutcomeOf). x.status) same))
@@ -109,31 +116,31 @@ answer_of rounds watch source o status ends is not_scene not_read = elim ends [
   ]
 ]
 
-pub done_check : (rounds watch : ℕ) (before after : Streams) (P Q : Type 0) → Comes (Check rounds watch) statuses.Done before after IsNotedBehind P Q
-    → (s : Parts) × HasScene (Check rounds watch) before.input s × IfBytes before.input (λ bytes. IsAccepted s rounds watch (log_bytes bytes))
+pub done_check : (words : CheckWords) (before after : Streams) (P Q : Type 0) → Comes (Check words) statuses.Done before after IsNotedBehind P Q
+    → (s : Parts) × HasScene (Check words) before.input s × IfBytes before.input (λ bytes. IsAccepted s words.rounds words.watch (log_bytes bytes))
     × IfBytes before.input (λ bytes. after.input.left ≡ Some []) × Appends before.report after.report (answer_text Accepted)
-done_check rounds watch before after P Q h =
+done_check words before after P Q h =
     let w = done_whole h.outcome before.report after.report (IsNotedBehind before.notes after.notes) h.leaves in
-    let (s, has, made) = answer_of rounds watch before.input h.outcome statuses.Done h.ends w.0 (λ is. absurd cc) (λ is. absurd cc) in
+    let (s, has, made) = answer_of words before.input h.outcome statuses.Done h.ends w.0 (λ is. absurd cc) (λ is. absurd cc) in
     let (answer, judged, is) = made in
     by answer s has judged is (w.0 ∙ ap (λ (x : OutcomeOf). x.status) is) w.1.reported
   where
-    by : (answer : LogAnswer) (s : Parts) → HasScene (Check rounds watch) before.input s → IfBytes before.input (λ bytes. IsJudged s rounds watch (log_bytes bytes) answer) → h.outcome ≡ answer_alone answer
+    by : (answer : LogAnswer) (s : Parts) → HasScene (Check words) before.input s → IfBytes before.input (λ bytes. IsJudged s words.rounds words.watch (log_bytes bytes) answer) → h.outcome ≡ answer_alone answer
         → statuses.Done ≡ answer_status answer → Appends before.report after.report (report_of h.outcome)
-        → (s : Parts) × HasScene (Check rounds watch) before.input s × IfBytes before.input (λ bytes. IsAccepted s rounds watch (log_bytes bytes))
+        → (s : Parts) × HasScene (Check words) before.input s × IfBytes before.input (λ bytes. IsAccepted s words.rounds words.watch (log_bytes bytes))
         × IfBytes before.input (λ bytes. after.input.left ≡ Some []) × Appends before.report after.report (answer_text Accepted)
     by Accepted s has judged is done reported =
-        (s, has, judged, h.taken refl tt, subst (Appends before.report after.report) (ap report_of is ∙ append-nil (answer_text Accepted)) reported)
+        (s, has, judged, h.taken refl refl, subst (Appends before.report after.report) (ap report_of is ∙ append-nil (answer_text Accepted)) reported)
     by (Refused n) s has judged is done reported = absurd cc
 
 -- the log isn't accepted, its good lines are told, and nothing is noted
-pub log_check : (rounds watch : ℕ) (before after : Streams) (P Q : Type 0) → Comes (Check rounds watch) statuses.Log before after IsNotedBehind P Q
-    → (s : Parts) × HasScene (Check rounds watch) before.input s
-    × ((n : ℕ) × IfBytes before.input (λ bytes. (IsAccepted s rounds watch (log_bytes bytes) → ⊥) × AreGoodLines s rounds watch (log_bytes bytes) n)
+pub log_check : (words : CheckWords) (before after : Streams) (P Q : Type 0) → Comes (Check words) statuses.Log before after IsNotedBehind P Q
+    → (s : Parts) × HasScene (Check words) before.input s
+    × ((n : ℕ) × IfBytes before.input (λ bytes. (IsAccepted s words.rounds words.watch (log_bytes bytes) → ⊥) × AreGoodLines s words.rounds words.watch (log_bytes bytes) n)
     × Appends before.report after.report (answer_text (Refused n)) × Appends before.notes after.notes [])
-log_check rounds watch before after P Q h =
+log_check words before after P Q h =
     let w = log_whole h.outcome before.report after.report (IsNotedBehind before.notes after.notes) h.leaves in
-    let (s, has, made) = answer_of rounds watch before.input h.outcome statuses.Log h.ends w.0 (λ is. absurd cc) (λ is. absurd cc) in
+    let (s, has, made) = answer_of words before.input h.outcome statuses.Log h.ends w.0 (λ is. absurd cc) (λ is. absurd cc) in
     let (answer, judged, is) = made in
     by answer s has judged is (w.0 ∙ ap (λ (x : OutcomeOf). x.status) is) w.1.reported w.1.noted_is
   where
@@ -143,10 +150,10 @@ log_check rounds watch before after P Q h =
     log_whole : (o : OutcomeOf) (r0 r1 : SinkSays) (noted : List ℕ → List ℕ → Type 0) → Leaves o statuses.Log r0 r1 noted → (statuses.Log ≡ o.status) × LeavesWhole o r0 r1 noted
     log_whole o r0 r1 noted leaves = elim leaves [ inl whole ↦ whole | inr front ↦ absurd (log_not_cut front.0) ]
 
-    by : (answer : LogAnswer) (s : Parts) → HasScene (Check rounds watch) before.input s → IfBytes before.input (λ bytes. IsJudged s rounds watch (log_bytes bytes) answer) → h.outcome ≡ answer_alone answer
+    by : (answer : LogAnswer) (s : Parts) → HasScene (Check words) before.input s → IfBytes before.input (λ bytes. IsJudged s words.rounds words.watch (log_bytes bytes) answer) → h.outcome ≡ answer_alone answer
         → statuses.Log ≡ answer_status answer → Appends before.report after.report (report_of h.outcome) → IsNotedBehind before.notes after.notes (joined h.outcome.notes) h.outcome.note
-        → (s : Parts) × HasScene (Check rounds watch) before.input s
-        × ((n : ℕ) × IfBytes before.input (λ bytes. (IsAccepted s rounds watch (log_bytes bytes) → ⊥) × AreGoodLines s rounds watch (log_bytes bytes) n)
+        → (s : Parts) × HasScene (Check words) before.input s
+        × ((n : ℕ) × IfBytes before.input (λ bytes. (IsAccepted s words.rounds words.watch (log_bytes bytes) → ⊥) × AreGoodLines s words.rounds words.watch (log_bytes bytes) n)
         × Appends before.report after.report (answer_text (Refused n)) × Appends before.notes after.notes [])
     by Accepted s has judged is log reported noted = absurd cc
     by (Refused n) s has judged is log reported noted =
@@ -156,19 +163,16 @@ log_check rounds watch before after P Q h =
 -- ---- refused: an input with a first fault ends as Scene, ReadFault or Memory
 
 -- a scene's bytes have none
-scene_none : (c : Command) (s : Parts) (bytes : List ℕ) → IsScene s → scene_bytes c bytes ≡ layout s → input_fault c bytes ≡ None
-scene_none (Cull settings) s bytes scene is = ap first_fault is ∙ scene_first s scene
-scene_none (Live settings rounds watch) s bytes scene is = ap first_fault is ∙ scene_first s scene
-scene_none (Demo settings seed m) s bytes scene is = ap first_fault is ∙ scene_first s scene
-scene_none Upgrade s bytes scene is = ap first_fault is ∙ scene_first s scene
-scene_none (Check rounds watch) s bytes scene is =
+scene_none : (outcome : Option Making) (s : Parts) (bytes : List ℕ) → IsScene s → scene_bytes_by outcome bytes ≡ layout s → input_fault_by outcome bytes ≡ None
+scene_none (Some outcome) s bytes scene is = ap first_fault is ∙ scene_first s scene
+scene_none None s bytes scene is =
     let long : 4 ≤ length bytes = omega (arith, ap length is, layout_some s, length-take (word_at 0 bytes) (drop 4 bytes), length-drop 4 bytes) in
-    cond-false (nat_lt (length bytes) 4) (Some (Truncated 4 (length bytes))) (first_fault (scene_bytes (Check rounds watch) bytes)) (le-ltb (length bytes) 4 long) ∙ ap first_fault is ∙ scene_first s scene
+    cond-false (nat_lt (length bytes) 4) (Some (Truncated 4 (length bytes))) (first_fault (scene_bytes_by None bytes)) (le-ltb (length bytes) 4 long) ∙ ap first_fault is ∙ scene_first s scene
 
 no_scene_at_fault : (c : Command) (source : SourceSays) (s : Parts) (bytes : List ℕ) (e : SceneError) → source.left ≡ Some bytes → input_fault c bytes ≡ Some e → HasScene c source s → ⊥
 no_scene_at_fault c source s bytes e left fault has =
     let spelled : scene_bytes c bytes ≡ layout s = subst (λ (l : Option (List ℕ)). IfSome l (λ b. scene_bytes c b ≡ layout s)) left has.spelled in
-    let none : Some e ≡ None = sym fault ∙ scene_none c s bytes has.scene spelled in
+    let none : Some e ≡ None = sym fault ∙ scene_none (work_of c).outcome s bytes has.scene spelled in
     absurd cc
 
 -- a command without text for the report and the notes isn't cut by a sink
@@ -194,12 +198,8 @@ by_scene c source o made bytes e left fault ends = elim ends [
 
 ends_silent : (c : Command) (source : SourceSays) (o : OutcomeOf) (bytes : List ℕ) (e : SceneError) → ReadsScene c → source.left ≡ Some bytes → input_fault c bytes ≡ Some e → Ends c source o
     → (report_of o ≡ []) × (o.notes ≡ []) × ((o.status ≡ statuses.Scene) ⊎ (o.status ≡ statuses.ReadFault))
-ends_silent (Cull settings) source o bytes e reads left fault ends = by_scene (Cull settings) source o (λ s. o ≡ report_and s []) bytes e left fault ends
-ends_silent (Live settings rounds watch) source o bytes e reads left fault ends =
-    by_scene (Live settings rounds watch) source o (λ s. (counts : Counts) × IsRising s rounds watch counts × (o ≡ report_and s (live_frames s rounds watch counts))) bytes e left fault ends
-ends_silent (Demo settings seed m) source o bytes e reads left fault ends = absurd reads
-ends_silent Upgrade source o bytes e reads left fault ends = by_scene Upgrade source o (λ s. o ≡ text_alone (layout (upgraded s))) bytes e left fault ends
-ends_silent (Check rounds watch) source o bytes e reads left fault ends = by_scene (Check rounds watch) source o (λ s. EndsByLog rounds watch source s o) bytes e left fault ends
+ends_silent c source o bytes e reads left fault ends =
+    by_scene c source o (Makes (work_of c) source.left o) bytes e left fault (subst (λ (own : Option (ℕ × ℕ)). EndsBy own c source o) reads ends)
 
 pub refused : (c : Command) (status : Status) (before after : Streams) (P Q : Type 0) (bytes : List ℕ) (e : SceneError) → ReadsScene c → before.input.left ≡ Some bytes → input_fault c bytes ≡ Some e
     → Comes c status before after IsNotedBehind P Q → ((status ≡ statuses.Scene) ⊎ (status ≡ statuses.ReadFault) ⊎ (status ≡ statuses.Memory)) × P
@@ -214,10 +214,10 @@ refused c status before after P Q bytes e reads left fault h =
 
 -- ---- complete: a scene, and no fault of the input or the report: `cull` ends as Done, or memory ran out
 
-pub complete_cull : (settings : Settings) (status : Status) (before after : Streams) (P Q : Type 0) (s : Parts) (bytes : List ℕ) → before.input.left ≡ Some bytes → bytes ≡ layout s → IsScene s
-    → (Rose before.input.faults after.input.faults → ⊥) → (Rose before.report.faults after.report.faults → ⊥) → Comes (Cull settings) status before after IsNotedBehind P Q
+pub complete_cull : (words : CullWords) (status : Status) (before after : Streams) (P Q : Type 0) (s : Parts) (bytes : List ℕ) → before.input.left ≡ Some bytes → bytes ≡ layout s → IsScene s
+    → (Rose before.input.faults after.input.faults → ⊥) → (Rose before.report.faults after.report.faults → ⊥) → Comes (Cull words) status before after IsNotedBehind P Q
     → (status ≡ statuses.Done) ⊎ (status ≡ statuses.Memory)
-complete_cull settings status before after P Q s bytes left spelled scene no_read no_report h =
+complete_cull words status before after P Q s bytes left spelled scene no_read no_report h =
     let first : first_fault bytes ≡ None = ap first_fault spelled ∙ scene_first s scene in
     let (no_notes, which) = by_layout before.input h.outcome bytes left first h.ends in
     elim h.leaves [
@@ -228,10 +228,10 @@ complete_cull settings status before after P Q s bytes left spelled scene no_rea
       ]
     ]
   where
-    by_layout : (source : SourceSays) (o : OutcomeOf) (b : List ℕ) → source.left ≡ Some b → first_fault b ≡ None → EndsByScene (Cull settings) source o (λ t. o ≡ report_and t [])
+    by_layout : (source : SourceSays) (o : OutcomeOf) (b : List ℕ) → source.left ≡ Some b → first_fault b ≡ None → EndsByScene (Cull words) source o (Makes (work_of (Cull words)) source.left o)
         → (o.notes ≡ []) × ((o.status ≡ statuses.Done) ⊎ (o.status ≡ statuses.ReadFault))
     by_layout source o b is none ends = elim ends [
-      | inl made ↦ let (t, has, same) = made in (ap (λ (x : OutcomeOf). x.notes) same, inl (ap (λ (x : OutcomeOf). x.status) same))
+      | inl made ↦ let (t, has, makes) = made in let (counts, rising, same) = makes in (ap (λ (x : OutcomeOf). x.notes) same, inl (ap (λ (x : OutcomeOf). x.status) same))
       | inr rest ↦ elim rest [
         | inl bad ↦
             let (e, refusal, fault, same) = bad in

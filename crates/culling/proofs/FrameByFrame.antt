@@ -1,6 +1,5 @@
 -- What is left of frames, one after the other.
-use Rattle.std.proofs.Common.{◌≡◌, ℕ, zero, suc, ◌+◌, ◌-◌, ◌<◌, ◌≤◌, ◌++◌, List, [], ◌∷◌, length, map, take, true, false, nat_lt, Bool, cond, arith, refl, sym, ap, ◌∙◌, subst, inl, inr, Result, Ok, Err, ◌⊎◌}
-use Rattle.std.specs.Prelude.{slice_index_or}
+use Rattle.std.proofs.Common.{◌≡◌, ℕ, zero, suc, ◌+◌, ◌-◌, ◌<◌, ◌≤◌, ◌++◌, List, [], ◌∷◌, length, map, true, false, nat_lt, Bool, cond, arith, refl, sym, ap, ◌∙◌, subst, inl, inr, Result, Ok, Err}
 use Rattle.std.specs.List.{range_with_len}
 use Rattle.std.proofs.lemmas.Bool.{cases_lt}
 use Rattle.std.proofs.lemmas.Bool.Decides.{nat_tests}
@@ -10,14 +9,14 @@ use Rattle.cull_base.specs.Stream.{SinkSays, Appends, Writes}
 use Rattle.cull_base.specs.declared.memory.SinkError.{SinkError}
 use Rattle.cull_base.specs.declared.scene_types.Verdict.{Verdict}
 use Rattle.scene_reader.specs.Layout.{Parts}
-use Rattle.cull_report.specs.Live.{Counts, IsRisingIn, LiveLineOf, text_of_line}
+use Rattle.cull_report.specs.Live.{Counts, LiveLineOf, text_of_line}
 use Rattle.cull_report.specs.Scene.{frame_pieces, frame_verdicts}
 use Rattle.std.specs.List.{flat_map}
-use Rattle.culling.specs.FrameRuns.{LeavesFrames, LeavesQuiet, LeavesTexts, frames_told, texts_told}
+use Rattle.culling.specs.FrameRuns.{LeavesFrames, LeavesTexts, frames_told, texts_told}
 use Rattle.culling.specs.Frames.{AreSeen, IsRisingBeside, lines_by, lines_of, noted_of}
-use Rattle.culling.specs.NotedLines.{CountsStay, NotesLines}
+use Rattle.culling.specs.NotedLines.{NotesLines}
 use Rattle.culling.specs.Outcome.{sink_failure}
-use Rattle.culling.specs.Outcomes.{OutcomeOf, joined}
+use Rattle.culling.specs.Outcomes.{OutcomeOf}
 use Rattle.culling.specs.declared.failure.Failure.{Failure}
 use Rattle.culling.specs.declared.failure.Failure.TheVariants.{Memory}
 use Rattle.culling.specs.declared.frames.Beside.{Beside}
@@ -81,14 +80,14 @@ split_rises beside s place c d before from frame = elim (cases_lt frame place) [
   | inr not_less ↦ subst (IsRisingBeside beside s frame) (sym (split_from place c d frame (omega arith))) (from frame)
 ]
 
-unseen : Counts
+pub unseen : Counts
 unseen frame r o t = 0
 
 none_rise : (beside : Beside) (s : Parts) (frame : ℕ) → IsRisingBeside beside s frame (λ r o t. 0)
 none_rise Nothing s frame = tt
 none_rise (Looks rounds watch) s frame = record { within = λ r o t is stated. omega arith; rises = λ r o p q t is then before stated stated_then. omega arith }
 
-unseen_rises : (beside : Beside) (s : Parts) → AreRising beside s unseen
+pub unseen_rises : (beside : Beside) (s : Parts) → AreRising beside s unseen
 unfolding unseen
 unseen_rises beside s frame = none_rise beside s frame
 

@@ -1,5 +1,5 @@
 -- The live text of a frame, line by line.
-use Rattle.std.proofs.Common.{◌≡◌, ℕ, zero, suc, ◌+◌, ◌*◌, ◌/◌, ◌%◌, ◌<◌, ◌≤◌, ◌++◌, List, [], ◌∷◌, length, drop, take, get_or, append_assoc, arith, refl, sym, ap, ◌∙◌, subst, inl, inr}
+use Rattle.std.proofs.Common.{◌≡◌, ℕ, zero, suc, ◌+◌, ◌*◌, ◌%◌, ◌<◌, ◌≤◌, ◌++◌, List, [], ◌∷◌, length, drop, take, get_or, append_assoc, arith, refl, sym, ap, ◌∙◌, subst, inl, inr}
 use Rattle.std.specs.Prelude.{slice_index_or}
 use Rattle.std.specs.List.{flat_map, range_with_len}
 use Rattle.std.proofs.lemmas.List.{append-nil, take-append-drop, take_more}
@@ -7,11 +7,8 @@ use Rattle.std.proofs.Math.Seq.{take-length}
 use Rattle.std.proofs.lemmas.Grind.{flat_map-append}
 use Rattle.std.proofs.lemmas.Nat.{div-mul-add, mod-mul-add, mul-le}
 use Rattle.cull_base.specs.declared.scene_types.Verdict.TheVariants.{Visible}
-use Rattle.cull_base.specs.Screen.{tile_count_of}
-use Rattle.cull_base.specs.Tiles.{tile_list}
 use Rattle.scene_reader.specs.Layout.{Parts}
-use Rattle.cull_report.specs.Live.{IsBefore, IsLine, IsRisingIn, IsStated, LiveLineOf, frame_live, object_line, round_lines, text_of_line, watched}
-use Rattle.cull_report.specs.Scene.{frame_list, size_of}
+use Rattle.cull_report.specs.Live.{IsBefore, IsRisingIn, LiveLineOf, frame_live, object_line, round_lines, text_of_line, watched}
 use Rattle.culling.specs.LiveFrames.{AreLive, AreLooks, HaveLooked, Tells}
 use Rattle.demo_scene.proofs.Ranges.{flat_map-next}
 

@@ -1,5 +1,5 @@
 -- The members of a scene's frame lists are pieces, and so whatever lines call occluded is hidden by the members that they state.
-use Rattle.std.proofs.Common.{ℕ, ◌<◌, ◌≤◌, List, [], ◌∷◌, take, drop}
+use Rattle.std.proofs.Common.{ℕ, ◌≤◌, List, [], ◌∷◌, take, drop}
 use Rattle.std.specs.List.{All, flat_map}
 use Rattle.std.proofs.lemmas.List.Elements.{All-append, All-contains, All-nil}
 use Rattle.cull_base.specs.declared.clip.ClipVertex.{ClipVertex}

@@ -1,7 +1,7 @@
 -- What a run leaves of an outcome.
 use Rattle.std.specs.Prelude.{ℕ, ◌≡◌, ◌⊎◌, ◌+◌, ◌<◌, ◌≤◌, ◌++◌, List, [], length, take, Some, Result}
 use Rattle.cull_base.specs.Stream.{SourceSays, SinkSays, Rose, Appends, AppendsPrefix, IsNoted}
-use Rattle.command_words.specs.declared.command.Command.{Command}
+use Rattle.command_words.specs.declared.table.Command.{Command}
 use Rattle.culling.specs.NotedLines.{CountsStay}
 use Rattle.culling.specs.Notes.{IsNotedFirst, note_by, status_text}
 use Rattle.culling.specs.Outcomes.{IfBytes, OutcomeOf, Ends, ReadsScene, joined, notes_at, notes_before, report_before, report_of}

@@ -2,20 +2,15 @@
 //! sinks and any gate.
 #![tactic(auto)]
 
-mod check;
-mod cull;
-mod demo;
+mod commands;
 mod drawing;
 mod failure;
 mod frame_by_frame;
 mod frames;
-mod live;
 mod live_caller;
 mod live_frame;
-mod run;
 mod summary;
-mod upgrade;
 mod window;
 
+pub use commands::run;
 pub use failure::{Failure, Status};
-pub use run::run;

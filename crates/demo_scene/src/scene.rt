@@ -1,8 +1,8 @@
 //! The scene that a seed makes.
 ghost use Rattle.std.specs.Prelude.{◌≡◌, ℕ, [], ◌∷◌, IfOk, OnOk, ◌≤◌, ◌<◌, ◌*◌, map};
 ghost use Rattle.std.specs.List.{flat_map, range_with_len};
-ghost use Rattle.demo_scene.specs.Demo.{demo_of, state_after, vertices_of, triangle_of, whole_batch, boxes_of, camera_of};
-ghost use Rattle.demo_scene.specs.Demo.{box_count, frame_count};
+ghost use Rattle.demo_scene.specs.Demo.{demo_of, state_after, vertices_of, triangle_of, whole_batch};
+ghost use Rattle.demo_scene.specs.Demo.{boxes_of, camera_of, box_count, frame_count};
 
 use crate::generator::Generator;
 use cull_base::{Batch, Grade, Memory, Object, Tri, Winding};

@@ -11,28 +11,28 @@ use Rattle.cull_base.specs.Grade.{top_of}
 use Rattle.cull_base.specs.Piece.{Piece}
 use Rattle.cull_base.specs.Screen.{Dimensions, IsSize}
 use Rattle.snap_setup.specs.Pieces.{list_of_clips}
-use Rattle.maskcull_c.specs.declared.given.TheConstants.{WIDE}
 use Rattle.maskcull_c.specs.declared.given.Setup.{Setup}
 use Rattle.maskcull_c.specs.declared.given.Vertex.{Vertex}
 use Rattle.maskcull_c.specs.declared.given.Triangle.{Triangle}
 use Rattle.maskcull_c.specs.declared.given.Area.{Area}
 
--- a screen, a near distance, a winding and a grade that aren't refused; where the grade is wide, that is added to the winding
+-- A screen, a near distance, a winding and a grade that aren't refused. Where the grade is wide, 16 is added to the
+-- winding.
 pub record IsSetup (s : Setup) : Type 0 where
   pub size : IsSize s.width s.height
   pub near_least : 1 ≤ s.near
   pub near_most : s.near ≤ 1024
-  pub winding : s.winding % WIDE ≤ 2
-  pub grade : s.winding / WIDE ≤ 1
+  pub winding : s.winding % 16 ≤ 2
+  pub grade : s.winding / 16 ≤ 1
 
 abbrev pub size_of : Setup → Dimensions
 size_of s = record { width = s.width; height = s.height }
 
 abbrev pub winding_of : ℕ → Winding
-winding_of n = cond (nat_eq (n % WIDE) 0) Both (cond (nat_eq (n % WIDE) 1) DropClockwise DropCounter)
+winding_of n = cond (nat_eq (n % 16) 0) Both (cond (nat_eq (n % 16) 1) DropClockwise DropCounter)
 
 abbrev pub grade_of : Setup → Grade
-grade_of s = cond (nat_eq (s.winding / WIDE) 0) Narrow Wide
+grade_of s = cond (nat_eq (s.winding / 16) 0) Narrow Wide
 
 abbrev pub clip_of : Vertex → ClipVertex
 clip_of v = record { x = v.x; y = v.y; w = v.w }

@@ -1,5 +1,7 @@
 -- What tiles hold, as a picture: the bound at each pixel of the screen.
-use Rattle.std.specs.Prelude.{ℕ, ◌≡◌, ◌+◌, ◌-◌, ◌*◌, ◌<◌, ◌≤◌, ◌⊎◌, List, length, min, slice_index_or}
+use Rattle.std.specs.Prelude.{ℕ, ◌≡◌, ◌+◌, ◌-◌, ◌*◌, ◌/◌, ◌<◌, ◌≤◌, ◌⊎◌, List, length, min, slice_index_or}
+use Rattle.cull_base.specs.declared.nearness.Grade.{Grade}
+use Rattle.cull_base.specs.declared.nearness.Grade.TheVariants.{Narrow, Wide}
 use Rattle.cull_base.specs.Pixels.{sample_of_pixel, sub_of_pixel}
 use Rattle.cull_base.specs.Screen.{Dimensions}
 use Rattle.cull_base.specs.State.{bound_at}
@@ -10,12 +12,13 @@ use Rattle.masked_update.specs.Views.{state_in}
 abbrev pub bound_of_pixel : Dimensions → List TileOf → ℕ → ℕ → ℕ
 bound_of_pixel size tiles x y = bound_at (state_in size (tile_at tiles) (sub_of_pixel x y)) (sample_of_pixel x y)
 
--- a bound as an element of a picture, which has 16 bits: they fit all that the library draws
-abbrev pub shade_of : ℕ → ℕ
-shade_of bound = min bound 65535
+-- a bound as an element of a picture, which has 16 bits: a wide one is divided by 256, and what is still greater is cut
+abbrev pub shade_of : Grade → ℕ → ℕ
+shade_of Narrow bound = min bound 65535
+shade_of Wide bound = min (bound / 256) 65535
 
-abbrev pub shade_of_pixel : Dimensions → List TileOf → ℕ → ℕ → ℕ
-shade_of_pixel size tiles x y = shade_of (bound_of_pixel size tiles x y)
+abbrev pub shade_of_pixel : Grade → Dimensions → List TileOf → ℕ → ℕ → ℕ
+shade_of_pixel grade size tiles x y = shade_of grade (bound_of_pixel size tiles x y)
 
 abbrev pub element : List ℕ → ℕ → ℕ
 element out i = slice_index_or out i 0

@@ -99,7 +99,7 @@ impl Setup {
 
     // Whether there is a winding of this number, and a grade.
     fn is_drawn(&self) -> bool
-        ensures { IsTrue result ↔ (self.now.winding % WIDE ≤ 2) × (self.now.winding / WIDE ≤ 1) }
+        ensures { IsTrue result ↔ (self.now.winding % 16 ≤ 2) × (self.now.winding / 16 ≤ 1) }
     {
         self.winding % WIDE <= 2 && self.winding / WIDE <= 1
     }

@@ -1,7 +1,7 @@
-//! What tiles hold, as a picture: the bound at each pixel of the screen.
+//! What tiles hold, as a picture: the bound at each pixel of the screen, in 16 bits.
 ghost use Rattle.std.specs.Prelude.{◌≡◌, ◌≢◌, ℕ, ◌+◌, ◌*◌, ◌<◌, ◌≤◌, ◌↔◌, IsTrue, length};
 ghost use Rattle.cull_base.specs.State.{bound_at};
-ghost use Rattle.maskcull_c.specs.Given.{IsSetup, size_of};
+ghost use Rattle.maskcull_c.specs.Given.{IsSetup, grade_of, size_of};
 ghost use Rattle.maskcull_c.specs.Picture.{AreDrawn, HasPicture, IsBeside, IsRow, bound_of_pixel, element, shade_of, shade_of_pixel};
 ghost use Rattle.maskcull_c.specs.Tiles.{AreAll};
 ghost use Rattle.maskcull_c.specs.declared.status.TheConstants.{DONE, BAD_SETUP, BAD_TILES, BAD_ROOM};
@@ -9,15 +9,20 @@ ghost use Rattle.maskcull_c.specs.declared.status.TheConstants.{DONE, BAD_SETUP,
 use crate::ask::are_all;
 use crate::given::Setup;
 use crate::status::{BAD_ROOM, BAD_SETUP, BAD_TILES, DONE};
-use cull_base::Size;
+use cull_base::{Grade, Size};
 use masked_update::{SubTile, TileState};
 
-// A bound as an element of a picture: what is drawn through this library fits 16 bits as it stands.
+// A bound as an element of a picture: in the wide grade divided by 256. So what is drawn in the setup's grade fits 16
+// bits, and what is still greater is cut.
 #[inline(always)]
-fn shade(bound: u32) -> u16
-    ensures { result ≡ shade_of bound }
+fn shade(bound: u32, grade: Grade) -> u16
+    ensures { result ≡ shade_of grade bound }
 {
-    bound.min(0xFFFF) as u16
+    let scaled = match grade {
+        Grade::Narrow => bound,
+        Grade::Wide => bound / 256,
+    };
+    scaled.min(0xFFFF) as u16
 }
 
 // The bound at a sample of a subtile. Condition: it has the sample.
@@ -48,25 +53,25 @@ fn bound_of_pixel(tiles: &[TileState], size: Size, x: u16, y: u16) -> u32
 }
 
 // Draws one row of pixels from one place on.
-fn draw_row(out: &mut [u16], start: usize, tiles: &[TileState], size: Size, y: u16)
+fn draw_row(out: &mut [u16], start: usize, tiles: &[TileState], size: Size, y: u16, grade: Grade)
     requires all { AreAll size tiles.now }
     requires row { y < size.height }
     requires room { start + size.width ≤ length out.old }
-    ensures { IsRow start size.width (λ x. shade_of_pixel size tiles.now x y) out.old out.new }
+    ensures { IsRow start size.width (λ x. shade_of_pixel grade size tiles.now x y) out.old out.new }
 {
     for x in 0..size.width() {
-        out[start + x as usize] = shade(bound_of_pixel(tiles, size, x, y));
+        out[start + x as usize] = shade(bound_of_pixel(tiles, size, x, y), grade);
     }
 }
 
 // Draws all rows, which begin so far apart.
-fn draw_rows(out: &mut [u16], stride: usize, tiles: &[TileState], size: Size)
+fn draw_rows(out: &mut [u16], stride: usize, tiles: &[TileState], size: Size, grade: Grade)
     requires all { AreAll size tiles.now }
     requires room { HasPicture size stride out.old }
-    ensures { AreDrawn size.width stride size.height (shade_of_pixel size tiles.now) out.old out.new }
+    ensures { AreDrawn size.width stride size.height (shade_of_pixel grade size tiles.now) out.old out.new }
 {
     for y in 0..size.height() {
-        draw_row(out, y as usize * stride, tiles, size, y);
+        draw_row(out, y as usize * stride, tiles, size, y, grade);
     }
 }
 
@@ -83,7 +88,8 @@ fn has_picture(out: &[u16], stride: usize, size: Size) -> bool
 }
 
 /// Writes the bound at each pixel of the screen, row by row: that of pixel (x, y) stands at y * row_stride + x, and no
-/// other element is written. 0 where all is written, else why nothing is.
+/// other element is written. In the wide grade it is divided by 256, and more than 65535 is written as 65535. 0 where
+/// all is written, else why nothing is.
 #[unsafe(no_mangle)]
 pub extern "C" fn maskcull_nearness(
     setup: &Setup,
@@ -92,7 +98,8 @@ pub extern "C" fn maskcull_nearness(
     row_stride: usize,
 ) -> u32
     ensures picture { result ≡ DONE → (x y : ℕ) → x < setup.now.width → y < setup.now.height
-        → element out.new (y * row_stride + x) ≡ shade_of (bound_of_pixel (size_of setup.now) tiles.now x y) }
+        → element out.new (y * row_stride + x)
+        ≡ shade_of (grade_of setup.now) (bound_of_pixel (size_of setup.now) tiles.now x y) }
     ensures beside { (i : ℕ) → IsBeside (size_of setup.now) row_stride i → element out.new i ≡ element out.old i }
     ensures accepted { IsSetup setup.now → AreAll (size_of setup.now) tiles.now
         → HasPicture (size_of setup.now) row_stride out.old → result ≡ DONE }
@@ -115,6 +122,6 @@ pub extern "C" fn maskcull_nearness(
     if !has_picture(out, row_stride, checked.size) {
         return BAD_ROOM;
     }
-    draw_rows(out, row_stride, tiles, checked.size);
+    draw_rows(out, row_stride, tiles, checked.size, checked.grade);
     DONE
 }

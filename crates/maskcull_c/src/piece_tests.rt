@@ -1,6 +1,6 @@
 //! Triangles that are set up once and drawn piece by piece, room for pieces, and pictures of what tiles hold.
 use super::*;
-use crate::tests::{FOUR_TILES, QUAD, SETUP, VERTICES, assert_alike, held};
+use crate::tests::{FOUR_TILES, QUAD, SETUP, VERTICES, assert_alike, held, setup};
 use cull_base::ScreenTri;
 use masked_update::TileState;
 use std::test::Fail;
@@ -179,6 +179,42 @@ fn a_picture_has_the_bound_at_each_pixel(rt: HostRuntime) -> Result<(), Fail> {
     assert_eq!(rt; maskcull_nearness(&SETUP, &tiles, &mut out, 32), DONE);
     for shade in &out {
         assert_eq!(rt; *shade, 32767);
+    }
+    Ok(())
+}
+
+// The corners of the screen at distance 1.
+const NEAREST: [Vertex; 4] = [
+    Vertex { x: -1, y: 1, w: 1 },
+    Vertex { x: 1, y: 1, w: 1 },
+    Vertex { x: 1, y: -1, w: 1 },
+    Vertex { x: -1, y: -1, w: 1 },
+];
+
+// At distance 2 the wide nearness is 8388607, and 16777215 at distance 1: 256 times 32767 and 255 more, and 256 times
+// 65535 and 255 more.
+#[test]
+fn a_wide_picture_has_the_bounds_divided_by_256(rt: HostRuntime) -> Result<(), Fail> {
+    let wide = setup(32, 8, 1, WIDE);
+    let mut tiles = [TileState::empty(); 1];
+    let mut out = [9; 256];
+    assert_eq!(rt; maskcull_draw(&wide, &mut tiles, &VERTICES, &QUAD), DONE);
+    assert_eq!(rt; held(&tiles, 0, 0), (8388607, 0, 0));
+    assert_eq!(rt; maskcull_nearness(&wide, &tiles, &mut out, 32), DONE);
+    for shade in &out {
+        assert_eq!(rt; *shade, 32767);
+    }
+    // narrow, what is more than 65535 is cut
+    assert_eq!(rt; maskcull_nearness(&SETUP, &tiles, &mut out, 32), DONE);
+    for shade in &out {
+        assert_eq!(rt; *shade, 65535);
+    }
+    out[255] = 9;
+    assert_eq!(rt; maskcull_draw(&wide, &mut tiles, &NEAREST, &QUAD), DONE);
+    assert_eq!(rt; held(&tiles, 0, 7), (16777215, 0, 0));
+    assert_eq!(rt; maskcull_nearness(&wide, &tiles, &mut out, 32), DONE);
+    for shade in &out {
+        assert_eq!(rt; *shade, 65535);
     }
     Ok(())
 }

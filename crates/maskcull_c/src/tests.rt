@@ -108,8 +108,8 @@ fn a_refusal_leaves_the_tiles(rt: HostRuntime) -> Result<(), Fail> {
         (setup(32, 8, 0, 0), QUAD, BAD_SETUP),
         (setup(32, 8, 1, 3), QUAD, BAD_SETUP),
         (setup(32, 8, 1, 15), QUAD, BAD_SETUP),
-        (setup(32, 8, 1, WIDE + 3), QUAD, BAD_SETUP),
-        (setup(32, 8, 1, 2 * WIDE), QUAD, BAD_SETUP),
+        (setup(32, 8, 1, 19), QUAD, BAD_SETUP),
+        (setup(32, 8, 1, 32), QUAD, BAD_SETUP),
         (setup(32, 16, 1, 0), QUAD, BAD_TILES),
         (setup(32, 8, 1, 0), beyond, BAD_INDEX),
     ];

@@ -47,7 +47,8 @@ fn hull(size: Size, near: Near, clips: &[ClipVertex], tris: &[Tri]) -> Option<Re
 
 /// The pixels of the screen over which a mesh is tested, by its triangles among clip vertices: the smallest rectangle
 /// that holds their near boxes, cut to the screen; none where the mesh is outside or visible before any sample is
-/// looked at. It is the same in both grades. Conditions: `near` is 1 to 1024, and each index is below the number of clips.
+/// looked at. It is the same in both grades. Conditions: `near` is 1 to 1024, and each index is below the number of
+/// clips.
 pub fn mesh_area(size: Size, near: u16, clips: &[ClipVertex], tris: &[Tri]) -> Rect
     requires least { 1 ≤ near }
     requires most { near ≤ 1024 }

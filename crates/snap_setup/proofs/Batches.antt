@@ -47,14 +47,17 @@ module _ (clips : List ClipVertex) (top near : ℕ) (size : Dimensions) where
   pub parted : (batches : List Batch) (n : ℕ) (tris : List Tri) → all tris batches ≡ all (take n tris) batches ++ all (drop n tris) (without n batches)
   unfolding list_of_batches list_of_clips
   parted [] n tris = refl
-  parted (b ∷ batches) n tris = by (either b.count n)
+  parted (b ∷ batches) n tris = by (parted batches (n - b.count) (drop b.count tris)) (either b.count n)
     where
       either : (x y : ℕ) → (x < y) ⊎ (y ≤ x)
       either x y = grind arith
 
+      Parted : List Batch → ℕ → List Tri → Type 0
+      Parted bs m ts = all ts bs ≡ all (take m ts) bs ++ all (drop m ts) (without m bs)
+
       -- the first batch ends before these
-      ends : b.count ≤ n → all tris (b ∷ batches) ≡ all (take n tris) (b ∷ batches) ++ all (drop n tris) (without n (b ∷ batches))
-      ends le =
+      ends : Parted batches (n - b.count) (drop b.count tris) → b.count ≤ n → Parted (b ∷ batches) n tris
+      ends others_parted le =
           let more : n ≡ b.count + (n - b.count) = omega (arith, le) in
           let none : b.count - n ≡ 0 = omega (arith, le) in
           let first = take-take b.count n tris le in
@@ -64,12 +67,12 @@ module _ (clips : List ClipVertex) (top near : ℕ) (size : Dimensions) where
           let rest = ap (λ (ts : List Tri). all ts batches) others in
           let nothing = ap (λ (k : ℕ). one (take k (drop n tris)) b.winding) none in
           let last = ap (λ (ts : List Tri). all ts (without (n - b.count) batches)) behind in
-          ap (λ (ps : List Piece). one (take b.count tris) b.winding ++ ps) (parted batches (n - b.count) (drop b.count tris))
+          ap (λ (ps : List Piece). one (take b.count tris) b.winding ++ ps) others_parted
           ∙ sym (append_assoc (one (take b.count tris) b.winding) (all (take (n - b.count) (drop b.count tris)) batches) (all (drop (n - b.count) (drop b.count tris)) (without (n - b.count) batches)))
           ∙ sym (λ i. (parts i ++ rest i) ++ (nothing i ++ last i))
 
       -- it goes on behind them
-      goes_on : n ≤ b.count → all tris (b ∷ batches) ≡ all (take n tris) (b ∷ batches) ++ all (drop n tris) (without n (b ∷ batches))
+      goes_on : n ≤ b.count → Parted (b ∷ batches) n tris
       goes_on le =
           let m = b.count - n in
           let more : b.count ≡ n + m = omega (arith, le) in
@@ -87,9 +90,9 @@ module _ (clips : List ClipVertex) (top near : ℕ) (size : Dimensions) where
           ∙ sym ((λ i. (first i ++ nothing i) ++ (one (take m (drop n tris)) b.winding ++ last i))
           ∙ ap (λ (ps : List Piece). ps ++ (one (take m (drop n tris)) b.winding ++ all (drop b.count tris) batches)) (append-nil (one (take n tris) b.winding)))
 
-      by : (b.count < n) ⊎ (n ≤ b.count) → all tris (b ∷ batches) ≡ all (take n tris) (b ∷ batches) ++ all (drop n tris) (without n (b ∷ batches))
-      by (inl lt) = ends (omega (arith, lt))
-      by (inr le) = goes_on le
+      by : Parted batches (n - b.count) (drop b.count tris) → (b.count < n) ⊎ (n ≤ b.count) → Parted (b ∷ batches) n tris
+      by others_parted (inl lt) = ends others_parted (omega (arith, lt))
+      by others_parted (inr le) = goes_on le
 
   -- there are at most two pieces for each triangle
   pub batches_most : (batches : List Batch) (tris : List Tri) → length (all tris batches) ≤ 2 * length tris

@@ -1,5 +1,5 @@
 -- The list of a frame grows triangle by triangle.
-use Rattle.std.proofs.Common.{◌≡◌, ℕ, ◌+◌, ◌*◌, ◌<◌, ◌≤◌, Bool, true, false, not, cond, filter, List, [], ◌∷◌, ◌++◌, length, get_or, take, append-nil, length-append, length-take-le, refl, sym, ap, ◌∙◌, arith}
+use Rattle.std.proofs.Common.{◌≡◌, ℕ, ◌+◌, ◌*◌, ◌<◌, ◌≤◌, Bool, true, false, not, cond, filter, List, [], ◌∷◌, ◌++◌, length, get_or, take, append-nil, length-append, refl, sym, ap, ◌∙◌, arith}
 use Rattle.std.proofs.lemmas.List.{take_more, length-map}
 use mathlib.Core.List.{append_assoc}
 use Rattle.std.proofs.lemmas.List.Sums.{length-filter, count_by-le-length}
@@ -11,11 +11,7 @@ use Rattle.cull_base.specs.declared.scene_types.Tri.{Tri}
 use Rattle.cull_base.specs.Screen.{Dimensions}
 use Rattle.cull_base.specs.Piece.{Piece}
 use Rattle.cull_base.specs.Tiles.{FrameListOf, with_members}
-use Rattle.snap_setup.specs.declared.occluders.Occluders.{Occluders}
 use Rattle.snap_setup.specs.declared.snapping.Snapped.{Snapped}
-use Rattle.snap_setup.specs.declared.triangle.Corners.{Corners}
-use Rattle.snap_setup.specs.Corners.{pieces_of_corners}
-use Rattle.snap_setup.specs.Occluders.{list_of_some}
 use Rattle.snap_setup.specs.Pieces.{pieces_of, pieces_at, clip_at, list_of_clips, triangles_of, kept_of, snapped_part, is_left_out, is_any_past_guard, turned}
 
 pub list_none : (clips : List ClipVertex) (top near : ℕ) (size : Dimensions) (winding : Winding) → [] ≡ list_of_clips clips [] top near size winding

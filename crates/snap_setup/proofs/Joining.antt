@@ -11,7 +11,7 @@ use Rattle.cull_base.specs.Tiles.{FrameListOf}
 use Rattle.snap_setup.specs.declared.occluders.Occluders.{Occluders}
 use Rattle.snap_setup.specs.Batches.{list_of_batches, without}
 use Rattle.snap_setup.specs.Occluders.{list_of}
-use Rattle.snap_setup.specs.Runs.{run_of, run_pieces, AreMade, members_of}
+use Rattle.snap_setup.specs.Runs.{run_pieces, AreMade, members_of}
 use Rattle.snap_setup.proofs.Batches.{no_tris, parted}
 
 module _ (o : Occluders) (share : ℕ) where

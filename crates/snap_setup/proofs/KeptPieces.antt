@@ -9,8 +9,6 @@ use Rattle.cull_base.specs.declared.triangle.Winding.{Winding}
 use Rattle.cull_base.specs.Screen.{Dimensions}
 use Rattle.cull_base.specs.Guard.{is_past_guard}
 use Rattle.cull_base.specs.Piece.{Piece}
-use Rattle.cull_base.specs.Tiles.{FrameListOf}
-use Rattle.cull_base.specs.Tiles.{with_members}
 use Rattle.near_clip.specs.declared.hom_point.HomPoint.{HomPoint}
 use Rattle.near_clip.specs.NearPart.{near_part, is_in_front, whole}
 use Rattle.near_clip.specs.Reach.{IsInReach}

@@ -7,8 +7,8 @@ ghost use Rattle.snap_setup.specs.Pieces.{HasClips};
 use cull_base::{Batch, ClipVertex, Grade, Near, Size, Tri};
 
 /// A frame's occluder triangles over its clip vertices, the near distance, the screen, the batches of triangles, which
-/// say which side of them is drawn, and how fine nearness is. Conditions: there are at most 65,536 triangles, each index
-/// is below the number of clips, and the batches' counts sum to the number of triangles.
+/// say which side of them is drawn, and how fine nearness is. Conditions: there are at most 65,536 triangles, each
+/// index is below the number of clips, and the batches' counts sum to the number of triangles.
 #[derive(Drop)]
 pub struct Occluders<'a> {
     pub clips: &'a [ClipVertex],

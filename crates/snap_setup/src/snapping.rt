@@ -1,5 +1,6 @@
 //! Where a point stands on the screen, and how near it is.
-ghost use Rattle.std.specs.Prelude.{IfSome, negsuc, ◌<◌, ◌/◌, ◌<ℤ◌, ◌≡◌, ℤ, pos, neg_ℤ, ◌*◌, ◌^◌, ◌*ℤ◌, ◌+ℤ◌, ◌≤ℤ◌, ◌≤◌};
+ghost use Rattle.std.specs.Prelude.{IfSome, negsuc, ◌<◌, ◌/◌, ◌<ℤ◌, ◌≡◌, ℤ, pos, neg_ℤ};
+ghost use Rattle.std.specs.Prelude.{◌*◌, ◌^◌, ◌*ℤ◌, ◌+ℤ◌, ◌≤ℤ◌, ◌≤◌};
 ghost use Rattle.cull_base.specs.Bounds.{Bounded};
 ghost use Rattle.cull_base.specs.Depth.{floor_of};
 ghost use Rattle.cull_base.specs.Piece.{IsCoordinate};
@@ -352,8 +353,8 @@ fn long_snap(point: &HomPoint, near: Near, size: Size, side: Side, grade: Grade)
 }
 
 /// A point on the screen: its coordinates are rounded to the nearest whole number, and its nearness down for an
-/// occluder, up for an object; the grade says how fine it is. Conditions: `near` is 1 to 1024; the scale is 1 to 2^25, w is `near` to 16384 `near`
-/// times the scale, and x and y are at most 16384 `near` times the scale away from 0.
+/// occluder, up for an object; the grade says how fine it is. Conditions: `near` is 1 to 1024; the scale is 1 to 2^25,
+/// w is `near` to 16384 `near` times the scale, and x and y are at most 16384 `near` times the scale away from 0.
 #[inline(always)]
 pub fn snap(point: &HomPoint, near: u16, size: Size, side: Side, grade: Grade) -> Snapped
     requires near_least { 1 ≤ near }

@@ -108,7 +108,8 @@ fn whole_piece(
 ) -> Option<ScreenTri>
     requires guarded { is_any_past_guard tri.now.v0.now tri.now.v1.now tri.now.v2.now near.distance ≡ false }
     requires front { is_all_in_front tri.now.v0.now tri.now.v1.now tri.now.v2.now near.distance ≡ true }
-    ensures { option_to_list result ≡ kept_of (part_of tri.now (top_of grade) near.distance size side) winding }
+    ensures { option_to_list result ≡
+        kept_of (part_of tri.now (top_of grade) near.distance size side) winding }
 {
     let p0 = snap(&whole(tri.v0), near.distance, size, side, grade);
     let p1 = snap(&whole(tri.v1), near.distance, size, side, grade);

@@ -1,9 +1,11 @@
 //! Sources and sinks that fail, and scenes that are cut short: at each place where they may.
 ghost use Rattle.std.specs.Prelude.{◌≤◌};
 
-use crate::tests::runs::{CULL, Ended, LARGE, NEVER, assert_ended, run_over, run_with, sink};
+use crate::tests::runs::{
+    CULL, Ended, LARGE, NEVER, UPGRADE, assert_ended, run_over, run_with, sink,
+};
 use crate::tests::scenes::{
-    OCCLUDED, QUAD, TWO, changed, first_bytes, first_scene, scene, seen_from,
+    OCCLUDED, QUAD, TWO, changed, first_bytes, first_scene, in_batches, scene, seen_from,
 };
 use cull_base::BytesSource;
 use culling::Status;
@@ -14,16 +16,18 @@ use std::test::*;
 use std::thread::Threads;
 use tile_queues::OpenGate;
 
-// What comes of culling the first scene where a read of one byte fails.
+// What comes of a command line over a scene's bytes where a read of one byte fails.
 fn read_with_fault<R: Threads + Wait + Sync>(
     rt: &R,
     alloc: Global,
+    line: &str,
+    bytes: Vec<u8>,
     call: u64,
 ) -> Result<Ended, Fail> {
     let fails = Vec::from_slice(alloc, &[call])?;
-    let mut input = BytesSource::new(first_scene(alloc)?, 1, fails);
+    let mut input = BytesSource::new(bytes, 1, fails);
     let (report, notes) = (sink(alloc, LARGE, NEVER)?, sink(alloc, LARGE, NEVER)?);
-    run_over(rt, alloc, CULL, &mut input, report, notes, &OpenGate)
+    run_over(rt, alloc, line, &mut input, report, notes, &OpenGate)
 }
 
 // What comes of a command line over a scene's bytes where a write of at most so many bytes fails.
@@ -75,16 +79,35 @@ fn a_scene_cut_anywhere_is_refused(rt: HostRuntime) -> Result<(), Fail> {
 
 #[test]
 fn each_read_that_fails_is_noted(rt: HostRuntime) -> Result<(), Fail> {
+    let alloc = rt.alloc();
     for call in 1..179 {
-        let ended = read_with_fault(&rt, rt.alloc(), call)?;
-        assert_ended(&rt, &ended, Status::ReadFault, "", "read fault\n");
+        for line in [CULL, UPGRADE] {
+            let ended = read_with_fault(&rt, alloc, line, first_scene(alloc)?, call)?;
+            assert_ended(&rt, &ended, Status::ReadFault, "", "read fault\n");
+        }
     }
+    Ok(())
+}
+
+// 186 bytes, and the read that shows the end.
+#[test]
+fn each_read_of_version_2_that_fails_is_noted(rt: HostRuntime) -> Result<(), Fail> {
+    let alloc = rt.alloc();
+    for call in 1..188 {
+        for line in [CULL, UPGRADE] {
+            let ended = read_with_fault(&rt, alloc, line, in_batches(alloc, &[(2, 0)])?, call)?;
+            assert_ended(&rt, &ended, Status::ReadFault, "", "read fault\n");
+        }
+    }
+    let last = read_with_fault(&rt, alloc, CULL, in_batches(alloc, &[(2, 0)])?, 188)?;
+    assert_ended(&rt, &last, Status::Done, OCCLUDED, "");
     Ok(())
 }
 
 #[test]
 fn no_read_follows_the_one_that_shows_the_end(rt: HostRuntime) -> Result<(), Fail> {
-    let ended = read_with_fault(&rt, rt.alloc(), 179)?;
+    let alloc = rt.alloc();
+    let ended = read_with_fault(&rt, alloc, CULL, first_scene(alloc)?, 179)?;
     assert_ended(&rt, &ended, Status::Done, OCCLUDED, "");
     Ok(())
 }

@@ -13,6 +13,9 @@ use tile_queues::{Gate, OpenGate};
 /// The command line that culls a scene by one worker.
 pub const CULL: &str = "maskcull cull";
 
+/// The command line that writes a scene in version 2.
+pub const UPGRADE: &str = "maskcull upgrade";
+
 /// The number of no call: calls are numbered from 1.
 pub const NEVER: u64 = 0;
 

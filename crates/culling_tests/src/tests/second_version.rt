@@ -2,7 +2,7 @@
 ghost use Rattle.std.specs.Prelude.{◌≤◌};
 
 use crate::tests::runs::{
-    CULL, LARGE, NEVER, assert_ended, assert_reports, run_with, sink, words_of,
+    CULL, LARGE, NEVER, UPGRADE, assert_ended, assert_reports, run_with, sink, words_of,
 };
 use crate::tests::scenes::{
     OCCLUDED, TWO, UNDRAWN, VISIBLE, changed, first_scene, in_batches, scene,
@@ -16,20 +16,19 @@ use std::test::*;
 use std::thread::Threads;
 use tile_queues::OpenGate;
 
-const UPGRADE: &str = "maskcull upgrade";
-
-// How `upgrade` of some bytes ends, and the bytes that it writes, at most so many in a write; the write of that number
+// How a command of some bytes ends, and the bytes that it writes, at most so many in a write; the write of that number
 // fails.
 fn written<R: Threads + Wait + Sync>(
     rt: &R,
     alloc: Global,
+    line: &str,
     bytes: Vec<u8>,
     most: usize,
     call: u64,
 ) -> Result<(Status, Vec<u8>), Fail>
     requires { 1 ≤ most }
 {
-    let words = words_of(alloc, UPGRADE)?;
+    let words = words_of(alloc, line)?;
     let mut input = BytesSource::new(bytes, 7, Vec::new(alloc));
     let (mut report, mut notes) = (sink(alloc, most, call)?, sink(alloc, LARGE, NEVER)?);
     let status = run(
@@ -50,7 +49,7 @@ fn upgraded<R: Threads + Wait + Sync + Abort>(
     alloc: Global,
     bytes: Vec<u8>,
 ) -> Result<Vec<u8>, Fail> {
-    let (status, made) = written(rt, alloc, bytes, LARGE, NEVER)?;
+    let (status, made) = written(rt, alloc, UPGRADE, bytes, LARGE, NEVER)?;
     assert_eq!(rt; status, Status::Done);
     Ok(made)
 }
@@ -184,17 +183,17 @@ fn the_wide_grade_hides_what_stands_just_behind(rt: HostRuntime) -> Result<(), F
     assert_reports(&rt, alloc, changed(wide, &[(13, 1)]), OCCLUDED)
 }
 
-// 186 bytes are 27 writes of at most seven.
+// 186 bytes are 29 writes of at most seven: six of the header, and each table is written for itself.
 #[test]
 fn each_write_of_an_upgrade_that_fails_leaves_a_front(rt: HostRuntime) -> Result<(), Fail> {
     let alloc = rt.alloc();
     let whole = second_scene(alloc)?;
-    for call in 1..28 {
-        let (status, front) = written(&rt, alloc, first_scene(alloc)?, 7, call)?;
+    for call in 1..30 {
+        let (status, front) = written(&rt, alloc, UPGRADE, first_scene(alloc)?, 7, call)?;
         assert_eq!(rt; status, Status::ReportFault);
         assert!(rt; front.len() < whole.len() && whole.as_slice().starts_with(&front));
     }
-    let (status, made) = written(&rt, alloc, first_scene(alloc)?, 7, NEVER)?;
+    let (status, made) = written(&rt, alloc, UPGRADE, first_scene(alloc)?, 7, NEVER)?;
     assert_eq!(rt; (status, made.len()), (Status::Done, 186));
     Ok(())
 }

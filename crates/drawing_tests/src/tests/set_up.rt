@@ -11,7 +11,10 @@ use cull_base::{
     Batch, ClipVertex, FrameList, Grade, Memory, Near, Rect, Side, Size, Tri, Winding,
 };
 use near_clip::HomPoint;
-use snap_setup::{Occluders, Pieces, Snapped, frame_list, near_box, sampled_list, set_up, snap};
+use snap_setup::{
+    Occluders, Pieces, Snapped, frame_list, frame_list_by_workers, near_box, one_batch,
+    sampled_list, set_up, snap,
+};
 use std::alloc::Global;
 use std::process::Abort;
 use std::test::Fail;
@@ -364,7 +367,7 @@ fn alternating(alloc: Global) -> Result<Vec<Tri>, Fail>
     ensures count { IfOk result (λ v. length v.items ≡ 2500) }
 {
     let mut tris = Vec::with_capacity(alloc, 2500).map_err(|_| Memory)?;
-    for _ in 0..1250 {
+    for _ in 0..1250_usize {
         tris.push_reserved(Tri([0, 1, 2]));
         tris.push_reserved(Tri([0, 3, 2]));
     }

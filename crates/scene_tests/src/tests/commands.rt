@@ -1,5 +1,5 @@
 //! What some command lines name, and what is said of those that are refused.
-use command_words::{Command, Refusal, Settings, VERSION, command_of};
+use command_words::{BareCommand, Command, Refusal, Settings, VERSION, command_of};
 use std::alloc::Global;
 use std::process::Abort;
 use std::test::*;
@@ -22,23 +22,23 @@ fn command_for(rt: &impl Abort, alloc: Global, given: &[&str]) -> Result<Command
     )
 }
 
-// The settings of a command, its name, and the two numbers of its own; none of those that have no settings.
-fn parts(command: Command) -> Option<(Settings, &'static str, Option<(u32, u32)>)> {
-    let (settings, name, own) = match command {
-        Command::Cull { settings } => (settings, "cull", None),
-        Command::Live {
-            settings,
-            rounds,
-            watch,
-        } => (settings, "live", Some((rounds, watch))),
-        Command::Demo {
-            settings,
-            seed,
-            triangles,
-        } => (settings, "demo", Some((seed, triangles))),
-        Command::Upgrade | Command::Check { .. } => return None,
-    };
-    Some((settings, name, own))
+// The settings of a command, its name, and the two numbers of its own; `check` and a bare command have no settings.
+fn parts(command: Command) -> (Option<Settings>, &'static str, Option<(u32, u32)>) {
+    match command {
+        Command::Cull(words) => (Some(words.settings), "cull", None),
+        Command::Live(words) => (
+            Some(words.settings),
+            "live",
+            Some((words.rounds, words.watch)),
+        ),
+        Command::Demo(words) => (
+            Some(words.settings),
+            "demo",
+            Some((words.seed, words.triangles)),
+        ),
+        Command::Check(words) => (None, "check", Some((words.rounds, words.watch))),
+        Command::Bare(_) => (None, "a command without options", None),
+    }
 }
 
 // The workers, columns, rows and batch that a command line names, the command, and the two numbers of its own.
@@ -47,8 +47,8 @@ fn asked(
     alloc: Global,
     given: &[&str],
 ) -> Result<([u32; 4], &'static str, Option<(u32, u32)>), Fail> {
-    let named = command_for(rt, alloc, given)?;
-    let (settings, command, own) = parts(named).ok_or("a command with settings")?;
+    let (settings, command, own) = parts(command_for(rt, alloc, given)?);
+    let settings = settings.ok_or("a command with settings")?;
     let (columns, rows) = (settings.cut.columns(), settings.cut.rows());
     let sharing = [settings.workers, columns, rows, settings.batch];
     Ok((sharing, command, own))
@@ -105,8 +105,8 @@ fn the_flag_stands_anywhere_among_the_options(rt: HostRuntime) -> Result<(), Fai
         ),
         (&["maskcull", "cull", "--workers", "3", "--early"], 3, true),
     ] {
-        let named = command_for(&rt, alloc, given)?;
-        let (settings, _, _) = parts(named).ok_or("a command with settings")?;
+        let (settings, _, _) = parts(command_for(&rt, alloc, given)?);
+        let settings = settings.ok_or("a command with settings")?;
         assert_eq!(rt; (settings.workers, settings.early), (workers, is_early));
     }
     Ok(())
@@ -165,22 +165,16 @@ fn ranges_and_defaults_stand_on_the_help_page(rt: HostRuntime) -> Result<(), Fai
 #[test]
 fn upgrade_has_no_options(rt: HostRuntime) -> Result<(), Fail> {
     let alloc = rt.alloc();
-    let named = command_for(&rt, alloc, &["maskcull", "upgrade"])?;
-    assert!(rt; parts(named).is_none());
+    let Command::Bare(BareCommand::Upgrade) = command_for(&rt, alloc, &["maskcull", "upgrade"])?
+    else {
+        return Err(Fail::from("the command that upgrades"));
+    };
     for option in [["--workers", "2"], ["--batch", "7"], ["--early", "--early"]] {
         let [first, second] = option;
         let given = words(alloc, &["maskcull", "upgrade", first, second])?;
         assert!(rt; command_of(alloc, &given).is_err());
     }
     Ok(())
-}
-
-// The rounds and the watched objects of `check`.
-fn checked(rt: &impl Abort, alloc: Global, given: &[&str]) -> Result<Option<(u32, u32)>, Fail> {
-    match command_for(rt, alloc, given)? {
-        Command::Check { rounds, watch } => Ok(Some((rounds, watch))),
-        _ => Ok(None),
-    }
 }
 
 #[test]
@@ -191,9 +185,16 @@ fn check_has_two_options(rt: HostRuntime) -> Result<(), Fail> {
         (&["maskcull", "check", "--rounds=8"], (8, 1)),
         (&["maskcull", "check", "--watch", "3", "--rounds", "2"], (2, 3)),
     ] {
-        assert_eq!(rt; checked(&rt, alloc, given)?, Some(own));
+        let (settings, command, asked) = parts(command_for(&rt, alloc, given)?);
+        assert!(rt; settings.is_none());
+        assert_eq!(rt; (command, asked), ("check", Some(own)));
     }
-    for option in [["--workers", "2"], ["--rounds", "9"], ["--watch", "0"], ["--early", "--early"]] {
+    for option in [
+        ["--workers", "2"],
+        ["--rounds", "9"],
+        ["--watch", "0"],
+        ["--early", "--early"],
+    ] {
         let [first, second] = option;
         let given = words(alloc, &["maskcull", "check", first, second])?;
         assert!(rt; command_of(alloc, &given).is_err());

@@ -38,7 +38,7 @@ fn batch(count: u32, winding: Winding) -> Batch {
 fn in_batches(alloc: Global, batches: &[(u32, u8)]) -> Result<Vec<u8>, AllocError> {
     let mut bytes = Vec::from_slice(alloc, &FIRST_SCENE[..32])?;
     edit(&mut bytes, &[(4, 2)]);
-    bytes.extend_from_slice(&(batches.len() as u32).to_le_bytes())?;
+    bytes.extend_from_slice(&((batches.len() % 65536) as u32).to_le_bytes())?;
     bytes.extend_from_slice(&FIRST_SCENE[32..OBJECT])?;
     for (count, winding) in batches {
         bytes.extend_from_slice(&count.to_le_bytes())?;
@@ -421,16 +421,23 @@ fn batches_have_all_triangles(rt: HostRuntime) -> Result<(), Fail> {
         let bytes = in_batches(alloc, batches)?;
         assert_eq!(rt; refusal_of(alloc, bytes), want, "of batches {batches:?}");
     }
-    let mut many = Vec::new(alloc);
-    for _ in 0..4097 {
+    Ok(())
+}
+
+#[test]
+fn no_more_than_4096_batches_are_read(rt: HostRuntime) -> Result<(), Fail> {
+    let alloc = rt.alloc();
+    let mut many = Vec::from_slice(alloc, &[(2, 0)])?;
+    for _ in 1..4096 {
         many.push((0, 0))?;
     }
-    let bytes = in_batches(alloc, &many)?;
+    assert_eq!(rt; refusal_of(alloc, in_batches(alloc, &many)?), None);
+    many.push((0, 0))?;
     let count = SceneError::BadCount {
         field: 5,
         value: 4097,
     };
-    assert_eq!(rt; refusal_of(alloc, bytes), Some(count));
+    assert_eq!(rt; refusal_of(alloc, in_batches(alloc, &many)?), Some(count));
     Ok(())
 }
 

@@ -1,7 +1,6 @@
-use Rattle.std.proofs.Common.{◌≡◌, ◌*◌, ◌<◌, ◌∷◌, [], List, Some, length, arith, ap, sym, subst, ◌∙◌}
+use Rattle.std.proofs.Common.{◌*◌, ◌<◌, List, Some, length, arith, ap, sym, subst}
 use Rattle.std.specs.declared.option.Option.{Option}
 use Rattle.std.proofs.lemmas.List.{length_push}
-use Rattle.cull_base.specs.declared.scene_types.Verdict.{Verdict}
 use Rattle.seats.specs.declared.seats.Loan.{Loan}
 use Rattle.seats.proofs.First.{AreFirst, BeginsWith, all_seated, first_pushed}
 use Rattle.cull_report.specs.Runs.{IsRunOf}

@@ -1,4 +1,4 @@
-use Rattle.std.proofs.Common.{◌≡◌, ℕ, List, [], sym, subst, Ok, Err}
+use Rattle.std.proofs.Common.{ℕ, List, [], sym, subst, Ok, Err}
 use Rattle.std.proofs.lemmas.Result.{err_from_is_err_and}
 use Rattle.cull_base.specs.Stream.{Appends, Writes}
 use Rattle.std.specs.List.{flat_map}

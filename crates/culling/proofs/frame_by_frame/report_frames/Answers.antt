@@ -1,4 +1,4 @@
-use Rattle.std.proofs.Common.{◌≡◌, ℕ, [], ◌*◌, ◌-◌, ◌+◌, length, arith, refl, ap, Ok, Err}
+use Rattle.std.proofs.Common.{◌≡◌, ℕ, [], ◌*◌, ◌-◌, ◌+◌, length, arith, ap, Ok, Err}
 use Rattle.std.proofs.lemmas.Result.{err_from_is_err_and}
 use Rattle.culling.specs.declared.frames.Beside.TheVariants.{Nothing}
 use Rattle.culling.proofs.FrameByFrame.{front_of_frames, frames_no_memory, windows_beside, written, wrote_then}

@@ -43,7 +43,7 @@ pub returns-clause-reported : goal.returns-clause-reported
 returns-clause-reported g c =
     let s = c.args.drawing.now.scene.now in let first = c.args.first in let frame = c.loop-frame.frame in
     let n : length c.cameras.result.now ≡ length s.cameras = ap length c.cameras.ensures.value in
-    let whole : frame - first ≡ length s.cameras - first = omega (arith, n, c.requires, c.loop-frame-test.false) in
+    let whole : frame - first ≡ length s.cameras - first = omega (arith, n, c.requires, c.loop-frame-test.false, c.loop-frame.auto.frame-end) in
     wrote_all tt whole c.loop-frame.invariant.wrote
 
 pub returns-clause-quiet : goal.returns-clause-quiet

@@ -1,10 +1,9 @@
-use Rattle.std.proofs.Common.{◌≡◌, ◌<◌, ℕ, length, subst, sym, ap, ◌∙◌, refl, Result, Ok, Err}
+use Rattle.std.proofs.Common.{◌≡◌, ℕ, subst, sym, ap, ◌∙◌, refl, Result, Ok, Err}
 use Rattle.std.specs.Prelude.{IfOk}
 use Rattle.cull_base.specs.Sampled.{sampled_list}
-use Rattle.cull_base.specs.Screen.{tile_count_of}
-use Rattle.cull_base.specs.Tiles.{PieceList, tile_after}
+use Rattle.cull_base.specs.Tiles.{PieceList}
 use Rattle.cull_base.specs.declared.memory.Memory.{Memory}
-use Rattle.cull_report.specs.Scene.{frame_list, frame_pieces}
+use Rattle.cull_report.specs.Scene.{frame_list}
 use Rattle.scene_reader.specs.Layout.{Parts, IsScene}
 use Rattle.masked_update.proofs.SampledLists.{tile_after-sampled}
 use Rattle.snap_setup.specs.declared.sampled.KeptList.{KeptList}

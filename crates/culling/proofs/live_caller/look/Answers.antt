@@ -1,19 +1,35 @@
-use Rattle.std.proofs.Common.{◌≡◌, ◌<◌, length, arith, sym, ap, ◌∙◌, subst}
+use Rattle.std.proofs.Common.{◌≡◌, ◌<◌, ℕ, length, arith, sym, ap, ◌∙◌, subst}
+use Rattle.std.proofs.lemmas.List.{get_or_default}
 use Rattle.cull_base.specs.declared.rect.Rect.{Rect}
 use Rattle.cull_base.specs.declared.scene_types.Object.{Object}
 use Rattle.cull_base.specs.declared.scene_types.Object.TheVariants.{Mesh}
+use Rattle.cull_base.specs.Rectangle.{meets}
+use Rattle.cull_base.specs.Screen.{Dimensions, tile_count_of, tile_rect_of}
 use Rattle.cull_base.specs.Tiles.{PieceList}
 use Rattle.masked_update.specs.TileOf.{tile_at}
-use Rattle.tile_cells.specs.Snapshots.{HoldsExactly}
+use Rattle.masked_update.specs.Views.{HoldsMet}
+use Rattle.tile_cells.specs.Snapshots.{HoldsExactly, is_held}
 use Rattle.cull_report.specs.Live.{object_at, text_of_line}
-use Rattle.cull_report.specs.Scene.{object_area, verdict_in}
-use Rattle.cull_report.proofs.Forms.{from_place}
+use Rattle.cull_report.specs.Scene.{object_area, size_of, verdict_in}
+use Rattle.cull_report.proofs.Forms.{at_place, from_place}
 use Rattle.culling.proofs.LiveLooks.{list_size, look_tells, seen_rises}
 use Rattle.culling.proofs.live_caller.look.Goals as goal
 
 pub snapshot-requires-clause-size : goal.snapshot-requires-clause-size
 snapshot-requires-clause-size g c =
     c.requires.size ∙ sym (ap (λ (l : PieceList). l.size) c.requires.reader.list_is ∙ list_size c.args.watched.now.scene.now c.args.watched.now.frame)
+
+pub object_verdict-verdict-requires-clause-holds : goal.object_verdict-verdict-requires-clause-holds
+object_verdict-verdict-requires-clause-holds g c =
+    let s = c.args.watched.now.scene.now in let frame = c.args.watched.now.frame in let o = c.args.numbers.object in
+    let lt : o < length s.objects = omega (arith, c.requires.object, c.requires.watched.within) in
+    let area = c.object_area-area.result in let view = c.snapshot.new.into in
+    let is : area ≡ object_area s frame (object_at s o) = from_place (λ (x : Object). area ≡ object_area s frame x) s.objects o (Mesh 0 0) lt c.object_area-area.ensures in
+    let size : view.size ≡ size_of s = c.snapshot.ensures.read.size ∙ c.requires.size in
+    let held = subst (λ (d : Dimensions). (t : ℕ) → t < tile_count_of d → is_held view t ≡ meets area (tile_rect_of d t)) size c.snapshot.ensures.held in
+    at_place (λ (x : Object). HoldsMet (λ t. is_held view t) (size_of s) (object_area s frame x)) s.objects o (object_at s o) lt
+    (get_or_default s.objects o (Mesh 0 0) (object_at s o) lt)
+    (subst (HoldsMet (λ t. is_held view t) (size_of s)) is (λ t below met. held t below ∙ met))
 
 pub fill-requires : goal.fill-requires
 fill-requires g c =

@@ -1,4 +1,4 @@
-use Rattle.std.proofs.Common.{sym, subst}
+use Rattle.std.proofs.Common.{subst}
 use Rattle.cull_base.specs.Screen.{Dimensions, IsSize}
 use Rattle.culling.proofs.ClosedCells.{closed_have}
 use Rattle.culling.proofs.live_frame.draw_in_cells.Goals as goal

@@ -5,7 +5,6 @@ use Rattle.cull_base.specs.Screen.{tile_count_of}
 use Rattle.tile_queues.specs.Frames.{HaveStates}
 use Rattle.masked_update.specs.TileOf.{TileOf, tile_at}
 use Rattle.cull_report.specs.Scene.{frame_list, size_of}
-use Rattle.culling.specs.Culling.{AreSettled}
 use Rattle.culling.proofs.LiveTexts.{kept_is_live}
 use Rattle.culling.proofs.Marks.{settled_in_end, settled_over}
 use Rattle.culling.proofs.live_frame.draw_live.Goals as goal

@@ -1,4 +1,4 @@
-use Rattle.std.proofs.Common.{◌≡◌, ℕ, ◌+◌, ◌%◌, ◌<◌, ◌++◌, List, [], ◌∷◌, length, length-append, arith, sym, ap, subst}
+use Rattle.std.proofs.Common.{◌≡◌, ◌+◌, ◌%◌, ◌++◌, [], ◌∷◌, length, length-append, arith, sym, ap, subst}
 use Rattle.cull_report.specs.Live.{LiveLineOf}
 use Rattle.tile_cells.proofs.Lists.{pushed_at}
 use Rattle.culling.specs.LiveFrames.{HaveRoom, RoomFor}

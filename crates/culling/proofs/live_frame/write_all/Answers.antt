@@ -1,7 +1,7 @@
-use Rattle.std.proofs.Common.{◌≡◌, ◌<◌, List, ℕ, length, take, arith, sym, subst, Err}
+use Rattle.std.proofs.Common.{List, ℕ, take, arith, sym, subst, Err}
 use Rattle.std.specs.List.{flat_map}
 use Rattle.std.proofs.lemmas.Result.{err_from_is_err_and}
-use Rattle.cull_base.specs.Stream.{Appends, Writes}
+use Rattle.cull_base.specs.Stream.{Writes}
 use Rattle.cull_base.proofs.Streams.{writes_then, writes_no_more}
 use Rattle.cull_report.specs.Live.{text_of_line}
 use Rattle.culling.proofs.LiveTexts.{texts_begin}

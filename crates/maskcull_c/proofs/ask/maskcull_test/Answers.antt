@@ -1,4 +1,4 @@
-use Rattle.std.proofs.Common.{◌≡◌, ℕ, FitsSigned, w32, ap, ◌∙◌}
+use Rattle.std.proofs.Common.{◌≡◌, ℕ, FitsSigned, w32, ap, subst, ◌∙◌}
 use Rattle.std.proofs.lemmas.Int.{to_z-of_z}
 use Rattle.cull_base.specs.declared.nearness.Grade.{Grade}
 use Rattle.cull_base.specs.Grade.{top_of}

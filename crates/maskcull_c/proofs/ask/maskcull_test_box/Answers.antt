@@ -1,4 +1,4 @@
-use Rattle.std.proofs.Common.{◌≡◌, ℕ, map, ap, ◌∙◌}
+use Rattle.std.proofs.Common.{◌≡◌, ℕ, map, ap, subst, ◌∙◌}
 use Rattle.cull_base.specs.declared.nearness.Grade.{Grade}
 use Rattle.cull_base.specs.Grade.{top_of}
 use Rattle.cull_base.specs.Screen.{Dimensions}

@@ -1,4 +1,4 @@
-use Rattle.std.proofs.Common.{◌≡◌, ◌+◌, ◌<◌, List, [], ◌∷◌, ◌++◌, length, take, arith, ap, ◌∙◌, sym, subst}
+use Rattle.std.proofs.Common.{◌≡◌, ◌+◌, List, [], ◌∷◌, ◌++◌, take, arith, ap, ◌∙◌, sym, subst}
 use Rattle.std.proofs.lemmas.List.{take_all, take_more}
 use Rattle.cull_base.specs.Piece.{Piece}
 use Rattle.maskcull_c.specs.Bands.{AreMerged, first_in}
