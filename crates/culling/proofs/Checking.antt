@@ -1,12 +1,12 @@
 -- The input of `check`: a number of four bytes, a scene, and a log.
-use Rattle.std.proofs.Common.{◌≡◌, ℕ, ◌+◌, ◌<◌, ◌≤◌, ◌++◌, List, [], length, take, drop, nat_lt, arith, refl, sym, ap, ◌∙◌, subst, inl, inr, Option, Some, None}
+use Rattle.std.proofs.Common.{◌≡◌, ℕ, ◌+◌, ◌<◌, ◌≤◌, ◌++◌, List, [], length, take, drop, nat_lt, arith, sym, ap, ◌∙◌, subst, Option, Some, None}
 use Rattle.std.specs.Prelude.{IfSome}
 use Rattle.std.specs.Option.{option_map}
 use Rattle.std.proofs.lemmas.Bool.{cond-false, cond-true, le-ltb, lt-ltb}
-use Rattle.std.proofs.lemmas.List.{append-nil, drop_at, length-append, take_at}
+use Rattle.std.proofs.lemmas.List.{append-nil, drop_at, length-append}
 use Rattle.std.proofs.lemmas.Option.{same_Some}
 use Rattle.cull_base.specs.Stream.{IsAtEnd, SourceSays, Takes}
-use Rattle.scene_reader.specs.Fault.{IsRefusal, first_fault, word_at}
+use Rattle.scene_reader.specs.Fault.{first_fault, word_at}
 use Rattle.scene_reader.specs.Layout.{IsScene, Parts, layout}
 use Rattle.scene_reader.specs.Reading.{HasFirstFault, TakesPart, first_bytes}
 use Rattle.scene_reader.specs.declared.error.SceneError.{SceneError}

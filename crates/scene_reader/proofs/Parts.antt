@@ -7,7 +7,7 @@ use Rattle.std.proofs.lemmas.Bool.{cases_lt}
 use Rattle.std.proofs.lemmas.List.{length-append, length-take, length-drop, take-append-drop, drop_at, drop_all, drop-drop, nil_from_length}
 use Rattle.std.proofs.lemmas.Option.{same_Some}
 use Rattle.cull_base.specs.Stream.{IsAtEnd, SourceSays, Takes}
-use Rattle.cull_base.proofs.Takes.{takes_nothing, takes_then}
+use Rattle.cull_base.proofs.Takes.{takes_nothing}
 use Rattle.scene_reader.specs.declared.error.SceneError.{SceneError}
 use Rattle.scene_reader.specs.declared.header.Header.{Header}
 use Rattle.scene_reader.specs.Fault.{header_fault, header_taken}

@@ -1,5 +1,5 @@
 -- An end that came before all that was wanted.
-use Rattle.std.proofs.Common.{◌≡◌, ℕ, ◌+◌, ◌≤◌, ◌++◌, List, length, arith, ap, ◌∙◌, sym, subst, Option, Some, None}
+use Rattle.std.proofs.Common.{◌≡◌, ℕ, ◌+◌, ◌≤◌, ◌++◌, List, length, arith, ap, ◌∙◌, subst, Option, Some, None}
 use Rattle.std.proofs.lemmas.List.{length-append}
 use Rattle.cull_base.specs.Stream.{SourceSays, Takes}
 use Rattle.cull_base.proofs.Takes.{takes_then}

@@ -1,5 +1,5 @@
 -- Calls that read, one after the other: what was taken of a part, and in how many turns.
-use Rattle.std.proofs.Common.{◌≡◌, ℕ, ◌+◌, ◌-◌, ◌*◌, ◌≤◌, ◌++◌, List, length, arith, Option, Some, None, Result, Ok, Err}
+use Rattle.std.proofs.Common.{◌≡◌, ℕ, ◌+◌, ◌-◌, ◌*◌, ◌≤◌, ◌++◌, List, length, arith, Option, Result, Ok, Err}
 use Rattle.std.specs.Prelude.{IsErrOf}
 use Rattle.std.proofs.lemmas.List.{length-append}
 use Rattle.cull_base.specs.Stream.{Rose, SourceSays, Takes, TakesInTurns}

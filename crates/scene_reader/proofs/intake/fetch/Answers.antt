@@ -1,8 +1,7 @@
-use Rattle.std.proofs.Common.{◌≡◌, ℕ, ◌+◌, ◌-◌, ◌≤◌, length, take, Option, Some, arith, ap, subst}
+use Rattle.std.proofs.Common.{◌≡◌, ℕ, ◌+◌, ◌-◌, ◌≤◌, length, take, Some, arith, subst}
 use Rattle.std.proofs.lemmas.List.{length-take}
 use Rattle.scene_reader.specs.Reading.{EndsWithin}
 use Rattle.scene_reader.proofs.Takes.{ends_wider}
-use Rattle.scene_reader.proofs.Turns.{reads_filled}
 use Rattle.scene_reader.proofs.intake.fetch.Goals as goal
 
 -- the part ends before the buffer

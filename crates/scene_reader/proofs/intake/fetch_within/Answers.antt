@@ -1,4 +1,4 @@
-use Rattle.std.proofs.Common.{◌≡◌, ◌+◌, ◌≤◌, length, take, arith, refl, ap, sym, ◌∙◌, inl}
+use Rattle.std.proofs.Common.{◌≡◌, ◌+◌, ◌≤◌, length, take, arith, ap, sym, ◌∙◌, inl}
 use Rattle.std.proofs.lemmas.List.{length-take}
 use Rattle.scene_reader.specs.declared.error.SceneError.TheVariants.{Read, Truncated}
 use Rattle.scene_reader.proofs.Refusals.{err_is}

@@ -1,6 +1,5 @@
-use Rattle.std.proofs.Common.{◌≡◌, ◌+◌, ◌<◌, [], length, take, arith, refl, subst, inl, inr}
+use Rattle.std.proofs.Common.{◌≡◌, ◌+◌, ◌<◌, length, take, arith, refl, inl, inr}
 use Rattle.std.proofs.lemmas.List.{length-take}
-use Rattle.cull_base.specs.Stream.{Takes}
 use Rattle.cull_base.proofs.Takes.{takes_nothing}
 use Rattle.cull_base.proofs.Turns.{progress_none}
 use Rattle.scene_reader.proofs.Takes.{within_less}

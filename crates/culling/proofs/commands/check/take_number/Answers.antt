@@ -1,4 +1,4 @@
-use Rattle.std.proofs.Common.{◌≡◌, ◌<◌, length, take, arith, refl, sym, ap, ◌∙◌, subst, inl, inr, w32}
+use Rattle.std.proofs.Common.{◌≡◌, ◌<◌, length, take, arith, refl, sym, ap, ◌∙◌, inl, inr, w32}
 use Rattle.std.specs.Int.{from_le_bytes}
 use Rattle.std.proofs.lemmas.List.{length-take, take_all}
 use Rattle.scene_reader.specs.declared.error.SceneError.TheVariants.{Truncated}
