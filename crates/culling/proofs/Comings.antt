@@ -268,11 +268,12 @@ text_written text x r0 r1 n w =
 text_unwritten : (text : List ℕ) (e : SinkError) (r0 r1 n : SinkSays) → Writes r0 r1 (Err e) text → LeavesTexts (text_alone text) (Err (sink_failure e)) r0 r1 n n
 text_unwritten text e r0 r1 n w = unwritten text text [] [] e r0 r1 n (append-nil text) (append-nil text) w
 
--- the command makes this one text of a scene that it read
+-- without looks the outcome is this one text
 abbrev pub IsTextBy : Option Making → Parts → List ℕ → Type 0
 IsTextBy (Some outcome) s text = outcome s unseen ≡ text_alone text
 IsTextBy None s text = ⊥
 
+-- the command makes this one text of a scene that it read
 abbrev pub MakesText : Command → Parts → List ℕ → Type 0
 MakesText c s text = ReadsScene c × IsTextBy (work_of c).outcome s text
 
