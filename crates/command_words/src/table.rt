@@ -160,8 +160,8 @@ pub const CHECK: ACommand = CommandRow {
     kind: CommandKind::Check,
     name: "check",
     about: "Reads a scene and a log of live from standard input, and says whether live may have noted the log",
-    more: "Reads from standard input four bytes with the length of a scene, lowest byte first, then so many bytes of the scene,
-then the log, to its end.
+    more: "Reads from standard input four bytes with the length of a scene, lowest byte first, then so many bytes of the
+scene, then the log, to its end.
 Writes to standard output log accepted where the log is what live may note of the scene with these numbers of rounds and
 of objects: each line has the verdict after the pieces that it states, and within a frame no tile's count falls. Else
 writes log refused L, where L says how many lines in front are good.
@@ -205,8 +205,8 @@ pub struct DemoWords {
     pub triangles: u32,
 }
 
-/// What `check` is to do: whether the log may be one of so many rounds of looks at the first objects, of so many. 1 to 8
-/// each.
+/// What `check` is to do: whether the log may be one of so many rounds of looks at the first objects, of so many. 1 to
+/// 8 each.
 #[derive(Clone, Copy)]
 pub struct CheckWords {
     pub rounds: u32,
@@ -222,7 +222,7 @@ pub enum Command {
     Live(LiveWords),
     /// A scene that a seed makes; its summary is written.
     Demo(DemoWords),
-    /// The length of a scene, the scene and a log of `live` from the input; whether `live` may have noted it is written.
+    /// The length of a scene, the scene and a log from the input; whether `live` may have noted the log is written.
     Check(CheckWords),
     /// What a command without options does.
     Bare(BareCommand),
