@@ -33,7 +33,11 @@ struct Draft {
 }
 
 /// Reads the number of batches, which only a header of version 2 has.
-fn read_batch_count<S: Source>(source: &mut S, version: u16, part: Option<u32>) -> Result<u32, SceneError>
+fn read_batch_count<S: Source>(
+    source: &mut S,
+    version: u16,
+    part: Option<u32>,
+) -> Result<u32, SceneError>
     requires { IsWithin part 32 }
     ensures taken { IfOk result (λ n. TakesCount version n (S.says source.old) (S.says source.new)) }
     ensures within { OnOk result (IsWithin part (header_length version)) }
@@ -95,7 +99,14 @@ fn read_parts<S: Source>(
     let vertices = read_table(alloc, source, counts.vertices, need, vertices_at, part)?;
     let occluders = read_table(alloc, source, counts.occluders, need, occluders_at, part)?;
     let batches = read_batches(alloc, source, &header, need, batches_at, part)?;
-    let object_tris = read_table(alloc, source, counts.object_tris, need, object_tris_at, part)?;
+    let object_tris = read_table(
+        alloc,
+        source,
+        counts.object_tris,
+        need,
+        object_tris_at,
+        part,
+    )?;
     let objects = read_objects(
         alloc,
         source,
@@ -147,7 +158,11 @@ fn read_end<S: Source>(source: &mut S, taken: u32, part: Option<u32>) -> Result<
 }
 
 /// Reads the header, the tables and the end of a part, and tests what was read.
-fn read_whole<S: Source>(alloc: Global, source: &mut S, part: Option<u32>) -> Result<Scene, SceneError>
+fn read_whole<S: Source>(
+    alloc: Global,
+    source: &mut S,
+    part: Option<u32>,
+) -> Result<Scene, SceneError>
     ensures ok { IfOk result (λ s. ReadsPart part (S.says source.old).left (S.says source.new).left s) }
     ensures refused { IfErr result (λ e. IsRefusal e
         → RefusesPart part (S.says source.old).left (S.says source.new).left e) }

@@ -13,7 +13,7 @@ use Rattle.cull_base.proofs.Takes.{takes_then}
 use Rattle.scene_reader.proofs.Headers.{start_refusal, fields_refusal}
 use Rattle.cull_base.proofs.Turns.{progress_none}
 use Rattle.scene_reader.proofs.Turns.{progress_of, reads_then, reads_failed}
-use Rattle.scene_reader.proofs.Parts.{ends_first, ends_next, takes_first, takes_of}
+use Rattle.scene_reader.proofs.PartBytes.{ends_first, ends_next, takes_first, takes_of}
 use Rattle.scene_reader.proofs.Refusals.{refuses_short, refuses_start, refuses_rest, refuses_header, header_whole, header_says, not_read, err_is}
 use Rattle.scene_reader.proofs.Takes.{within_less}
 use Rattle.scene_reader.proofs.reading.read_header.Goals as goal

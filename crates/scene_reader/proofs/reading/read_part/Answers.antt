@@ -1,6 +1,6 @@
 use Rattle.std.proofs.Common.{Some, arith}
 use Rattle.std.proofs.lemmas.Result.{IfOk-weaker, IfErr-weaker}
-use Rattle.scene_reader.proofs.Parts.{part_header, part_layout, told, within_told}
+use Rattle.scene_reader.proofs.PartBytes.{part_header, part_layout, told, within_told}
 use Rattle.scene_reader.proofs.Refusals.{bytes_first, bytes_only, bytes_refused, bytes_never}
 use Rattle.scene_reader.proofs.reading.read_part.Goals as goal
 

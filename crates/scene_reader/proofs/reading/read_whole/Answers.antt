@@ -11,7 +11,7 @@ use Rattle.scene_reader.specs.Length.{header_length, scene_length}
 use Rattle.scene_reader.specs.Fault.{version_at, word_at}
 use Rattle.scene_reader.specs.Reading.{IsWithin, TakesHeader, TakesOf, TakesParts, batches_of, front_of, less}
 use Rattle.scene_reader.proofs.Refusals.{refuses_body, refuses_trailing, refuses_tables, reads, parts_scene, batches_first, objects_first, whole_length, not_read, tables_refusal, err_is, refuses_same}
-use Rattle.scene_reader.proofs.Parts.{done_front, ends_next, part_says, parts_next, takes_first, takes_next, takes_none, takes_of}
+use Rattle.scene_reader.proofs.PartBytes.{done_front, ends_next, part_says, parts_next, takes_first, takes_next, takes_none, takes_of}
 use Rattle.scene_reader.proofs.Takes.{within_less}
 use Rattle.scene_reader.proofs.Headers.{at_first}
 use Rattle.cull_base.proofs.Turns.{progress_none, progress_then}
