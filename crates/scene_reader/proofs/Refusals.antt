@@ -111,7 +111,7 @@ short_whole b fine few =
 
 -- a source that is read to its end has no other end
 pub only_end : (n : ℕ) (after : Option (List ℕ)) → IsDone None n after → IsAtEnd after
-only_end n after d = elim d [ inl e ↦ e | inr no ↦ let bad : ◌≡◌ {A = Option ℕ} None (Some n) = no in absurd cc ]
+only_end n after d = elim d [ inl e ↦ e | inr whole ↦ let bad : ◌≡◌ {A = Option ℕ} None (Some n) = whole in absurd cc ]
 
 at_end : (after : Option (List ℕ)) (rest : List ℕ) → IsAtEnd after → after ≡ Some rest → rest ≡ []
 at_end after rest h e = subst (λ (o : Option (List ℕ)). IfSome o (λ r. r ≡ [])) e h

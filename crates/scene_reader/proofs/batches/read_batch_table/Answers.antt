@@ -50,4 +50,4 @@ loop-i-preserved g c =
     }
 
 pub returns-clause-fetches : goal.returns-clause-fetches
-returns-clause-fetches g c = let i = c.loop-i.invariant in fetches_whole (progress_table i.taken.table i.faults i.turns) (omega arith) i.within
+returns-clause-fetches g c = let i = c.loop-i.invariant in fetches_whole (progress_table i.taken.table i.faults i.turns) (omega arith) (within_less c.args.part _ (c.args.taken + 5 * c.args.count) (omega arith) i.within)

@@ -5,8 +5,8 @@ use Rattle.scene_reader.proofs.Takes.{ends_wider}
 use Rattle.scene_reader.proofs.intake.fetch.Goals as goal
 
 -- the part ends before the buffer
-pub returns-then-left-lt-len-clause-fetches : goal.returns-then-left-lt-len-clause-fetches
-returns-then-left-lt-len-clause-fetches g c =
+pub returns-then-left-buffer-clause-fetches : goal.returns-then-left-buffer-clause-fetches
+returns-then-left-buffer-clause-fetches g c =
     let most = c.in-Some.most in
     let taken = c.args.taken in
     let left = most - taken in
@@ -15,7 +15,7 @@ returns-then-left-lt-len-clause-fetches g c =
     let e = c.fetch_rest.result in
     let has : taken ≤ most = rw c.in-Some.is at c.requires.within in
     let rest = length (take left c.args.buffer.now) in
-    let less : left + 1 ≤ length c.args.buffer.now = omega (arith, c.if-left-lt-len.true) in
+    let less : left + 1 ≤ length c.args.buffer.now = omega (arith, c.if-left-buffer.true) in
     let len : rest ≡ left = omega (arith, length-take left c.args.buffer.now, less) in
     let whole : taken + rest ≡ most = omega (arith, len, has) in
     rw c.in-Some.is (record {
@@ -38,9 +38,9 @@ returns-then-left-lt-len-clause-fetches g c =
 pub fetch_within-requires : goal.fetch_within-requires
 fetch_within-requires g c =
     let has : c.args.taken ≤ c.in-Some.most = rw c.in-Some.is at c.requires.within in
-    let fits : c.args.taken + length c.args.buffer.now ≤ c.in-Some.most = omega (arith, c.if-left-lt-len.false, has) in
-    record { room = c.requires.room; within = rw c.in-Some.is fits }
+    let fits : c.args.taken + length c.args.buffer.now ≤ c.in-Some.most = omega (arith, c.if-left-buffer.false, has) in
+    record { room = c.requires.room; within = fits }
 
 -- there is no part
-pub fetch_within-in-None-requires : goal.fetch_within-in-None-requires
-fetch_within-in-None-requires g c = record { room = c.requires.room; within = rw c.in-None.is tt }
+pub fetch_within-requires-in-None : goal.fetch_within-requires-in-None
+fetch_within-requires-in-None g c = record { room = c.requires.room; within = rw c.in-None.is tt }

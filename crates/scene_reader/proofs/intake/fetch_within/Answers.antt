@@ -1,4 +1,4 @@
-use Rattle.std.proofs.Common.{◌≡◌, ◌+◌, ◌≤◌, length, take, arith, ap, sym, ◌∙◌, inl}
+use Rattle.std.proofs.Common.{◌≡◌, ◌+◌, ◌<◌, ◌≤◌, length, take, arith, ap, sym, ◌∙◌, inl}
 use Rattle.std.proofs.lemmas.List.{length-take}
 use Rattle.scene_reader.specs.declared.error.SceneError.TheVariants.{Read, Truncated}
 use Rattle.scene_reader.proofs.Refusals.{err_is}
@@ -20,7 +20,7 @@ returns-in-Ok-clause-fetches g c =
     let bytes = take n c.fill.new.buffer in
     let within : n ≤ length c.args.buffer.now = c.in-Ok.ensures.within in
     let len : length bytes ≡ n = omega (arith, length-take n c.fill.new.buffer, c.fill.auto.buffer, within) in
-    let few : n + 1 ≤ length c.args.buffer.now = omega (arith, c.in-Ok.guard, c.fill.auto.buffer) in
+    let few : n < length c.args.buffer.now = omega (arith, c.if-n-buffer.true, c.fill.auto.buffer) in
     record {
       short = λ refusal. record {
         bytes = bytes;

@@ -7,7 +7,7 @@ use Rattle.cull_base.proofs.Turns.{progress_none}
 use Rattle.scene_reader.specs.Fault.{word_at}
 use Rattle.scene_reader.proofs.Headers.{at_first, at_second, length_first, length_second}
 use Rattle.scene_reader.proofs.Takes.{within_less}
-use Rattle.scene_reader.proofs.Turns.{progress_of, reads_whole}
+use Rattle.scene_reader.proofs.Turns.{progress_of, reads_failed, reads_whole}
 use Rattle.scene_reader.proofs.reading.read_batch_count.Goals as goal
 
 pub returns-then-version-eq1-clause-taken : goal.returns-then-version-eq1-clause-taken
@@ -36,8 +36,7 @@ returns-in_err-fetch-clause-short g c =
 pub returns-in_err-fetch-clause-reads : goal.returns-in_err-fetch-clause-reads
 returns-in_err-fetch-clause-reads g c =
     let p = err_from_is_err_and c.from_residual.result c.from_residual.ensures.1 in
-    let r = c.in_err-fetch.ensures.fetches.reads in
-    rw (p.1, p.2) (record { read = r.read; faults_stay = r.faults_stay; turns = r.turns; takes = r.takes; within = r.within })
+    rw (p.1, p.2) (reads_failed (progress_none _) (omega arith) (omega arith) c.in_err-fetch.ensures.fetches.reads)
 
 pub returns-in_err-fetch-clause-second : goal.returns-in_err-fetch-clause-second
 returns-in_err-fetch-clause-second g c =

@@ -23,12 +23,12 @@ use Rattle.scene_reader.proofs.reading.read_whole.Goals as goal
 all_taken : (h : Header) (length : ℕ) → length ≡ scene_length h.version h.counts → 0 + (header_length h.version + (scene_length h.version h.counts - header_length h.version)) ≡ length
 all_taken h length is = omega (arith, is)
 
-module _ {part : Option ℕ} {a b : SourceSays} {hd : Header} (t : TakesHeader a b hd) (w : IsWithin part (header_length hd.version)) where
+module _ (part : Option ℕ) {a b : SourceSays} {hd : Header} (t : TakesHeader a b hd) (w : IsWithin part (header_length hd.version)) where
   -- what was taken of the part
   header_part : Takes (front_of part a.left) (front_of (less part (header_length hd.version)) b.left) t.bytes
   header_part = takes_first part (header_length hd.version) a.left b.left t.bytes t.whole w t.takes
 
-module _ {part : Option ℕ} {a b c : SourceSays} {hd : Header} {p : Parts} {batches objects : Option SceneError} (t : TakesHeader a b hd) (m : TakesParts hd b c p batches objects) (n : ℕ) (is : n ≡ scene_length hd.version hd.counts) (w : IsWithin part n) where
+module _ (part : Option ℕ) {a b c : SourceSays} {hd : Header} {p : Parts} {batches objects : Option SceneError} (t : TakesHeader a b hd) (m : TakesParts hd b c p batches objects) (n : ℕ) (is : n ≡ scene_length hd.version hd.counts) (w : IsWithin part n) where
   both_long : length (t.bytes ++ (m.vertex_bytes ++ (m.occluder_bytes ++ (m.batch_bytes ++ (m.object_tri_bytes ++ (m.object_bytes ++ m.camera_bytes)))))) ≡ n
   both_long = whole_length t.whole t.takes t.says m ∙ sym is
 
@@ -109,7 +109,7 @@ returns-in_err-draft-clause-refused g c =
     record {
       count = v + length s.bytes;
       taken = takes_of part _ _ (hd.bytes ++ s.bytes) (v + length s.bytes) (takes_then _ _ _ hd.bytes s.bytes hd.takes s.takes) (omega (arith, length-append hd.bytes s.bytes, hd.whole)) s.within;
-      refuses = refuses_body hd.whole (header_part {part = part} hd c.in_ok-header.ensures.within) hd.says _ _ (ends_next part _ _ _ _ _ _ s);
+      refuses = refuses_body hd.whole (header_part part hd c.in_ok-header.ensures.within) hd.says _ _ (ends_next part _ _ _ _ _ _ s);
     })
 
 pub returns-in_err-read_end-clause-refused : goal.returns-in_err-read_end-clause-refused
@@ -123,13 +123,13 @@ returns-in_err-read_end-clause-refused g c =
     rw (p.1, p.2) (λ refusal.
     let x = c.in_err-read_end.ensures.trailing refusal in
     let w = within_less part (n + length x.bytes) n (omega arith) x.within in
-    let m = parts_part {part = part} hd t n is w in
-    let all = all_part {part = part} hd t n is w in
+    let m = parts_part part hd t n is w in
+    let all = all_part part hd t n is w in
     record {
       count = n + length x.bytes;
       taken = takes_of part _ _ (all.bytes ++ x.bytes) (n + length x.bytes) (takes_then _ _ _ all.bytes x.bytes all.takes x.takes) (omega (arith, length-append all.bytes x.bytes, all.whole)) x.within;
       refuses = refuses_same _ _ _ _ x.trailing
-          (refuses_trailing hd.whole (header_part {part = part} hd c.in_ok-header.ensures.within) hd.says _ _ _ x.bytes (whole_length hd.whole (header_part {part = part} hd c.in_ok-header.ensures.within) hd.says m) m.takes
+          (refuses_trailing hd.whole (header_part part hd c.in_ok-header.ensures.within) hd.says _ _ _ x.bytes (whole_length hd.whole (header_part part hd c.in_ok-header.ensures.within) hd.says m) m.takes
           (takes_next part n (length x.bytes) _ _ x.bytes refl x.within x.takes) x.some);
     })
 
@@ -159,9 +159,9 @@ returns-in-Some-clause-refused g c =
     let is = c.in_ok-draft.ensures.length in
     let part = c.args.part in
     let w = within_less part _ n (omega (arith, is, all_taken c.in_ok-header.header n is)) c.in_ok-draft.ensures.fetches.within in
-    let th = header_part {part = part} hd c.in_ok-header.ensures.within in
-    let m = parts_part {part = part} hd t n is w in
-    let all = all_part {part = part} hd t n is w in
+    let th = header_part part hd c.in_ok-header.ensures.within in
+    let m = parts_part part hd t n is w in
+    let all = all_part part hd t n is w in
     let ended = c.in_ok-read_end.ensures.ended in
     let batches = batches_first hd.whole th hd.says m in
     let objects = objects_first hd.whole th hd.says m in
@@ -180,9 +180,9 @@ returns-in-None-clause-ok g c =
     let is = c.in_ok-draft.ensures.length in
     let part = c.args.part in
     let w = within_less part _ n (omega (arith, is, all_taken c.in_ok-header.header n is)) c.in_ok-draft.ensures.fetches.within in
-    let th = header_part {part = part} hd c.in_ok-header.ensures.within in
-    let m = parts_part {part = part} hd t n is w in
-    let all = all_part {part = part} hd t n is w in
+    let th = header_part part hd c.in_ok-header.ensures.within in
+    let m = parts_part part hd t n is w in
+    let all = all_part part hd t n is w in
     let ended = c.in_ok-read_end.ensures.ended in
     let batches = batches_first hd.whole th hd.says m in
     let objects = objects_first hd.whole th hd.says m in
