@@ -1,4 +1,5 @@
-use Rattle.std.proofs.Common.{◌≡◌, ◌+◌, ◌<◌, length, take, arith, refl, inl, inr}
+use Rattle.std.proofs.Common.{◌≡◌, ℕ, ◌+◌, length, take, arith, refl, inl, inr, subst}
+use Rattle.cull_base.specs.Stream.{Takes}
 use Rattle.std.proofs.lemmas.List.{length-take}
 use Rattle.cull_base.proofs.Takes.{takes_nothing}
 use Rattle.cull_base.proofs.Turns.{progress_none}
@@ -20,7 +21,9 @@ returns-in-Err-clause-reads g c =
 
 -- nothing came, so the source is at its end
 pub returns-in-Ok-eq0-clause-ended : goal.returns-in-Ok-eq0-clause-ended
-returns-in-Ok-eq0-clause-ended g c = (c.in-Ok-eq0.ensures.taken, inl (c.in-Ok-eq0.ensures.ended (omega arith)))
+returns-in-Ok-eq0-clause-ended g c =
+    let none : c.in-Ok-eq0.field-0 ≡ 0 = omega arith in
+    (subst (λ (n : ℕ). Takes (g.S.Source.says c.args.source.now).left (g.S.Source.says c.fill.new.source).left (take n c.fill.new.buffer)) none c.in-Ok-eq0.ensures.taken, inl (c.in-Ok-eq0.ensures.ended (omega arith)))
 
 pub returns-in-Ok-eq0-clause-reads : goal.returns-in-Ok-eq0-clause-reads
 returns-in-Ok-eq0-clause-reads g c =
