@@ -61,4 +61,10 @@ loop-i-preserved g c =
     }
 
 pub returns-clause-fetches : goal.returns-clause-fetches
-returns-clause-fetches g c = let i = c.loop-i.invariant in fetches_whole (progress_table i.taken i.faults i.turns) (omega arith) i.within
+returns-clause-fetches g c =
+    let i = c.loop-i.invariant in
+    let size = g.E.Entry.SIZE in
+    let up : c.loop-i.i ≤ c.args.count = omega arith in
+    let down : c.args.count ≤ c.loop-i.i = omega arith in
+    fetches_whole (progress_table i.taken i.faults i.turns) (mul-le-mul_left size up)
+        (within_less c.args.part _ (c.args.taken + size * c.args.count) (omega (arith, mul-le-mul_left size down)) i.within)
