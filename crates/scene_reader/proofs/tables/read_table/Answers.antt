@@ -67,4 +67,4 @@ returns-clause-fetches g c =
     let up : c.loop-i.i ≤ c.args.count = omega arith in
     let down : c.args.count ≤ c.loop-i.i = omega arith in
     fetches_whole (progress_table i.taken i.faults i.turns) (mul-le-mul_left size up)
-        (within_less c.args.part _ (c.args.taken + size * c.args.count) (omega (arith, mul-le-mul_left size down)) i.within)
+    (within_less c.args.part _ (c.args.taken + size * c.args.count) (omega (arith, mul-le-mul_left size down)) i.within)
