@@ -68,8 +68,8 @@ fn fetch_within<S: Source>(
     }
 }
 
-/// Fills the buffer from the part of which `taken` bytes came before. Err: Read where the source failed, Truncated where
-/// the part or the source ended before, with the bytes that are needed in all and those that came in all. Conditions:
+/// Fills the buffer from the part of which `taken` bytes came before. Err: Read where the source failed, Truncated
+/// where the part or the source ended before, with the bytes that are needed in all and those that came in all. Conditions:
 /// these fit 32 bits with a full buffer, and the part has as many as came before.
 pub fn fetch<S: Source>(
     source: &mut S,

@@ -177,8 +177,8 @@ fn read_whole<S: Source>(
     }
 }
 
-/// Reads a scene to the source's end. Err: the first fault of the bytes, Read only where the source failed, or Memory at
-/// any time. No byte behind a header that is refused is read.
+/// Reads a scene to the source's end. Err: the first fault of the bytes, Read only where the source failed, or Memory
+/// at any time. No byte behind a header that is refused is read.
 pub fn read_scene<S: Source>(alloc: Global, source: &mut S) -> Result<Scene, SceneError>
     ensures ok { IfOk result (λ s. IsScene s) }
     ensures layout { IfOk result (λ s. TakesLayout (S.says source.old) (S.says source.new) s) }
