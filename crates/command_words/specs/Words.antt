@@ -11,11 +11,11 @@ use Rattle.binning.specs.Cut.{cut_into}
 use Rattle.command_words.specs.App.{the_app}
 use Rattle.command_words.specs.Table.{ACommand, AnOption, Taken, commands, option_with, row_named, row_with}
 use Rattle.command_words.specs.declared.table.Command.{Command}
-use Rattle.command_words.specs.declared.table.Command.TheVariants.{Cull, Live, Demo, Picture, Bare}
+use Rattle.command_words.specs.declared.table.Command.TheVariants.{Cull, Live, Demo, Picture, Bare, Check}
 use Rattle.command_words.specs.declared.settings.Settings.{Settings}
 use Rattle.command_words.specs.declared.table.CommandKind.{CommandKind}
 use Rattle.command_words.specs.declared.table.CommandKind.TheVariants as kinds
-use Rattle.command_words.specs.declared.table.TheConstants.{BATCH, BINS_X, BINS_Y, CULL, DEMO, EARLY, FRAME, LIVE, PICTURE, ROUNDS, SEED, TRIANGLES, WATCH, WORKERS}
+use Rattle.command_words.specs.declared.table.TheConstants.{BATCH, BINS_X, BINS_Y, CULL, DEMO, EARLY, FRAME, LIVE, PICTURE, ROUNDS, SEED, TRIANGLES, WATCH, WORKERS, CHECK}
 use Rattle.command_words.specs.declared.rows.Takes.TheVariants.{Number, Nothing}
 use Rattle.command_words.specs.declared.words.Refusal.{Refusal}
 use Rattle.command_words.specs.declared.words.Refusal.TheVariants as refusals
@@ -64,6 +64,7 @@ abbrev pub options_by : CommandKind → List AnOption
 options_by kinds.Cull = (row_with (λ t. t.now) (λ o. o.now) CULL).options
 options_by kinds.Live = (row_with (λ t. t.now) (λ o. o.now) LIVE).options
 options_by kinds.Demo = (row_with (λ t. t.now) (λ o. o.now) DEMO).options
+options_by kinds.Check = (row_with (λ t. t.now) (λ o. o.now) CHECK).options
 options_by kinds.Picture = (row_with (λ t. t.now) (λ o. o.now) PICTURE).options
 options_by (kinds.Bare command) = []
 
@@ -86,6 +87,7 @@ abbrev pub IsWithinLimits : Command → Type 0
 IsWithinLimits (Cull words) = AreInRange words.settings
 IsWithinLimits (Live words) = AreInRange words.settings × ((1 ≤ words.rounds) × (words.rounds ≤ 8)) × ((1 ≤ words.watch) × (words.watch ≤ 8))
 IsWithinLimits (Demo words) = AreInRange words.settings × (words.triangles ≤ 65536)
+IsWithinLimits (Check words) = ((1 ≤ words.rounds) × (words.rounds ≤ 8)) × ((1 ≤ words.watch) × (words.watch ≤ 8))
 IsWithinLimits (Picture words) = AreInRange words.settings × (words.frame ≤ 255)
 IsWithinLimits (Bare command) = Unit {0}
 
@@ -141,6 +143,10 @@ asked_by kinds.Demo values = Demo (record {
   settings = settings_by values;
   seed = number_of values seed;
   triangles = number_of values triangles;
+})
+asked_by kinds.Check values = Check (record {
+  rounds = number_of values rounds;
+  watch = number_of values watch;
 })
 asked_by kinds.Picture values = Picture (record { settings = cut_by values false; frame = number_of values frame })
 asked_by (kinds.Bare command) values = Bare command

@@ -24,6 +24,7 @@ Exit status:
   5  the report couldn't be written
   6  the notes couldn't be written
   7  out of memory
+  9  the log is refused
   10  the scene has no such frame";
 
 // An option of the table.

@@ -67,6 +67,7 @@ pub enum CommandKind {
     Cull,
     Live,
     Demo,
+    Check,
     Picture,
     Bare(BareCommand),
 }
@@ -157,6 +158,30 @@ Exit status:
     options: &[],
 };
 
+/// Reads a scene and a log, and says whether `live` may have noted it.
+pub const CHECK: ACommand = CommandRow {
+    kind: CommandKind::Check,
+    name: "check",
+    about: "Reads a scene and a log of live from standard input, and says whether live may have noted the log",
+    more: "Reads from standard input four bytes with the length of a scene, lowest byte first, then so many bytes of the
+scene, then the log, to its end.
+Writes to standard output log accepted where the log is what live may note of the scene with these numbers of rounds and
+of objects: each line has the verdict after the pieces that it states, and within a frame no tile's count falls. Else
+writes log refused L, where L says how many lines in front are good.
+A log is standard error of a run of live that ended with status 0.
+Tells on standard error why a run isn't done.
+
+Exit status:
+  0  done: the log is accepted
+  2  the command line was refused, or help was printed
+  3  the input has no scene in front
+  4  the input couldn't be read
+  5  the answer couldn't be written
+  7  out of memory
+  9  the log is refused",
+    options: &[ROUNDS, WATCH],
+};
+
 /// Reads a scene and writes a picture of one of its frames.
 pub const PICTURE: ACommand = CommandRow {
     kind: CommandKind::Picture,
@@ -180,7 +205,7 @@ Exit status:
 };
 
 /// The commands, in the order of the program's help.
-pub const COMMANDS: &[ACommand] = &[CULL, LIVE, DEMO, UPGRADE, PICTURE];
+pub const COMMANDS: &[ACommand] = &[CULL, LIVE, DEMO, UPGRADE, CHECK, PICTURE];
 
 /// What `cull` is to do.
 #[derive(Clone, Copy)]
@@ -205,6 +230,14 @@ pub struct DemoWords {
     pub triangles: u32,
 }
 
+/// What `check` is to do: whether the log may be one of so many rounds of looks at the first objects, of so many. 1 to
+/// 8 each.
+#[derive(Clone, Copy)]
+pub struct CheckWords {
+    pub rounds: u32,
+    pub watch: u32,
+}
+
 /// What `picture` is to do: the number of the frame, at most 255. Nothing is settled early.
 #[derive(Clone, Copy)]
 pub struct PictureWords {
@@ -221,6 +254,8 @@ pub enum Command {
     Live(LiveWords),
     /// A scene that a seed makes; its summary is written.
     Demo(DemoWords),
+    /// The length of a scene, the scene and a log from the input; whether `live` may have noted the log is written.
+    Check(CheckWords),
     /// A scene from the input; a picture of one of its frames is written.
     Picture(PictureWords),
     /// What a command without options does.
@@ -248,6 +283,11 @@ pub fn asked_by(kind: CommandKind, matches: &ArgMatches<'_>) -> Command
             seed: number(matches, &SEED),
             triangles: number(matches, &TRIANGLES),
         }),
+        CommandKind::Check => {
+            let rounds = number(matches, &ROUNDS);
+            let watch = number(matches, &WATCH);
+            Command::Check(CheckWords { rounds, watch })
+        }
         CommandKind::Picture => Command::Picture(PictureWords {
             settings: cut_of(matches, false),
             frame: number(matches, &FRAME),

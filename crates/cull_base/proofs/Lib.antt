@@ -7,6 +7,8 @@ pub mod Spans
 pub mod Bits
 pub mod Masks
 pub mod Streams
+pub mod Takes
+pub mod Turns
 pub mod Rows
 pub mod Ranges
 pub mod Reciprocals

@@ -1,6 +1,7 @@
 -- What sources and sinks say of their bytes and their counts.
 use Rattle.std.specs.Prelude.{ℕ, ◌≡◌, ◌+◌, ◌-◌, ◌^◌, ◌<◌, ◌≤◌, ◌⊎◌, min, List, [], ◌++◌, length, take, drop}
 use Rattle.std.specs.Prelude.{Option, option_map, IfSome, Result, OnOk, OnErr, IsErrOf}
+use Rattle.std.specs.List.{All}
 use Rattle.cull_base.specs.declared.memory.SinkError.{SinkError}
 use Rattle.cull_base.specs.declared.memory.SinkError.TheVariants.{Failed, Memory}
 
@@ -24,14 +25,30 @@ pub record SinkSays : Type 0 where
   pub faults : ℕ
   pub refusals : ℕ
 
--- no byte is left, if the bytes are told
+-- nothing is left, where that is told
+abbrev pub IsAtEnd : Option (List ℕ) → Type 0
+IsAtEnd after = IfSome after (λ rest. rest ≡ [])
+
+-- no byte is left in a source, if the bytes are told
 abbrev pub HasNoneLeft : SourceSays → Type 0
-HasNoneLeft source = IfSome source.left (λ bytes. bytes ≡ [])
+HasNoneLeft source = IsAtEnd source.left
 
 -- n bytes were taken from the front of what was left, if that is told, and stand at the front of the buffer
 abbrev pub TakesFront : Option (List ℕ) → Option (List ℕ) → List ℕ → ℕ → Type 0
 TakesFront before after buffer n =
     (after ≡ option_map (drop n) before) × IfSome before (λ bytes. (n ≤ length bytes) × (take n buffer ≡ take n bytes))
+
+-- these bytes were taken from the front of what was left, where that is told
+pub record Takes (before after : Option (List ℕ)) (bytes : List ℕ) : Type 0 where
+  pub front : before ≡ option_map (λ rest. bytes ++ rest) after
+  pub fits : All (λ b. b < 256) bytes
+
+-- so many bytes at most were taken, and all turns but one took a byte or more
+pub record TakesInTurns (most : ℕ) (before after : SourceSays) : Type 0 where
+  pub bytes : List ℕ
+  pub takes : Takes before.left after.left bytes
+  pub few : length bytes ≤ most
+  pub turns : after.turns ≤ before.turns + length bytes + 1
 
 -- these bytes were appended, if the bytes are told
 abbrev pub Appends : SinkSays → SinkSays → List ℕ → Type 0

@@ -36,6 +36,6 @@ pub use scene_types::{Batch, Object, Tri, Verdict};
 pub use screen_tri::ScreenTri;
 pub use sink::{BytesSink, Sink, SureSink, write_whole};
 pub use size::Size;
-pub use source::{BytesSource, Source, SureSource};
+pub use source::{BytesSource, Source, SureSource, fill};
 pub use tile_span::TileSpan;
 pub use triangle::{Side, Winding};

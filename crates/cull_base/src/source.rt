@@ -3,6 +3,7 @@ ghost use Rattle.std.specs.Prelude.{◌≡◌, [], ◌+◌, ◌<◌, ◌≤◌, 
 ghost use Rattle.std.specs.Prelude.{IfOk, IsOk, OnOk, OnErr, IsErr};
 ghost use Rattle.std.specs.List.{Contains};
 ghost use Rattle.cull_base.specs.Stream.{SourceSays, HasNoneLeft, Rose, TakesFront, next_count, SourceBytes};
+ghost use Rattle.cull_base.specs.Stream.{IsAtEnd, Takes, TakesInTurns};
 
 use crate::memory::Failed;
 use std::marker::Model;
@@ -23,6 +24,28 @@ pub trait Source {
         ensures unchanged { OnErr result ((says self.new).left ≡ (says self.old).left) }
         ensures faults_stay { (says self.old).faults ≤ (says self.new).faults }
         ensures turn { (says self.new).turns ≤ (says self.old).turns + 1 };
+}
+
+/// Reads until the buffer is full or the source is at its end, and answers how many bytes came.
+pub fn fill<S: Source>(source: &mut S, buffer: &mut [u8]) -> Result<usize, Failed>
+    ensures within { IfOk result (λ n. n ≤ length buffer.old) }
+    ensures taken { IfOk result
+        (λ n. Takes (S.says source.old).left (S.says source.new).left (take n buffer.new)) }
+    ensures ended { IfOk result (λ n. n < length buffer.old → IsAtEnd (S.says source.new).left) }
+    ensures failed { OnErr result (Rose (S.says source.old).faults (S.says source.new).faults) }
+    ensures faults_stay { (S.says source.old).faults ≤ (S.says source.new).faults }
+    ensures turns { (S.says source.new).turns ≤ (S.says source.old).turns + length buffer.old }
+    ensures takes { TakesInTurns (length buffer.old) (S.says source.old) (S.says source.new) }
+{
+    let mut filled = 0;
+    while filled < buffer.len() {
+        let n = source.read(&mut buffer[filled..])?;
+        if n == 0 {
+            return Ok(filled);
+        }
+        filled += n;
+    }
+    Ok(filled)
 }
 
 // Copies the beginning of the bytes to the beginning of the buffer, at most so many.

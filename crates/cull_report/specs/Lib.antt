@@ -7,3 +7,4 @@ pub mod Live
 pub mod LivePieces
 pub mod Settled
 pub mod Upgraded
+pub mod Listed

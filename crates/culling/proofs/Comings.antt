@@ -1,12 +1,14 @@
 -- How commands come to their outcomes.
-use Rattle.std.proofs.Common.{◌≡◌, ℕ, ◌+◌, ◌<◌, ◌≤◌, ◌++◌, Bool, cond, List, [], length, map, take, arith, refl, sym, ap, ◌∙◌, subst, inl, inr, Option, Some, None, Result, Ok, Err, ◌⊎◌}
-use Rattle.std.specs.Prelude.{IfSome}
+use Rattle.std.proofs.Common.{◌≡◌, ℕ, ◌+◌, ◌<◌, ◌≤◌, ◌++◌, Bool, cond, List, [], length, map, take, arith, refl, sym, ap, ◌∙◌, subst, inl, inr, Option, Some, None, Result, Ok, Err, ◌⊎◌, ◌∷◌}
+use Rattle.std.specs.Prelude.{IfSome, codes}
+use Rattle.std.specs.Fmt.{decimal}
 use Rattle.std.specs.List.{flat_map, range_with_len}
 use Rattle.std.proofs.lemmas.Bool.{le-ltb, lt-ltb}
 use Rattle.std.proofs.lemmas.List.{append-nil}
 use Rattle.clap.specs.Words.{Text}
 use Rattle.cull_base.specs.Stream.{SinkSays, SourceSays, Appends, AppendsPrefix, IsNoted, Rose, Writes}
 use Rattle.cull_base.specs.declared.memory.SinkError.{SinkError}
+use Rattle.cull_base.specs.declared.memory.SinkError.TheVariants as sinks
 use Rattle.cull_base.proofs.Streams.{appends_then}
 use Rattle.scene_reader.specs.Layout.{Parts, IsScene, header_bytes, layout}
 use Rattle.scene_reader.specs.Fault.{IsRefusal}
@@ -16,9 +18,14 @@ use Rattle.scene_reader.specs.declared.error.SceneError.TheVariants as errors
 use Rattle.cull_report.proofs.Occluders.{hides_truly}
 use Rattle.cull_report.specs.Live.{Counts}
 use Rattle.cull_report.specs.Scene.{scene_header}
+use Rattle.live_check.specs.declared.answer.LogAnswer.{LogAnswer}
+use Rattle.live_check.specs.declared.answer.LogAnswer.TheVariants.{Accepted, Refused}
+use Rattle.live_check.specs.declared.answer.LogError.{LogError}
+use Rattle.live_check.specs.declared.answer.LogError.TheVariants as logs
 use Rattle.command_words.specs.Words.{AreWords, command_of}
 use Rattle.command_words.specs.declared.table.Command.{Command}
-use Rattle.command_words.specs.declared.table.Command.TheVariants.{Cull, Live, Demo, Picture}
+use Rattle.command_words.specs.declared.table.Command.TheVariants.{Cull, Live, Demo, Picture, Check}
+use Rattle.command_words.specs.declared.table.CheckWords.{CheckWords}
 use Rattle.command_words.specs.declared.table.CullWords.{CullWords}
 use Rattle.command_words.specs.declared.table.DemoWords.{DemoWords}
 use Rattle.command_words.specs.declared.table.LiveWords.{LiveWords}
@@ -28,24 +35,26 @@ use Rattle.command_words.specs.declared.words.Refusal.TheVariants as refusals
 use Rattle.demo_scene.proofs.DemoScene.{demo_is_scene}
 use Rattle.demo_scene.specs.Demo.{demo_of, frame_count}
 use Rattle.culling.specs.declared.failure.Failure.{Failure}
-use Rattle.culling.specs.declared.failure.Failure.TheVariants.{Scene, ReadFault, Memory, Frame}
+use Rattle.culling.specs.declared.failure.Failure.TheVariants.{Scene, ReadFault, Memory, Frame, ReportFault, Log}
 use Rattle.culling.specs.declared.failure.Status.{Status}
 use Rattle.culling.specs.declared.failure.Status.TheVariants as statuses
 use Rattle.culling.specs.FrameRuns.{LeavesFrames, LeavesTexts}
 use Rattle.culling.specs.Frames.{lines_of}
+use Rattle.culling.specs.Checking.{IsNoNumber}
 use Rattle.culling.specs.NotedLines.{CountsStay}
 use Rattle.culling.specs.Notes.{IsNotedBehind, IsNotedFirst, missing_text, note_by, note_text, refusal_text, status_text, usage_text}
-use Rattle.culling.specs.Outcome.{failure_of, refusal_status, sink_failure, status_by, status_of}
-use Rattle.culling.specs.Outcomes.{Ends, EndsBy, EndsByScene, IsAbout, Makes, Work, work_of, HasFault, HasScene, IfAsked, IfBytes, IsTrue, ReadsScene, OutcomeOf, joined, live_frames, note_alone, notes_at, notes_before, pictured, report_and, report_before, report_of, text_alone}
+use Rattle.culling.specs.Outcome.{failure_of, refusal_status, sink_failure, status_by, status_of, log_failure}
+use Rattle.culling.specs.Outcomes.{Ends, EndsBy, EndsByScene, IsAbout, Makes, Work, work_of, HasFault, HasScene, IfAsked, IfBytes, IsTrue, ReadsScene, OutcomeOf, joined, live_frames, note_alone, notes_at, notes_before, pictured, report_and, report_before, report_of, text_alone, MakesBy, Making, answer_alone, answer_text, scene_bytes, scene_bytes_by}
 use Rattle.culling.specs.Picture.{frame_picture}
-use Rattle.culling.specs.Runs.{AwaitsNote, Comes, HasCause, IsComplete, IsUnasked, Leaves, Streams, WithoutFault, streams}
+use Rattle.culling.specs.Runs.{AwaitsNote, Comes, HasCause, IsComplete, IsUnasked, Leaves, Streams, WithoutFault, streams, LeavesFront}
 use Rattle.culling.specs.Summary.{demo_line, frames_summary, summary_text}
 use Rattle.culling.specs.declared.frames.Beside.TheVariants.{Nothing, Looks}
 use Rattle.culling.specs.declared.frames.FrameLines.TheVariants.{Report, Summary}
+use Rattle.culling.proofs.Checking.{short_fault}
 use Rattle.culling.proofs.Fronts.{nothing_appended, rose_later}
 use Rattle.culling.proofs.FrameByFrame.{are_empty, unseen, unseen_rises}
 use Rattle.culling.proofs.FrameTexts.{as_one_text, counts_same, never_done, none_at, unwritten, whole_leaves, without_notes}
-use Rattle.culling.proofs.OutcomeTexts.{header_some, joined_is, live_frames_are, not_empty, summary_some}
+use Rattle.culling.proofs.OutcomeTexts.{ended_by, header_some, joined_is, live_frames_are, not_empty, summary_some}
 use Rattle.culling.proofs.ScenePieces.{all_are_pieces, lines_hide}
 use Rattle.culling.proofs.Shown.{picture_not_empty, shows_truly}
 
@@ -62,20 +71,20 @@ nothing_front before text = (0, omega arith, nothing_appended before)
 -- ---- a scene that couldn't be read
 
 -- a command that reads a scene comes to what that comes to
-ends_read : (c : Command) (source : SourceSays) (o : OutcomeOf) → ReadsScene c → EndsByScene source o (Makes (work_of c) o) → Ends c source o
-ends_read c source o reads ends = subst (λ (own : Option (ℕ × ℕ)). EndsBy own source o (Makes (work_of c) o)) (sym reads) ends
+ends_read : (c : Command) (source : SourceSays) (o : OutcomeOf) → ReadsScene c → EndsByScene c source o (Makes (work_of c) source.left o) → Ends c source o
+ends_read c source o reads ends = subst (λ (own : Option (ℕ × ℕ)). EndsBy own c source o) (sym reads) ends
 
-ends_refused : (c : Command) (source : SourceSays) (e : SceneError) → ReadsScene c → IsRefusal e → HasFault source e → Ends c source (note_alone statuses.Scene (refusal_text e))
+ends_refused : (c : Command) (source : SourceSays) (e : SceneError) → ReadsScene c → IsRefusal e → HasFault c source e → Ends c source (note_alone statuses.Scene (refusal_text e))
 ends_refused c source e reads refusal fault = ends_read c source (note_alone statuses.Scene (refusal_text e)) reads (inr (inl (e, refusal, fault, refl)))
 
 ends_unread : (c : Command) (source : SourceSays) → ReadsScene c → Ends c source (note_alone statuses.ReadFault (status_text statuses.ReadFault))
 ends_unread c source reads = ends_read c source (note_alone statuses.ReadFault (status_text statuses.ReadFault)) reads (inr (inr refl))
 
 -- what is made where nothing was looked at
-pub made_unseen : (w : Work) (s : Parts) → Makes w (w.outcome s unseen) s
-made_unseen w s = (unseen, (λ frame lt. unseen_rises (Looks w.rounds w.watch) s frame), refl)
+made_unseen : (outcome : Making) (rounds watch : ℕ) (left : Option (List ℕ)) (s : Parts) → MakesBy (Some outcome) rounds watch left (outcome s unseen) s
+made_unseen outcome rounds watch left s = (unseen, (λ frame lt. unseen_rises (Looks rounds watch) s frame), refl)
 
-comes_refused : (c : Command) (i0 i1 : SourceSays) (r n : SinkSays) (e : SceneError) (P Q : Type 0) → ReadsScene c → IsRefusal e → HasFault i0 e → P → Q
+comes_refused : (c : Command) (i0 i1 : SourceSays) (r n : SinkSays) (e : SceneError) (P Q : Type 0) → ReadsScene c → IsRefusal e → HasFault c i0 e → P → Q
     → Comes c statuses.Scene (streams i0 r n) (streams i1 r n) (AwaitsNote (Err (Scene e))) P Q
 comes_refused c i0 i1 r n e P Q reads refusal fault p q = record {
   outcome = note_alone statuses.Scene (refusal_text e);
@@ -129,7 +138,7 @@ comes_early c o i0 i1 r n0 n1 noted P Q ends none p q = record {
   taken = λ is. absurd cc;
 }
 
-pub failed_read : (c : Command) (i0 i1 : SourceSays) (r n : SinkSays) (e : SceneError) (P Q : Type 0) → ReadsScene c → (IsRefusal e → HasFault i0 e) → (e ≡ errors.Read → Rose i0.faults i1.faults) → P → Q
+pub failed_read : (c : Command) (i0 i1 : SourceSays) (r n : SinkSays) (e : SceneError) (P Q : Type 0) → ReadsScene c → (IsRefusal e → HasFault c i0 e) → (e ≡ errors.Read → Rose i0.faults i1.faults) → P → Q
     → Comes c (status_of (failure_of e)) (streams i0 r n) (streams i1 r n) (AwaitsNote (Err (failure_of e))) P Q
 failed_read c i0 i1 r n errors.Read P Q reads fault rose p q = comes_unread c i0 i1 r n P Q reads (rose refl) p q
 failed_read c i0 i1 r n errors.Memory P Q reads fault rose p q =
@@ -190,12 +199,13 @@ texts_come c o i0 i1 r0 r1 n0 n1 r P Q ends done some taken quiet l = record {
   taken = λ is. taken;
 }
 
-has_scene : (source after : SourceSays) (s : Parts) → IsScene s → TakesLayout source after s → HasScene source s
-has_scene source after s scene takes = record { scene = scene; spelled = by source.left takes }
+-- of a command whose scene bytes are all bytes
+has_scene : (c : Command) (source after : SourceSays) (s : Parts) → ((bytes : List ℕ) → scene_bytes c bytes ≡ bytes) → IsScene s → TakesLayout source after s → HasScene c source s
+has_scene c source after s whole scene takes = record { scene = scene; spelled = by source.left takes }
   where
-    by : (left : Option (List ℕ)) → IfSome left (λ bytes. (bytes ≡ layout s) × (after.left ≡ Some [])) → IfSome left (λ bytes. bytes ≡ layout s)
+    by : (left : Option (List ℕ)) → IfSome left (λ bytes. (bytes ≡ layout s) × (after.left ≡ Some [])) → IfSome left (λ bytes. scene_bytes c bytes ≡ layout s)
     by None takes = tt
-    by (Some bytes) takes = takes.0
+    by (Some bytes) takes = whole bytes ∙ takes.0
 
 none_left : (source after : SourceSays) (s : Parts) → TakesLayout source after s → IfBytes source (λ bytes. after.left ≡ Some [])
 none_left source after s takes = by source.left takes
@@ -208,7 +218,7 @@ pub cull_comes : (words : CullWords) (s : Parts) (i0 i1 : SourceSays) (r0 r1 n0 
     → LeavesFrames (scene_header s) Report Nothing s 0 (length s.cameras) r r0 r1 n0 n1 → Comes (Cull words) (status_by r) (streams i0 r0 n0) (streams i1 r1 n1) (AwaitsNote r) P Q
 cull_comes words s i0 i1 r0 r1 n0 n1 r P Q scene takes q w =
     let o = report_and s [] in
-    texts_come (Cull words) o i0 i1 r0 r1 n0 n1 r P Q (inl (s, has_scene i0 i1 s scene takes, made_unseen (work_of (Cull words)) s)) refl (not_empty (scene_header s) (joined o.frames) (header_some s))
+    texts_come (Cull words) o i0 i1 r0 r1 n0 n1 r P Q (inl (s, has_scene (Cull words) i0 i1 s (λ bytes. refl) scene takes, made_unseen (λ t counts. report_and t []) 0 0 i0.left s)) refl (not_empty (scene_header s) (joined o.frames) (header_some s))
     (λ reads. none_left i0 i1 s takes) (λ none. q)
     (without_notes (scene_header s) o.frames (map (λ (frame : ℕ). []) (range_with_len 0 (length s.cameras))) r r0 r1 n0 n1 (are_empty 0 (length s.cameras)) w.texts)
 
@@ -219,7 +229,7 @@ pub live_comes : (words : LiveWords) (s : Parts) (i0 i1 : SourceSays) (r0 r1 n0 
     → LeavesFrames (scene_header s) Report (Looks words.rounds words.watch) s 0 (length s.cameras) r r0 r1 n0 n1 → Comes (Live words) (status_by r) (streams i0 r0 n0) (streams i1 r1 n1) (AwaitsNote r) P Q
 live_comes words s i0 i1 r0 r1 n0 n1 r P Q scene takes w =
     let o = report_and s (live_frames s words.rounds words.watch w.counts) in
-    texts_come (Live words) o i0 i1 r0 r1 n0 n1 r P Q (inl (s, has_scene i0 i1 s scene takes, (w.counts, (λ frame lt. w.rising frame), refl))) refl
+    texts_come (Live words) o i0 i1 r0 r1 n0 n1 r P Q (inl (s, has_scene (Live words) i0 i1 s (λ bytes. refl) scene takes, (w.counts, (λ frame lt. w.rising frame), refl))) refl
     (not_empty (scene_header s) (joined o.frames) (header_some s)) (λ reads. none_left i0 i1 s takes) (λ none. absurd (live_noted s words.rounds words.watch w.counts scene none)) w.texts
 
 -- ---- `demo`
@@ -243,7 +253,7 @@ demo_comes words s i r0 r1 n0 n1 r P Q is q w =
     let frames = map (lines_of Summary d) (range_with_len 0 (length d.cameras)) in
     let drawn = subst (λ (p : Parts). LeavesFrames head Summary Nothing p 0 (length p.cameras) r r0 r1 n0 n1) is w in
     let silent = without_notes head frames (map (λ (frame : ℕ). []) (range_with_len 0 (length d.cameras))) r r0 r1 n0 n1 (are_empty 0 (length d.cameras)) drawn.texts in
-    texts_come (Demo words) (text_alone (summary_text seed m)) i i r0 r1 n0 n1 r P Q (made_unseen (work_of (Demo words)) d) refl (not_empty (summary_text seed m) [] (summary_some seed m))
+    texts_come (Demo words) (text_alone (summary_text seed m)) i i r0 r1 n0 n1 r P Q (made_unseen (λ t counts. text_alone (summary_text seed m)) 0 0 None d) refl (not_empty (summary_text seed m) [] (summary_some seed m))
     (λ reads. absurd cc) (λ none. q) (subst (λ (t : List ℕ). LeavesTexts (text_alone t) r r0 r1 n0 n1) (summary_is seed m) (as_one_text head frames r r0 r1 n0 n1 silent))
 
 -- ---- one text of a scene that is read
@@ -262,15 +272,31 @@ text_written text x r0 r1 n w =
 pub text_unwritten : (text : List ℕ) (e : SinkError) (r0 r1 n : SinkSays) → Writes r0 r1 (Err e) text → LeavesTexts (text_alone text) (Err (sink_failure e)) r0 r1 n n
 text_unwritten text e r0 r1 n w = unwritten text text [] [] e r0 r1 n (append-nil text) (append-nil text) w
 
+-- without looks the outcome is this one text
+abbrev pub IsTextBy : Option Making → Parts → List ℕ → Type 0
+IsTextBy (Some outcome) s text = outcome s unseen ≡ text_alone text
+IsTextBy None s text = ⊥
+
 -- the command makes this one text of a scene that it read
 abbrev pub MakesText : Command → Parts → List ℕ → Type 0
-MakesText c s text = ReadsScene c × ((work_of c).outcome s unseen ≡ text_alone text)
+MakesText c s text = ReadsScene c × IsTextBy (work_of c).outcome s text
+
+made_text : (outcome : Option Making) (rounds watch : ℕ) (left : Option (List ℕ)) (s : Parts) (text : List ℕ) → IsTextBy outcome s text → MakesBy outcome rounds watch left (text_alone text) s
+made_text (Some outcome) rounds watch left s text is = (unseen, (λ frame lt. unseen_rises (Looks rounds watch) s frame), sym is)
+made_text None rounds watch left s text is = absurd is
+
+-- and all bytes are the scene's
+reads_all : (outcome : Option Making) (s : Parts) (text : List ℕ) → IsTextBy outcome s text → (bytes : List ℕ) → scene_bytes_by outcome bytes ≡ bytes
+reads_all (Some outcome) s text is bytes = refl
+reads_all None s text is bytes = absurd is
 
 text_comes : (c : Command) (s : Parts) (text : List ℕ) (i0 i1 : SourceSays) (r0 r1 n : SinkSays) (r : Result (Unit {0}) Failure) (P Q : Type 0) → MakesText c s text → 0 < length text → IsScene s
     → TakesLayout i0 i1 s → Q → LeavesTexts (text_alone text) r r0 r1 n n → Comes c (status_by r) (streams i0 r0 n) (streams i1 r1 n) (AwaitsNote r) P Q
 text_comes c s text i0 i1 r0 r1 n r P Q makes some scene takes q l =
-    let made : Makes (work_of c) (text_alone text) s = subst (λ (o : OutcomeOf). Makes (work_of c) o s) makes.1 (made_unseen (work_of c) s) in
-    texts_come c (text_alone text) i0 i1 r0 r1 n n r P Q (ends_read c i0 (text_alone text) makes.0 (inl (s, has_scene i0 i1 s scene takes, made))) refl (not_empty text [] some)
+    let w = work_of c in
+    let made : Makes w i0.left (text_alone text) s = made_text w.outcome w.rounds w.watch i0.left s text makes.1 in
+    let has = has_scene c i0 i1 s (reads_all w.outcome s text makes.1) scene takes in
+    texts_come c (text_alone text) i0 i1 r0 r1 n n r P Q (ends_read c i0 (text_alone text) makes.0 (inl (s, has, made))) refl (not_empty text [] some)
     (λ reads. none_left i0 i1 s takes) (λ none. q) l
 
 pub written_comes : (c : Command) (s : Parts) (text : List ℕ) (i0 i1 : SourceSays) (r0 r1 n : SinkSays) (x : Unit {0}) (P Q : Type 0) → MakesText c s text → 0 < length text → IsScene s
@@ -281,6 +307,107 @@ pub unwritten_comes : (c : Command) (s : Parts) (text : List ℕ) (i0 i1 : Sourc
     → TakesLayout i0 i1 s → Q → Writes r0 r1 (Err e) text → Comes c (status_of (sink_failure e)) (streams i0 r0 n) (streams i1 r1 n) (AwaitsNote (Err (sink_failure e))) P Q
 unwritten_comes c s text i0 i1 r0 r1 n e P Q makes some scene takes q w =
     text_comes c s text i0 i1 r0 r1 n (Err (sink_failure e)) P Q makes some scene takes q (text_unwritten text e r0 r1 n w)
+
+-- ---- `check`
+
+answer_some : (answer : LogAnswer) → 0 < length (answer_text answer)
+answer_some Accepted = ended_by (codes "log" ∷ codes "accepted" ∷ [])
+answer_some (Refused n) = ended_by (codes "log" ∷ codes "refused" ∷ decimal n ∷ [])
+
+-- what becomes of an answer that was written
+abbrev pub result_by : LogAnswer → Result (Unit {0}) Failure
+result_by Accepted = Ok tt
+result_by (Refused n) = Err Log
+
+-- the answer's line stands whole, and nothing is noted
+pub answer_written : (c : Command) (answer : LogAnswer) (i0 i1 : SourceSays) (r0 r1 n : SinkSays) (P Q : Type 0) → Ends c i0 (answer_alone answer) → Appends r0 r1 (answer_text answer) → Q
+    → (answer ≡ Accepted → IfBytes i0 (λ bytes. i1.left ≡ Some [])) → Comes c (status_by (result_by answer)) (streams i0 r0 n) (streams i1 r1 n) (AwaitsNote (result_by answer)) P Q
+answer_written c Accepted i0 i1 r0 r1 n P Q ends gained q taken = record {
+  outcome = answer_alone Accepted;
+  ends = ends;
+  leaves = inl (refl, record { reported = subst (Appends r0 r1) (sym (append-nil (answer_text Accepted))) gained; noted_is = nothing_awaits n (Ok tt) [] refl });
+  causes = record { read = λ is. absurd cc; report = λ is. absurd cc; notes = λ is. absurd cc };
+  untouched = λ is. absurd (not_empty (answer_text Accepted) [] (answer_some Accepted) is);
+  unnoted = λ is. q;
+  taken = λ is reads. taken refl;
+}
+answer_written c (Refused good) i0 i1 r0 r1 n P Q ends gained q taken = record {
+  outcome = answer_alone (Refused good);
+  ends = ends;
+  leaves = inl (refl, record { reported = subst (Appends r0 r1) (sym (append-nil (answer_text (Refused good)))) gained; noted_is = nothing_awaits n (Err Log) [] refl });
+  causes = record { read = λ is. absurd cc; report = λ is. absurd cc; notes = λ is. absurd cc };
+  untouched = λ is. absurd (not_empty (answer_text (Refused good)) [] (answer_some (Refused good)) is);
+  unnoted = λ is. q;
+  taken = λ is. absurd cc;
+}
+
+-- a front of it stands
+pub answer_unwritten : (c : Command) (answer : LogAnswer) (e : SinkError) (i0 i1 : SourceSays) (r0 r1 n : SinkSays) (P Q : Type 0) → Ends c i0 (answer_alone answer) → Writes r0 r1 (Err e) (answer_text answer) → Q
+    → Comes c (status_of (sink_failure e)) (streams i0 r0 n) (streams i1 r1 n) (AwaitsNote (Err (sink_failure e))) P Q
+answer_unwritten c answer e i0 i1 r0 r1 n P Q ends w q =
+    let text = answer_text answer in
+    let some = not_empty text [] (answer_some answer) in
+    let (m, lt, part) = w.err in
+    let front : AppendsPrefix r0 r1 (text ++ []) = subst (AppendsPrefix r0 r1) (sym (append-nil text)) (m, omega (arith, lt), part) in
+    by e front some w
+  where
+    front_of : (f : Failure) → AppendsPrefix r0 r1 (answer_text answer ++ []) → status_text (status_of f) ≡ note_text f → (status_of f ≡ statuses.NotesFault → ⊥)
+        → LeavesFront (answer_alone answer) (status_of f) r0 r1 (AwaitsNote (Err f) n n)
+    front_of f front noted not_notes = record {
+      frame = 0;
+      is_frame = λ some. some;
+      reported = front;
+      earlier = λ lt. absurd (omega arith);
+      size = 0;
+      within = omega arith;
+      whole = λ lt. absurd (omega arith);
+      noted_is = nothing_awaits n (Err f) (status_text (status_of f)) noted;
+      of_report = λ is. refl;
+      of_notes = λ is. absurd (not_notes is);
+    }
+
+    by : (e : SinkError) → AppendsPrefix r0 r1 (answer_text answer ++ []) → (answer_text answer ++ [] ≡ [] → ⊥) → Writes r0 r1 (Err e) (answer_text answer)
+        → Comes c (status_of (sink_failure e)) (streams i0 r0 n) (streams i1 r1 n) (AwaitsNote (Err (sink_failure e))) P Q
+    by sinks.Failed front some w = record {
+      outcome = answer_alone answer;
+      ends = ends;
+      leaves = inr (inl refl, front_of ReportFault front refl (λ is. absurd cc));
+      causes = record { read = λ is. absurd cc; report = λ is. (some, w.failed refl); notes = λ is. absurd cc };
+      untouched = λ is. absurd (some is);
+      unnoted = λ is. q;
+      taken = λ is. absurd cc;
+    }
+    by sinks.Memory front some w = record {
+      outcome = answer_alone answer;
+      ends = ends;
+      leaves = inr (inr (inr refl), front_of Memory front refl (λ is. absurd cc));
+      causes = record { read = λ is. absurd cc; report = λ is. absurd cc; notes = λ is. absurd cc };
+      untouched = λ is. absurd (some is);
+      unnoted = λ is. q;
+      taken = λ is. absurd cc;
+    }
+
+-- there was no number in front, or the source failed
+pub no_number : (words : CheckWords) (f : Failure) (i0 i1 : SourceSays) (r n : SinkSays) (P Q : Type 0) → IsNoNumber i0 i1 f → P → Q
+    → Comes (Check words) (status_of f) (streams i0 r n) (streams i1 r n) (AwaitsNote (Err f)) P Q
+no_number words f i0 i1 r n P Q none p q = elim none [
+  | inl short ↦
+      let (bytes, takes, few, ended, is) = short in
+      let e = errors.Truncated 4 (length bytes) in
+      subst (λ (g : Failure). Comes (Check words) (status_of g) (streams i0 r n) (streams i1 r n) (AwaitsNote (Err g)) P Q) (sym is)
+      (comes_refused (Check words) i0 i1 r n e P Q refl tt (short_fault words i0 i1 bytes takes few ended) p q)
+  | inr failed ↦
+      subst (λ (g : Failure). Comes (Check words) (status_of g) (streams i0 r n) (streams i1 r n) (AwaitsNote (Err g)) P Q) (sym failed.0)
+      (comes_unread (Check words) i0 i1 r n P Q refl failed.1 p q)
+]
+
+-- the input couldn't be read behind the scene, or memory ran out before the answer
+pub log_unread : (c : Command) (e : LogError) (i0 i1 : SourceSays) (r n : SinkSays) (P Q : Type 0) → ReadsScene c → (e ≡ logs.Read → Rose i0.faults i1.faults) → P → Q
+    → Comes c (status_of (log_failure e)) (streams i0 r n) (streams i1 r n) (AwaitsNote (Err (log_failure e))) P Q
+log_unread c logs.Read i0 i1 r n P Q reads rose p q = comes_unread c i0 i1 r n P Q reads (rose refl) p q
+log_unread c logs.Memory i0 i1 r n P Q reads rose p q =
+    comes_early c (note_alone statuses.ReadFault (status_text statuses.ReadFault)) i0 i1 r n n (AwaitsNote (Err Memory)) P Q (ends_unread c i0 reads)
+    (nothing_awaits n (Err Memory) (status_text statuses.Memory) refl) p q
 
 -- ---- `picture`
 
@@ -307,10 +434,11 @@ missing_comes words frames s i0 i1 r n P Q scene takes all past p q =
     let o : OutcomeOf = note_alone statuses.Frame note in
     let is : pictured s words.frame ≡ o =
     pictured_missing s words.frame (omega (arith, all, past)) ∙ ap (λ (k : ℕ). note_alone statuses.Frame (missing_text words.frame k)) (sym all) in
-    let made : Makes (work_of (Picture words)) o s = subst (λ (x : OutcomeOf). Makes (work_of (Picture words)) x s) is (made_unseen (work_of (Picture words)) s) in
+    let made : Makes (work_of (Picture words)) i0.left o s =
+    subst (λ (x : OutcomeOf). Makes (work_of (Picture words)) i0.left x s) is (made_unseen (λ t counts. pictured t words.frame) 0 0 i0.left s) in
     record {
       outcome = o;
-      ends = inl (s, has_scene i0 i1 s scene takes, made);
+      ends = inl (s, has_scene (Picture words) i0 i1 s (λ bytes. refl) scene takes, made);
       leaves = inl (refl, record { reported = nothing_appended r; noted_is = nothing_awaits n (Err (Frame words.frame frames)) note refl });
       causes = record { read = λ e. absurd cc; report = λ e. absurd cc; notes = λ e. absurd cc };
       untouched = λ e. p;
@@ -392,6 +520,10 @@ comes_done c x i0 i1 r0 r1 n0 n1 P Q h = record {
   taken = h.taken;
 }
 
+made_some : (outcome : Option Making) (rounds watch : ℕ) (s : Parts) → (o : OutcomeOf) × MakesBy outcome rounds watch None o s
+made_some (Some outcome) rounds watch s = (outcome s unseen, made_unseen outcome rounds watch None s)
+made_some None rounds watch s = (answer_alone Accepted, (Accepted, tt, refl))
+
 -- memory ran out before the command was known
 some_ends : (c : Command) (source : SourceSays) → (o : OutcomeOf) × Ends c source o
 some_ends c source = by (work_of c).own refl
@@ -400,8 +532,8 @@ some_ends c source = by (work_of c).own refl
     by None reads = (note_alone statuses.ReadFault (status_text statuses.ReadFault), ends_unread c source reads)
     by (Some own) is =
         let w = work_of c in
-        let s = demo_of own.0 own.1 in
-        (w.outcome s unseen, subst (λ (own : Option (ℕ × ℕ)). EndsBy own source (w.outcome s unseen) (Makes w (w.outcome s unseen))) (sym is) (made_unseen w s))
+        let (o, made) = made_some w.outcome w.rounds w.watch (demo_of own.0 own.1) in
+        (o, subst (λ (own : Option (ℕ × ℕ)). EndsBy own c source o) (sym is) made)
 
 pub memory_comes : (c : Command) (i : SourceSays) (r n0 n1 : SinkSays) (P Q : Type 0) → P → IsNoted n0 n1 (status_text statuses.Memory)
     → Comes c statuses.Memory (streams i r n0) (streams i r n1) IsNotedBehind P (statuses.Memory ≡ statuses.Done → Q)
@@ -426,7 +558,7 @@ truth c source s about =
     let scene = by (work_of c).own about in
     (hides_truly s scene (all_are_pieces s scene), (λ counts. lines_hide s (work_of c).rounds (work_of c).watch counts scene), λ frame lt. shows_truly s frame scene)
   where
-    by : (own : Option (ℕ × ℕ)) → IsAbout own source s → IsScene s
+    by : (own : Option (ℕ × ℕ)) → IsAbout own c source s → IsScene s
     by None has = has.scene
     by (Some own) is = subst (λ (p : Parts). IsScene p) (sym is.1) (demo_is_scene own.0 own.1 is.0)
 

@@ -1,32 +1,37 @@
 -- What follows for a user of `run` from what its command comes to: each lemma has a promise by its short name.
-use Rattle.std.proofs.Common.{◌≡◌, ℕ, ◌<◌, ◌≤◌, ◌++◌, List, [], length, take, arith, refl, sym, ap, ◌∙◌, subst, inl, inr, Option, Some, None, ◌⊎◌}
+use Rattle.std.proofs.Common.{◌≡◌, ℕ, ◌<◌, ◌≤◌, ◌++◌, List, [], length, take, arith, refl, sym, ap, ◌∙◌, subst, inl, inr, Option, Some, None, ◌⊎◌, drop, nat_lt}
 use Rattle.std.specs.Prelude.{IfSome}
-use Rattle.std.proofs.lemmas.Bool.{cases_lt}
-use Rattle.std.proofs.lemmas.List.{append-nil}
+use Rattle.std.proofs.lemmas.Bool.{cases_lt, cond-false, le-ltb}
+use Rattle.std.proofs.lemmas.List.{append-nil, length-drop, length-take}
 use Rattle.cull_base.specs.Stream.{SinkSays, SourceSays, Appends, Rose}
 use Rattle.scene_reader.specs.Layout.{Parts, IsScene, layout, upgraded}
-use Rattle.scene_reader.specs.Fault.{first_fault}
+use Rattle.scene_reader.specs.Fault.{first_fault, word_at}
 use Rattle.scene_reader.specs.declared.error.SceneError.{SceneError}
+use Rattle.scene_reader.specs.declared.error.SceneError.TheVariants.{Truncated}
 use Rattle.scene_reader.proofs.LayoutFirst.{scene_first}
 use Rattle.scene_reader.proofs.OnlyScene.{layout_one}
 use Rattle.cull_report.specs.Hiding.{HidesTruly}
 use Rattle.cull_report.specs.Live.{Counts, HidesLive, IsRising, live_text}
 use Rattle.cull_report.specs.Scene.{report_text}
+use Rattle.live_check.specs.Logs.{AreGoodLines, IsAccepted, IsJudged}
+use Rattle.live_check.specs.declared.answer.LogAnswer.{LogAnswer}
+use Rattle.live_check.specs.declared.answer.LogAnswer.TheVariants.{Accepted, Refused}
 use Rattle.command_words.specs.declared.table.Command.{Command}
 use Rattle.command_words.specs.declared.table.BareCommand.TheVariants.{Upgrade}
-use Rattle.command_words.specs.declared.table.Command.TheVariants.{Cull, Live, Demo, Picture, Bare}
+use Rattle.command_words.specs.declared.table.Command.TheVariants.{Cull, Live, Demo, Picture, Bare, Check}
+use Rattle.command_words.specs.declared.table.CheckWords.{CheckWords}
 use Rattle.command_words.specs.declared.table.CullWords.{CullWords}
 use Rattle.command_words.specs.declared.table.DemoWords.{DemoWords}
 use Rattle.command_words.specs.declared.table.LiveWords.{LiveWords}
 use Rattle.command_words.specs.declared.table.PictureWords.{PictureWords}
 use Rattle.culling.specs.Notes.{IsNotedBehind}
-use Rattle.culling.specs.Outcomes.{Ends, EndsBy, EndsByScene, Makes, work_of, HasScene, IfBytes, OutcomeOf, ReadsScene, joined, live_frames, pictured, report_of}
+use Rattle.culling.specs.Outcomes.{Ends, EndsBy, EndsByScene, Makes, work_of, HasScene, IfBytes, OutcomeOf, ReadsScene, joined, live_frames, pictured, report_of, Making, answer_alone, answer_status, answer_text, input_fault, input_fault_by, log_bytes, scene_bytes, scene_bytes_by}
 use Rattle.culling.specs.Picture.{ShowsTruly, frame_picture}
 use Rattle.culling.specs.Runs.{Comes, IsCut, Leaves, LeavesWhole, Streams}
 use Rattle.culling.specs.Summary.{summary_text}
 use Rattle.culling.specs.declared.failure.Status.{Status}
 use Rattle.culling.specs.declared.failure.Status.TheVariants as statuses
-use Rattle.culling.proofs.Comings.{pictured_missing, pictured_there}
+use Rattle.culling.proofs.Comings.{pictured_missing, pictured_there, layout_some}
 use Rattle.culling.proofs.OutcomeTexts.{live_is, report_is}
 use Rattle.culling.proofs.ScenePieces.{all_are_pieces, lines_hide}
 use Rattle.culling.proofs.Shown.{shows_truly}
@@ -41,8 +46,8 @@ done_whole : (o : OutcomeOf) (r0 r1 : SinkSays) (noted : List ℕ → List ℕ �
 done_whole o r0 r1 noted leaves = elim leaves [ inl whole ↦ whole | inr front ↦ absurd (cut_not_done front.0) ]
 
 -- Done comes of a scene
-done_scene : (source : SourceSays) (o : OutcomeOf) (made : Parts → Type 0) → EndsByScene source o made → statuses.Done ≡ o.status → (s : Parts) × HasScene source s × made s
-done_scene source o made ends is = elim ends [
+done_scene : (c : Command) (source : SourceSays) (o : OutcomeOf) (made : Parts → Type 0) → EndsByScene c source o made → statuses.Done ≡ o.status → (s : Parts) × HasScene c source s × made s
+done_scene c source o made ends is = elim ends [
   | inl scene ↦ scene
   | inr rest ↦ elim rest [
     | inl refused ↦ let (e, refusal, fault, same) = refused in let bad : statuses.Done ≡ statuses.Scene = is ∙ ap (λ (x : OutcomeOf). x.status) same in absurd cc
@@ -62,20 +67,20 @@ noted_exactly n0 n1 text h = elim h [
 -- and of `picture` the picture of a frame that is there, where what it shows is drawn
 
 pub done_cull : (words : CullWords) (before after : Streams) (P Q : Type 0) → Comes (Cull words) statuses.Done before after IsNotedBehind P Q
-    → (s : Parts) × HasScene before.input s × IfBytes before.input (λ bytes. after.input.left ≡ Some []) × Appends before.report after.report (report_text s) × HidesTruly s
+    → (s : Parts) × HasScene (Cull words) before.input s × IfBytes before.input (λ bytes. after.input.left ≡ Some []) × Appends before.report after.report (report_text s) × HidesTruly s
 done_cull words before after P Q h =
     let w = done_whole h.outcome before.report after.report (IsNotedBehind before.notes after.notes) h.leaves in
-    let (s, has, makes) = done_scene before.input h.outcome (Makes (work_of (Cull words)) h.outcome) h.ends w.0 in
+    let (s, has, makes) = done_scene (Cull words) before.input h.outcome (Makes (work_of (Cull words)) before.input.left h.outcome) h.ends w.0 in
     let (counts, rising, is) = makes in
     (s, has, h.taken refl refl, subst (Appends before.report after.report) (ap report_of is ∙ report_is s []) w.1.reported, hides_truly s has.scene (all_are_pieces s has.scene))
 
 pub done_live : (words : LiveWords) (before after : Streams) (P Q : Type 0) → Comes (Live words) statuses.Done before after IsNotedBehind P Q
-    → (s : Parts) × HasScene before.input s × IfBytes before.input (λ bytes. after.input.left ≡ Some []) × Appends before.report after.report (report_text s) × HidesTruly s
+    → (s : Parts) × HasScene (Live words) before.input s × IfBytes before.input (λ bytes. after.input.left ≡ Some []) × Appends before.report after.report (report_text s) × HidesTruly s
     × ((counts : Counts) × IsRising s words.rounds words.watch counts × Appends before.notes after.notes (live_text s words.rounds words.watch counts) × HidesLive s words.rounds words.watch counts)
 done_live words before after P Q h =
     let r0 = before.report in let r1 = after.report in let n0 = before.notes in let n1 = after.notes in
     let w = done_whole h.outcome r0 r1 (IsNotedBehind n0 n1) h.leaves in
-    let (s, has, makes) = done_scene before.input h.outcome (Makes (work_of (Live words)) h.outcome) h.ends w.0 in
+    let (s, has, makes) = done_scene (Live words) before.input h.outcome (Makes (work_of (Live words)) before.input.left h.outcome) h.ends w.0 in
     let (counts, rising, is) = makes in
     let notes = live_frames s words.rounds words.watch counts in
     let noted : IsNotedBehind n0 n1 (joined notes) [] = subst (λ (o : OutcomeOf). IsNotedBehind n0 n1 (joined o.notes) o.note) is w.1.noted_is in (
@@ -95,10 +100,10 @@ done_demo words before after P Q h =
     subst (Appends before.report after.report) (ap report_of is ∙ append-nil (summary_text words.seed words.triangles)) w.1.reported
 
 pub done_upgrade : (before after : Streams) (P Q : Type 0) → Comes (Bare Upgrade) statuses.Done before after IsNotedBehind P Q
-    → (s : Parts) × HasScene before.input s × IfBytes before.input (λ bytes. after.input.left ≡ Some []) × Appends before.report after.report (layout (upgraded s))
+    → (s : Parts) × HasScene (Bare Upgrade) before.input s × IfBytes before.input (λ bytes. after.input.left ≡ Some []) × Appends before.report after.report (layout (upgraded s))
 done_upgrade before after P Q h =
     let w = done_whole h.outcome before.report after.report (IsNotedBehind before.notes after.notes) h.leaves in
-    let (s, has, makes) = done_scene before.input h.outcome (Makes (work_of (Bare Upgrade)) h.outcome) h.ends w.0 in
+    let (s, has, makes) = done_scene (Bare Upgrade) before.input h.outcome (Makes (work_of (Bare Upgrade)) before.input.left h.outcome) h.ends w.0 in
     let (counts, rising, is) = makes in
     (s, has, h.taken refl refl, subst (Appends before.report after.report) (ap report_of is ∙ append-nil (layout (upgraded s))) w.1.reported)
 
@@ -110,22 +115,87 @@ done_there s frame done = elim (cases_lt frame (length s.cameras)) [
 ]
 
 pub done_picture : (words : PictureWords) (before after : Streams) (P Q : Type 0) → Comes (Picture words) statuses.Done before after IsNotedBehind P Q
-    → (s : Parts) × HasScene before.input s × IfBytes before.input (λ bytes. after.input.left ≡ Some []) × (words.frame < length s.cameras)
+    → (s : Parts) × HasScene (Picture words) before.input s × IfBytes before.input (λ bytes. after.input.left ≡ Some []) × (words.frame < length s.cameras)
     × Appends before.report after.report (frame_picture s words.frame) × ShowsTruly s words.frame
 done_picture words before after P Q h =
     let w = done_whole h.outcome before.report after.report (IsNotedBehind before.notes after.notes) h.leaves in
-    let (s, has, makes) = done_scene before.input h.outcome (Makes (work_of (Picture words)) h.outcome) h.ends w.0 in
+    let (s, has, makes) = done_scene (Picture words) before.input h.outcome (Makes (work_of (Picture words)) before.input.left h.outcome) h.ends w.0 in
     let (counts, rising, is) = makes in
     let lt = done_there s words.frame (w.0 ∙ ap (λ (x : OutcomeOf). x.status) is) in
     let text = ap report_of (is ∙ pictured_there s words.frame lt) ∙ append-nil (frame_picture s words.frame) in
     (s, has, h.taken refl refl, lt, subst (Appends before.report after.report) text w.1.reported, shows_truly s words.frame has.scene)
 
--- ---- refused: bytes with a first fault end as Scene, ReadFault or Memory
+-- ---- `check`: Done with an accepted log, Log with one that isn't, and exactly its line stands
 
-no_scene_at_fault : (source : SourceSays) (s : Parts) (bytes : List ℕ) (e : SceneError) → source.left ≡ Some bytes → first_fault bytes ≡ Some e → HasScene source s → ⊥
-no_scene_at_fault source s bytes e left fault has =
-    let spelled : bytes ≡ layout s = subst (λ (l : Option (List ℕ)). IfSome l (λ b. b ≡ layout s)) left has.spelled in
-    let none : Some e ≡ None = sym fault ∙ ap first_fault spelled ∙ scene_first s has.scene in
+-- the status is an answer's
+answer_of : (words : CheckWords) (source : SourceSays) (o : OutcomeOf) (status : Status) → EndsByScene (Check words) source o (Makes (work_of (Check words)) source.left o) → status ≡ o.status
+    → (status ≡ statuses.Scene → ⊥) → (status ≡ statuses.ReadFault → ⊥)
+    → (s : Parts) × HasScene (Check words) source s × Makes (work_of (Check words)) source.left o s
+answer_of words source o status ends is not_scene not_read = elim ends [
+  | inl made ↦ made
+  | inr rest ↦ elim rest [
+    | inl refused ↦ let (e, refusal, fault, same) = refused in absurd (not_scene (is ∙ ap (λ (x : OutcomeOf). x.status) same))
+    | inr unread ↦ absurd (not_read (is ∙ ap (λ (x : OutcomeOf). x.status) unread))
+  ]
+]
+
+pub done_check : (words : CheckWords) (before after : Streams) (P Q : Type 0) → Comes (Check words) statuses.Done before after IsNotedBehind P Q
+    → (s : Parts) × HasScene (Check words) before.input s × IfBytes before.input (λ bytes. IsAccepted s words.rounds words.watch (log_bytes bytes))
+    × IfBytes before.input (λ bytes. after.input.left ≡ Some []) × Appends before.report after.report (answer_text Accepted)
+done_check words before after P Q h =
+    let w = done_whole h.outcome before.report after.report (IsNotedBehind before.notes after.notes) h.leaves in
+    let (s, has, made) = answer_of words before.input h.outcome statuses.Done h.ends w.0 (λ is. absurd cc) (λ is. absurd cc) in
+    let (answer, judged, is) = made in
+    by answer s has judged is (w.0 ∙ ap (λ (x : OutcomeOf). x.status) is) w.1.reported
+  where
+    by : (answer : LogAnswer) (s : Parts) → HasScene (Check words) before.input s → IfBytes before.input (λ bytes. IsJudged s words.rounds words.watch (log_bytes bytes) answer) → h.outcome ≡ answer_alone answer
+        → statuses.Done ≡ answer_status answer → Appends before.report after.report (report_of h.outcome)
+        → (s : Parts) × HasScene (Check words) before.input s × IfBytes before.input (λ bytes. IsAccepted s words.rounds words.watch (log_bytes bytes))
+        × IfBytes before.input (λ bytes. after.input.left ≡ Some []) × Appends before.report after.report (answer_text Accepted)
+    by Accepted s has judged is done reported =
+        (s, has, judged, h.taken refl refl, subst (Appends before.report after.report) (ap report_of is ∙ append-nil (answer_text Accepted)) reported)
+    by (Refused n) s has judged is done reported = absurd cc
+
+-- the log isn't accepted, its good lines are told, and nothing is noted
+pub log_check : (words : CheckWords) (before after : Streams) (P Q : Type 0) → Comes (Check words) statuses.Log before after IsNotedBehind P Q
+    → (s : Parts) × HasScene (Check words) before.input s
+    × ((n : ℕ) × IfBytes before.input (λ bytes. (IsAccepted s words.rounds words.watch (log_bytes bytes) → ⊥) × AreGoodLines s words.rounds words.watch (log_bytes bytes) n)
+    × Appends before.report after.report (answer_text (Refused n)) × Appends before.notes after.notes [])
+log_check words before after P Q h =
+    let w = log_whole h.outcome before.report after.report (IsNotedBehind before.notes after.notes) h.leaves in
+    let (s, has, made) = answer_of words before.input h.outcome statuses.Log h.ends w.0 (λ is. absurd cc) (λ is. absurd cc) in
+    let (answer, judged, is) = made in
+    by answer s has judged is (w.0 ∙ ap (λ (x : OutcomeOf). x.status) is) w.1.reported w.1.noted_is
+  where
+    log_not_cut : IsCut statuses.Log → ⊥
+    log_not_cut cut = elim cut [ inl a ↦ absurd cc | inr rest ↦ elim rest [ inl b ↦ absurd cc | inr c ↦ absurd cc ] ]
+
+    log_whole : (o : OutcomeOf) (r0 r1 : SinkSays) (noted : List ℕ → List ℕ → Type 0) → Leaves o statuses.Log r0 r1 noted → (statuses.Log ≡ o.status) × LeavesWhole o r0 r1 noted
+    log_whole o r0 r1 noted leaves = elim leaves [ inl whole ↦ whole | inr front ↦ absurd (log_not_cut front.0) ]
+
+    by : (answer : LogAnswer) (s : Parts) → HasScene (Check words) before.input s → IfBytes before.input (λ bytes. IsJudged s words.rounds words.watch (log_bytes bytes) answer) → h.outcome ≡ answer_alone answer
+        → statuses.Log ≡ answer_status answer → Appends before.report after.report (report_of h.outcome) → IsNotedBehind before.notes after.notes (joined h.outcome.notes) h.outcome.note
+        → (s : Parts) × HasScene (Check words) before.input s
+        × ((n : ℕ) × IfBytes before.input (λ bytes. (IsAccepted s words.rounds words.watch (log_bytes bytes) → ⊥) × AreGoodLines s words.rounds words.watch (log_bytes bytes) n)
+        × Appends before.report after.report (answer_text (Refused n)) × Appends before.notes after.notes [])
+    by Accepted s has judged is log reported noted = absurd cc
+    by (Refused n) s has judged is log reported noted =
+        let quiet : IsNotedBehind before.notes after.notes [] [] = subst (λ (o : OutcomeOf). IsNotedBehind before.notes after.notes (joined o.notes) o.note) is noted in
+        (s, has, (n, judged, subst (Appends before.report after.report) (ap report_of is ∙ append-nil (answer_text (Refused n))) reported, noted_exactly before.notes after.notes [] quiet))
+
+-- ---- refused: an input with a first fault ends as Scene, ReadFault or Memory
+
+-- a scene's bytes have none
+scene_none : (outcome : Option Making) (s : Parts) (bytes : List ℕ) → IsScene s → scene_bytes_by outcome bytes ≡ layout s → input_fault_by outcome bytes ≡ None
+scene_none (Some outcome) s bytes scene is = ap first_fault is ∙ scene_first s scene
+scene_none None s bytes scene is =
+    let long : 4 ≤ length bytes = omega (arith, ap length is, layout_some s, length-take (word_at 0 bytes) (drop 4 bytes), length-drop 4 bytes) in
+    cond-false (nat_lt (length bytes) 4) (Some (Truncated 4 (length bytes))) (first_fault (scene_bytes_by None bytes)) (le-ltb (length bytes) 4 long) ∙ ap first_fault is ∙ scene_first s scene
+
+no_scene_at_fault : (c : Command) (source : SourceSays) (s : Parts) (bytes : List ℕ) (e : SceneError) → source.left ≡ Some bytes → input_fault c bytes ≡ Some e → HasScene c source s → ⊥
+no_scene_at_fault c source s bytes e left fault has =
+    let spelled : scene_bytes c bytes ≡ layout s = subst (λ (l : Option (List ℕ)). IfSome l (λ b. scene_bytes c b ≡ layout s)) left has.spelled in
+    let none : Some e ≡ None = sym fault ∙ scene_none (work_of c).outcome s bytes has.scene spelled in
     absurd cc
 
 -- a command without text for the report and the notes isn't cut by a sink
@@ -139,22 +209,22 @@ silent_ends c status before after P Q h no_report no_notes = elim h.leaves [
   ]
 ]
 
-by_scene : (source : SourceSays) (o : OutcomeOf) (made : Parts → Type 0) (bytes : List ℕ) (e : SceneError) → source.left ≡ Some bytes → first_fault bytes ≡ Some e → EndsByScene source o made
+by_scene : (c : Command) (source : SourceSays) (o : OutcomeOf) (made : Parts → Type 0) (bytes : List ℕ) (e : SceneError) → source.left ≡ Some bytes → input_fault c bytes ≡ Some e → EndsByScene c source o made
     → (report_of o ≡ []) × (o.notes ≡ []) × ((o.status ≡ statuses.Scene) ⊎ (o.status ≡ statuses.ReadFault))
-by_scene source o made bytes e left fault ends = elim ends [
-  | inl scene ↦ let (s, has, is) = scene in absurd (no_scene_at_fault source s bytes e left fault has)
+by_scene c source o made bytes e left fault ends = elim ends [
+  | inl scene ↦ let (s, has, is) = scene in absurd (no_scene_at_fault c source s bytes e left fault has)
   | inr rest ↦ elim rest [
     | inl refused ↦ let (f, refusal, first, same) = refused in (ap report_of same, ap (λ (x : OutcomeOf). x.notes) same, inl (ap (λ (x : OutcomeOf). x.status) same))
     | inr unread ↦ (ap report_of unread, ap (λ (x : OutcomeOf). x.notes) unread, inr (ap (λ (x : OutcomeOf). x.status) unread))
   ]
 ]
 
-ends_silent : (c : Command) (source : SourceSays) (o : OutcomeOf) (bytes : List ℕ) (e : SceneError) → ReadsScene c → source.left ≡ Some bytes → first_fault bytes ≡ Some e → Ends c source o
+ends_silent : (c : Command) (source : SourceSays) (o : OutcomeOf) (bytes : List ℕ) (e : SceneError) → ReadsScene c → source.left ≡ Some bytes → input_fault c bytes ≡ Some e → Ends c source o
     → (report_of o ≡ []) × (o.notes ≡ []) × ((o.status ≡ statuses.Scene) ⊎ (o.status ≡ statuses.ReadFault))
 ends_silent c source o bytes e reads left fault ends =
-    by_scene source o (Makes (work_of c) o) bytes e left fault (subst (λ (own : Option (ℕ × ℕ)). EndsBy own source o (Makes (work_of c) o)) reads ends)
+    by_scene c source o (Makes (work_of c) source.left o) bytes e left fault (subst (λ (own : Option (ℕ × ℕ)). EndsBy own c source o) reads ends)
 
-pub refused : (c : Command) (status : Status) (before after : Streams) (P Q : Type 0) (bytes : List ℕ) (e : SceneError) → ReadsScene c → before.input.left ≡ Some bytes → first_fault bytes ≡ Some e
+pub refused : (c : Command) (status : Status) (before after : Streams) (P Q : Type 0) (bytes : List ℕ) (e : SceneError) → ReadsScene c → before.input.left ≡ Some bytes → input_fault c bytes ≡ Some e
     → Comes c status before after IsNotedBehind P Q → ((status ≡ statuses.Scene) ⊎ (status ≡ statuses.ReadFault) ⊎ (status ≡ statuses.Memory)) × P
 refused c status before after P Q bytes e reads left fault h =
     let (no_report, no_notes, which) = ends_silent c before.input h.outcome bytes e reads left fault h.ends in (
@@ -181,7 +251,7 @@ complete_cull words status before after P Q s bytes left spelled scene no_read n
       ]
     ]
   where
-    by_layout : (source : SourceSays) (o : OutcomeOf) (b : List ℕ) → source.left ≡ Some b → first_fault b ≡ None → EndsByScene source o (Makes (work_of (Cull words)) o)
+    by_layout : (source : SourceSays) (o : OutcomeOf) (b : List ℕ) → source.left ≡ Some b → first_fault b ≡ None → EndsByScene (Cull words) source o (Makes (work_of (Cull words)) source.left o)
         → (o.notes ≡ []) × ((o.status ≡ statuses.Done) ⊎ (o.status ≡ statuses.ReadFault))
     by_layout source o b is none ends = elim ends [
       | inl made ↦ let (t, has, makes) = made in let (counts, rising, same) = makes in (ap (λ (x : OutcomeOf). x.notes) same, inl (ap (λ (x : OutcomeOf). x.status) same))
@@ -210,7 +280,8 @@ missing_picture words status before after P Q s bytes left spelled scene past no
       h.untouched no_report,
     )
   where
-    by_layout : (source : SourceSays) (o : OutcomeOf) → source.left ≡ Some bytes → first_fault bytes ≡ None → EndsByScene source o (Makes (work_of (Picture words)) o)
+    by_layout : (source : SourceSays) (o : OutcomeOf) → source.left ≡ Some bytes → first_fault bytes ≡ None
+        → EndsByScene (Picture words) source o (Makes (work_of (Picture words)) source.left o)
         → (report_of o ≡ []) × (o.notes ≡ []) × ((o.status ≡ statuses.Frame) ⊎ (o.status ≡ statuses.ReadFault))
     by_layout source o is none ends = elim ends [
       | inl made ↦

@@ -17,7 +17,7 @@ use Rattle.culling.specs.Outcome.{sink_failure, status_by, status_of}
 use Rattle.culling.specs.Outcomes.{OutcomeOf, joined, notes_at, report_of, text_alone}
 use Rattle.culling.specs.Runs.{AwaitsNote, IsCut, LeavesFront}
 use Rattle.culling.specs.declared.failure.Failure.{Failure}
-use Rattle.culling.specs.declared.failure.Failure.TheVariants.{Scene, ReadFault, ReportFault, NotesFault, Memory, Frame}
+use Rattle.culling.specs.declared.failure.Failure.TheVariants.{Scene, ReadFault, ReportFault, NotesFault, Memory, Frame, Log}
 use Rattle.culling.specs.declared.failure.Status.TheVariants as statuses
 use Rattle.culling.proofs.Fronts.{all_is_front, front_of_more, front_then, nothing_appended, rose_later}
 
@@ -73,6 +73,7 @@ never_done ReadFault is = absurd cc
 never_done ReportFault is = absurd cc
 never_done NotesFault is = absurd cc
 never_done Memory is = absurd cc
+never_done Log is = absurd cc
 never_done (Frame frame frames) is = absurd cc
 
 -- a failure with this cause comes in an outcome's place, and its note needs no numbers
@@ -344,6 +345,7 @@ notes_failed ReadFault is = absurd cc
 notes_failed ReportFault is = absurd cc
 notes_failed NotesFault is = refl
 notes_failed Memory is = absurd cc
+notes_failed Log is = absurd cc
 notes_failed (Frame frame frames) is = absurd cc
 
 report_failed : (f : Failure) → status_of f ≡ statuses.ReportFault → f ≡ ReportFault
@@ -352,6 +354,7 @@ report_failed ReadFault is = absurd cc
 report_failed ReportFault is = refl
 report_failed NotesFault is = absurd cc
 report_failed Memory is = absurd cc
+report_failed Log is = absurd cc
 report_failed (Frame frame frames) is = absurd cc
 
 -- only a beginning of the report stands, up to the first frame's end, and nothing was noted

@@ -9,5 +9,6 @@ pub mod Fronts
 pub mod OutcomeTexts
 pub mod FrameTexts
 pub mod FrameByFrame
+pub mod Checking
 pub mod Comings
 pub mod Corollaries

@@ -35,7 +35,7 @@ live_frames_are s rounds watch counts = length-map-range_with_len (λ frame. fra
 
 -- ---- texts that aren't empty
 
-ended_by : (fields : List (List ℕ)) → 0 < length (line fields)
+pub ended_by : (fields : List (List ℕ)) → 0 < length (line fields)
 ended_by fields = omega (arith, length-append (join_with_byte 32 fields) (10 ∷ []))
 
 pub header_some : (s : Parts) → 0 < length (scene_header s)

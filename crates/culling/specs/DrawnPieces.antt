@@ -2,14 +2,8 @@
 use Rattle.std.specs.Prelude.{ℕ, ◌≡◌, ◌<◌}
 use Rattle.cull_base.specs.Screen.{tile_count_of}
 use Rattle.cull_base.specs.Tiles.{PieceList, tile_after}
-use Rattle.snap_setup.specs.declared.occluders.Occluders.{Occluders}
-use Rattle.snap_setup.specs.Occluders.{list_of}
 
 -- a list gives each tile the states of another
 pub record DrawsAs (drawn list : PieceList) : Type 0 where
   pub size : drawn.size ≡ list.size
   pub tiles : (t : ℕ) → t < tile_count_of list.size → tile_after drawn.size t drawn.members ≡ tile_after list.size t list.members
-
--- the pieces of all of a frame's occluder triangles
-abbrev pub listed_by : Occluders → PieceList
-listed_by o = record { size = o.size; members = list_of o }

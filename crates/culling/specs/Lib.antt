@@ -9,5 +9,6 @@ pub mod Outcome
 pub mod Culling
 pub mod NotedLines
 pub mod Outcomes
+pub mod Checking
 pub mod Runs
 pub mod FrameRuns

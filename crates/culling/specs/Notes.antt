@@ -9,7 +9,7 @@ use Rattle.text_lines.specs.Lines.{line}
 use Rattle.culling.specs.declared.failure.Failure.{Failure}
 use Rattle.culling.specs.declared.failure.Status.{Status}
 use Rattle.culling.specs.declared.failure.Status.TheVariants as statuses
-use Rattle.culling.specs.declared.failure.Failure.TheVariants.{Scene, ReadFault, ReportFault, NotesFault, Memory, Frame}
+use Rattle.culling.specs.declared.failure.Failure.TheVariants.{Scene, ReadFault, ReportFault, NotesFault, Memory, Frame, Log}
 
 -- a refusal's number, and the numbers that tell where the fault is
 abbrev pub refusal_numbers : SceneError → List ℕ
@@ -49,6 +49,7 @@ note_text ReadFault = codes "read fault" ++ 10 ∷ []
 note_text ReportFault = codes "report fault" ++ 10 ∷ []
 note_text NotesFault = []
 note_text Memory = codes "out of memory" ++ 10 ∷ []
+note_text Log = []
 note_text (Frame frame frames) = missing_text frame frames
 
 -- what is noted of a command's result
@@ -65,6 +66,7 @@ status_text statuses.ReadFault = note_text ReadFault
 status_text statuses.ReportFault = note_text ReportFault
 status_text statuses.NotesFault = note_text NotesFault
 status_text statuses.Memory = note_text Memory
+status_text statuses.Log = note_text Log
 status_text statuses.Frame = []
 
 -- the text was appended and more behind it, or a beginning of it where one of the sink's counts rose

@@ -4,6 +4,8 @@ use Rattle.scene_reader.specs.declared.error.SceneError.{SceneError}
 use Rattle.scene_reader.specs.declared.error.SceneError.TheVariants as errors
 use Rattle.cull_base.specs.declared.memory.SinkError.{SinkError}
 use Rattle.cull_base.specs.declared.memory.SinkError.TheVariants as sink
+use Rattle.live_check.specs.declared.answer.LogError.{LogError}
+use Rattle.live_check.specs.declared.answer.LogError.TheVariants as logs
 use Rattle.command_words.specs.declared.words.Refusal.{Refusal}
 use Rattle.command_words.specs.declared.words.Refusal.TheVariants as refusals
 use Rattle.culling.specs.declared.failure.Failure.{Failure}
@@ -28,6 +30,12 @@ status_of failures.ReadFault = statuses.ReadFault
 status_of failures.ReportFault = statuses.ReportFault
 status_of failures.NotesFault = statuses.NotesFault
 status_of failures.Memory = statuses.Memory
+status_of failures.Log = statuses.Log
+
+-- what becomes of a log that couldn't be checked
+abbrev pub log_failure : LogError → Failure
+log_failure logs.Read = failures.ReadFault
+log_failure logs.Memory = failures.Memory
 status_of (failures.Frame frame frames) = statuses.Frame
 
 -- the status of a command's result
@@ -49,6 +57,7 @@ code_of statuses.ReadFault = 4
 code_of statuses.ReportFault = 5
 code_of statuses.NotesFault = 6
 code_of statuses.Memory = 7
+code_of statuses.Log = 9
 code_of statuses.Frame = 10
 
 -- the status of a run whose words ask for nothing

@@ -1,18 +1,24 @@
 -- What a command comes to: from what its input says to a status, and to what the report and the notes gain.
-use Rattle.std.specs.Prelude.{ℕ, ◌≡◌, ◌⊎◌, ◌<◌, ◌≤◌, ◌++◌, nat_lt, if◌then◌else◌, List, [], length, map, take, slice_index_or, Option, Some, None, IfSome}
+use Rattle.std.specs.Prelude.{ℕ, ◌≡◌, ◌⊎◌, ◌<◌, ◌≤◌, ◌++◌, nat_lt, if◌then◌else◌, List, [], length, map, take, slice_index_or, Option, Some, None, IfSome, ◌∷◌, drop, codes}
+use Rattle.std.specs.Fmt.{decimal}
 use Rattle.std.specs.List.{flat_map, range_with_len}
 use Rattle.cull_base.specs.Stream.{SourceSays}
 use Rattle.scene_reader.specs.Layout.{Parts, IsScene, layout, upgraded}
-use Rattle.scene_reader.specs.Fault.{IsRefusal, first_fault}
+use Rattle.scene_reader.specs.Fault.{IsRefusal, first_fault, word_at}
 use Rattle.scene_reader.specs.declared.error.SceneError.{SceneError}
+use Rattle.scene_reader.specs.declared.error.SceneError.TheVariants.{Truncated}
 use Rattle.cull_report.specs.Hiding.{HidesTruly}
 use Rattle.cull_report.specs.Live.{Counts, HidesLive, IsRising, frame_live}
 use Rattle.cull_report.specs.Scene.{frame_report, scene_header}
+use Rattle.text_lines.specs.Lines.{line}
+use Rattle.live_check.specs.Logs.{IsJudged}
+use Rattle.live_check.specs.declared.answer.LogAnswer.{LogAnswer}
+use Rattle.live_check.specs.declared.answer.LogAnswer.TheVariants.{Accepted, Refused}
 use Rattle.clap.specs.Words.{Text}
 use Rattle.command_words.specs.Words.{command_of}
 use Rattle.command_words.specs.declared.table.Command.{Command}
 use Rattle.command_words.specs.declared.table.BareCommand.TheVariants as bare
-use Rattle.command_words.specs.declared.table.Command.TheVariants.{Cull, Live, Demo, Picture, Bare}
+use Rattle.command_words.specs.declared.table.Command.TheVariants.{Cull, Live, Demo, Picture, Bare, Check}
 use Rattle.demo_scene.specs.Demo.{demo_of}
 use Rattle.culling.specs.Notes.{missing_text, refusal_text, status_text}
 use Rattle.culling.specs.Picture.{ShowsTruly, frame_picture}
@@ -80,33 +86,37 @@ pictured s frame =
 abbrev pub IfBytes : SourceSays → (List ℕ → Type 0) → Type 0
 IfBytes source P = IfSome source.left P
 
--- the bytes have this first fault
-abbrev pub HasFault : SourceSays → SceneError → Type 0
-HasFault source e = IfBytes source (λ bytes. first_fault bytes ≡ Some e)
+-- ---- the answer on a log
 
--- the bytes are the layout of the scene s
-pub record HasScene (source : SourceSays) (s : Parts) : Type 0 where
-  pub scene : IsScene s
-  pub spelled : IfBytes source (λ bytes. bytes ≡ layout s)
+abbrev pub answer_text : LogAnswer → List ℕ
+answer_text Accepted = line (codes "log" ∷ codes "accepted" ∷ [])
+answer_text (Refused n) = line (codes "log" ∷ codes "refused" ∷ decimal n ∷ [])
 
--- A command that reads a scene makes this of it; or the bytes are refused, with the numbers of their first fault; or the input can't be read.
-abbrev pub EndsByScene : SourceSays → OutcomeOf → (Parts → Type 0) → Type 0
-EndsByScene source o made =
-    ((s : Parts) × HasScene source s × made s)
-    ⊎ ((e : SceneError) × IsRefusal e × HasFault source e × (o ≡ note_alone statuses.Scene (refusal_text e)))
-    ⊎ (o ≡ note_alone statuses.ReadFault (status_text statuses.ReadFault))
+abbrev pub answer_status : LogAnswer → Status
+answer_status Accepted = statuses.Done
+answer_status (Refused n) = statuses.Log
+
+-- the answer as a line of the report, and nothing noted
+abbrev pub answer_alone : LogAnswer → OutcomeOf
+answer_alone answer = record { status = answer_status answer; note = []; head = answer_text answer; frames = []; notes = [] }
+
+-- ---- what each command does
+
+-- what is made of a scene, by the counts of looks at it
+abbrev pub Making : Type 0
+Making = Parts → Counts → OutcomeOf
 
 -- What a command does: the seed and the number of triangles of the scene that it makes, none where it reads one; its rounds of looks, and at how many
--- objects; and the outcome that it makes of the scene, by the counts of those looks.
+-- objects; and the outcome that it makes of the scene, by the counts of those looks. None: it answers whether the log behind the scene tells such looks.
 pub record Work : Type 0 where
   pub own : Option (ℕ × ℕ)
   pub rounds : ℕ
   pub watch : ℕ
-  pub outcome : Parts → Counts → OutcomeOf
+  pub outcome : Option Making
 
 -- a scene is read, and no object is looked at
 abbrev pub reading : (Parts → OutcomeOf) → Work
-reading outcome = record { own = None; rounds = 0; watch = 0; outcome = λ s counts. outcome s }
+reading outcome = record { own = None; rounds = 0; watch = 0; outcome = Some (λ s counts. outcome s) }
 
 -- what each command does
 abbrev pub work_of : Command → Work
@@ -115,14 +125,15 @@ work_of (Live words) = record {
   own = None;
   rounds = words.rounds;
   watch = words.watch;
-  outcome = λ s counts. report_and s (live_frames s words.rounds words.watch counts);
+  outcome = Some (λ s counts. report_and s (live_frames s words.rounds words.watch counts));
 }
 work_of (Demo words) = record {
   own = Some (words.seed, words.triangles);
   rounds = 0;
   watch = 0;
-  outcome = λ s counts. text_alone (summary_text words.seed words.triangles);
+  outcome = Some (λ s counts. text_alone (summary_text words.seed words.triangles));
 }
+work_of (Check words) = record { own = None; rounds = words.rounds; watch = words.watch; outcome = None }
 work_of (Picture words) = reading (λ s. pictured s words.frame)
 work_of (Bare bare.Upgrade) = reading (λ s. text_alone (layout (upgraded s)))
 
@@ -130,29 +141,75 @@ work_of (Bare bare.Upgrade) = reading (λ s. text_alone (layout (upgraded s)))
 abbrev pub ReadsScene : Command → Type 0
 ReadsScene c = (work_of c).own ≡ None
 
--- the outcome is made of the scene, by counts that rise
-abbrev pub Makes : Work → OutcomeOf → Parts → Type 0
-Makes w o s = (counts : Counts) × IsRising s w.rounds w.watch counts × (o ≡ w.outcome s counts)
+-- ---- the scene bytes of a command
 
--- so of a scene that is read, and so of one that the command makes
-abbrev pub EndsBy : Option (ℕ × ℕ) → SourceSays → OutcomeOf → (Parts → Type 0) → Type 0
-EndsBy None source o made = EndsByScene source o made
-EndsBy (Some own) source o made = made (demo_of own.0 own.1)
+-- All bytes of its input; where a log is behind the scene those behind a number of four bytes, which says how many they are, or all there are.
+abbrev pub scene_bytes_by : Option Making → List ℕ → List ℕ
+scene_bytes_by (Some outcome) bytes = bytes
+scene_bytes_by None bytes = take (word_at 0 bytes) (drop 4 bytes)
+
+-- the bytes behind those of a scene, which are a log
+abbrev pub log_bytes : List ℕ → List ℕ
+log_bytes bytes = drop (word_at 0 bytes) (drop 4 bytes)
+
+-- the first fault of the scene bytes; or four bytes are needed for their number
+abbrev pub input_fault_by : Option Making → List ℕ → Option SceneError
+input_fault_by (Some outcome) bytes = first_fault bytes
+input_fault_by None bytes =
+    if nat_lt (length bytes) 4 then Some (Truncated 4 (length bytes)) else first_fault (scene_bytes_by None bytes)
+
+abbrev pub scene_bytes : Command → List ℕ → List ℕ
+scene_bytes c bytes = scene_bytes_by (work_of c).outcome bytes
+
+abbrev pub input_fault : Command → List ℕ → Option SceneError
+input_fault c bytes = input_fault_by (work_of c).outcome bytes
+
+-- a command's input has this first fault
+abbrev pub HasFault : Command → SourceSays → SceneError → Type 0
+HasFault c source e = IfBytes source (λ bytes. input_fault c bytes ≡ Some e)
+
+-- its scene bytes are the layout of the scene s
+pub record HasScene (c : Command) (source : SourceSays) (s : Parts) : Type 0 where
+  pub scene : IsScene s
+  pub spelled : IfBytes source (λ bytes. scene_bytes c bytes ≡ layout s)
+
+-- ---- what each command comes to
+
+-- A command that reads a scene makes this of it; or its scene bytes are refused, with the numbers of their first fault; or the input can't be read.
+abbrev pub EndsByScene : Command → SourceSays → OutcomeOf → (Parts → Type 0) → Type 0
+EndsByScene c source o made =
+    ((s : Parts) × HasScene c source s × made s)
+    ⊎ ((e : SceneError) × IsRefusal e × HasFault c source e × (o ≡ note_alone statuses.Scene (refusal_text e)))
+    ⊎ (o ≡ note_alone statuses.ReadFault (status_text statuses.ReadFault))
+
+-- the outcome is made of the scene, by counts that rise; or it is an answer that holds of the log
+abbrev pub MakesBy : Option Making → ℕ → ℕ → Option (List ℕ) → OutcomeOf → Parts → Type 0
+MakesBy (Some outcome) rounds watch left o s = (counts : Counts) × IsRising s rounds watch counts × (o ≡ outcome s counts)
+MakesBy None rounds watch left o s =
+    (answer : LogAnswer) × IfSome left (λ bytes. IsJudged s rounds watch (log_bytes bytes) answer) × (o ≡ answer_alone answer)
+
+abbrev pub Makes : Work → Option (List ℕ) → OutcomeOf → Parts → Type 0
+Makes w left o s = MakesBy w.outcome w.rounds w.watch left o s
+
+-- so of a scene that is read, and so of one that the command makes, which reads nothing
+abbrev pub EndsBy : Option (ℕ × ℕ) → Command → SourceSays → OutcomeOf → Type 0
+EndsBy None c source o = EndsByScene c source o (Makes (work_of c) source.left o)
+EndsBy (Some own) c source o = Makes (work_of c) None o (demo_of own.0 own.1)
 
 -- the command comes to this outcome, from what its input says
 abbrev pub Ends : Command → SourceSays → OutcomeOf → Type 0
-Ends c source o = EndsBy (work_of c).own source o (Makes (work_of c) o)
+Ends c source o = EndsBy (work_of c).own c source o
 
 -- the scene that a command is about: the input's, or the one that it makes
-abbrev pub IsAbout : Option (ℕ × ℕ) → SourceSays → Parts → Type 0
-IsAbout None source s = HasScene source s
-IsAbout (Some own) source s = (own.1 ≤ 65536) × (s ≡ demo_of own.0 own.1)
+abbrev pub IsAbout : Option (ℕ × ℕ) → Command → SourceSays → Parts → Type 0
+IsAbout None c source s = HasScene c source s
+IsAbout (Some own) c source s = (own.1 ≤ 65536) × (s ≡ demo_of own.0 own.1)
 
 -- What the report of a command's scene calls occluded is hidden, and what a live line does, by the members that it states, whatever the counts are. What a
 -- picture of one of its frames shows is drawn.
 abbrev pub IsTrue : Command → SourceSays → Type 0
 IsTrue c source =
-    (s : Parts) → IsAbout (work_of c).own source s
+    (s : Parts) → IsAbout (work_of c).own c source s
     → HidesTruly s × ((counts : Counts) → HidesLive s (work_of c).rounds (work_of c).watch counts) × ((frame : ℕ) → frame < length s.cameras → ShowsTruly s frame)
 
 -- ---- what words ask for

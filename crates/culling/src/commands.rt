@@ -7,6 +7,7 @@ ghost use Rattle.culling.specs.Outcomes.{Asks, IfAsked, IsTrue, ReadsScene};
 ghost use Rattle.culling.specs.Runs.{AwaitsNote, Comes, IsComplete, IsUnasked, WithoutFault, streams};
 
 mod bare;
+mod check;
 mod cull;
 mod demo;
 mod live;
@@ -14,6 +15,7 @@ mod picture;
 
 use crate::failure::{Failure, Status, end_refused};
 use bare::carry_out;
+use check::check;
 use command_words::{Command, command_of};
 use cull::cull;
 use cull_base::{Sink, Source};
@@ -46,6 +48,7 @@ fn perform<R: Threads + Wait + Sync, S: Source, W: Sink, E: Sink, G: Gate>(
         Command::Cull(words) => cull(rt, alloc, words, input, report, notes, gate),
         Command::Live(words) => live(rt, alloc, words, input, report, notes, gate),
         Command::Demo(words) => demo(rt, alloc, words, report, notes, gate),
+        Command::Check(words) => check(rt, alloc, words, input, report, notes),
         Command::Picture(words) => picture(rt, alloc, words, input, report, notes, gate),
         Command::Bare(command) => carry_out(alloc, command, input, report, notes),
     }
@@ -53,9 +56,10 @@ fn perform<R: Threads + Wait + Sync, S: Source, W: Sink, E: Sink, G: Gate>(
 
 /// Runs a command, whatever its settings: `cull` reads a scene from the input and writes its report, `live` looks at
 /// the scene's first objects too while each frame is drawn, and notes what it saw, `demo` makes a scene and writes its
-/// summary, `upgrade` reads a scene and writes it in version 2, `picture` reads a scene and writes a picture of one of
-/// its frames. The gate is asked while frames are drawn. What is said of bytes holds where the input tells its bytes; a
-/// sink's claim where the sink tells its own.
+/// summary, `upgrade` reads a scene and writes it in version 2, `check` reads a scene and a log and writes whether
+/// `live` may have noted it, `picture` reads a scene and writes a picture of one of its frames. The gate is asked while
+/// frames are drawn. What is said of bytes holds where the input tells its bytes; a sink's claim where the sink tells
+/// its own.
 pub fn run<R: Threads + Wait + Sync, S: Source, W: Sink, E: Sink, G: Gate>(
     rt: &R,
     alloc: Global,

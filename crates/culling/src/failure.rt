@@ -3,6 +3,7 @@ ghost use Rattle.std.specs.Prelude.{◌≡◌, [], ◌∷◌, ◌++◌, ◌≤�
 
 use command_words::Refusal;
 use cull_base::{Memory, Sink, SinkError, write_whole};
+use live_check::LogError;
 use scene_reader::SceneError;
 use text_lines::Line;
 
@@ -23,6 +24,8 @@ pub enum Status {
     NotesFault,
     /// Out of memory.
     Memory,
+    /// The log that was checked is refused.
+    Log,
     /// The scene has no such frame.
     Frame,
 }
@@ -35,6 +38,7 @@ pub enum Failure {
     ReportFault,
     NotesFault,
     Memory,
+    Log,
     /// The scene has no such frame: its number, and how many there are.
     Frame {
         frame: u32,
@@ -79,6 +83,19 @@ impl From<Memory> for Failure {
     }
 }
 
+impl From<LogError> for Failure {
+    ghost use Rattle.culling.specs.Outcome.{log_failure};
+
+    ghost from_gives = { λ e f. f ≡ log_failure e };
+
+    fn from(error: LogError) -> Failure {
+        match error {
+            LogError::Read => Failure::ReadFault,
+            LogError::Memory => Failure::Memory,
+        }
+    }
+}
+
 impl Status {
     ghost use Rattle.culling.specs.Outcome.{code_of};
 
@@ -94,6 +111,7 @@ impl Status {
             Status::ReportFault => 5,
             Status::NotesFault => 6,
             Status::Memory => 7,
+            Status::Log => 9,
             Status::Frame => 10,
         }
     }
@@ -123,6 +141,7 @@ impl Failure {
             Failure::ReportFault => Status::ReportFault,
             Failure::NotesFault => Status::NotesFault,
             Failure::Memory => Status::Memory,
+            Failure::Log => Status::Log,
             Failure::Frame { .. } => Status::Frame,
         }
     }
@@ -136,6 +155,8 @@ impl Failure {
             Failure::ReportFault => line_of(b"report fault"),
             // there is nowhere to note it
             Failure::NotesFault => Line::empty(),
+            // the report tells it
+            Failure::Log => Line::empty(),
             Failure::Memory => line_of(b"out of memory"),
             Failure::Frame { frame, frames } => missing_line(*frame, *frames),
         }

@@ -7,10 +7,11 @@ ghost use Rattle.culling.specs.declared.frames.Beside.TheVariants.{Nothing};
 
 use crate::drawing::{Drawing, Plan, draw_plainly};
 use crate::failure::Failure;
-use crate::frames::{Asking, Beside, clip_frame, write_lines};
+use crate::frames::{Asking, Beside, write_lines};
 use crate::live_frame::{Seen, draw_live, note_lines};
 use crate::window::{report_windows, round_count};
 use cull_base::{ClipVertex, Memory, Sink};
+use cull_report::clip_frame;
 use scene_reader::Scene;
 use std::alloc::Global;
 use std::sync::Wait;

@@ -1,20 +1,21 @@
-//! A frame of a scene: its pieces, the verdicts of its objects, and the lines that are written of it.
+//! A frame of a scene: the pieces that are drawn, the verdicts of its objects, and the lines that are written of it.
 ghost use Rattle.std.specs.Prelude.{◌≡◌, ◌<◌, length, IfOk, replicate, false};
 ghost use Rattle.cull_base.specs.Stream.{Writes};
 ghost use Rattle.scene_reader.specs.Layout.{IsScene};
 ghost use Rattle.cull_report.specs.Scene.{frame_clips, frame_list, frame_pieces, frame_verdicts};
 ghost use Rattle.culling.specs.Culling.{TookFrame};
-ghost use Rattle.culling.specs.DrawnPieces.{DrawsAs, listed_by};
+ghost use Rattle.culling.specs.DrawnPieces.{DrawsAs};
 ghost use Rattle.culling.specs.Frames.{lines_by};
 
 use crate::summary::write_summary;
-use camera_path::{Camera, clip_into};
 use command_words::Settings;
-use cull_base::{ClipVertex, FrameList, Memory, Near, Sink, SinkError};
-use cull_report::{Asked, FrameVerdicts, verdicts_by_workers, verdicts_with_lines};
+use cull_base::{ClipVertex, Memory, Sink, SinkError};
+use cull_report::{
+    Asked, FrameVerdicts, occluders_of, pieces_of, verdicts_by_workers, verdicts_with_lines,
+};
 use masked_update::TileView;
 use scene_reader::Scene;
-use snap_setup::{KeptList, Occluders, frame_list_by_workers, sampled_list};
+use snap_setup::{KeptList, sampled_list};
 use std::alloc::Global;
 use std::sync::Wait;
 use std::thread::Threads;
@@ -62,22 +63,6 @@ pub fn unset_marks(alloc: Global, count: usize) -> Result<Vec<bool>, Memory>
     }
 }
 
-/// The scene's vertices through a frame's camera. Condition: there is a place for each.
-pub fn clip_frame<R: Threads + Wait + Sync>(
-    rt: &R,
-    scene: &Scene,
-    frame: u32,
-    clips: &mut [ClipVertex],
-)
-    requires frame { frame < length scene.now.cameras }
-    requires places { length clips.old ≡ length scene.now.vertices }
-    ensures clips { clips.new ≡ frame_clips scene.now frame }
-    ensures places { length clips.new ≡ length clips.old }
-{
-    let camera = Camera(scene.cameras()[frame as usize]);
-    clip_into(rt, &camera, scene.vertices(), clips);
-}
-
 /// The verdicts of a frame's objects over tiles that have taken the whole frame.
 pub fn verdicts_by<R: Threads + Wait + Sync, V: TileView + Sync>(
     rt: &R,
@@ -92,41 +77,6 @@ pub fn verdicts_by<R: Threads + Wait + Sync, V: TileView + Sync>(
         Asking::Workers(workers) => verdicts_by_workers(rt, alloc, asked, workers),
         Asking::Caller(workers) => verdicts_with_lines(alloc, asked, workers),
     }
-}
-
-// The triangles of a frame that hide what is behind them. Its clauses alone ask for the frame's number.
-fn occluders_of<'a>(scene: &'a Scene, _frame: u32, clips: &'a [ClipVertex]) -> Occluders<'a>
-    requires { clips.now ≡ frame_clips scene.now _frame }
-    ensures list { listed_by result ≡ frame_list scene.now _frame }
-    ensures scene { IsScene scene.now }
-{
-    Occluders {
-        clips,
-        tris: scene.occluders(),
-        near: Near {
-            distance: scene.near(),
-        },
-        size: scene.size(),
-        batches: scene.batches(),
-        grade: scene.grade(),
-    }
-}
-
-/// The pieces of a frame, in submission order. Its clauses alone ask for the frame's number.
-pub fn pieces_of<R: Threads + Sync>(
-    rt: &R,
-    alloc: Global,
-    scene: &Scene,
-    _frame: u32,
-    clips: &[ClipVertex],
-    workers: u32,
-) -> Result<FrameList, Memory>
-    requires { clips.now ≡ frame_clips scene.now _frame }
-    ensures list { IfOk result (λ f. f.list ≡ frame_list scene.now _frame) }
-    ensures scene { IsScene scene.now }
-{
-    let occluders = occluders_of(scene, _frame, clips);
-    frame_list_by_workers(rt, alloc, &occluders, workers)
 }
 
 /// The pieces of a frame that are drawn into plain tiles, and how many the frame has: where one worker draws in one

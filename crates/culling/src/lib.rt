@@ -14,4 +14,3 @@ mod window;
 
 pub use commands::run;
 pub use failure::{Failure, Status};
-pub use frames::{clip_frame, pieces_of};

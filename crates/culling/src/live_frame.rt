@@ -13,11 +13,11 @@ ghost use Rattle.culling.specs.NotedLines.{NotesLines};
 
 use crate::drawing::Drawing;
 use crate::failure::Failure;
-use crate::frames::{Asking, Frame, pieces_of, unset_marks, verdicts_by};
+use crate::frames::{Asking, Frame, unset_marks, verdicts_by};
 use crate::live_caller::{LiveCaller, Watched};
 use binning::batch_size;
 use cull_base::{ClipVertex, FrameList, Memory, Sink, SinkError, TileSpan};
-use cull_report::{Asked, LiveLine, object_area, write_live};
+use cull_report::{Asked, LiveLine, object_area, pieces_of, write_live};
 use masked_update::{PlainView, TileState};
 use std::alloc::Global;
 use std::sync::Wait;

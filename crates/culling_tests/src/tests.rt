@@ -1,4 +1,5 @@
 mod busy_run;
+mod check;
 mod counting_run;
 mod demo;
 mod drawing;

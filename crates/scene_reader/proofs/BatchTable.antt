@@ -7,7 +7,7 @@ use Rattle.std.proofs.lemmas.Bool.{or_from, or_right, or_parts, le-ltb, lt-ltb, 
 use Rattle.std.proofs.lemmas.List.{length-map, map-append, take-append-le, take_at, take_all, drop_all, drop_more, get_or-map, nil_from_length}
 use Rattle.std.proofs.lemmas.List.Sums.{sum_by-cons, sum_by_push, sum_by_more, sum_by_more_le, sum-map}
 use Rattle.cull_base.specs.Batches.{AreBatchesOf}
-use Rattle.cull_base.specs.Stream.{SourceSays}
+use Rattle.cull_base.specs.Stream.{SourceSays, Takes}
 use Rattle.cull_base.specs.declared.scene_types.Batch.{Batch}
 use Rattle.cull_base.specs.declared.triangle.Winding.{Winding}
 use Rattle.cull_base.specs.declared.triangle.Winding.TheVariants.{Both, DropClockwise, DropCounter}
@@ -17,7 +17,7 @@ use Rattle.scene_reader.specs.declared.error.SceneError.{SceneError}
 use Rattle.scene_reader.specs.declared.error.SceneError.TheVariants.{BadBatch}
 use Rattle.scene_reader.specs.Layout.{Parts, IsScene, raw_batch, winding_code, winding_byte, stored_batches}
 use Rattle.scene_reader.specs.Fault.{entries, first_among, fault_if, triangles_in, is_bad_batch, batch_fault, is_one_batch, split_fault, sum_fault, batches_fault, raw_batch_of, batches_told}
-use Rattle.scene_reader.specs.Reading.{Takes, TakesTable, TakesBatch, TakesBatchTable, TakesBatches}
+use Rattle.scene_reader.specs.Reading.{TakesTable, TakesBatch, TakesBatchTable, TakesBatches}
 use Rattle.scene_reader.proofs.Headers.{at_first, at_second, or_parts_none, or_none_from, or_first, or_second, fault_none, fault_none_from}
 use Rattle.scene_reader.proofs.Entries.{table_none, table_more}
 use Rattle.scene_reader.proofs.ObjectTable.{first_append, length_entries}

@@ -8,7 +8,7 @@ use Rattle.scene_reader.specs.Layout.{Parts, row_bytes, tri_bytes, batch_bytes, 
 use Rattle.scene_reader.specs.Length.{header_length}
 use Rattle.scene_reader.specs.Fault.{row_of, tri_of, raw_of, raw_batch_of, header_fault}
 use Rattle.scene_reader.specs.Reading.{IsTable}
-use Rattle.scene_reader.proofs.Takes.{IsByte}
+use Rattle.cull_base.proofs.Takes.{IsByte}
 use Rattle.scene_reader.proofs.Codes.{row_back, tri_back}
 use Rattle.scene_reader.proofs.Headers.{header_accepted}
 use Rattle.scene_reader.proofs.Pieces.{table_back, raw_batch_bytes, batches_raw, raw_batch_back, raw_bytes, objects_raw, raw_back}

@@ -13,7 +13,7 @@ use mir.Val.{SFits}
 use Rattle.cull_base.specs.declared.scene_types.Tri.{Tri}
 use Rattle.scene_reader.specs.Layout.{InLimits, IsRow, IsTri, short_bytes, word_bytes, row_bytes, tri_bytes}
 use Rattle.scene_reader.specs.Fault.{short_at, word_at, signed_at, words_in, row_of, tri_of}
-use Rattle.scene_reader.proofs.Takes.{IsByte}
+use Rattle.cull_base.proofs.Takes.{IsByte}
 
 -- ---- bytes of a list, also past its end
 pub byte_at : (bytes : List ℕ) → All IsByte bytes → (i : ℕ) → get_or bytes i 0 < 256

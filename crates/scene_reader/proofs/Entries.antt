@@ -1,10 +1,10 @@
 -- Tables, entry after entry.
 use Rattle.std.proofs.Common.{◌≡◌, ℕ, zero, suc, ◌+◌, ◌*◌, ◌≤◌, ◌++◌, ◌∷◌, List, [], length, take, drop, map, arith, refl, ap, add-one}
 use Rattle.std.proofs.lemmas.List.{length-drop, length-append, take_all, take-append-le, drop-append-le, nil_from_length, map-append}
-use Rattle.cull_base.specs.Stream.{SourceSays}
+use Rattle.cull_base.specs.Stream.{SourceSays, Takes}
 use Rattle.scene_reader.specs.Fault.{entries}
-use Rattle.scene_reader.specs.Reading.{Takes, TakesTable}
-use Rattle.scene_reader.proofs.Takes.{takes_nothing, takes_then}
+use Rattle.scene_reader.specs.Reading.{TakesTable}
+use Rattle.cull_base.proofs.Takes.{takes_nothing, takes_then}
 
 -- one entry more
 entries_suc : (size n : ℕ) (bytes piece : List ℕ) → length bytes ≡ size * n → length piece ≡ size → entries size (suc n) (bytes ++ piece) ≡ entries size n bytes ++ piece ∷ []

@@ -15,7 +15,7 @@ use Rattle.scene_reader.specs.Layout.{Parts, IsScene, magic, short_bytes, word_b
 use Rattle.scene_reader.specs.Length.{header_length}
 use Rattle.scene_reader.specs.Fault.{version_at, short_at, word_at, batch_count_at, counts_with, counts_at}
 use Rattle.scene_reader.specs.Header.{AreCounts}
-use Rattle.scene_reader.proofs.Takes.{IsByte}
+use Rattle.cull_base.proofs.Takes.{IsByte}
 use Rattle.scene_reader.proofs.Codes.{short_again, word_again, short_back, word_back}
 use Rattle.scene_reader.proofs.BatchTable.{winding_small, byte_second}
 use Rattle.scene_reader.proofs.Headers.{Accepted, FlagsFine, at_first, at_second, length_some, length_first, length_second, version_front, short_front, word_front, byte_front, starts_front}

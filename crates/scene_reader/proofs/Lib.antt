@@ -17,6 +17,7 @@ pub mod BytesToLayout
 pub mod OnlyScene
 pub mod SceneFrom
 pub mod Refusals
+pub mod PartBytes
 pub mod ObjectsFrom
 pub mod OneLayout
 pub mod Appending

@@ -4,14 +4,14 @@ use Rattle.std.specs.Option.{option_or}
 use Rattle.std.proofs.lemmas.Bool.{le-ltb}
 use Rattle.std.proofs.lemmas.List.{length-map, map-append}
 use Rattle.std.proofs.lemmas.List.Elements.{All-push}
-use Rattle.cull_base.specs.Stream.{SourceSays}
+use Rattle.cull_base.specs.Stream.{SourceSays, Takes}
 use Rattle.cull_base.specs.declared.scene_types.Object.{Object}
 use Rattle.scene_reader.specs.declared.objects.Objects.{Objects}
 use Rattle.scene_reader.specs.declared.error.SceneError.{SceneError}
 use Rattle.scene_reader.specs.declared.error.SceneError.TheVariants.{BadObject}
 use Rattle.scene_reader.specs.Layout.{IsObject, kind_of, numbers_of, raw_object}
 use Rattle.scene_reader.specs.Fault.{entries, first_among, object_fault, is_bad_object, raw_of, fault_if}
-use Rattle.scene_reader.specs.Reading.{Takes, IsObjectOf, TakesObject, TakesObjects}
+use Rattle.scene_reader.specs.Reading.{IsObjectOf, TakesObject, TakesObjects}
 use Rattle.scene_reader.proofs.Headers.{option_or_assoc}
 use Rattle.scene_reader.proofs.Entries.{table_none, table_more}
 

@@ -16,7 +16,7 @@ use Rattle.scene_reader.specs.Fault.{fault_if, first_among, version_at, short_at
 use Rattle.scene_reader.specs.Law.{IsLayoutOf}
 use Rattle.scene_reader.specs.PartsFault.{AreTables}
 use Rattle.scene_reader.specs.Reading.{IsTable}
-use Rattle.scene_reader.proofs.Takes.{IsByte}
+use Rattle.cull_base.proofs.Takes.{IsByte}
 use Rattle.scene_reader.proofs.Valid.{row_within, indices_within}
 use Rattle.scene_reader.proofs.Headers.{at_first, length_some, or_parts_none, fault_none, header_accepted, header_front, version_front, counts_front}
 use Rattle.scene_reader.proofs.BatchTable.{windings_known, batches_valid, stored_is, byte_told}

@@ -14,7 +14,7 @@ use Rattle.cull_base.specs.declared.scene_types.Object.TheVariants.{Area, Block,
 use Rattle.scene_reader.specs.Layout.{IsRow, IsTri, IsObject, InLimits, word_bytes, row_bytes, tri_bytes, object_bytes, batch_bytes, winding_code, kind_of, numbers_of, raw_object, raw_batch, number_at}
 use Rattle.scene_reader.specs.Fault.{entries, raw_of, raw_batch_of}
 use Rattle.scene_reader.specs.Reading.{IsTable}
-use Rattle.scene_reader.proofs.Takes.{IsByte}
+use Rattle.cull_base.proofs.Takes.{IsByte}
 use Rattle.scene_reader.proofs.Codes.{row_back, row_again, word_back, word_again}
 
 -- ---- tables: from bytes to entries and back to the bytes

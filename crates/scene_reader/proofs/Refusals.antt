@@ -7,7 +7,7 @@ use Rattle.std.proofs.lemmas.Bool.{le-ltb, lt-ltb, cases_eq, cond-true, cond-fal
 use Rattle.std.proofs.lemmas.List.{length-append, append-nil, drop_at, drop_all, length-map}
 use Rattle.std.proofs.lemmas.Option.{same_Some}
 use Rattle.cull_base.specs.Batches.{AreBatchesOf}
-use Rattle.cull_base.specs.Stream.{SourceSays}
+use Rattle.cull_base.specs.Stream.{SourceSays, Takes, IsAtEnd}
 use Rattle.cull_base.specs.declared.scene_types.Tri.{Tri}
 use Rattle.scene_reader.specs.declared.error.SceneError.{SceneError}
 use Rattle.scene_reader.specs.declared.error.SceneError.TheVariants.{Truncated, Trailing, Read, BadVertex, BadIndex, BadCamera, BadBatch}
@@ -18,8 +18,8 @@ use Rattle.scene_reader.specs.Length.{header_length, scene_length}
 use Rattle.scene_reader.specs.Fault.{IsRefusal, fault_if, first_among, version_at, word_at, batch_count_at, counts_with, counts_at, start_fault, short_fault, fields_fault, header_fault, header_taken, length_fault, batches_told, tables_fault, first_fault, vertex_fault, index_fault, batch_fault, split_fault, sum_fault, batches_fault, object_fault, camera_fault}
 use Rattle.scene_reader.specs.Header.{AreFieldsOf, IsHeaderOf}
 use Rattle.scene_reader.specs.PartsFault.{AreTables}
-use Rattle.scene_reader.specs.Reading.{Takes, IsAtEnd, EndsWithin, TakesParts, batches_of, Refuses, ReadsScene}
-use Rattle.scene_reader.proofs.Takes.{takes_then}
+use Rattle.scene_reader.specs.Reading.{EndsWithin, IsDone, TakesParts, batches_of, Refuses, ReadsScene}
+use Rattle.cull_base.proofs.Takes.{takes_then}
 use Rattle.scene_reader.proofs.Headers.{at_first, at_second, length_some, or_first, or_second, or_refusal, or_none_from, fault_refusal, version_front, short_front, byte_front, counts_with_front, start_front, fields_front, header_is, header_front, header_accepted, counts_front, fault_none_from}
 use Rattle.scene_reader.proofs.BatchTable.{batches_valid, stored_is, byte_told}
 use Rattle.scene_reader.proofs.SevenPieces.{Sized, joined_first, joined_length}
@@ -109,13 +109,17 @@ short_whole b fine few =
     or_second (start_fault b) _ fine
     ∙ or_first (short_fault b) (fields_fault b (batch_count_at b)) (Truncated (header_length (version_at b)) (length b)) (rw (lt-ltb (length b) (header_length (version_at b)) few) refl)
 
+-- a source that is read to its end has no other end
+pub only_end : (n : ℕ) (after : Option (List ℕ)) → IsDone None n after → IsAtEnd after
+only_end n after d = elim d [ inl e ↦ e | inr whole ↦ let bad : ◌≡◌ {A = Option ℕ} None (Some n) = whole in absurd cc ]
+
 at_end : (after : Option (List ℕ)) (rest : List ℕ) → IsAtEnd after → after ≡ Some rest → rest ≡ []
 at_end after rest h e = subst (λ (o : Option (List ℕ)). IfSome o (λ r. r ≡ [])) e h
 
 -- fewer than 32 bytes
-pub refuses_short : (before after : SourceSays) (wanted : ℕ) (e : SceneError) → wanted ≡ 32 → EndsWithin wanted 32 0 before after e → Refuses before.left after.left e
+pub refuses_short : (before after : SourceSays) (wanted : ℕ) (e : SceneError) → wanted ≡ 32 → EndsWithin None wanted 32 0 before after e → Refuses before.left after.left e
 refuses_short before after wanted e all s = refuses_bytes before.left after.left s.bytes e s.takes.front (λ rest told.
-    let none = at_end after.left rest s.ended told in
+    let none = at_end after.left rest (only_end _ after.left s.ended) told in
     let whole : s.bytes ++ rest ≡ s.bytes = ap (λ (r : List ℕ). s.bytes ++ r) none ∙ append-nil s.bytes in
     let few : length s.bytes < 32 = omega (arith, s.few, all) in
     let is : e ≡ Truncated 32 (length s.bytes) = s.truncated ∙ ap (Truncated 32) (omega arith) in
@@ -130,7 +134,7 @@ refuses_start before after h e len t f = refuses_bytes before after h e t.front 
 
 -- 32 bytes whose version has a longer header
 pub refuses_rest : (before : Option (List ℕ)) (mid after : SourceSays) (h : List ℕ) (e : SceneError) → length h ≡ 32 → start_fault h ≡ None → (version_at h ≡ 1 → ⊥)
-    → Takes before mid.left h → EndsWithin 4 (header_length (version_at h)) 32 mid after e → Refuses before after.left e
+    → Takes before mid.left h → EndsWithin None 4 (header_length (version_at h)) 32 mid after e → Refuses before after.left e
 refuses_rest before mid after h e len fine other t s =
     let x = h ++ s.bytes in
     let both = takes_then before mid.left after.left h s.bytes t s.takes in
@@ -141,7 +145,7 @@ refuses_rest before mid after h e len fine other t s =
     let is : e ≡ Truncated (header_length (version_at x)) (length x) =
     s.truncated ∙ ap (Truncated (header_length (version_at h))) (omega (arith, length-append h s.bytes, len)) ∙ ap (λ (v : ℕ). Truncated (header_length v) (length x)) (sym version) in
     refuses_bytes before after.left x e both.front (λ rest told.
-    let none = at_end after.left rest s.ended told in
+    let none = at_end after.left rest (only_end _ after.left s.ended) told in
     let whole : x ++ rest ≡ x = ap (λ (r : List ℕ). x ++ r) none ∙ append-nil x in
     let fault : header_fault (x ++ rest) ≡ Some e = ap header_fault whole ∙ short_whole x start few ∙ ap Some (sym is) in
     let taken : header_taken (x ++ rest) ≡ header_length (version_at x) = ap header_taken whole ∙ taken_whole x start in
@@ -233,14 +237,14 @@ header_len : {h : List ℕ} {hd : Header} → length h ≡ header_length hd.vers
 header_len whole is = whole ∙ ap header_length is.version
 
 module _ {before : Option (List ℕ)} {mid : SourceSays} {h : List ℕ} {hd : Header} (whole : length h ≡ header_length hd.version) (th : Takes before mid.left h) (is : IsHeaderOf h hd) where
-  pub refuses_body : (after : SourceSays) (e : SceneError) → EndsWithin (scene_length hd.version hd.counts - header_length hd.version) (scene_length hd.version hd.counts) (header_length hd.version) mid after e → Refuses before after.left e
+  pub refuses_body : (after : SourceSays) (e : SceneError) → EndsWithin None (scene_length hd.version hd.counts - header_length hd.version) (scene_length hd.version hd.counts) (header_length hd.version) mid after e → Refuses before after.left e
   refuses_body after e s =
       let v = hd.version in
       let n = hd.counts in
       let len = header_len whole is in
       let both = takes_then before mid.left after.left h s.bytes th s.takes in
       refuses_bytes before after.left (h ++ s.bytes) e both.front (λ rest told.
-      let none = at_end after.left rest s.ended told in
+      let none = at_end after.left rest (only_end _ after.left s.ended) told in
       let all : (h ++ s.bytes) ++ rest ≡ h ++ s.bytes = ap (λ (r : List ℕ). (h ++ s.bytes) ++ r) none ∙ append-nil (h ++ s.bytes) in
       let few : length (h ++ s.bytes) < scene_length v n = omega (arith, s.few, length-append h s.bytes, whole) in
       let named : e ≡ Truncated (scene_length v n) (length (h ++ s.bytes)) = s.truncated ∙ ap (Truncated (scene_length v n)) (omega (arith, length-append h s.bytes, whole)) in

@@ -1,9 +1,9 @@
 -- What reading takes from a source.
-use Rattle.std.specs.Prelude.{ℕ, ℤ, ◌≡◌, ◌+◌, ◌-◌, ◌*◌, ◌<◌, ◌≤◌, ◌==◌, if◌then◌else◌, List, [], ◌∷◌, ◌++◌, length, map, drop}
-use Rattle.std.specs.Prelude.{Option, None, Some, option_map, IfSome, Result, IfErr, IsErrOf}
+use Rattle.std.specs.Prelude.{ℕ, ℤ, ◌≡◌, ◌+◌, ◌-◌, ◌*◌, ◌<◌, ◌≤◌, ◌⊎◌, ◌==◌, if◌then◌else◌, List, [], ◌∷◌, ◌++◌, length, map, take, drop, min}
+use Rattle.std.specs.Prelude.{Option, None, Some, option_map, IfSome, Result, IfErr, IsErrOf, OnOk}
 use Rattle.std.specs.List.{All}
 use Rattle.std.specs.Option.{option_or}
-use Rattle.cull_base.specs.Stream.{SourceSays, Rose}
+use Rattle.cull_base.specs.Stream.{SourceSays, IsAtEnd, Rose, Takes, TakesInTurns}
 use Rattle.cull_base.specs.declared.scene_types.Object.{Object}
 use Rattle.scene_reader.specs.declared.header.Header.{Header}
 use Rattle.scene_reader.specs.declared.header.Counts.{Counts}
@@ -18,45 +18,55 @@ use Rattle.scene_reader.specs.Fault.{first_among, object_fault, first_fault, hea
 use Rattle.scene_reader.specs.declared.error.SceneError.{SceneError}
 use Rattle.scene_reader.specs.declared.error.SceneError.TheVariants.{Truncated, Trailing, BadBatch, Read}
 
--- these bytes were taken from the front of what was left, where that is told
-pub record Takes (before after : Option (List ℕ)) (bytes : List ℕ) : Type 0 where
-  pub front : before ≡ option_map (λ rest. bytes ++ rest) after
-  pub fits : All (λ b. b < 256) bytes
+-- ---- a part of a source: the first bytes that are left, of so many; a source that is read to its end has no such number
 
--- nothing is left, where that is told
-abbrev pub IsAtEnd : Option (List ℕ) → Type 0
-IsAtEnd after = IfSome after (λ rest. rest ≡ [])
+-- so many bytes are no more than the part has
+abbrev pub IsWithin : Option ℕ → ℕ → Type 0
+IsWithin part n = IfSome part (λ most. n ≤ most)
+
+-- with so many bytes taken none are to come: they are the part, or the source is at its end
+abbrev pub IsDone : Option ℕ → ℕ → Option (List ℕ) → Type 0
+IsDone part n after = IsAtEnd after ⊎ (part ≡ Some n)
+
+-- what is left of a part behind so many bytes
+abbrev pub less : Option ℕ → ℕ → Option ℕ
+less part n = option_map (λ most. most - n) part
+
+-- the bytes of the part, where they are told
+abbrev pub front_of : Option ℕ → Option (List ℕ) → Option (List ℕ)
+front_of None left = left
+front_of (Some most) left = option_map (take most) left
+
+-- ---- what a call takes
 
 -- the end came before so many bytes, and the answer has what is needed and what there was, with what was taken before
-pub record EndsWithin (wanted need taken : ℕ) (before after : SourceSays) (e : SceneError) : Type 0 where
+pub record EndsWithin (part : Option ℕ) (wanted need taken : ℕ) (before after : SourceSays) (e : SceneError) : Type 0 where
   pub bytes : List ℕ
   pub takes : Takes before.left after.left bytes
   pub few : length bytes < wanted
-  pub ended : IsAtEnd after.left
+  pub within : IsWithin part (taken + length bytes)
+  pub ended : IsDone part (taken + length bytes) after.left
   pub truncated : e ≡ Truncated need (taken + length bytes)
 
--- some bytes were taken, and all turns but one took a byte or more
-pub record TakesInTurns (before after : SourceSays) : Type 0 where
-  pub bytes : List ℕ
-  pub takes : Takes before.left after.left bytes
-  pub turns : after.turns ≤ before.turns + length bytes + 1
-
--- What a call that reads owes after every answer, in at most so many turns. Read comes only where the source failed.
-pub record Reads {T : Type 0} (most : ℕ) (before after : SourceSays) (result : Result T SceneError) : Type 0 where
+-- What a call that reads owes after every answer, where so many bytes of the part were taken before: no more than so many bytes are taken, and none behind the part.
+-- Read comes only where the source failed.
+pub record Reads {T : Type 0} (part : Option ℕ) (taken most : ℕ) (before after : SourceSays) (result : Result T SceneError) : Type 0 where
   pub read : IsErrOf result Read → Rose before.faults after.faults
   pub faults_stay : before.faults ≤ after.faults
   pub turns : after.turns ≤ before.turns + most
-  pub takes : TakesInTurns before after
+  pub takes : TakesInTurns most before after
+  pub within : IsWithin part (taken + length takes.bytes)
 
 -- the same of a call that wants so many bytes, and answers Truncated where the end comes before them
-pub record Fetches {T : Type 0} (wanted need taken : ℕ) (before after : SourceSays) (result : Result T SceneError) : Type 0 where
-  pub short : IfErr result (λ e. IsRefusal e → EndsWithin wanted need taken before after e)
-  pub reads : Reads wanted before after result
+pub record Fetches {T : Type 0} (part : Option ℕ) (wanted need taken : ℕ) (before after : SourceSays) (result : Result T SceneError) : Type 0 where
+  pub short : IfErr result (λ e. IsRefusal e → EndsWithin part wanted need taken before after e)
+  pub reads : Reads part taken wanted before after result
+  pub within : OnOk result (IsWithin part (taken + wanted))
 
 -- the same of the tables behind a header of some version
-abbrev pub FetchesTables : {T : Type 0} → ℕ → Counts → SourceSays → SourceSays → Result T SceneError → Type 0
-FetchesTables version n before after result =
-    Fetches (scene_length version n - header_length version) (scene_length version n) (header_length version) before after result
+abbrev pub FetchesTables : {T : Type 0} → Option ℕ → ℕ → Counts → SourceSays → SourceSays → Result T SceneError → Type 0
+FetchesTables part version n before after result =
+    Fetches part (scene_length version n - header_length version) (scene_length version n) (header_length version) before after result
 
 -- the number of batches of a header was taken: four bytes in version 2, none in version 1, which has no table of them
 pub record TakesCount (version batches : ℕ) (before after : SourceSays) : Type 0 where
@@ -128,16 +138,17 @@ pub record TakesObjects (count object_tris : ℕ) (before after : SourceSays) (o
   pub whole : objects.fault ≡ None → map raw_object objects.items.items ≡ raws
   pub valid : All (IsObject object_tris) objects.items.items
 
--- the end came, where it was wanted
-abbrev pub TakesEnd : SourceSays → SourceSays → Type 0
-TakesEnd before after = Takes before.left after.left [] × IsAtEnd after.left
+-- the end came behind so many bytes, where it was wanted
+abbrev pub TakesEnd : Option ℕ → ℕ → SourceSays → SourceSays → Type 0
+TakesEnd part taken before after = Takes before.left after.left [] × IsDone part taken after.left
 
 -- more bytes came where the end was wanted
-pub record IsTrailing (before after : SourceSays) (e : SceneError) : Type 0 where
+pub record IsTrailing (part : Option ℕ) (taken : ℕ) (before after : SourceSays) (e : SceneError) : Type 0 where
   pub trailing : e ≡ Trailing
   pub bytes : List ℕ
   pub takes : Takes before.left after.left bytes
   pub some : 0 < length bytes
+  pub within : IsWithin part (taken + length bytes)
 
 -- bytes that are a table, every entry of so many bytes
 pub record IsTable {X : Type 0} (size count : ℕ) (read : List ℕ → X) (bytes : List ℕ) (items : List X) : Type 0 where
@@ -182,7 +193,45 @@ pub record ReadsScene (before after : Option (List ℕ)) (s : Parts) : Type 0 wh
   pub whole : bytes ≡ layout s
   pub first : first_fault bytes ≡ None
 
+-- ---- the same of a part
+
+-- so many bytes of the part were taken: these
+pub record TakesOf (part : Option ℕ) (before after : Option (List ℕ)) (count : ℕ) : Type 0 where
+  pub bytes : List ℕ
+  pub takes : Takes before after bytes
+  pub whole : length bytes ≡ count
+  pub within : IsWithin part count
+
+-- an error is the first fault of the part's bytes
+pub record RefusesPart (part : Option ℕ) (before after : Option (List ℕ)) (e : SceneError) : Type 0 where
+  pub count : ℕ
+  pub taken : TakesOf part before after count
+  pub refuses : Refuses (front_of part before) (front_of (less part count) after) e
+
+-- the part was the scene's layout
+pub record ReadsPart (part : Option ℕ) (before after : Option (List ℕ)) (s : Parts) : Type 0 where
+  pub count : ℕ
+  pub taken : TakesOf part before after count
+  pub reads : ReadsScene (front_of part before) (front_of (less part count) after) s
+
 -- ---- what the bytes were, where they are told
+
+-- what a source would say if it had its first n bytes alone
+abbrev pub first_bytes : ℕ → SourceSays → SourceSays
+first_bytes n s = record { left = option_map (take n) s.left; faults = s.faults; turns = s.turns }
+
+-- of the first n bytes this scene's layout, and those behind them are left
+abbrev pub TakesPart : ℕ → SourceSays → SourceSays → Parts → Type 0
+TakesPart n before after s = IfSome before.left (λ bytes. (take n bytes ≡ layout s) × (after.left ≡ Some (drop n bytes)))
+
+-- no byte behind the first n was taken
+abbrev pub TakesWithin : ℕ → SourceSays → SourceSays → Type 0
+TakesWithin n before after = IfSome before.left (λ bytes. (count : ℕ) × (count ≤ n) × (after.left ≡ Some (drop count bytes)))
+
+-- where the fault is one of the header of the first n bytes, no more than that was taken
+abbrev pub StopsWithin : ℕ → SourceSays → SourceSays → SceneError → Type 0
+StopsWithin n before after e =
+    IfSome before.left (λ bytes. header_fault (take n bytes) ≡ Some e → after.left ≡ Some (drop (min n (header_taken (take n bytes))) bytes))
 
 -- this scene's layout, and none are left
 abbrev pub TakesLayout : SourceSays → SourceSays → Parts → Type 0

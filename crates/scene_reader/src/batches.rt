@@ -6,7 +6,7 @@ ghost use Rattle.std.specs.Option.{option_or};
 ghost use Rattle.scene_reader.specs.Layout.{raw_batch, winding_code};
 ghost use Rattle.scene_reader.specs.Header.{AreCounts};
 ghost use Rattle.scene_reader.specs.Fault.{fault_if, is_bad_batch, raw_batch_of};
-ghost use Rattle.scene_reader.specs.Reading.{TakesBatch, TakesBatchTable, TakesBatches, Fetches};
+ghost use Rattle.scene_reader.specs.Reading.{TakesBatch, TakesBatchTable, TakesBatches, Fetches, IsWithin};
 
 use crate::error::SceneError;
 use crate::header::Header;
@@ -98,11 +98,13 @@ fn read_batch_table<S: Source>(
     tris: u32,
     need: u32,
     taken: u32,
+    part: Option<u32>,
 ) -> Result<Batches, SceneError>
     requires room { taken + 5 * count < 2 ^ 32 }
+    requires within { IsWithin part taken }
     requires few { tris ≤ 65536 }
     ensures taken { IfOk result (λ b. TakesBatchTable count tris (S.says source.old) (S.says source.new) b) }
-    ensures fetches { Fetches (5 * count) need taken (S.says source.old) (S.says source.new) result }
+    ensures fetches { Fetches part (5 * count) need taken (S.says source.old) (S.says source.new) result }
 {
     let mut batches = Batches {
         items: Vec::with_capacity(alloc, count as usize)?,
@@ -111,7 +113,7 @@ fn read_batch_table<S: Source>(
     };
     let mut entry = [0; 5];
     for i in 0..count {
-        fetch(source, &mut entry, need, taken + BATCH * i)?;
+        fetch(source, &mut entry, need, taken + BATCH * i, part)?;
         batches.keep(&entry, i, tris)?;
     }
     Ok(batches)
@@ -133,13 +135,15 @@ pub fn read_batches<S: Source>(
     header: &Header,
     need: u32,
     taken: u32,
+    part: Option<u32>,
 ) -> Result<Batches, SceneError>
     requires room { taken + 5 * header.now.counts.batches < 2 ^ 32 }
+    requires within { IsWithin part taken }
     requires counts { AreCounts header.now.counts }
     requires none { header.now.version ≡ 1 → header.now.counts.batches ≡ 0 }
     requires known { (1 ≤ header.now.version) × (header.now.version ≤ 2) }
     ensures taken { IfOk result (λ b. TakesBatches header.now (S.says source.old) (S.says source.new) b) }
-    ensures fetches { Fetches (5 * header.now.counts.batches) need taken
+    ensures fetches { Fetches part (5 * header.now.counts.batches) need taken
         (S.says source.old) (S.says source.new) result }
 {
     let (count, tris) = (header.counts.batches, header.counts.occluders);
@@ -150,7 +154,7 @@ pub fn read_batches<S: Source>(
             fault: None,
         });
     }
-    let mut batches = read_batch_table(alloc, source, count, tris, need, taken)?;
+    let mut batches = read_batch_table(alloc, source, count, tris, need, taken, part)?;
     batches.fault = batches.whole_fault(count, tris);
     Ok(batches)
 }

@@ -16,9 +16,8 @@ mod tables;
 mod writing;
 
 pub use error::SceneError;
-pub use intake::fill;
 pub use laws::{one_layout, upgrades_scenes};
 pub use parts::SceneParts;
-pub use reading::read_scene;
+pub use reading::{read_part, read_scene};
 pub use scene::{Scene, upgrade};
 pub use writing::write_scene;

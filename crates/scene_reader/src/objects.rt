@@ -4,7 +4,7 @@ ghost use Rattle.std.specs.Prelude.{◌≡◌, ℕ, ◌+◌, ◌*◌, ◌^◌, �
 ghost use Rattle.cull_base.specs.Guard.{is_beyond};
 ghost use Rattle.scene_reader.specs.Layout.{IsObject, kind_of, numbers_of};
 ghost use Rattle.scene_reader.specs.Fault.{is_bad_row, rectangle_runs_back, box_runs_back, is_bad_object, object_fault, raw_of};
-ghost use Rattle.scene_reader.specs.Reading.{IsObjectOf, TakesObject, TakesObjects, Fetches};
+ghost use Rattle.scene_reader.specs.Reading.{IsObjectOf, TakesObject, TakesObjects, Fetches, IsWithin};
 
 use crate::error::SceneError;
 use crate::intake::fetch;
@@ -186,11 +186,13 @@ pub fn read_objects<S: Source>(
     object_tris: u32,
     need: u32,
     taken: u32,
+    part: Option<u32>,
 ) -> Result<Objects, SceneError>
     requires room { taken + 25 * count < 2 ^ 32 }
+    requires within { IsWithin part taken }
     requires few { object_tris ≤ 262144 }
     ensures taken { IfOk result (λ o. TakesObjects count object_tris (S.says source.old) (S.says source.new) o) }
-    ensures fetches { Fetches (25 * count) need taken (S.says source.old) (S.says source.new) result }
+    ensures fetches { Fetches part (25 * count) need taken (S.says source.old) (S.says source.new) result }
 {
     let mut objects = Objects {
         items: Vec::with_capacity(alloc, count as usize)?,
@@ -198,7 +200,7 @@ pub fn read_objects<S: Source>(
     };
     let mut entry = [0; 25];
     for i in 0..count {
-        fetch(source, &mut entry, need, taken + OBJECT * i)?;
+        fetch(source, &mut entry, need, taken + OBJECT * i, part)?;
         objects.keep(&entry, i, object_tris)?;
     }
     Ok(objects)

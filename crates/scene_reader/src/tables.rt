@@ -1,7 +1,7 @@
 //! The tables of a scene, read entry by entry. Room is taken once for each, by the count of an accepted header.
 ghost use Rattle.std.specs.Prelude.{◌≡◌, ℕ, List, ◌+◌, ◌*◌, ◌^◌, ◌<◌, ◌≤◌, length, IfOk};
 ghost use Rattle.scene_reader.specs.Fault.{row_of, tri_of};
-ghost use Rattle.scene_reader.specs.Reading.{TakesTable, Fetches};
+ghost use Rattle.scene_reader.specs.Reading.{TakesTable, Fetches, IsWithin};
 ghost use Rattle.std.proofs.Common.{arith};
 
 use crate::error::SceneError;
@@ -75,23 +75,26 @@ impl Entry for [i32; 12] {
     }
 }
 
-/// The next table, of so many entries.
+/// The next table, of so many entries, from a part of which so many bytes came before.
 pub fn read_table<S: Source, E: Entry>(
     alloc: Global,
     source: &mut S,
     count: u32,
     need: u32,
     taken: u32,
+    part: Option<u32>,
 ) -> Result<Vec<E>, SceneError>
-    requires { taken + E.SIZE * count < 2 ^ 32 }
+    requires room { taken + E.SIZE * count < 2 ^ 32 }
+    requires within { IsWithin part taken }
     ensures taken { IfOk result (λ v. TakesTable E.SIZE count E.value (S.says source.old) (S.says source.new) v.items) }
-    ensures fetches { Fetches (E.SIZE * count) need taken (S.says source.old) (S.says source.new) result }
+    ensures fetches { Fetches part (E.SIZE * count) need taken
+        (S.says source.old) (S.says source.new) result }
 {
     let mut items = Vec::with_capacity(alloc, count as usize)?;
     let mut buffer = [0; 48];
     let entry = &mut buffer[..E::SIZE as usize];
     for i in 0..count {
-        fetch(source, entry, need, taken + E::SIZE * i)?;
+        fetch(source, entry, need, taken + E::SIZE * i, part)?;
         items.push(E::read(entry))?;
     }
     Ok(items)

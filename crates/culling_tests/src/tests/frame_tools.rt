@@ -3,7 +3,7 @@ ghost use Rattle.std.specs.Prelude.{◌≡◌, ◌<◌, length, IfOk};
 ghost use Rattle.cull_report.specs.Scene.{frame_clips};
 
 use cull_base::{ClipVertex, SureSource};
-use culling::clip_frame;
+use cull_report::clip_frame;
 use scene_reader::{Scene, read_scene};
 use std::alloc::Global;
 use std::sync::Wait;

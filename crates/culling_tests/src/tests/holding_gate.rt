@@ -10,7 +10,7 @@ use crate::tests::scenes::first_scene;
 use crate::tests::waiting::wait_for;
 use binning::{Cut, batch_size};
 use cull_base::{FrameList, Memory, Verdict};
-use culling::pieces_of;
+use cull_report::pieces_of;
 use masked_update::{TileState, TileView, draw_plain};
 use rect_query::rect_test;
 use std::alloc::Global;

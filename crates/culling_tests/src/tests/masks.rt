@@ -2,7 +2,7 @@
 ghost use Rattle.std.specs.Prelude.{◌<◌};
 
 use cull_base::{ClipVertex, FrameList, Memory, ScreenTri, Side, Sub};
-use culling::{clip_frame, pieces_of};
+use cull_report::{clip_frame, pieces_of};
 use demo_scene::demo_scene;
 use edge_lanes::Edges;
 use std::alloc::Global;

@@ -22,8 +22,8 @@ fn command_for(rt: &impl Abort, alloc: Global, given: &[&str]) -> Result<Command
     )
 }
 
-// The settings of a command, its name, and the two numbers of its own, of `picture` 0 in place of the second; a bare
-// command has no settings.
+// The settings of a command, its name, and the two numbers of its own, of `picture` 0 in place of the second; `check`
+// and a bare command have no settings.
 fn parts(command: Command) -> (Option<Settings>, &'static str, Option<(u32, u32)>) {
     match command {
         Command::Cull(words) => (Some(words.settings), "cull", None),
@@ -37,6 +37,7 @@ fn parts(command: Command) -> (Option<Settings>, &'static str, Option<(u32, u32)
             "demo",
             Some((words.seed, words.triangles)),
         ),
+        Command::Check(words) => (None, "check", Some((words.rounds, words.watch))),
         Command::Picture(words) => (Some(words.settings), "picture", Some((words.frame, 0))),
         Command::Bare(_) => (None, "a command without options", None),
     }
@@ -174,6 +175,31 @@ fn upgrade_has_no_options(rt: HostRuntime) -> Result<(), Fail> {
     for option in [["--workers", "2"], ["--batch", "7"], ["--early", "--early"]] {
         let [first, second] = option;
         let given = words(alloc, &["maskcull", "upgrade", first, second])?;
+        assert!(rt; command_of(alloc, &given).is_err());
+    }
+    Ok(())
+}
+
+#[test]
+fn check_has_two_options(rt: HostRuntime) -> Result<(), Fail> {
+    let alloc = rt.alloc();
+    for (given, own) in [
+        (["maskcull", "check"].as_slice(), (1, 1)),
+        (&["maskcull", "check", "--rounds=8"], (8, 1)),
+        (&["maskcull", "check", "--watch", "3", "--rounds", "2"], (2, 3)),
+    ] {
+        let (settings, command, asked) = parts(command_for(&rt, alloc, given)?);
+        assert!(rt; settings.is_none());
+        assert_eq!(rt; (command, asked), ("check", Some(own)));
+    }
+    for option in [
+        ["--workers", "2"],
+        ["--rounds", "9"],
+        ["--watch", "0"],
+        ["--early", "--early"],
+    ] {
+        let [first, second] = option;
+        let given = words(alloc, &["maskcull", "check", first, second])?;
         assert!(rt; command_of(alloc, &given).is_err());
     }
     Ok(())

@@ -1,8 +1,8 @@
 //! Scenes that are read, refused and written, byte by byte.
 use cull_base::{
-    Batch, BytesSink, BytesSource, Grade, Object, SinkError, SureSink, SureSource, Tri, Winding,
+    Batch, BytesSink, BytesSource, Grade, Object, SinkError, SureSink, SureSource, Tri, Winding, fill,
 };
-use scene_reader::{Scene, SceneError, SceneParts, read_scene, upgrade, write_scene};
+use scene_reader::{Scene, SceneError, SceneParts, read_part, read_scene, upgrade, write_scene};
 use std::alloc::{AllocError, Global};
 use std::test::Fail;
 
@@ -507,5 +507,61 @@ fn a_refusal_reads_as_a_sentence(rt: HostRuntime) -> Result<(), Fail> {
         told.as_str(),
         "the input has 176 bytes, and 177 are needed"
     );
+    Ok(())
+}
+
+#[test]
+fn a_part_ends_where_it_is_told(rt: HostRuntime) -> Result<(), Fail> {
+    let alloc = rt.alloc();
+    let short = |need, have| Some(SceneError::Truncated { need, have });
+    let table = [
+        (0, short(32, 0), 179),
+        (31, short(32, 31), 148),
+        (176, short(177, 176), 3),
+        (177, None, 2),
+        (178, Some(SceneError::Trailing), 1),
+        (200, Some(SceneError::Trailing), 1),
+    ];
+    for (most, want, left) in table {
+        let mut bytes = Vec::from_slice(alloc, &FIRST_SCENE)?;
+        bytes.extend_from_slice(&[1, 2])?;
+        let mut source = BytesSource::new(bytes, 7, Vec::new(alloc));
+        let answer = read_part(alloc, &mut source, most).err();
+        assert_eq!(rt; answer, want, "of at most {most} bytes");
+        let behind = fill(&mut source, &mut [0; 200]).ok();
+        assert_eq!(rt; behind, Some(left), "behind {most} bytes");
+    }
+    Ok(())
+}
+
+// The first scene: nine reads take its header, four vertices, two triangles, the object and the camera, the tenth fails.
+fn failing_at_its_end(alloc: Global) -> Result<BytesSource, AllocError> {
+    let bytes = Vec::from_slice(alloc, &FIRST_SCENE)?;
+    Ok(BytesSource::new(bytes, 100, Vec::from_slice(alloc, &[10])?))
+}
+
+#[test]
+fn a_whole_part_is_not_read_further(rt: HostRuntime) -> Result<(), Fail> {
+    let alloc = rt.alloc();
+    assert_eq!(rt; read_part(alloc, &mut failing_at_its_end(alloc)?, 177).err(), None);
+    let read = Some(SceneError::Read);
+    assert_eq!(rt; read_part(alloc, &mut failing_at_its_end(alloc)?, 178).err(), read);
+    assert_eq!(rt; read_scene(alloc, &mut failing_at_its_end(alloc)?).err(), read);
+    Ok(())
+}
+
+#[test]
+fn a_refused_header_of_a_part_is_all_that_is_taken(rt: HostRuntime) -> Result<(), Fail> {
+    let alloc = rt.alloc();
+    // without batches: version 2 counts too many of them, behind 32 bytes
+    let table = [(4, 3, 177, 145), (12, 3, 177, 145), (4, 2, 177, 141), (4, 2, 33, 144)];
+    for (place, value, most, left) in table {
+        let mut bytes = Vec::from_slice(alloc, &FIRST_SCENE)?;
+        edit(&mut bytes, &[(place, value)]);
+        let mut source = BytesSource::new(bytes, 7, Vec::new(alloc));
+        assert!(rt; read_part(alloc, &mut source, most).is_err());
+        let behind = fill(&mut source, &mut [0; 200]).ok();
+        assert_eq!(rt; behind, Some(left), "byte {place} as {value}, of at most {most} bytes");
+    }
     Ok(())
 }

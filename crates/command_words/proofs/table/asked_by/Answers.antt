@@ -36,6 +36,18 @@ returns-in-Demo-clause-limits c = (
   (read_within _ _ _ _ _ c.number-in-Demo-2.ensures (one_of_row c.args.kind kinds.Demo triangles (rows_of (found_of c.args.matches.now)) (search rules) refl c.requires)).1,
 )
 
+pub number-rounds-requires : goal.number-rounds-requires
+number-rounds-requires c = wider _ _ _ _ _ (one_of_row c.args.kind kinds.Check rounds (rows_of (found_of c.args.matches.now)) (search rules) refl c.requires) (omega arith)
+
+pub number-watch-requires : goal.number-watch-requires
+number-watch-requires c = wider _ _ _ _ _ (one_of_row c.args.kind kinds.Check watch (rows_of (found_of c.args.matches.now)) (search rules) refl c.requires) (omega arith)
+
+pub returns-in-Check-clause-limits : goal.returns-in-Check-clause-limits
+returns-in-Check-clause-limits c =
+    let rows = rows_of (found_of c.args.matches.now) in (
+      read_within _ _ _ _ _ c.number-rounds.ensures (one_of_row c.args.kind kinds.Check rounds rows (search rules) refl c.requires),
+      read_within _ _ _ _ _ c.number-watch.ensures (one_of_row c.args.kind kinds.Check watch rows (search rules) refl c.requires),
+    )
 pub cut_of-requires : goal.cut_of-requires
 cut_of-requires c =
     let rows = rows_of (found_of c.args.matches.now) in

@@ -7,7 +7,8 @@ use Rattle.cull_report.specs.Scene.{frame_list}
 use Rattle.scene_reader.specs.Layout.{Parts, IsScene}
 use Rattle.masked_update.proofs.SampledLists.{tile_after-sampled}
 use Rattle.snap_setup.specs.declared.sampled.KeptList.{KeptList}
-use Rattle.culling.specs.DrawnPieces.{DrawsAs, listed_by}
+use Rattle.cull_report.specs.Listed.{listed_by}
+use Rattle.culling.specs.DrawnPieces.{DrawsAs}
 use Rattle.culling.proofs.ScenePieces.{frame_pieces_are}
 use Rattle.culling.proofs.frames.drawn_pieces.Goals as goal
 

@@ -1,7 +1,10 @@
-use Rattle.std.proofs.Common.{refl, arith}
+use Rattle.std.proofs.Common.{◌+◌, ◌-◌, refl, arith}
 use Rattle.std.proofs.lemmas.Result.{err_from_is_err_and}
-use Rattle.scene_reader.proofs.Takes.{takes_then}
-use Rattle.scene_reader.proofs.Turns.{progress_none, then_table, fetches_failed, fetches_whole}
+use Rattle.scene_reader.specs.Length.{header_length, scene_length}
+use Rattle.cull_base.proofs.Takes.{takes_then}
+use Rattle.cull_base.proofs.Turns.{progress_none}
+use Rattle.scene_reader.proofs.Takes.{within_less}
+use Rattle.scene_reader.proofs.Turns.{then_table, fetches_failed, fetches_whole}
 use Rattle.scene_reader.proofs.reading.read_parts.Goals as goal
 
 pub returns-in_err-vertices-clause-fetches : goal.returns-in_err-vertices-clause-fetches
@@ -47,7 +50,13 @@ returns-in_err-cameras-clause-fetches g c =
     rw (p.1, p.2) (fetches_failed before (omega (arith, start)) (omega (arith, start)) (rw start at c.in_err-cameras.ensures.fetches))
 
 pub returns-clause-fetches : goal.returns-clause-fetches
-returns-clause-fetches g c = fetches_whole (then_table (then_table (then_table (then_table (then_table (then_table (progress_none _) c.in_ok-vertices.ensures.taken c.in_ok-vertices.ensures.fetches) c.in_ok-occluders.ensures.taken c.in_ok-occluders.ensures.fetches) c.in_ok-batches.ensures.taken.table c.in_ok-batches.ensures.fetches) c.in_ok-object_tris.ensures.taken c.in_ok-object_tris.ensures.fetches) c.in_ok-objects.ensures.taken.table c.in_ok-objects.ensures.fetches) c.in_ok-cameras.ensures.taken c.in_ok-cameras.ensures.fetches) (omega arith)
+returns-clause-fetches g c =
+    let start = c.header_length-vertices_at.ensures.value in
+    let whole = within_less c.args.part _ (header_length c.args.header.version + (scene_length c.args.header.version c.args.header.counts - header_length c.args.header.version)) (omega (arith, start)) c.in_ok-cameras.ensures.fetches.within in
+    fetches_whole (then_table (then_table (then_table (then_table (then_table (then_table (progress_none _) c.in_ok-vertices.ensures.taken c.in_ok-vertices.ensures.fetches) c.in_ok-occluders.ensures.taken c.in_ok-occluders.ensures.fetches) c.in_ok-batches.ensures.taken.table c.in_ok-batches.ensures.fetches) c.in_ok-object_tris.ensures.taken c.in_ok-object_tris.ensures.fetches) c.in_ok-objects.ensures.taken.table c.in_ok-objects.ensures.fetches) c.in_ok-cameras.ensures.taken c.in_ok-cameras.ensures.fetches) (omega arith) whole
+
+pub returns-clause-length : goal.returns-clause-length
+returns-clause-length g c = rw c.header_length-vertices_at.ensures.value refl
 
 pub returns-clause-taken : goal.returns-clause-taken
 returns-clause-taken g c =

@@ -1,0 +1,252 @@
+//! The command `check`: logs that `live` may have noted, and others.
+ghost use Rattle.std.specs.Prelude.{◌≤◌};
+
+use crate::tests::frame_tools::scene_from;
+use crate::tests::runs::{Ended, LARGE, NEVER, assert_ended, run_over, run_with, sink};
+use crate::tests::scenes::{
+    OCCLUDED, QUAD, TWO, WHOLE, changed, first_scene, in_batches, scene, seen_from, two_frames,
+};
+use cull_base::{BytesSource, SureSource, fill};
+use culling::Status;
+use live_check::{LogAnswer, check_log};
+use std::alloc::{AllocError, Global};
+use std::process::Abort;
+use std::sync::Wait;
+use std::test::*;
+use std::thread::Threads;
+use tile_queues::OpenGate;
+
+const CHECK: &str = "maskcull check --rounds 2 --watch 8";
+
+const BOTH_OCCLUDED: &str = "live 0 0 0 occluded 0:2\nlive 0 1 0 occluded 0:2\n";
+
+const ACCEPTED: &str = "log accepted\n";
+
+// An input of `check`: a number, and what stands behind it.
+fn input_of(alloc: Global, number: u32, scene: &[u8], log: &str) -> Result<Vec<u8>, AllocError> {
+    let mut bytes = Vec::from_slice(alloc, &number.to_le_bytes())?;
+    bytes.extend_from_slice(scene)?;
+    bytes.extend_from_slice(log.as_bytes())?;
+    Ok(bytes)
+}
+
+// The length of a scene, the scene and a log.
+fn with_log(alloc: Global, scene: Vec<u8>, log: &str) -> Result<Vec<u8>, AllocError> {
+    input_of(alloc, scene.len() as u32, scene.as_slice(), log)
+}
+
+// Where there is no such number of good lines the log is accepted.
+fn assert_checked<R: Threads + Wait + Sync + Abort>(
+    rt: &R,
+    alloc: Global,
+    line: &str,
+    scene: Vec<u8>,
+    log: &str,
+    good: Option<u32>,
+) -> Result<(), Fail> {
+    let ended = run_with(rt, alloc, line, with_log(alloc, scene, log)?)?;
+    match good {
+        None => assert_ended(rt, &ended, Status::Done, ACCEPTED, ""),
+        Some(good) => {
+            let report = format!(in alloc; "log refused {good}\n")?;
+            assert_ended(rt, &ended, Status::Log, report.as_str(), "");
+        }
+    }
+    Ok(())
+}
+
+#[test]
+fn what_live_notes_is_accepted(rt: HostRuntime) -> Result<(), Fail> {
+    let alloc = rt.alloc();
+    let live = run_with(&rt, alloc, "maskcull live --rounds 2 --watch 8", first_scene(alloc)?)?;
+    assert_ended(&rt, &live, Status::Done, OCCLUDED, live.notes.as_str());
+    assert_checked(&rt, alloc, CHECK, first_scene(alloc)?, live.notes.as_str(), None)
+}
+
+#[test]
+fn logs_of_the_first_scene(rt: HostRuntime) -> Result<(), Fail> {
+    let alloc = rt.alloc();
+    for (log, good) in [
+        (BOTH_OCCLUDED, None),
+        ("live 0 0 0 visible 0:0\nlive 0 1 0 occluded 0:2\n", None),
+        ("live 0 0 0 visible 0:1\nlive 0 1 0 visible 0:1\n", None),
+        ("live 0 0 0 visible 0:1\nlive 0 1 0 visible 0:0\n", Some(1)),
+        ("live 0 0 0 occluded 0:2\nlive 0 1 0 visible 0:1\n", Some(1)),
+        ("live 0 0 0 occluded 0:1\nlive 0 1 0 occluded 0:2\n", Some(0)),
+        ("", Some(0)),
+        ("live 0 0 0 occluded 0:2\nlive 0 1 0 occluded 0:2\n\n", Some(2)),
+        ("live 0 0 0 occluded 0:2\nlive 0 1 0 occluded 0:2", Some(1)),
+        ("live 0 0 0 occluded 0:3\nlive 0 1 0 occluded 0:3\n", Some(0)),
+        ("live 0 0 0 occluded 0:02\nlive 0 1 0 occluded 0:2\n", Some(0)),
+        ("live 0 0 0 occluded 0:2 \nlive 0 1 0 occluded 0:2\n", Some(0)),
+        ("live 0 0 0 occluded\nlive 0 1 0 occluded 0:2\n", Some(0)),
+        ("live 0 0 0 outside 0:2\nlive 0 1 0 occluded 0:2\n", Some(0)),
+        ("live 0 1 0 occluded 0:2\nlive 0 0 0 occluded 0:2\n", Some(0)),
+        ("live 0 0 0 occluded 0:2\nlive 0 1 0 occluded 1:2\n", Some(1)),
+        ("live 0 0 0 occluded 0:2\nlive 0 1 0 occluded 0:2000000\n", Some(1)),
+    ] {
+        assert_checked(&rt, alloc, CHECK, first_scene(alloc)?, log, good)?;
+    }
+    Ok(())
+}
+
+#[test]
+fn a_scene_of_version_2_is_read_too(rt: HostRuntime) -> Result<(), Fail> {
+    let alloc = rt.alloc();
+    let second = in_batches(alloc, &[(2, 0)])?;
+    assert_checked(&rt, alloc, CHECK, second, BOTH_OCCLUDED, None)?;
+    let wide = changed(in_batches(alloc, &[(2, 0)])?, &[(13, 1)]);
+    assert_checked(&rt, alloc, CHECK, wide, BOTH_OCCLUDED, None)?;
+    // three bytes of its header are left out
+    let input = input_of(alloc, 33, in_batches(alloc, &[(2, 0)])?.as_slice(), "")?;
+    let ended = run_with(&rt, alloc, CHECK, input)?;
+    assert_ended(&rt, &ended, Status::Scene, "", "scene refused 1 36 33\n");
+    Ok(())
+}
+
+// Both rectangles stand on one tile.
+#[test]
+fn a_later_line_of_another_object_may_not_fall(rt: HostRuntime) -> Result<(), Fail> {
+    let alloc = rt.alloc();
+    let line = "maskcull check --watch 2";
+    let twice = [WHOLE, WHOLE];
+    let falling = "live 0 0 0 occluded 0:2\nlive 0 0 1 visible 0:1\n";
+    assert_checked(&rt, alloc, line, scene(alloc, &QUAD, &TWO, &twice)?, falling, Some(1))?;
+    let rising = "live 0 0 0 visible 0:1\nlive 0 0 1 occluded 0:2\n";
+    assert_checked(&rt, alloc, line, scene(alloc, &QUAD, &TWO, &twice)?, rising, None)
+}
+
+#[test]
+fn counts_begin_anew_in_the_next_frame(rt: HostRuntime) -> Result<(), Fail> {
+    let alloc = rt.alloc();
+    let log = "live 0 0 0 occluded 0:2\nlive 1 0 0 visible 0:0\n";
+    assert_checked(&rt, alloc, "maskcull check", two_frames(alloc)?, log, None)?;
+    let other = "live 0 0 0 occluded 0:2\nlive 0 0 0 occluded 0:2\n";
+    assert_checked(&rt, alloc, "maskcull check", two_frames(alloc)?, other, Some(1))
+}
+
+#[test]
+fn without_objects_only_the_empty_log_is_accepted(rt: HostRuntime) -> Result<(), Fail> {
+    let alloc = rt.alloc();
+    let bare = scene(alloc, &QUAD, &TWO, &[])?;
+    assert_checked(&rt, alloc, CHECK, bare, "", None)?;
+    let bare = scene(alloc, &QUAD, &TWO, &[])?;
+    assert_checked(&rt, alloc, CHECK, bare, "\n", Some(0))
+}
+
+// A screen of 40 by 12 has four tiles, the last column and row of which are cut; the third rectangle isn't on it.
+fn four_tiles(alloc: Global) -> Result<Vec<u8>, AllocError> {
+    let rectangles = [[0, 0, 40, 12, 3], [32, 8, 64, 64, 3], [40, 8, 64, 64, 3]];
+    let bytes = scene(alloc, &QUAD, &TWO, &rectangles)?;
+    Ok(changed(bytes, &[(6, 40), (8, 12)]))
+}
+
+#[test]
+fn a_line_has_a_field_for_each_tile_of_its_area(rt: HostRuntime) -> Result<(), Fail> {
+    let alloc = rt.alloc();
+    let line = "maskcull check --watch 3";
+    let rest = "live 0 0 1 occluded 3:2\nlive 0 0 2 outside\n";
+    for (first, good) in [
+        ("live 0 0 0 occluded 0:2 1:2 2:2 3:2\n", None),
+        ("live 0 0 0 visible 0:2 1:2 2:2 3:1\n", None),
+        ("live 0 0 0 occluded 0:2 1:2 2:2 3:1\n", Some(0)),
+        ("live 0 0 0 occluded 0:2 1:2 3:2\n", Some(0)),
+        ("live 0 0 0 occluded 0:2 1:2 2:2\n", Some(0)),
+        ("live 0 0 0 occluded 0:2 2:2 1:2 3:2\n", Some(0)),
+    ] {
+        let log = format!(in alloc; "{first}{rest}")?;
+        assert_checked(&rt, alloc, line, four_tiles(alloc)?, log.as_str(), good)?;
+    }
+    Ok(())
+}
+
+#[test]
+fn the_length_stands_in_front_of_the_scene(rt: HostRuntime) -> Result<(), Fail> {
+    let alloc = rt.alloc();
+    for have in 0..4usize {
+        let note = format!(in alloc; "scene refused 1 4 {have}\n")?;
+        let ended = run_with(&rt, alloc, CHECK, Vec::from_slice(alloc, &[0; 4][..have])?)?;
+        assert_ended(&rt, &ended, Status::Scene, "", note.as_str());
+    }
+    let first = first_scene(alloc)?;
+    for (number, note) in [
+        (0, "scene refused 1 32 0\n"),
+        (31, "scene refused 1 32 31\n"),
+        (178, "scene refused 9\n"),
+    ] {
+        let input = input_of(alloc, number, first.as_slice(), BOTH_OCCLUDED)?;
+        let ended = run_with(&rt, alloc, CHECK, input)?;
+        assert_ended(&rt, &ended, Status::Scene, "", note);
+    }
+    let input = input_of(alloc, 200, first.as_slice(), "")?;
+    let ended = run_with(&rt, alloc, CHECK, input)?;
+    assert_ended(&rt, &ended, Status::Log, "log refused 0\n", "");
+    Ok(())
+}
+
+// What comes of checking the log of both lines where a read of one byte fails, and a write of at most five.
+fn checked_with_fault<R: Threads + Wait + Sync>(
+    rt: &R,
+    alloc: Global,
+    read: u64,
+    write: u64,
+) -> Result<Ended, Fail> {
+    let bytes = with_log(alloc, first_scene(alloc)?, BOTH_OCCLUDED)?;
+    let mut input = BytesSource::new(bytes, 1, Vec::from_slice(alloc, &[read])?);
+    let (report, notes) = (sink(alloc, 5, write)?, sink(alloc, LARGE, NEVER)?);
+    run_over(rt, alloc, CHECK, &mut input, report, notes, &OpenGate)
+}
+
+// The length, the scene and the log have 4, 177 and 48 bytes; two reads find the end, since a buffer is filled again.
+#[test]
+fn each_read_of_a_check_that_fails_is_noted(rt: HostRuntime) -> Result<(), Fail> {
+    for call in 1..232 {
+        let ended = checked_with_fault(&rt, rt.alloc(), call, NEVER)?;
+        assert_ended(&rt, &ended, Status::ReadFault, "", "read fault\n");
+    }
+    let ended = checked_with_fault(&rt, rt.alloc(), 232, NEVER)?;
+    assert_ended(&rt, &ended, Status::Done, ACCEPTED, "");
+    Ok(())
+}
+
+#[test]
+fn each_write_of_an_answer_that_fails_leaves_its_beginning(rt: HostRuntime) -> Result<(), Fail> {
+    for (call, front) in [(1, ""), (2, "log a"), (3, "log accept")] {
+        let ended = checked_with_fault(&rt, rt.alloc(), NEVER, call)?;
+        assert_ended(&rt, &ended, Status::ReportFault, front, "report fault\n");
+    }
+    let ended = checked_with_fault(&rt, rt.alloc(), NEVER, 4)?;
+    assert_ended(&rt, &ended, Status::Done, ACCEPTED, "");
+    Ok(())
+}
+
+// Four tiles and three frames.
+fn three_frames(alloc: Global) -> Result<Vec<u8>, AllocError> {
+    let rectangles = [[0, 0, 64, 16, 3], [8, 2, 24, 6, 5], [30, 4, 64, 64, 9]];
+    let bytes = seen_from(scene(alloc, &QUAD, &TWO, &rectangles)?, 3, 1)?;
+    Ok(changed(bytes, &[(6, 64), (8, 16)]))
+}
+
+#[test]
+fn the_log_of_64_workers_is_accepted(rt: HostRuntime) -> Result<(), Fail> {
+    let alloc = rt.alloc();
+    let line = "maskcull live --workers 64 --bins-x 2 --bins-y 2 --batch 1 --rounds 8 --watch 8";
+    let live = run_with(&rt, alloc, line, three_frames(alloc)?)?;
+    assert_eq!(rt; live.status, Status::Done);
+    let line = "maskcull check --rounds 8 --watch 8";
+    assert_checked(&rt, alloc, line, three_frames(alloc)?, live.notes.as_str(), None)
+}
+
+#[test]
+fn nothing_is_left_of_an_accepted_log(rt: HostRuntime) -> Result<(), Fail> {
+    let alloc = rt.alloc();
+    let scene = scene_from(alloc, first_scene(alloc)?)?;
+    let mut log = SureSource::new(Vec::from_slice(alloc, BOTH_OCCLUDED.as_bytes())?);
+    let answer = check_log(&rt, alloc, &scene, 2, 8, &mut log).ok();
+    assert_eq!(rt; answer, Some(LogAnswer::Accepted));
+    assert_eq!(rt; fill(&mut log, &mut [0; 8]).ok(), Some(0));
+    let mut log = SureSource::new(Vec::from_slice(alloc, BOTH_OCCLUDED.as_bytes())?);
+    let answer = check_log(&rt, alloc, &scene, 1, 8, &mut log).ok();
+    assert_eq!(rt; answer, Some(LogAnswer::Refused(1)));
+    Ok(())
+}

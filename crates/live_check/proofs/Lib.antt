@@ -1,0 +1,16 @@
+pub mod Lines
+pub mod Digits
+pub mod Moves
+pub mod Small
+pub mod Texts
+pub mod Places
+pub mod Counts
+pub mod Judging
+pub mod Frames
+pub mod Rounds
+pub mod LineParts
+pub mod Words
+pub mod Stating
+pub mod Held
+pub mod Taking
+pub mod Advance

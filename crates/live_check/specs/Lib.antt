@@ -1,0 +1,6 @@
+pub mod Logs
+pub mod Waiting
+pub mod Standing
+pub mod Moving
+pub mod Fitting
+pub mod Spans
