@@ -16,6 +16,8 @@ use std::test::*;
 use std::thread::Threads;
 use tile_queues::OpenGate;
 
+const LIVE: &str = "maskcull live";
+
 // How a command of some bytes ends, and the bytes that it writes, at most so many in a write; the write of that number
 // fails.
 fn written<R: Threads + Wait + Sync>(
