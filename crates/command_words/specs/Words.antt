@@ -11,11 +11,11 @@ use Rattle.binning.specs.Cut.{cut_into}
 use Rattle.command_words.specs.App.{the_app}
 use Rattle.command_words.specs.Table.{ACommand, AnOption, Taken, commands, option_with, row_named, row_with}
 use Rattle.command_words.specs.declared.table.Command.{Command}
-use Rattle.command_words.specs.declared.table.Command.TheVariants.{Cull, Live, Demo, Picture, Bare, Check}
+use Rattle.command_words.specs.declared.table.Command.TheVariants.{Cull, Live, Demo, Check, Picture, Bare}
 use Rattle.command_words.specs.declared.settings.Settings.{Settings}
 use Rattle.command_words.specs.declared.table.CommandKind.{CommandKind}
 use Rattle.command_words.specs.declared.table.CommandKind.TheVariants as kinds
-use Rattle.command_words.specs.declared.table.TheConstants.{BATCH, BINS_X, BINS_Y, CULL, DEMO, EARLY, FRAME, LIVE, PICTURE, ROUNDS, SEED, TRIANGLES, WATCH, WORKERS, CHECK}
+use Rattle.command_words.specs.declared.table.TheConstants.{BATCH, BINS_X, BINS_Y, CHECK, CULL, DEMO, EARLY, FRAME, LIVE, PICTURE, ROUNDS, SEED, TRIANGLES, WATCH, WORKERS}
 use Rattle.command_words.specs.declared.rows.Takes.TheVariants.{Number, Nothing}
 use Rattle.command_words.specs.declared.words.Refusal.{Refusal}
 use Rattle.command_words.specs.declared.words.Refusal.TheVariants as refusals

@@ -24,7 +24,7 @@ use Rattle.live_check.specs.declared.answer.LogError.{LogError}
 use Rattle.live_check.specs.declared.answer.LogError.TheVariants as logs
 use Rattle.command_words.specs.Words.{AreWords, command_of}
 use Rattle.command_words.specs.declared.table.Command.{Command}
-use Rattle.command_words.specs.declared.table.Command.TheVariants.{Cull, Live, Demo, Picture, Check}
+use Rattle.command_words.specs.declared.table.Command.TheVariants.{Cull, Live, Demo, Check, Picture}
 use Rattle.command_words.specs.declared.table.CheckWords.{CheckWords}
 use Rattle.command_words.specs.declared.table.CullWords.{CullWords}
 use Rattle.command_words.specs.declared.table.DemoWords.{DemoWords}
@@ -35,7 +35,7 @@ use Rattle.command_words.specs.declared.words.Refusal.TheVariants as refusals
 use Rattle.demo_scene.proofs.DemoScene.{demo_is_scene}
 use Rattle.demo_scene.specs.Demo.{demo_of, frame_count}
 use Rattle.culling.specs.declared.failure.Failure.{Failure}
-use Rattle.culling.specs.declared.failure.Failure.TheVariants.{Scene, ReadFault, Memory, Frame, ReportFault, Log}
+use Rattle.culling.specs.declared.failure.Failure.TheVariants.{Scene, ReadFault, ReportFault, Memory, Log, Frame}
 use Rattle.culling.specs.declared.failure.Status.{Status}
 use Rattle.culling.specs.declared.failure.Status.TheVariants as statuses
 use Rattle.culling.specs.FrameRuns.{LeavesFrames, LeavesTexts}

@@ -18,7 +18,7 @@ use Rattle.live_check.specs.declared.answer.LogAnswer.{LogAnswer}
 use Rattle.live_check.specs.declared.answer.LogAnswer.TheVariants.{Accepted, Refused}
 use Rattle.command_words.specs.declared.table.Command.{Command}
 use Rattle.command_words.specs.declared.table.BareCommand.TheVariants.{Upgrade}
-use Rattle.command_words.specs.declared.table.Command.TheVariants.{Cull, Live, Demo, Picture, Bare, Check}
+use Rattle.command_words.specs.declared.table.Command.TheVariants.{Cull, Live, Demo, Check, Picture, Bare}
 use Rattle.command_words.specs.declared.table.CheckWords.{CheckWords}
 use Rattle.command_words.specs.declared.table.CullWords.{CullWords}
 use Rattle.command_words.specs.declared.table.DemoWords.{DemoWords}

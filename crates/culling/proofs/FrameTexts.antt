@@ -17,7 +17,7 @@ use Rattle.culling.specs.Outcome.{sink_failure, status_by, status_of}
 use Rattle.culling.specs.Outcomes.{OutcomeOf, joined, notes_at, report_of, text_alone}
 use Rattle.culling.specs.Runs.{AwaitsNote, IsCut, LeavesFront}
 use Rattle.culling.specs.declared.failure.Failure.{Failure}
-use Rattle.culling.specs.declared.failure.Failure.TheVariants.{Scene, ReadFault, ReportFault, NotesFault, Memory, Frame, Log}
+use Rattle.culling.specs.declared.failure.Failure.TheVariants.{Scene, ReadFault, ReportFault, NotesFault, Memory, Log, Frame}
 use Rattle.culling.specs.declared.failure.Status.TheVariants as statuses
 use Rattle.culling.proofs.Fronts.{all_is_front, front_of_more, front_then, nothing_appended, rose_later}
 

@@ -18,7 +18,7 @@ use Rattle.clap.specs.Words.{Text}
 use Rattle.command_words.specs.Words.{command_of}
 use Rattle.command_words.specs.declared.table.Command.{Command}
 use Rattle.command_words.specs.declared.table.BareCommand.TheVariants as bare
-use Rattle.command_words.specs.declared.table.Command.TheVariants.{Cull, Live, Demo, Picture, Bare, Check}
+use Rattle.command_words.specs.declared.table.Command.TheVariants.{Cull, Live, Demo, Check, Picture, Bare}
 use Rattle.demo_scene.specs.Demo.{demo_of}
 use Rattle.culling.specs.Notes.{missing_text, refusal_text, status_text}
 use Rattle.culling.specs.Picture.{ShowsTruly, frame_picture}

@@ -16,6 +16,8 @@ use std::test::*;
 use std::thread::Threads;
 use tile_queues::OpenGate;
 
+const LIVE: &str = "maskcull live";
+
 // How a command of some bytes ends, and the bytes that it writes, at most so many in a write; the write of that number
 // fails.
 fn written<R: Threads + Wait + Sync>(
@@ -101,7 +103,7 @@ fn each_batch_has_its_winding(rt: HostRuntime) -> Result<(), Fail> {
         (&[(0, 1), (1, 0), (0, 1), (1, 2)], OCCLUDED),
     ] {
         assert_reports(&rt, alloc, in_batches(alloc, batches)?, text)?;
-        let ended = run_with(&rt, alloc, "maskcull live", in_batches(alloc, batches)?)?;
+        let ended = run_with(&rt, alloc, LIVE, in_batches(alloc, batches)?)?;
         assert_eq!(rt; (ended.status, ended.report.as_str()), (Status::Done, text));
     }
     Ok(())
@@ -160,10 +162,14 @@ fn headers_of_version_2_are_refused_in_order(rt: HostRuntime) -> Result<(), Fail
 #[test]
 fn a_wide_scene_is_drawn_and_asked_by_its_top(rt: HostRuntime) -> Result<(), Fail> {
     let alloc = rt.alloc();
-    let behind = changed(second_scene(alloc)?, &[(13, 1)]);
-    assert_reports(&rt, alloc, behind, OCCLUDED)?;
-    let beside = changed(second_scene(alloc)?, &[(13, 1), (130, 2)]);
-    assert_reports(&rt, alloc, beside, VISIBLE)
+    for (distance, text) in [(3_u8, OCCLUDED), (2, VISIBLE)] {
+        for line in [CULL, LIVE] {
+            let bytes = changed(second_scene(alloc)?, &[(13, 1), (130, distance)]);
+            let ended = run_with(&rt, alloc, line, bytes)?;
+            assert_eq!(rt; (ended.status, ended.report.as_str()), (Status::Done, text));
+        }
+    }
+    Ok(())
 }
 
 // A rectangle at 1001 behind a quad at 1000: 66 against 65, and in the wide grade 16761 against 16777.
@@ -177,10 +183,14 @@ fn the_wide_grade_hides_what_stands_just_behind(rt: HostRuntime) -> Result<(), F
         [-1000, -1000, 1000],
     ];
     let rectangles = [[0, 0, 32, 8, 1001]];
-    let narrow = upgraded(&rt, alloc, scene(alloc, &quad, &TWO, &rectangles)?)?;
-    assert_reports(&rt, alloc, narrow, VISIBLE)?;
-    let wide = upgraded(&rt, alloc, scene(alloc, &quad, &TWO, &rectangles)?)?;
-    assert_reports(&rt, alloc, changed(wide, &[(13, 1)]), OCCLUDED)
+    for (grade, text) in [(0_u8, VISIBLE), (1, OCCLUDED)] {
+        for line in [CULL, LIVE] {
+            let made = upgraded(&rt, alloc, scene(alloc, &quad, &TWO, &rectangles)?)?;
+            let ended = run_with(&rt, alloc, line, changed(made, &[(13, grade)]))?;
+            assert_eq!(rt; (ended.status, ended.report.as_str()), (Status::Done, text));
+        }
+    }
+    Ok(())
 }
 
 // 186 bytes are 29 writes of at most seven: six of the header, and each table is written for itself.

@@ -80,6 +80,7 @@ fn a_refusal_tells_why_and_help_tells_all(rt: HostRuntime) -> Result<(), Fail> {
         ("maskcull --help", "cull"),
         ("maskcull --help", "live"),
         ("maskcull --help", "demo"),
+        ("maskcull --help", "upgrade"),
         ("maskcull --help", "--version"),
         ("maskcull --help", "6  the notes couldn't be written"),
         ("maskcull --help", "7  out of memory"),
@@ -92,6 +93,10 @@ fn a_refusal_tells_why_and_help_tells_all(rt: HostRuntime) -> Result<(), Fail> {
         ("maskcull live --help", "--early"),
         ("maskcull live --help", "TILE:COUNT"),
         ("maskcull live --help", "6  the notes couldn't be written"),
+        (
+            "maskcull upgrade --help",
+            "To make it wide set byte 13 to 1.",
+        ),
         ("maskcull demo --help", "--triangles <triangles>"),
         ("maskcull demo --help", "[default: 20000]"),
         ("maskcull demo --help", "--early"),

@@ -2,7 +2,10 @@
 use cull_base::{
     Batch, BytesSink, BytesSource, Grade, Object, SinkError, SureSink, SureSource, Tri, Winding, fill,
 };
-use scene_reader::{Scene, SceneError, SceneParts, read_part, read_scene, upgrade, write_scene};
+use scene_reader::{
+    Scene, SceneError, SceneParts, one_layout, read_part, read_scene, upgrade, upgrades_scenes,
+    write_scene,
+};
 use std::alloc::{AllocError, Global};
 use std::test::Fail;
 
@@ -496,17 +499,24 @@ fn parts_are_refused_by_their_version(rt: HostRuntime) -> Result<(), Fail> {
 
 #[test]
 fn a_refusal_reads_as_a_sentence(rt: HostRuntime) -> Result<(), Fail> {
-    let told = format!(in rt.alloc();
-        "{}",
-        SceneError::Truncated {
-            need: 177,
-            have: 176
-        }
-    )?;
-    assert_eq!(rt;
-        told.as_str(),
-        "the input has 176 bytes, and 177 are needed"
-    );
+    let cut = SceneError::Truncated {
+        need: 177,
+        have: 176,
+    };
+    for (error, sentence) in [
+        (cut, "the input has 176 bytes, and 177 are needed"),
+        (
+            SceneError::BadGrade(2),
+            "the grade is 2: it is 0 or 1, and 0 in version 1",
+        ),
+        (
+            SceneError::BadBatch(3),
+            "batch 3 has an unknown winding, or with it the batches don't have as many triangles as the scene",
+        ),
+    ] {
+        let told = format!(in rt.alloc(); "{}", error)?;
+        assert_eq!(rt; told.as_str(), sentence);
+    }
     Ok(())
 }
 
@@ -564,4 +574,10 @@ fn a_refused_header_of_a_part_is_all_that_is_taken(rt: HostRuntime) -> Result<()
         assert_eq!(rt; behind, Some(left), "byte {place} as {value}, of at most {most} bytes");
     }
     Ok(())
+}
+
+#[test]
+fn the_laws_on_layouts_are_called(rt: HostRuntime) {
+    one_layout();
+    upgrades_scenes();
 }
