@@ -9,10 +9,11 @@ ghost use Rattle.culling.specs.Picture.{frame_picture};
 ghost use Rattle.culling.specs.Runs.{AwaitsNote, Comes, streams};
 
 use crate::failure::Failure;
-use crate::frames::{clip_frame, drawn_pieces};
+use crate::frames::drawn_pieces;
 use binning::batch_size;
 use command_words::{Command, PictureWords, Settings};
 use cull_base::{ClipVertex, Sink, Source};
+use cull_report::clip_frame;
 use depth_image::write_picture;
 use scene_reader::{Scene, read_scene};
 use std::alloc::Global;
