@@ -378,8 +378,8 @@ fn alone(settings: &Settings) -> Settings
     Settings {
         workers: 1,
         cut,
-        batch: settings.batch,
         early: false,
+        ..*settings
     }
 }
 
