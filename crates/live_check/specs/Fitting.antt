@@ -54,7 +54,7 @@ lines_to s watch frame counts round object =
 
 -- ---- a round, behind lines of these counts
 
--- counts that are these but in a round, where each object has the last ones
+-- counts that are these before a round
 abbrev pub AreBefore : (ℕ → ℕ → ℕ → ℕ) → (ℕ → ℕ → ℕ → ℕ) → ℕ → Type 0
 AreBefore counts more round = (r o t : ℕ) → r < round → more r o t ≡ counts r o t
 
