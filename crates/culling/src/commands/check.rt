@@ -77,7 +77,14 @@ pub fn check<R: Threads + Wait + Sync, S: Source, W: Sink, E: Sink>(
 {
     let most = take_number(input)?;
     let scene = read_part(alloc, input, most)?;
-    let answer = check_log(rt, alloc, &scene, words.rounds as u8, words.watch as u8, input)?;
+    let answer = check_log(
+        rt,
+        alloc,
+        &scene,
+        words.rounds as u8,
+        words.watch as u8,
+        input,
+    )?;
     write_answer(report, answer)?;
     match answer {
         LogAnswer::Accepted => Ok(()),
