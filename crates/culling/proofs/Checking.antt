@@ -1,5 +1,5 @@
 -- The input of `check`: a number of four bytes, a scene, and a log.
-use Rattle.std.proofs.Common.{◌≡◌, ℕ, ◌+◌, ◌<◌, ◌++◌, List, [], length, take, drop, nat_lt, arith, sym, ap, ◌∙◌, subst, Option, Some, None, w32}
+use Rattle.std.proofs.Common.{◌≡◌, ℕ, ◌<◌, ◌++◌, List, [], length, take, drop, nat_lt, arith, sym, ap, ◌∙◌, subst, Option, Some, None, w32}
 use Rattle.std.specs.Prelude.{IfSome}
 use Rattle.std.specs.Int.{from_le_bytes}
 use Rattle.std.specs.Option.{option_map}
