@@ -20,9 +20,13 @@ use Rattle.live_check.specs.Waiting.{Came, IsBehindNumber}
 abbrev pub field_head : ℕ → List ℕ
 field_head t = 32 ∷ (decimal t ++ codes ":")
 
--- the fields of the first n tiles, as far as they stand in a span, each after a space, by their counts
+-- the fields of some tiles, each after a space, by their counts
+abbrev pub fields_by : List ℕ → (ℕ → ℕ) → List ℕ
+fields_by tiles k = counts_text (map (λ t. tile_count t (k t)) tiles)
+
+-- the fields of the first n tiles, as far as they stand in a span
 abbrev pub fields_before : Dimensions → TileSpan → ℕ → (ℕ → ℕ) → List ℕ
-fields_before size span n k = counts_text (map (λ t. tile_count t (k t)) (filter (λ t. has_tile span (tile_place size t)) (range_with_len 0 n)))
+fields_before size span n k = fields_by (filter (λ t. has_tile span (tile_place size t)) (range_with_len 0 n)) k
 
 -- the fields of all of a span's tiles
 abbrev pub fields_of : Dimensions → TileSpan → (ℕ → ℕ) → List ℕ
