@@ -1,5 +1,5 @@
 -- What a line states of tiles, and how these move forward to it.
-use Rattle.std.specs.Prelude.{ℕ, ◌≡◌, ◌+◌, ◌^◌, ◌<◌, ◌≤◌, Bool, true, ◌&&◌, nat_lt, nat_le, cond, List, ◌∷◌, ◌++◌, map, filter, codes, Option, IfSome, slice_index, slice_set}
+use Rattle.std.specs.Prelude.{ℕ, ◌≡◌, ◌+◌, ◌^◌, ◌<◌, ◌≤◌, Bool, ◌&&◌, nat_lt, nat_le, cond, List, ◌∷◌, ◌++◌, map, filter, codes, Option, IfSome, slice_index, slice_set}
 use Rattle.std.specs.Fmt.{decimal}
 use Rattle.std.specs.List.{range_with_len}
 use Rattle.cull_base.specs.declared.tile_span.TileSpan.{TileSpan}
