@@ -1,5 +1,5 @@
 -- How commands come to their outcomes.
-use Rattle.std.proofs.Common.{◌≡◌, ℕ, ◌+◌, ◌<◌, ◌≤◌, ◌++◌, Bool, cond, List, [], length, map, take, arith, refl, sym, ap, ◌∙◌, subst, inl, inr, Option, Some, None, Result, Ok, Err, ◌⊎◌, ◌∷◌}
+use Rattle.std.proofs.Common.{◌≡◌, ◌⊎◌, ℕ, ◌+◌, ◌<◌, ◌≤◌, ◌∷◌, ◌++◌, Bool, cond, List, [], length, map, take, Option, Some, None, Result, Ok, Err, arith, refl, sym, ap, ◌∙◌, subst, inl, inr}
 use Rattle.std.specs.Prelude.{IfSome, codes}
 use Rattle.std.specs.Fmt.{decimal}
 use Rattle.std.specs.List.{flat_map, range_with_len}
@@ -38,22 +38,22 @@ use Rattle.culling.specs.declared.failure.Failure.{Failure}
 use Rattle.culling.specs.declared.failure.Failure.TheVariants.{Scene, ReadFault, ReportFault, Memory, Log, Frame}
 use Rattle.culling.specs.declared.failure.Status.{Status}
 use Rattle.culling.specs.declared.failure.Status.TheVariants as statuses
+use Rattle.culling.specs.Checking.{IsNoNumber}
 use Rattle.culling.specs.FrameRuns.{LeavesFrames, LeavesTexts}
 use Rattle.culling.specs.Frames.{lines_of}
-use Rattle.culling.specs.Checking.{IsNoNumber}
 use Rattle.culling.specs.NotedLines.{CountsStay}
 use Rattle.culling.specs.Notes.{IsNotedBehind, IsNotedFirst, missing_text, note_by, note_text, refusal_text, status_text, usage_text}
-use Rattle.culling.specs.Outcome.{failure_of, refusal_status, sink_failure, status_by, status_of, log_failure}
-use Rattle.culling.specs.Outcomes.{Ends, EndsBy, EndsByScene, IsAbout, Makes, work_of, HasFault, HasScene, IfAsked, IfBytes, IsTrue, ReadsScene, OutcomeOf, joined, live_frames, note_alone, notes_at, notes_before, pictured, report_and, report_before, report_of, text_alone, MakesBy, Making, answer_alone, answer_text, scene_bytes, scene_bytes_by}
+use Rattle.culling.specs.Outcome.{failure_of, log_failure, refusal_status, sink_failure, status_by, status_of}
+use Rattle.culling.specs.Outcomes.{Ends, EndsBy, EndsByScene, HasFault, HasScene, IfAsked, IfBytes, IsAbout, IsTrue, Makes, MakesBy, Making, OutcomeOf, ReadsScene, answer_alone, answer_text, joined, live_frames, note_alone, notes_at, notes_before, pictured, report_and, report_before, report_of, scene_bytes, scene_bytes_by, text_alone, work_of}
 use Rattle.culling.specs.Picture.{frame_picture}
-use Rattle.culling.specs.Runs.{AwaitsNote, Comes, HasCause, IsComplete, IsUnasked, Leaves, Streams, WithoutFault, streams, LeavesFront}
+use Rattle.culling.specs.Runs.{AwaitsNote, Comes, HasCause, IsComplete, IsUnasked, Leaves, LeavesFront, Streams, WithoutFault, streams}
 use Rattle.culling.specs.Summary.{demo_line, frames_summary, summary_text}
 use Rattle.culling.specs.declared.frames.Beside.TheVariants.{Nothing, Looks}
 use Rattle.culling.specs.declared.frames.FrameLines.TheVariants.{Report, Summary}
 use Rattle.culling.proofs.Checking.{short_fault}
-use Rattle.culling.proofs.Fronts.{nothing_appended, rose_later}
 use Rattle.culling.proofs.FrameByFrame.{are_empty, unseen, unseen_rises}
 use Rattle.culling.proofs.FrameTexts.{as_one_text, counts_same, never_done, none_at, unwritten, whole_leaves, without_notes}
+use Rattle.culling.proofs.Fronts.{nothing_appended, rose_later}
 use Rattle.culling.proofs.OutcomeTexts.{ended_by, header_some, joined_is, live_frames_are, not_empty, summary_some}
 use Rattle.culling.proofs.ScenePieces.{all_are_pieces, lines_hide}
 use Rattle.culling.proofs.Shown.{picture_not_empty, shows_truly}

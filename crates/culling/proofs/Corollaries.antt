@@ -1,5 +1,5 @@
 -- What follows for a user of `run` from what its command comes to: each lemma has a promise by its short name.
-use Rattle.std.proofs.Common.{◌≡◌, ℕ, ◌<◌, ◌≤◌, ◌++◌, List, [], length, take, arith, refl, sym, ap, ◌∙◌, subst, inl, inr, Option, Some, None, ◌⊎◌, drop, nat_lt}
+use Rattle.std.proofs.Common.{◌≡◌, ◌⊎◌, ℕ, ◌<◌, ◌≤◌, ◌++◌, nat_lt, List, [], length, take, drop, Option, Some, None, arith, refl, sym, ap, ◌∙◌, subst, inl, inr}
 use Rattle.std.specs.Prelude.{IfSome}
 use Rattle.std.proofs.lemmas.Bool.{cases_lt, cond-false, le-ltb}
 use Rattle.std.proofs.lemmas.List.{append-nil, length-drop, length-take}
@@ -13,6 +13,7 @@ use Rattle.scene_reader.proofs.OnlyScene.{layout_one}
 use Rattle.cull_report.specs.Hiding.{HidesTruly}
 use Rattle.cull_report.specs.Live.{Counts, HidesLive, IsRising, live_text}
 use Rattle.cull_report.specs.Scene.{report_text}
+use Rattle.cull_report.proofs.Occluders.{hides_truly}
 use Rattle.live_check.specs.Logs.{AreGoodLines, IsAccepted, IsJudged}
 use Rattle.live_check.specs.declared.answer.LogAnswer.{LogAnswer}
 use Rattle.live_check.specs.declared.answer.LogAnswer.TheVariants.{Accepted, Refused}
@@ -25,17 +26,16 @@ use Rattle.command_words.specs.declared.table.DemoWords.{DemoWords}
 use Rattle.command_words.specs.declared.table.LiveWords.{LiveWords}
 use Rattle.command_words.specs.declared.table.PictureWords.{PictureWords}
 use Rattle.culling.specs.Notes.{IsNotedBehind}
-use Rattle.culling.specs.Outcomes.{Ends, EndsBy, EndsByScene, Makes, work_of, HasScene, IfBytes, OutcomeOf, ReadsScene, joined, live_frames, pictured, report_of, Making, answer_alone, answer_status, answer_text, input_fault, input_fault_by, log_bytes, scene_bytes, scene_bytes_by}
+use Rattle.culling.specs.Outcomes.{Ends, EndsBy, EndsByScene, HasScene, IfBytes, Makes, Making, OutcomeOf, ReadsScene, answer_alone, answer_status, answer_text, input_fault, input_fault_by, joined, live_frames, log_bytes, pictured, report_of, scene_bytes, scene_bytes_by, work_of}
 use Rattle.culling.specs.Picture.{ShowsTruly, frame_picture}
 use Rattle.culling.specs.Runs.{Comes, IsCut, Leaves, LeavesWhole, Streams}
 use Rattle.culling.specs.Summary.{summary_text}
 use Rattle.culling.specs.declared.failure.Status.{Status}
 use Rattle.culling.specs.declared.failure.Status.TheVariants as statuses
-use Rattle.culling.proofs.Comings.{pictured_missing, pictured_there, layout_some}
+use Rattle.culling.proofs.Comings.{layout_some, pictured_missing, pictured_there}
 use Rattle.culling.proofs.OutcomeTexts.{live_is, report_is}
 use Rattle.culling.proofs.ScenePieces.{all_are_pieces, lines_hide}
 use Rattle.culling.proofs.Shown.{shows_truly}
-use Rattle.cull_report.proofs.Occluders.{hides_truly}
 
 -- ---- by the status
 

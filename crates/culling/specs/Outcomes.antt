@@ -1,5 +1,5 @@
 -- What a command comes to: from what its input says to a status, and to what the report and the notes gain.
-use Rattle.std.specs.Prelude.{ℕ, ◌≡◌, ◌⊎◌, ◌<◌, ◌≤◌, ◌++◌, nat_lt, if◌then◌else◌, List, [], length, map, take, slice_index_or, Option, Some, None, IfSome, ◌∷◌, drop, codes}
+use Rattle.std.specs.Prelude.{ℕ, ◌≡◌, ◌⊎◌, ◌<◌, ◌≤◌, ◌∷◌, ◌++◌, nat_lt, if◌then◌else◌, List, [], length, map, take, drop, codes, slice_index_or, Option, Some, None, IfSome}
 use Rattle.std.specs.Fmt.{decimal}
 use Rattle.std.specs.List.{flat_map, range_with_len}
 use Rattle.cull_base.specs.Stream.{SourceSays}

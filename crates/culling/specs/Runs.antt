@@ -4,7 +4,7 @@ use Rattle.cull_base.specs.Stream.{SourceSays, SinkSays, Rose, Appends, AppendsP
 use Rattle.command_words.specs.declared.table.Command.{Command}
 use Rattle.culling.specs.NotedLines.{CountsStay}
 use Rattle.culling.specs.Notes.{IsNotedFirst, note_by, status_text}
-use Rattle.culling.specs.Outcomes.{IfBytes, OutcomeOf, Ends, ReadsScene, joined, notes_at, notes_before, report_before, report_of}
+use Rattle.culling.specs.Outcomes.{Ends, IfBytes, OutcomeOf, ReadsScene, joined, notes_at, notes_before, report_before, report_of}
 use Rattle.culling.specs.declared.failure.Failure.{Failure}
 use Rattle.culling.specs.declared.failure.Status.{Status}
 use Rattle.culling.specs.declared.failure.Status.TheVariants as statuses

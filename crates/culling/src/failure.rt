@@ -38,6 +38,7 @@ pub enum Failure {
     ReportFault,
     NotesFault,
     Memory,
+    /// The log that was checked is refused. The report tells how many of its lines are good.
     Log,
     /// The scene has no such frame: its number, and how many there are.
     Frame { frame: u32, frames: u32 },

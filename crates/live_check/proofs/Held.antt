@@ -5,12 +5,12 @@ use Rattle.cull_base.specs.declared.tile_span.TileSpan.{TileSpan}
 use Rattle.cull_base.specs.Screen.{Dimensions, tile_columns_of, tile_place}
 use Rattle.cull_base.specs.Span.{IsSpan, has_tile}
 use Rattle.cull_base.proofs.Places.{row_below}
-use Rattle.live_check.specs.Moving.{IsBefore}
+use Rattle.live_check.specs.Standing.{IsAmong}
 use Rattle.live_check.proofs.Stating.{no_column, no_row, past_rows, row_from}
 
 -- it holds of the span's tiles among the first n
 abbrev pub HeldBefore : (ℕ → Type 0) → Dimensions → TileSpan → ℕ → Type 0
-HeldBefore P size span n = (t : ℕ) → IsBefore size span n t → P t
+HeldBefore P size span n = (t : ℕ) → IsAmong size span n t → P t
 
 module _ (P : ℕ → Type 0) (size : Dimensions) (span : TileSpan) where
   -- a tile that isn't of the span

@@ -22,8 +22,8 @@ use Rattle.cull_report.specs.Live.{count_text, tile_count}
 use Rattle.cull_report.specs.LivePieces.{counts_text}
 use Rattle.cull_report.proofs.HeldTiles.{kept_more}
 use Rattle.cull_report.proofs.LiveSnapshots.{kept_alike}
-use Rattle.live_check.specs.Moving.{AreNotStated, AreStated, IsBefore, IsNotStatedOf, IsStatedOf, StatedTo, field_head, fields_before, fields_of}
-use Rattle.live_check.specs.Standing.{AreWhole, StaysStanding, TilesOf, count_at}
+use Rattle.live_check.specs.Moving.{AreNotStated, AreOnlyTo, AreStated, IsNotStatedOf, IsStatedOf, MayStateTo, StatedTo, field_head, fields_before, fields_of}
+use Rattle.live_check.specs.Standing.{AreWhole, IsAmong, StaysStanding, TilesOf, count_at}
 use Rattle.live_check.specs.Waiting.{Came, IsBehindNumber, NeverComes}
 use Rattle.live_check.proofs.Frames.{came_as, came_none, came_then}
 use Rattle.live_check.proofs.ByBytes.{OnlyNumber}
@@ -45,7 +45,7 @@ fields_quiet size span n k off =
     ap counts_text (kept_more (λ t. has_tile span (tile_place size t)) (λ t. tile_count t (k t)) n false off ∙ append-nil (map (λ t. tile_count t (k t)) (filter (λ t. has_tile span (tile_place size t)) (range_with_len 0 n))))
 
 -- by counts that agree
-fields_agree : (size : Dimensions) (span : TileSpan) (n : ℕ) (k m : ℕ → ℕ) → ((t : ℕ) → IsBefore size span n t → k t ≡ m t) → fields_before size span n k ≡ fields_before size span n m
+fields_agree : (size : Dimensions) (span : TileSpan) (n : ℕ) (k m : ℕ → ℕ) → ((t : ℕ) → IsAmong size span n t → k t ≡ m t) → fields_before size span n k ≡ fields_before size span n m
 fields_agree size span n k m same =
     let has : ℕ → Bool = λ t. has_tile span (tile_place size t) in
     ap counts_text (kept_alike has has (λ t. tile_count t (k t)) (λ t. tile_count t (m t)) 0 n n (omega arith) (λ t lt. refl) (λ t lt met. ap (tile_count t) (same t (lt, met))))
@@ -62,13 +62,12 @@ stated_none span tiles a whole = record {
   only = none_only a;
 }
   where
-    none_only : (o : Option (List ℕ)) → IfSome o (λ bytes. (k : ℕ → ℕ) (more : List ℕ) → ((t : ℕ) → IsBefore tiles.size span 0 t → (count_at tiles t ≤ k t) × (k t < 10 ^ 6)) → IsBehindNumber more → bytes ≡ fields_before tiles.size span 0 k ++ more
-        → (t : ℕ) → IsBefore tiles.size span 0 t → k t ≡ slice_index tiles.stated t)
+    none_only : (o : Option (List ℕ)) → AreOnlyTo span 0 tiles o (λ t. slice_index tiles.stated t)
     none_only None = tt
     none_only (Some log) = λ k more may behind e t before. absurd (omega (arith, before.0))
 
 -- a tile before the next one, which isn't of the span, stands before this one
-earlier : (size : Dimensions) (span : TileSpan) (n t : ℕ) → has_tile span (tile_place size n) ≡ false → IsBefore size span (n + 1) t → IsBefore size span n t
+earlier : (size : Dimensions) (span : TileSpan) (n t : ℕ) → has_tile span (tile_place size n) ≡ false → IsAmong size span (n + 1) t → IsAmong size span n t
 earlier size span n t off before = elim (cases_lt t n) [
   | inl lt ↦ (lt, before.1)
   | inr le ↦
@@ -76,7 +75,7 @@ earlier size span n t off before = elim (cases_lt t n) [
       let no : true ≡ false = sym before.1 ∙ ap (λ (m : ℕ). has_tile span (tile_place size m)) here ∙ off in absurd cc
 ]
 
-later : (size : Dimensions) (span : TileSpan) (n t : ℕ) → IsBefore size span n t → IsBefore size span (n + 1) t
+later : (size : Dimensions) (span : TileSpan) (n t : ℕ) → IsAmong size span n t → IsAmong size span (n + 1) t
 later size span n t before = (omega (arith, before.0), before.1)
 
 stated_quiet : (span : TileSpan) (n : ℕ) (old new : TilesOf) (a b : Option (List ℕ)) → has_tile span (tile_place old.size n) ≡ false → StatedTo span n old new a b → StatedTo span (n + 1) old new a b
@@ -90,10 +89,8 @@ stated_quiet span n old new a b off s = record {
 }
   where
     quiet : (o : Option (List ℕ))
-        → IfSome o (λ bytes. (k : ℕ → ℕ) (more : List ℕ) → ((t : ℕ) → IsBefore old.size span n t → (count_at old t ≤ k t) × (k t < 10 ^ 6)) → IsBehindNumber more → bytes ≡ fields_before old.size span n k ++ more
-        → (t : ℕ) → IsBefore old.size span n t → k t ≡ slice_index new.stated t)
-        → IfSome o (λ bytes. (k : ℕ → ℕ) (more : List ℕ) → ((t : ℕ) → IsBefore old.size span (n + 1) t → (count_at old t ≤ k t) × (k t < 10 ^ 6)) → IsBehindNumber more → bytes ≡ fields_before old.size span (n + 1) k ++ more
-        → (t : ℕ) → IsBefore old.size span (n + 1) t → k t ≡ slice_index new.stated t)
+        → AreOnlyTo span n old o (λ t. slice_index new.stated t)
+        → AreOnlyTo span (n + 1) old o (λ t. slice_index new.stated t)
     quiet None h = tt
     quiet (Some log) h = λ k more may behind e t before.
         h k more (λ u early. may u (later old.size span n u early)) behind (e ∙ ap (λ (text : List ℕ). text ++ more) (fields_quiet old.size span n k off)) t (earlier old.size span n t off before)
@@ -114,12 +111,11 @@ next_field size span n k log more has e = e ∙ ap (λ (text : List ℕ). text +
 
 module _ (span : TileSpan) (n : ℕ) (old new : TilesOf) (a b : Option (List ℕ)) (has : has_tile span (tile_place old.size n) ≡ true) (s : StatedTo span n old new a b) where
   -- where more fields come, those before them do, and the next one is in front of the rest
-  behind_them : (log rest : List ℕ) (k : ℕ → ℕ) (more : List ℕ) → a ≡ Some log → b ≡ Some rest → ((t : ℕ) → IsBefore old.size span n t → (count_at old t ≤ k t) × (k t < 10 ^ 6)) → log ≡ fields_before old.size span n k ++ (field n (k n) ++ more)
-      → ((t : ℕ) → IsBefore old.size span n t → k t ≡ slice_index new.stated t) × (rest ≡ field n (k n) ++ more)
+  behind_them : (log rest : List ℕ) (k : ℕ → ℕ) (more : List ℕ) → a ≡ Some log → b ≡ Some rest → MayStateTo span n old k → log ≡ fields_before old.size span n k ++ (field n (k n) ++ more)
+      → ((t : ℕ) → IsAmong old.size span n t → k t ≡ slice_index new.stated t) × (rest ≡ field n (k n) ++ more)
   behind_them log rest k more is_a is_b may e =
       let behind : IsBehindNumber (field n (k n) ++ more) = λ digit. omega (arith, digit.0) in
-      let only = subst (λ (o : Option (List ℕ)). IfSome o (λ bytes. (k : ℕ → ℕ) (more : List ℕ) → ((t : ℕ) → IsBefore old.size span n t → (count_at old t ≤ k t) × (k t < 10 ^ 6)) → IsBehindNumber more → bytes ≡ fields_before old.size span n k ++ more
-      → (t : ℕ) → IsBefore old.size span n t → k t ≡ slice_index new.stated t)) is_a s.only in
+      let only = subst (λ (o : Option (List ℕ)). AreOnlyTo span n old o (λ t. slice_index new.stated t)) is_a s.only in
       let same = only k (field n (k n) ++ more) may behind e in
       let text = fields_agree old.size span n k (λ t. slice_index new.stated t) same in
       let came : Came (Some log) (Some rest) (fields_before old.size span n (λ t. slice_index new.stated t)) = sym is_a ∙ s.came ∙ ap (option_map (λ (r : List ℕ). fields_before old.size span n (λ t. slice_index new.stated t) ++ r)) is_b in (
@@ -150,7 +146,7 @@ module _ (span : TileSpan) (n : ℕ) (old new : TilesOf) (a b : Option (List ℕ
       let room : n < length new.stated = omega (arith, lt, s.whole.stated, ap tile_count_of s.stays.size) in
       let here : slice_index now.stated n ≡ one.count = ap (λ (xs : List ℕ). slice_index xs n) one.kept ∙ get_or-set_same new.stated n one.count 0 room in
       let there : (t : ℕ) → (t ≡ n → ⊥) → slice_index now.stated t ≡ slice_index new.stated t = λ t other. ap (λ (xs : List ℕ). slice_index xs t) one.kept ∙ get_or-set_other new.stated n t one.count 0 other in
-      let below : (t : ℕ) → IsBefore old.size span n t → slice_index now.stated t ≡ slice_index new.stated t = λ t before. there t (λ e. omega (arith, e, before.0)) in
+      let below : (t : ℕ) → IsAmong old.size span n t → slice_index now.stated t ≡ slice_index new.stated t = λ t before. there t (λ e. omega (arith, e, before.0)) in
       record {
         stays = record { size = stays.size ∙ s.stays.size; states = stays.states ∙ s.stays.states; behind = stays.behind ∙ s.stays.behind };
         whole = whole;
@@ -169,8 +165,7 @@ module _ (span : TileSpan) (n : ℕ) (old new : TilesOf) (a b : Option (List ℕ
       }
     where
       by : (o p : Option (List ℕ)) → a ≡ o → b ≡ p → IfSome p (λ bytes. (k : ℕ) (more : List ℕ) → count_at new n ≤ k → k < 10 ^ 6 → IsBehindNumber more → bytes ≡ field n k ++ more → k ≡ one.count)
-          → IfSome o (λ bytes. (k : ℕ → ℕ) (more : List ℕ) → ((t : ℕ) → IsBefore old.size span (n + 1) t → (count_at old t ≤ k t) × (k t < 10 ^ 6)) → IsBehindNumber more → bytes ≡ fields_before old.size span (n + 1) k ++ more
-          → (t : ℕ) → IsBefore old.size span (n + 1) t → k t ≡ slice_index now.stated t)
+          → AreOnlyTo span (n + 1) old o (λ t. slice_index now.stated t)
       by None p is_a is_b h = tt
       by (Some log) None is_a is_b h = let none : ◌≡◌ {A = Option (List ℕ)} (Some log) None = sym is_a ∙ s.came ∙ ap (option_map (λ (r : List ℕ). fields_before old.size span n (λ t. slice_index new.stated t) ++ r)) is_b in absurd cc
       by (Some log) (Some rest) is_a is_b h = λ k more may behind e t before.

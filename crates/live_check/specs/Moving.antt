@@ -1,5 +1,5 @@
 -- What a line states of tiles, and how these move forward to it.
-use Rattle.std.specs.Prelude.{ℕ, ◌≡◌, ◌+◌, ◌^◌, ◌<◌, ◌≤◌, Bool, true, ◌&&◌, nat_lt, nat_le, cond, List, ◌∷◌, ◌++◌, map, filter, codes, Option, IfSome, slice_index, slice_set}
+use Rattle.std.specs.Prelude.{ℕ, ◌≡◌, ◌+◌, ◌^◌, ◌<◌, ◌≤◌, Bool, ◌&&◌, nat_lt, nat_le, cond, List, ◌∷◌, ◌++◌, map, filter, codes, Option, IfSome, slice_index, slice_set}
 use Rattle.std.specs.Fmt.{decimal}
 use Rattle.std.specs.List.{range_with_len}
 use Rattle.cull_base.specs.declared.tile_span.TileSpan.{TileSpan}
@@ -11,7 +11,7 @@ use Rattle.masked_update.specs.Taken.{taken_by}
 use Rattle.masked_update.specs.TileOf.{tile_at}
 use Rattle.cull_report.specs.Live.{count_text, tile_count}
 use Rattle.cull_report.specs.LivePieces.{counts_text}
-use Rattle.live_check.specs.Standing.{AreWhole, IsIn, StaysStanding, TilesOf, count_at}
+use Rattle.live_check.specs.Standing.{AreWhole, IsAmong, IsIn, StaysStanding, TilesOf, count_at}
 use Rattle.live_check.specs.Waiting.{Came, IsBehindNumber}
 
 -- ---- what a line states
@@ -20,22 +20,34 @@ use Rattle.live_check.specs.Waiting.{Came, IsBehindNumber}
 abbrev pub field_head : ℕ → List ℕ
 field_head t = 32 ∷ (decimal t ++ codes ":")
 
--- the tiles of a span, rising
-abbrev pub tiles_of : Dimensions → TileSpan → List ℕ
-tiles_of size span = filter (λ t. has_tile span (tile_place size t)) (range_with_len 0 (tile_count_of size))
+-- the fields of some tiles, each after a space, by their counts
+abbrev pub fields_by : List ℕ → (ℕ → ℕ) → List ℕ
+fields_by tiles k = counts_text (map (λ t. tile_count t (k t)) tiles)
 
--- their fields, each after a space, by their counts
+-- the fields of the first n tiles, as far as they stand in a span
+abbrev pub fields_before : Dimensions → TileSpan → ℕ → (ℕ → ℕ) → List ℕ
+fields_before size span n k = fields_by (filter (λ t. has_tile span (tile_place size t)) (range_with_len 0 n)) k
+
+-- the fields of all of a span's tiles
 abbrev pub fields_of : Dimensions → TileSpan → (ℕ → ℕ) → List ℕ
-fields_of size span k = counts_text (map (λ t. tile_count t (k t)) (tiles_of size span))
+fields_of size span k = fields_before size span (tile_count_of size) k
 
--- counts that a span's tiles may state: none is below the tile's own, and each has six digits at most
+-- counts that a span's tiles among the first n may state: none is below the tile's own, and each has six digits at most
+abbrev pub MayStateTo : TileSpan → ℕ → TilesOf → (ℕ → ℕ) → Type 0
+MayStateTo span n tiles k = (t : ℕ) → IsAmong tiles.size span n t → (count_at tiles t ≤ k t) × (k t < 10 ^ 6)
+
+-- counts that all of a span's tiles may state
 abbrev pub MayState : TilesOf → TileSpan → (ℕ → ℕ) → Type 0
-MayState tiles span k = (t : ℕ) → IsIn tiles span t → (count_at tiles t ≤ k t) × (k t < 10 ^ 6)
+MayState tiles span k = MayStateTo span (tile_count_of tiles.size) tiles k
 
--- no others of its tiles came that may stand there
+-- no others of a span's tiles among the first n came that may stand there
+abbrev pub AreOnlyTo : TileSpan → ℕ → TilesOf → Option (List ℕ) → (ℕ → ℕ) → Type 0
+AreOnlyTo span n old before stated =
+    IfSome before (λ bytes. (k : ℕ → ℕ) (more : List ℕ) → MayStateTo span n old k → IsBehindNumber more → bytes ≡ fields_before old.size span n k ++ more → (t : ℕ) → IsAmong old.size span n t → k t ≡ stated t)
+
+-- nor of all of its tiles
 abbrev pub AreOnly : TileSpan → TilesOf → Option (List ℕ) → (ℕ → ℕ) → Type 0
-AreOnly span old before stated =
-    IfSome before (λ bytes. (k : ℕ → ℕ) (more : List ℕ) → MayState old span k → IsBehindNumber more → bytes ≡ fields_of old.size span k ++ more → (t : ℕ) → IsIn old span t → k t ≡ stated t)
+AreOnly span old before stated = AreOnlyTo span (tile_count_of old.size) old before stated
 
 -- the fields of a span's tiles came, and their counts are kept
 pub record AreStated (span : TileSpan) (old new : TilesOf) (before after : Option (List ℕ)) : Type 0 where
@@ -44,23 +56,14 @@ pub record AreStated (span : TileSpan) (old new : TilesOf) (before after : Optio
   pub came : Came before after (fields_of old.size span (λ t. slice_index new.stated t))
   pub only : AreOnly span old before (λ t. slice_index new.stated t)
 
--- the fields of the first n tiles, as far as they stand in a span
-abbrev pub fields_before : Dimensions → TileSpan → ℕ → (ℕ → ℕ) → List ℕ
-fields_before size span n k = counts_text (map (λ t. tile_count t (k t)) (filter (λ t. has_tile span (tile_place size t)) (range_with_len 0 n)))
-
--- a tile of a span that is one of the first n
-abbrev pub IsBefore : Dimensions → TileSpan → ℕ → ℕ → Type 0
-IsBefore size span n t = (t < n) × (has_tile span (tile_place size t) ≡ true)
-
 -- the fields of the first n tiles came, as far as they stand in the span
 pub record StatedTo (span : TileSpan) (n : ℕ) (old new : TilesOf) (before after : Option (List ℕ)) : Type 0 where
   pub stays : StaysStanding old new
   pub whole : AreWhole new
-  pub may : (t : ℕ) → IsBefore old.size span n t → (count_at old t ≤ slice_index new.stated t) × (slice_index new.stated t < 10 ^ 6)
-  pub others : (t : ℕ) → (IsBefore old.size span n t → ⊥) → slice_index new.stated t ≡ slice_index old.stated t
+  pub may : MayStateTo span n old (λ t. slice_index new.stated t)
+  pub others : (t : ℕ) → (IsAmong old.size span n t → ⊥) → slice_index new.stated t ≡ slice_index old.stated t
   pub came : Came before after (fields_before old.size span n (λ t. slice_index new.stated t))
-  pub only : IfSome before (λ bytes. (k : ℕ → ℕ) (more : List ℕ) → ((t : ℕ) → IsBefore old.size span n t → (count_at old t ≤ k t) × (k t < 10 ^ 6)) → IsBehindNumber more → bytes ≡ fields_before old.size span n k ++ more
-      → (t : ℕ) → IsBefore old.size span n t → k t ≡ slice_index new.stated t)
+  pub only : AreOnlyTo span n old before (λ t. slice_index new.stated t)
 
 -- no such fields come, whatever counts they might state
 abbrev pub AreNotStated : TileSpan → TilesOf → Option (List ℕ) → Type 0

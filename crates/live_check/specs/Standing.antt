@@ -38,9 +38,13 @@ pub record AreStanding (list : PieceList) (tiles : TilesOf) : Type 0 where
 abbrev pub count_at : TilesOf → ℕ → ℕ
 count_at tiles t = (tile_at tiles.states t).count
 
+-- a tile of a span that is one of the screen's first n
+abbrev pub IsAmong : Dimensions → TileSpan → ℕ → ℕ → Type 0
+IsAmong size span n t = (t < n) × (has_tile span (tile_place size t) ≡ true)
+
 -- a tile of a span
 abbrev pub IsIn : TilesOf → TileSpan → ℕ → Type 0
-IsIn tiles span t = (t < tile_count_of tiles.size) × (has_tile span (tile_place tiles.size t) ≡ true)
+IsIn tiles span t = IsAmong tiles.size span (tile_count_of tiles.size) t
 
 -- the states and the places are as they were
 pub record StaysStanding (old new : TilesOf) : Type 0 where

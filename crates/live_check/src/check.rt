@@ -8,9 +8,11 @@ ghost use Rattle.live_check.specs.Waiting.{Fails, waiting};
 
 use crate::answer::{LogAnswer, LogError};
 use crate::frame::{Plan, takes_frame};
+use crate::line::Laid;
 use crate::tiles::Tiles;
 use crate::unread::Unread;
 use cull_base::{ClipVertex, Failed, Memory, Source};
+use cull_report::{clip_frame, pieces_of};
 use scene_reader::Scene;
 use std::alloc::Global;
 use std::sync::Wait;
@@ -42,7 +44,8 @@ fn answer_at_end<S: Source>(
     }
 }
 
-// Takes the lines of all frames, and tells how many came before the first that didn't, if there is one.
+// Takes the lines of all frames, and tells how many came before the first that didn't, if there is one. A frame's clip
+// vertices and its list are made when its turn comes.
 fn takes_frames<R: Threads + Wait + Sync, S: Source>(
     rt: &R,
     alloc: Global,
@@ -66,8 +69,15 @@ fn takes_frames<R: Threads + Wait + Sync, S: Source>(
     let lines = u64::from(plan.rounds * plan.objects);
     for number in 0..scene.cameras().len() as u32 {
         let clips = clips.as_mut_slice();
-        let stop = takes_frame(rt, alloc, plan, number, clips, &mut tiles, unread, log)?;
-        if let Some(good) = stop {
+        clip_frame(rt, scene, number, clips);
+        let list = pieces_of(rt, alloc, scene, number, clips, 1)?;
+        let frame = Laid {
+            scene,
+            number,
+            clips,
+            list: &list,
+        };
+        if let Some(good) = takes_frame(&frame, plan, &mut tiles, unread, log)? {
             return Ok(Some(lines * u64::from(number) + u64::from(good)));
         }
     }

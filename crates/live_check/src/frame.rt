@@ -1,7 +1,6 @@
 //! The lines of a frame: round after round, and in a round object after object.
-ghost use Rattle.std.specs.Prelude.{◌≡◌, ℕ, ◌<◌, ◌≤◌, None, length, IfOk, IfSome, IsErrOf};
+ghost use Rattle.std.specs.Prelude.{◌≡◌, ℕ, ◌<◌, ◌≤◌, None, length, IfOk, IfSome};
 ghost use Rattle.cull_base.specs.Screen.{tile_count_of};
-ghost use Rattle.cull_base.specs.Stream.{Rose};
 ghost use Rattle.cull_report.specs.Live.{watched};
 ghost use Rattle.cull_report.specs.Scene.{frame_clips, size_of};
 ghost use Rattle.live_check.specs.Fitting.{AreLast, FrameComes, FrameStops, IsRisingTo, RoundComes, RoundStops};
@@ -9,16 +8,12 @@ ghost use Rattle.live_check.specs.Spans.{AreSpans};
 ghost use Rattle.live_check.specs.Standing.{AreStanding, count_at};
 ghost use Rattle.live_check.specs.Waiting.{Fails, waiting};
 
-use crate::answer::LogError;
 use crate::line::{Laid, takes_line};
 use crate::tiles::Tiles;
 use crate::unread::Unread;
 use cull_base::{ClipVertex, Failed, Source, TileSpan};
-use cull_report::{clip_frame, object_area, pieces_of};
+use cull_report::object_area;
 use scene_reader::Scene;
-use std::alloc::Global;
-use std::sync::Wait;
-use std::thread::Threads;
 
 /// How many objects are watched at most.
 pub const MOST_WATCHED: usize = 8;
@@ -102,7 +97,8 @@ fn takes_round<S: Source>(
     Ok(None)
 }
 
-// Takes the lines of a frame that is laid out, and tells how many came before the first that didn't, if there is one.
+// Takes the lines of a frame into tiles of which none took a member, and tells how many came before the first that
+// didn't, if there is one.
 fn takes_rounds<S: Source>(
     frame: &Laid,
     plan: &Plan,
@@ -133,44 +129,28 @@ fn takes_rounds<S: Source>(
     Ok(None)
 }
 
-/// Takes the lines of a frame, and tells how many came before the first that didn't, if there is one. Its clip
-/// vertices, its list and the areas of the watched objects are made here. Conditions: there is such a frame, there is a
-/// place for each vertex, and the tiles are those of the scene's screen.
-pub fn takes_frame<R: Threads + Wait + Sync, S: Source>(
-    rt: &R,
-    alloc: Global,
+/// Takes the lines of a frame that is laid out, and tells how many came before the first that didn't, if there is one.
+/// Conditions: the frame is one of the plan's scene, and the tiles are those of its screen.
+pub fn takes_frame<S: Source>(
+    frame: &Laid,
     plan: &Plan,
-    number: u32,
-    clips: &mut [ClipVertex],
     tiles: &mut Tiles,
     unread: &mut Unread,
     log: &mut S,
-) -> Result<Option<u32>, LogError>
-    requires frame { number < length plan.now.scene.now.cameras }
-    requires places { length clips.old ≡ length plan.now.scene.now.vertices }
-    requires size { tiles.old.size ≡ size_of plan.now.scene.now }
-    ensures comes { (watch : ℕ) → plan.now.objects ≡ watched plan.now.scene.now watch
-        → IfOk result (λ o. o ≡ None → FrameComes plan.now.scene.now plan.now.rounds watch number
+) -> Result<Option<u32>, Failed>
+    requires scene { frame.now.scene.now ≡ plan.now.scene.now }
+    requires size { tiles.old.size ≡ size_of frame.now.scene.now }
+    ensures comes { (watch : ℕ) → plan.now.objects ≡ watched frame.now.scene.now watch
+        → IfOk result (λ o. o ≡ None → FrameComes frame.now.scene.now plan.now.rounds watch frame.now.number
         (waiting unread.old (S.says log.old).left) (waiting unread.new (S.says log.new).left)) }
-    ensures stops { (watch : ℕ) → plan.now.objects ≡ watched plan.now.scene.now watch
-        → IfOk result (λ o. IfSome o (λ n. FrameStops plan.now.scene.now plan.now.rounds watch number
+    ensures stops { (watch : ℕ) → plan.now.objects ≡ watched frame.now.scene.now watch
+        → IfOk result (λ o. IfSome o (λ n. FrameStops frame.now.scene.now plan.now.rounds watch frame.now.number
         (waiting unread.old (S.says log.old).left) n)) }
     ensures few { IfOk result (λ o. IfSome o (λ n. n < 64)) }
-    ensures places { length clips.new ≡ length clips.old }
     ensures size { IfOk result (λ o. o ≡ None → tiles.new.size ≡ tiles.old.size) }
-    ensures read { IsErrOf result LogError.Read → Rose (S.says log.old).faults (S.says log.new).faults }
-    ensures faults_stay { (S.says log.old).faults ≤ (S.says log.new).faults }
+    ensures fails { Fails (S.says log.old) (S.says log.new) result }
 {
-    let scene = plan.scene;
-    clip_frame(rt, scene, number, clips);
-    let list = pieces_of(rt, alloc, scene, number, clips, 1)?;
-    let spans = spans_of(scene, number, clips, plan.objects);
-    tiles.empty(&list);
-    let frame = Laid {
-        scene,
-        number,
-        clips,
-        list: &list,
-    };
-    Ok(takes_rounds(&frame, plan, &spans, tiles, unread, log)?)
+    let spans = spans_of(frame.scene, frame.number, frame.clips, plan.objects);
+    tiles.empty(frame.list);
+    takes_rounds(frame, plan, &spans, tiles, unread, log)
 }

@@ -4,7 +4,8 @@ ghost use Rattle.std.specs.Prelude.{◌≤◌};
 use crate::tests::frame_tools::scene_from;
 use crate::tests::runs::{Ended, LARGE, NEVER, assert_ended, run_over, run_with, sink};
 use crate::tests::scenes::{
-    OCCLUDED, QUAD, TWO, WHOLE, changed, first_scene, in_batches, scene, seen_from, two_frames,
+    OCCLUDED, QUAD, TWO, WHOLE, changed, first_scene, scene, second_scene, seen_from, two_frames,
+    wide_scene,
 };
 use cull_base::{BytesSource, SureSource, fill};
 use culling::Status;
@@ -123,12 +124,10 @@ fn logs_that_it_may_not(rt: HostRuntime) -> Result<(), Fail> {
 #[test]
 fn a_scene_of_version_2_is_read_too(rt: HostRuntime) -> Result<(), Fail> {
     let alloc = rt.alloc();
-    let second = in_batches(alloc, &[(2, 0)])?;
-    assert_checked(&rt, alloc, CHECK, second, BOTH_OCCLUDED, None)?;
-    let wide = changed(in_batches(alloc, &[(2, 0)])?, &[(13, 1)]);
-    assert_checked(&rt, alloc, CHECK, wide, BOTH_OCCLUDED, None)?;
+    assert_checked(&rt, alloc, CHECK, second_scene(alloc)?, BOTH_OCCLUDED, None)?;
+    assert_checked(&rt, alloc, CHECK, wide_scene(alloc)?, BOTH_OCCLUDED, None)?;
     // three bytes of its header are left out
-    let input = input_of(alloc, 33, in_batches(alloc, &[(2, 0)])?.as_slice(), "")?;
+    let input = input_of(alloc, 33, second_scene(alloc)?.as_slice(), "")?;
     let ended = run_with(&rt, alloc, CHECK, input)?;
     assert_ended(&rt, &ended, Status::Scene, "", "scene refused 1 36 33\n");
     Ok(())

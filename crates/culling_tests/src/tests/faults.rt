@@ -3,9 +3,10 @@ ghost use Rattle.std.specs.Prelude.{◌≤◌};
 
 use crate::tests::runs::{
     CULL, Ended, LARGE, NEVER, PICTURE, UPGRADE, assert_ended, run_over, run_with, sink,
+    written_with_fault,
 };
 use crate::tests::scenes::{
-    OCCLUDED, QUAD, TWO, changed, first_bytes, first_scene, in_batches, scene, seen_from,
+    OCCLUDED, QUAD, TWO, changed, first_bytes, first_scene, scene, second_scene, seen_from,
 };
 use cull_base::BytesSource;
 use culling::Status;
@@ -27,22 +28,6 @@ fn read_with_fault<R: Threads + Wait + Sync>(
     let fails = Vec::from_slice(alloc, &[call])?;
     let mut input = BytesSource::new(bytes, 1, fails);
     let (report, notes) = (sink(alloc, LARGE, NEVER)?, sink(alloc, LARGE, NEVER)?);
-    run_over(rt, alloc, line, &mut input, report, notes, &OpenGate)
-}
-
-// What comes of a command line over a scene's bytes where a write of at most so many bytes fails.
-fn written_with_fault<R: Threads + Wait + Sync>(
-    rt: &R,
-    alloc: Global,
-    line: &str,
-    bytes: Vec<u8>,
-    most: usize,
-    call: u64,
-) -> Result<Ended, Fail>
-    requires { 1 ≤ most }
-{
-    let mut input = BytesSource::new(bytes, 4096, Vec::new(alloc));
-    let (report, notes) = (sink(alloc, most, call)?, sink(alloc, LARGE, NEVER)?);
     run_over(rt, alloc, line, &mut input, report, notes, &OpenGate)
 }
 
@@ -95,11 +80,11 @@ fn each_read_of_version_2_that_fails_is_noted(rt: HostRuntime) -> Result<(), Fai
     let alloc = rt.alloc();
     for call in 1..188 {
         for line in [CULL, UPGRADE, PICTURE] {
-            let ended = read_with_fault(&rt, alloc, line, in_batches(alloc, &[(2, 0)])?, call)?;
+            let ended = read_with_fault(&rt, alloc, line, second_scene(alloc)?, call)?;
             assert_ended(&rt, &ended, Status::ReadFault, "", "read fault\n");
         }
     }
-    let last = read_with_fault(&rt, alloc, CULL, in_batches(alloc, &[(2, 0)])?, 188)?;
+    let last = read_with_fault(&rt, alloc, CULL, second_scene(alloc)?, 188)?;
     assert_ended(&rt, &last, Status::Done, OCCLUDED, "");
     Ok(())
 }

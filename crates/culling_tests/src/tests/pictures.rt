@@ -1,10 +1,12 @@
 //! Pictures of the depths: the bound at each pixel, as a grey map.
 ghost use Rattle.std.specs.Prelude.{◌≤◌};
 
-use crate::tests::runs::{LARGE, NEVER, PICTURE, sink, words_of};
-use crate::tests::scenes::{QUAD, TWO, changed, first_scene, in_batches, scene, two_frames};
+use crate::tests::runs::{
+    LARGE, NEVER, PICTURE, assert_ended, run_over, run_with, sink, written_with_fault,
+};
+use crate::tests::scenes::{QUAD, TWO, changed, first_scene, scene, two_frames, wide_scene};
 use cull_base::{BytesSource, SureSink};
-use culling::{Status, run};
+use culling::Status;
 use demo_scene::demo_scene;
 use scene_reader::write_scene;
 use std::alloc::{AllocError, Global};
@@ -19,54 +21,27 @@ const HALF: &str = "32767\n";
 
 const NONE: &str = "0\n";
 
-// How a command line over a scene's bytes ends, and what it writes: its text, at most so many bytes in a write, of
-// which the one of that number fails; and what it notes.
-fn written<R: Threads + Wait + Sync>(
+// A command line writes this picture of a scene's bytes.
+fn assert_shows<R: Threads + Wait + Sync + Abort>(
     rt: &R,
     alloc: Global,
     line: &str,
     bytes: Vec<u8>,
-    most: usize,
-    call: u64,
-) -> Result<(Status, Vec<u8>, Vec<u8>), Fail>
-    requires { 1 ≤ most }
-{
-    let words = words_of(alloc, line)?;
-    let mut input = BytesSource::new(bytes, 4096, Vec::new(alloc));
-    let (mut report, mut notes) = (sink(alloc, most, call)?, sink(alloc, LARGE, NEVER)?);
-    let status = run(
-        rt,
-        alloc,
-        &words,
-        &mut input,
-        &mut report,
-        &mut notes,
-        &OpenGate,
-    );
-    let text = Vec::from_slice(alloc, report.held())?;
-    Ok((status, text, Vec::from_slice(alloc, notes.held())?))
-}
-
-// The picture that a command line makes of some bytes.
-fn shown<R: Threads + Wait + Sync + Abort>(
-    rt: &R,
-    alloc: Global,
-    line: &str,
-    bytes: Vec<u8>,
-) -> Result<Vec<u8>, Fail> {
-    let (status, text, notes) = written(rt, alloc, line, bytes, LARGE, NEVER)?;
-    assert_eq!(rt; (status, notes.len()), (Status::Done, 0));
-    Ok(text)
+    shown: &str,
+) -> Result<(), Fail> {
+    let ended = run_with(rt, alloc, line, bytes)?;
+    assert_ended(rt, &ended, Status::Done, shown, "");
+    Ok(())
 }
 
 // A picture of this size, in runs of lines that are the same: how many, and the line.
-fn picture(alloc: Global, size: &str, runs: &[(usize, &str)]) -> Result<Vec<u8>, AllocError> {
-    let mut text = Vec::from_slice(alloc, b"P2\n")?;
-    text.extend_from_slice(size.as_bytes())?;
-    text.extend_from_slice(b"\n65535\n")?;
+fn picture(alloc: Global, size: &str, runs: &[(usize, &str)]) -> Result<String, AllocError> {
+    let mut text = String::from_str(alloc, "P2\n")?;
+    text.push_str(size)?;
+    text.push_str("\n65535\n")?;
     for (count, line) in runs {
         for _ in 0..*count {
-            text.extend_from_slice(line.as_bytes())?;
+            text.push_str(*line)?;
         }
     }
     Ok(text)
@@ -78,7 +53,7 @@ fn below_a_diagonal(
     size: &str,
     width: usize,
     zeros: &[usize],
-) -> Result<Vec<u8>, AllocError> {
+) -> Result<String, AllocError> {
     let mut runs = Vec::new(alloc);
     for count in zeros {
         runs.push((*count, NONE))?;
@@ -90,38 +65,26 @@ fn below_a_diagonal(
 #[test]
 fn the_first_scene_has_one_number(rt: HostRuntime) -> Result<(), Fail> {
     let alloc = rt.alloc();
-    let text = shown(&rt, alloc, PICTURE, first_scene(alloc)?)?;
-    assert_eq!(rt; text.len(), 1550);
-    assert_eq!(rt;
-        text.as_slice(),
-        picture(alloc, "32 8", &[(256, HALF)])?.as_slice()
-    );
-    Ok(())
+    let whole = picture(alloc, "32 8", &[(256, HALF)])?;
+    assert_eq!(rt; whole.len(), 1550);
+    assert_shows(&rt, alloc, PICTURE, first_scene(alloc)?, whole.as_str())
 }
 
 // Its bounds are 8388607 then, and 256 times 32767 is 8388352.
 #[test]
 fn its_wide_form_has_the_same_picture(rt: HostRuntime) -> Result<(), Fail> {
     let alloc = rt.alloc();
-    let wide = changed(in_batches(alloc, &[(2, 0)])?, &[(13, 1)]);
-    let text = shown(&rt, alloc, PICTURE, wide)?;
-    assert_eq!(rt;
-        text.as_slice(),
-        picture(alloc, "32 8", &[(256, HALF)])?.as_slice()
-    );
-    Ok(())
+    let whole = picture(alloc, "32 8", &[(256, HALF)])?;
+    assert_shows(&rt, alloc, PICTURE, wide_scene(alloc)?, whole.as_str())
 }
 
 #[test]
 fn nothing_is_known_where_nothing_is_drawn(rt: HostRuntime) -> Result<(), Fail> {
     let alloc = rt.alloc();
-    let text = shown(&rt, alloc, PICTURE, scene(alloc, &[], &[], &[])?)?;
-    assert_eq!(rt; text.len(), 526);
-    assert_eq!(rt;
-        text.as_slice(),
-        picture(alloc, "32 8", &[(256, NONE)])?.as_slice()
-    );
-    Ok(())
+    let empty = picture(alloc, "32 8", &[(256, NONE)])?;
+    assert_eq!(rt; empty.len(), 526);
+    let bytes = scene(alloc, &[], &[], &[])?;
+    assert_shows(&rt, alloc, PICTURE, bytes, empty.as_str())
 }
 
 #[test]
@@ -137,9 +100,9 @@ fn a_frame_that_is_not_there_is_told(rt: HostRuntime) -> Result<(), Fail> {
         } else {
             two_frames(alloc)?
         };
-        let (status, text, notes) = written(&rt, alloc, line, bytes, LARGE, NEVER)?;
-        assert_eq!(rt; (status, status.code(), text.len()), (Status::Frame, 10, 0));
-        assert_eq!(rt; notes.as_slice(), note.as_bytes());
+        let ended = run_with(&rt, alloc, line, bytes)?;
+        assert_ended(&rt, &ended, Status::Frame, "", note);
+        assert_eq!(rt; ended.status.code(), 10);
     }
     Ok(())
 }
@@ -148,20 +111,11 @@ fn a_frame_that_is_not_there_is_told(rt: HostRuntime) -> Result<(), Fail> {
 #[test]
 fn a_frame_that_is_not_there_and_a_note_that_fails(rt: HostRuntime) -> Result<(), Fail> {
     let alloc = rt.alloc();
-    let words = words_of(alloc, "maskcull picture --frame 1")?;
     let mut input = BytesSource::new(first_scene(alloc)?, 7, Vec::new(alloc));
-    let (mut report, mut notes) = (sink(alloc, LARGE, NEVER)?, sink(alloc, LARGE, 1)?);
-    let status = run(
-        &rt,
-        alloc,
-        &words,
-        &mut input,
-        &mut report,
-        &mut notes,
-        &OpenGate,
-    );
-    assert_eq!(rt; status, Status::Frame);
-    assert_eq!(rt; (report.held().len(), notes.held().len()), (0, 0));
+    let (report, notes) = (sink(alloc, LARGE, NEVER)?, sink(alloc, LARGE, 1)?);
+    let line = "maskcull picture --frame 1";
+    let ended = run_over(&rt, alloc, line, &mut input, report, notes, &OpenGate)?;
+    assert_ended(&rt, &ended, Status::Frame, "", "");
     Ok(())
 }
 
@@ -170,16 +124,8 @@ fn a_frame_that_is_not_there_and_a_note_that_fails(rt: HostRuntime) -> Result<()
 fn a_refused_scene_is_told_before_a_missing_frame(rt: HostRuntime) -> Result<(), Fail> {
     let alloc = rt.alloc();
     let bytes = changed(first_scene(alloc)?, &[(100, 4)]);
-    let (status, text, notes) = written(
-        &rt,
-        alloc,
-        "maskcull picture --frame 9",
-        bytes,
-        LARGE,
-        NEVER,
-    )?;
-    assert_eq!(rt; (status, text.len()), (Status::Scene, 0));
-    assert_eq!(rt; notes.as_slice(), b"scene refused 11 0 1\n".as_slice());
+    let ended = run_with(&rt, alloc, "maskcull picture --frame 9", bytes)?;
+    assert_ended(&rt, &ended, Status::Scene, "", "scene refused 11 0 1\n");
     Ok(())
 }
 
@@ -187,14 +133,8 @@ fn a_refused_scene_is_told_before_a_missing_frame(rt: HostRuntime) -> Result<(),
 #[test]
 fn a_frame_is_seen_through_its_camera(rt: HostRuntime) -> Result<(), Fail> {
     let alloc = rt.alloc();
-    let (near, far) = (HALF, "16383\n");
-    let first = shown(&rt, alloc, "maskcull picture --frame 0", two_frames(alloc)?)?;
-    assert_eq!(rt;
-        first.as_slice(),
-        picture(alloc, "32 8", &[(256, near)])?.as_slice()
-    );
-    let second = shown(&rt, alloc, "maskcull picture --frame 1", two_frames(alloc)?)?;
-    let runs = [
+    let far = "16383\n";
+    let second = [
         (72, NONE),
         (16, far),
         (16, NONE),
@@ -205,10 +145,13 @@ fn a_frame_is_seen_through_its_camera(rt: HostRuntime) -> Result<(), Fail> {
         (16, far),
         (72, NONE),
     ];
-    assert_eq!(rt;
-        second.as_slice(),
-        picture(alloc, "32 8", &runs)?.as_slice()
-    );
+    for (line, runs) in [
+        ("maskcull picture --frame 0", [(256, HALF)].as_slice()),
+        ("maskcull picture --frame 1", second.as_slice()),
+    ] {
+        let shown = picture(alloc, "32 8", runs)?;
+        assert_shows(&rt, alloc, line, two_frames(alloc)?, shown.as_str())?;
+    }
     Ok(())
 }
 
@@ -217,29 +160,20 @@ fn a_frame_is_seen_through_its_camera(rt: HostRuntime) -> Result<(), Fail> {
 #[test]
 fn a_working_layer_shows_at_its_own_samples(rt: HostRuntime) -> Result<(), Fail> {
     let alloc = rt.alloc();
+    let below = below_a_diagonal(alloc, "32 8", 32, &[2, 6, 10, 14, 18, 22, 26, 30])?;
+    assert_eq!(rt; below.as_bytes().get(14..20), Some(b"0\n0\n32".as_slice()));
     let bytes = scene(alloc, &QUAD, &TWO[..1], &[])?;
-    let text = shown(&rt, alloc, PICTURE, bytes)?;
-    let zeros = [2, 6, 10, 14, 18, 22, 26, 30];
-    assert_eq!(rt;
-        text.as_slice(),
-        below_a_diagonal(alloc, "32 8", 32, &zeros)?.as_slice()
-    );
-    assert_eq!(rt; text.get(14..20), Some(b"0\n0\n32".as_slice()));
-    Ok(())
+    assert_shows(&rt, alloc, PICTURE, bytes, below.as_str())
 }
 
 // Here it covers those above (20y + 7) / 6.
 #[test]
 fn a_screen_whose_last_tiles_are_cut(rt: HostRuntime) -> Result<(), Fail> {
     let alloc = rt.alloc();
-    let bytes = changed(scene(alloc, &QUAD, &TWO[..1], &[])?, &[(6, 40), (8, 12)]);
-    let text = shown(&rt, alloc, PICTURE, bytes)?;
     let zeros = [2, 5, 8, 12, 15, 18, 22, 25, 28, 32, 35, 38];
-    assert_eq!(rt;
-        text.as_slice(),
-        below_a_diagonal(alloc, "40 12", 40, &zeros)?.as_slice()
-    );
-    Ok(())
+    let below = below_a_diagonal(alloc, "40 12", 40, &zeros)?;
+    let bytes = changed(scene(alloc, &QUAD, &TWO[..1], &[])?, &[(6, 40), (8, 12)]);
+    assert_shows(&rt, alloc, PICTURE, bytes, below.as_str())
 }
 
 // 205 bytes, written one by one.
@@ -247,19 +181,19 @@ fn a_screen_whose_last_tiles_are_cut(rt: HostRuntime) -> Result<(), Fail> {
 fn each_write_of_a_picture_that_fails_leaves_a_front(rt: HostRuntime) -> Result<(), Fail> {
     let alloc = rt.alloc();
     let whole = picture(alloc, "8 4", &[(32, HALF)])?;
-    for call in 1..206 {
+    for call in 1..207 {
         let bytes = changed(first_scene(alloc)?, &[(6, 8), (8, 4)]);
-        let (status, front, _) = written(&rt, alloc, PICTURE, bytes, 1, call)?;
-        assert_eq!(rt;
-            (status, front.len() as u64),
-            (Status::ReportFault, call - 1)
-        );
-        assert!(rt; whole.as_slice().starts_with(&front));
+        let ended = written_with_fault(&rt, alloc, PICTURE, bytes, 1, call)?;
+        let (status, notes) = if call < 206 {
+            (Status::ReportFault, "report fault\n")
+        } else {
+            (Status::Done, "")
+        };
+        let front = ended.report.as_str();
+        assert_ended(&rt, &ended, status, front, notes);
+        assert_eq!(rt; front.len() as u64, call - 1);
+        assert!(rt; whole.as_str().starts_with(front));
     }
-    let bytes = changed(first_scene(alloc)?, &[(6, 8), (8, 4)]);
-    let (status, made, _) = written(&rt, alloc, PICTURE, bytes, 1, 206)?;
-    assert_eq!(rt; status, Status::Done);
-    assert_eq!(rt; made.as_slice(), whole.as_slice());
     Ok(())
 }
 
@@ -280,19 +214,21 @@ fn demo_bytes(alloc: Global, triangles: u32) -> Result<Vec<u8>, Fail>
 #[test]
 fn workers_bins_and_batches_change_no_picture(rt: HostRuntime) -> Result<(), Fail> {
     let alloc = rt.alloc();
-    let first = shown(
-        &rt,
-        alloc,
-        "maskcull picture --frame 3",
-        demo_bytes(alloc, 300)?,
-    )?;
+    let line = "maskcull picture --frame 3";
+    let first = run_with(&rt, alloc, line, demo_bytes(alloc, 300)?)?;
+    assert_eq!(rt; first.status, Status::Done);
     for line in [
         "maskcull picture --frame 3 --workers 8",
         "maskcull picture --workers 8 --bins-x 8 --bins-y 8 --batch 1 --frame 3",
         "maskcull picture --bins-x 8 --bins-y=8 --batch=1 --frame=3",
     ] {
-        let other = shown(&rt, alloc, line, demo_bytes(alloc, 300)?)?;
-        assert!(rt; other.as_slice() == first.as_slice());
+        assert_shows(
+            &rt,
+            alloc,
+            line,
+            demo_bytes(alloc, 300)?,
+            first.report.as_str(),
+        )?;
     }
     Ok(())
 }
@@ -306,9 +242,9 @@ fn a_picture_has_no_flag(rt: HostRuntime) -> Result<(), Fail> {
         "maskcull picture --frame -1",
         "maskcull cull --frame 0",
     ] {
-        let (status, text, notes) = written(&rt, alloc, line, first_scene(alloc)?, LARGE, NEVER)?;
-        assert_eq!(rt; (status, text.len()), (Status::Usage, 0));
-        assert!(rt; notes.as_slice().starts_with(b"usage refused\n"));
+        let ended = run_with(&rt, alloc, line, first_scene(alloc)?)?;
+        assert_eq!(rt; (ended.status, ended.report.as_str()), (Status::Usage, ""));
+        assert!(rt; ended.notes.as_str().starts_with("usage refused\n"));
     }
     Ok(())
 }

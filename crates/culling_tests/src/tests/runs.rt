@@ -101,6 +101,22 @@ pub fn run_with<R: Threads + Wait + Sync>(
     run_gated(rt, alloc, line, bytes, &OpenGate)
 }
 
+/// What comes of a command line over a scene's bytes where a write to the report of at most so many bytes fails.
+pub fn written_with_fault<R: Threads + Wait + Sync>(
+    rt: &R,
+    alloc: Global,
+    line: &str,
+    bytes: Vec<u8>,
+    most: usize,
+    call: u64,
+) -> Result<Ended, Fail>
+    requires { 1 ≤ most }
+{
+    let mut input = BytesSource::new(bytes, 4096, Vec::new(alloc));
+    let (report, notes) = (sink(alloc, most, call)?, sink(alloc, LARGE, NEVER)?);
+    run_over(rt, alloc, line, &mut input, report, notes, &OpenGate)
+}
+
 /// A run ended with a status and left these texts.
 pub fn assert_ended<R: Abort>(rt: &R, ended: &Ended, status: Status, report: &str, notes: &str) {
     assert_eq!(rt; ended.notes.as_str(), notes);

@@ -98,6 +98,16 @@ pub fn in_batches(alloc: Global, batches: &[(u32, u8)]) -> Result<Vec<u8>, Alloc
     Ok(bytes)
 }
 
+/// The first scene in version 2, with one batch.
+pub fn second_scene(alloc: Global) -> Result<Vec<u8>, AllocError> {
+    in_batches(alloc, &[(2, 0)])
+}
+
+/// The same in the wide grade.
+pub fn wide_scene(alloc: Global) -> Result<Vec<u8>, AllocError> {
+    Ok(changed(second_scene(alloc)?, &[(13, 1)]))
+}
+
 /// The first so many bytes of the first scene, all where it has no more.
 pub fn first_bytes(alloc: Global, count: usize) -> Result<Vec<u8>, AllocError> {
     Vec::from_slice(alloc, &FIRST[..count.min(FIRST.len())])

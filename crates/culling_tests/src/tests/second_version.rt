@@ -5,7 +5,8 @@ use crate::tests::runs::{
     CULL, LARGE, NEVER, UPGRADE, assert_ended, assert_reports, run_with, sink, words_of,
 };
 use crate::tests::scenes::{
-    OCCLUDED, TWO, UNDRAWN, VISIBLE, changed, first_scene, in_batches, scene,
+    OCCLUDED, TWO, UNDRAWN, VISIBLE, changed, first_scene, in_batches, scene, second_scene,
+    wide_scene,
 };
 use cull_base::BytesSource;
 use culling::{Status, run};
@@ -56,11 +57,6 @@ fn upgraded<R: Threads + Wait + Sync + Abort>(
     Ok(made)
 }
 
-// The first scene in version 2, with one batch.
-fn second_scene(alloc: Global) -> Result<Vec<u8>, AllocError> {
-    in_batches(alloc, &[(2, 0)])
-}
-
 #[test]
 fn the_first_scene_is_upgraded(rt: HostRuntime) -> Result<(), Fail> {
     let alloc = rt.alloc();
@@ -82,9 +78,8 @@ fn a_scene_without_triangles_is_upgraded(rt: HostRuntime) -> Result<(), Fail> {
         Some([1, 0, 0, 0, 0, 0, 0, 0, 0].as_slice())
     );
     assert_reports(&rt, alloc, second, UNDRAWN)?;
-    let wide = changed(second_scene(alloc)?, &[(13, 1)]);
-    let again = upgraded(&rt, alloc, changed(second_scene(alloc)?, &[(13, 1)]))?;
-    assert_eq!(rt; again.as_slice(), wide.as_slice());
+    let again = upgraded(&rt, alloc, wide_scene(alloc)?)?;
+    assert_eq!(rt; again.as_slice(), wide_scene(alloc)?.as_slice());
     Ok(())
 }
 
@@ -164,7 +159,7 @@ fn a_wide_scene_is_drawn_and_asked_by_its_top(rt: HostRuntime) -> Result<(), Fai
     let alloc = rt.alloc();
     for (distance, text) in [(3_u8, OCCLUDED), (2, VISIBLE)] {
         for line in [CULL, LIVE] {
-            let bytes = changed(second_scene(alloc)?, &[(13, 1), (130, distance)]);
+            let bytes = changed(wide_scene(alloc)?, &[(130, distance)]);
             let ended = run_with(&rt, alloc, line, bytes)?;
             assert_eq!(rt; (ended.status, ended.report.as_str()), (Status::Done, text));
         }
