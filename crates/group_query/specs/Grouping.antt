@@ -43,3 +43,10 @@ pub record AreBegun (place : ℕ) (groups : List Group) (count : ℕ) : Type 0 w
   pub within : count ≤ length groups
   pub before : (k : ℕ) (d : Group) → k < count → (slice_index_or groups k d).first < place
   pub behind : (k : ℕ) (d : Group) → count ≤ k → k < length groups → place ≤ (slice_index_or groups k d).first
+
+-- at least so many begin before a place, and at most so many
+pub record AreBegunBetween (place : ℕ) (groups : List Group) (least greatest : ℕ) : Type 0 where
+  pub ordered : least ≤ greatest
+  pub within : greatest ≤ length groups
+  pub before : (k : ℕ) (d : Group) → k < least → (slice_index_or groups k d).first < place
+  pub behind : (k : ℕ) (d : Group) → greatest ≤ k → k < length groups → place ≤ (slice_index_or groups k d).first
