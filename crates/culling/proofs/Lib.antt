@@ -7,6 +7,7 @@ pub mod Shown
 pub mod Shares
 pub mod Fronts
 pub mod OutcomeTexts
+pub mod GroupLines
 pub mod FrameTexts
 pub mod FrameByFrame
 pub mod Checking

@@ -2,16 +2,19 @@
 ghost use Rattle.std.specs.Prelude.{◌≡◌, ◌<◌, ◌≤◌, ◌-◌, [], length, IfOk};
 ghost use Rattle.cull_report.specs.Scene.{frame_clips, frame_pieces, frame_verdicts, scene_header};
 ghost use Rattle.culling.specs.FrameRuns.{LeavesFrames};
-ghost use Rattle.culling.specs.Frames.{AreSeen};
+ghost use Rattle.culling.specs.Frames.{AreCounted, AreSeen};
+ghost use Rattle.culling.specs.NotedLines.{NotesLines};
+ghost use Rattle.group_query.specs.Text.{group_line};
 ghost use Rattle.culling.specs.declared.frames.Beside.TheVariants.{Nothing};
 
 use crate::drawing::{Drawing, Plan, draw_plainly};
 use crate::failure::Failure;
-use crate::frames::{Asking, Beside, write_lines};
+use crate::frames::{Asking, Beside, Frame, groups_beside, write_lines};
 use crate::live_frame::{Seen, draw_live, note_lines};
 use crate::window::{report_windows, round_count};
-use cull_base::{ClipVertex, Memory, Sink};
+use cull_base::{ClipVertex, Memory, Sink, SinkError};
 use cull_report::clip_frame;
+use group_query::group_line;
 use scene_reader::Scene;
 use std::alloc::Global;
 use std::sync::Wait;
@@ -21,8 +24,32 @@ use tile_queues::{BinTable, Gate};
 /// In bytes, above half of what a frame takes at any time.
 const LARGE: usize = 0x100_0000;
 
-// Draws a frame and tests the objects, by workers as the settings ask. Where there are looks the frame is drawn through
-// cells, which the caller reads meanwhile. So it is where objects are settled meanwhile, and then nothing is looked at.
+// Draws a frame without looks at it and tests the objects, by workers as the settings ask. Where objects are settled
+// meanwhile it is drawn through cells, which the caller reads.
+fn draw_unseen<R: Threads + Wait + Sync, G: Gate>(
+    drawing: &Drawing<R, G>,
+    frame: u32,
+    clips: &[ClipVertex],
+) -> Result<Seen, Memory>
+    requires frame { frame < length drawing.now.scene.now.cameras }
+    requires clips { clips.now ≡ frame_clips drawing.now.scene.now frame }
+    ensures pieces { IfOk result (λ f. f.frame.pieces ≡ length (frame_pieces drawing.now.scene.now frame)) }
+    ensures verdicts { IfOk result (λ f. f.frame.verdicts ≡ frame_verdicts drawing.now.scene.now frame) }
+    ensures counted { IfOk result
+        (λ f. AreCounted drawing.now.scene.now frame drawing.now.groups.now f.frame.hidden f.frame.members) }
+{
+    let settings = drawing.plan.settings;
+    if settings.early {
+        return draw_live(drawing, 0, 0, frame, clips);
+    }
+    let frame = draw_plainly(drawing, Asking::Workers(settings.workers), frame, clips)?;
+    Ok(Seen {
+        frame,
+        lines: Vec::new(drawing.alloc),
+    })
+}
+
+// The same, where there are looks with these: then the frame is drawn through cells too.
 fn draw<R: Threads + Wait + Sync, G: Gate>(
     drawing: &Drawing<R, G>,
     frame: u32,
@@ -32,21 +59,31 @@ fn draw<R: Threads + Wait + Sync, G: Gate>(
     requires clips { clips.now ≡ frame_clips drawing.now.scene.now frame }
     ensures pieces { IfOk result (λ f. f.frame.pieces ≡ length (frame_pieces drawing.now.scene.now frame)) }
     ensures verdicts { IfOk result (λ f. f.frame.verdicts ≡ frame_verdicts drawing.now.scene.now frame) }
+    ensures counted { IfOk result
+        (λ f. AreCounted drawing.now.scene.now frame drawing.now.groups.now f.frame.hidden f.frame.members) }
     ensures seen { IfOk result (λ f. AreSeen drawing.now.plan.now.beside drawing.now.scene.now frame f.lines.items) }
 {
-    let settings = drawing.plan.settings;
     match drawing.plan.beside {
         Beside::Looks { rounds, watch } => draw_live(drawing, rounds, watch, frame, clips),
-        Beside::Nothing => {
-            if settings.early {
-                return draw_live(drawing, 0, 0, frame, clips);
-            }
-            let frame = draw_plainly(drawing, Asking::Workers(settings.workers), frame, clips)?;
-            Ok(Seen {
-                frame,
-                lines: Vec::new(drawing.alloc),
-            })
-        }
+        Beside::Groups { .. } => draw_unseen(drawing, frame, clips),
+        Beside::Nothing => draw_unseen(drawing, frame, clips),
+    }
+}
+
+// Notes the line of a frame's groups, of so many. NotesFault where that fails, and Memory where the sink is out of it.
+fn note_groups<E: Sink>(
+    notes: &mut E,
+    frame: u32,
+    groups: usize,
+    drawn: &Frame,
+) -> Result<(), Failure>
+    ensures { NotesLines (E.says notes.old) (E.says notes.new) result
+        (group_line frame groups drawn.now.hidden drawn.now.members) }
+{
+    match group_line(frame, groups, drawn.hidden, drawn.members).write_to(notes) {
+        Ok(()) => Ok(()),
+        Err(SinkError::Failed) => Err(Failure::NotesFault),
+        Err(SinkError::Memory) => Err(Failure::Memory),
     }
 }
 
@@ -70,6 +107,7 @@ fn report_frame<R: Threads + Wait + Sync, W: Sink, E: Sink, G: Gate>(
     write_lines(report, drawing.plan.lines, frame, &seen.frame)?;
     match drawing.plan.beside {
         Beside::Looks { .. } => note_lines(notes, &seen.lines),
+        Beside::Groups { .. } => note_groups(notes, frame, drawing.groups.len(), &seen.frame),
         Beside::Nothing => Ok(()),
     }
 }
@@ -127,12 +165,14 @@ pub fn report_frames<R: Threads + Wait + Sync, W: Sink, E: Sink, G: Gate>(
 {
     keep_freed_memory(alloc)?;
     let table = BinTable::of(alloc, scene.size(), &plan.settings.cut)?;
+    let groups = groups_beside(alloc, plan.beside, scene)?;
     let drawing = Drawing {
         rt,
         alloc,
         plan,
         table: &table,
         scene,
+        groups: groups.as_slice(),
         gate,
     };
     // an accessor tells what is held of a scene

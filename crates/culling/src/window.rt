@@ -14,6 +14,7 @@ use binning::Cut;
 use camera_path::Camera;
 use command_words::Settings;
 use cull_base::{ClipVertex, Memory, Sink};
+use group_query::Group;
 use scene_reader::Scene;
 use side_by_side::for_each_share;
 use std::alloc::Global;
@@ -61,14 +62,14 @@ fn frame_size(scene: &Scene) -> u64 {
         .saturating_add(REST)
 }
 
-/// How many frames each worker has of a scene's windows. None where a worker is alone, where a frame is looked at or
-/// objects are settled while it is drawn, and where a frame for each worker would take too much memory.
+/// How many frames each worker has of a scene's windows. None where a worker is alone, where something is noted of a frame
+/// or objects are settled while it is drawn, and where a frame for each worker would take too much memory.
 pub fn round_count(plan: &Plan, scene: &Scene) -> u32
     ensures within { result * plan.now.settings.now.workers ≤ length scene.now.cameras }
     ensures quiet { (plan.now.beside ≡ Nothing → ⊥) → result ≡ 0 }
 {
     let workers = plan.settings.workers;
-    if workers < 2 || plan.settings.early || matches!(plan.beside, Beside::Looks { .. }) {
+    if workers < 2 || plan.settings.early || !matches!(plan.beside, Beside::Nothing) {
         return 0;
     }
     if frame_size(scene).saturating_mul(u64::from(workers)) > MOST {
@@ -416,12 +417,14 @@ pub fn report_windows<R: Threads + Wait + Sync, W: Sink, G: Gate>(
         beside: Beside::Nothing,
     };
     let table = BinTable::of(alloc, scene.size(), &settings.cut)?;
+    let none: Vec<Group> = Vec::new(alloc);
     let in_slot = Drawing {
         rt: drawing.rt,
         alloc,
         plan: &plan,
         table: &table,
         scene,
+        groups: none.as_slice(),
         gate: drawing.gate,
     };
     let asking = asking_for(plan.lines, workers);

@@ -6,3 +6,4 @@ pub mod FormHulls
 pub mod HiddenHulls
 pub mod Totals
 pub mod Answered
+pub mod CountsAlike

@@ -1,13 +1,15 @@
-use Rattle.std.proofs.Common.{ℕ, List, [], sym, subst, Ok, Err}
+use Rattle.std.proofs.Common.{◌≡◌, ℕ, List, [], sym, ap, ◌∙◌, subst, Ok, Err}
 use Rattle.std.proofs.lemmas.Result.{err_from_is_err_and}
 use Rattle.cull_base.specs.Stream.{Appends, Writes}
 use Rattle.std.specs.List.{flat_map}
 use Rattle.cull_report.specs.Live.{LiveLineOf, text_of_line}
 use Rattle.culling.specs.FrameRuns.{LeavesFrames}
 use Rattle.culling.specs.NotedLines.{NotesLines}
-use Rattle.culling.specs.Frames.{AreSeen}
+use Rattle.group_query.specs.Grouping.{groups_of}
+use Rattle.culling.specs.Frames.{AreSeen, groups_beside}
 use Rattle.culling.specs.declared.frames.Beside.{Beside}
-use Rattle.culling.proofs.FrameByFrame.{frame_unwritten, frame_written, frames_no_memory, lines_are, looks_noted}
+use Rattle.culling.proofs.FrameByFrame.{frame_unwritten, frame_written, frames_no_memory, groups_noted, lines_are, looks_noted}
+use Rattle.culling.proofs.GroupLines.{line_is}
 use Rattle.culling.proofs.frame_by_frame.report_frame.Goals as goal
 
 pub returns-in_err-seen-clause-reported : goal.returns-in_err-seen-clause-reported
@@ -34,6 +36,21 @@ returns-clause-reported g c =
     let is = lines_are plan.lines s c.args.frame seen.pieces seen.verdicts c.in_ok-seen.ensures.pieces c.in_ok-seen.ensures.verdicts in
     subst (λ (beside : Beside). LeavesFrames [] plan.lines beside s c.args.frame 1 (Ok tt) r0 r1 n n) (sym c.in-Nothing.is)
     (frame_written plan.lines s c.args.frame tt r0 r1 n (subst (Appends r0 r1) is c.in_ok-write_lines.ensures.ok) c.write_lines.ensures.faults_stay)
+
+pub returns-in-Groups-clause-reported : goal.returns-in-Groups-clause-reported
+returns-in-Groups-clause-reported g c =
+    let drawing = c.args.drawing.now in
+    let s = drawing.scene.now in let plan = drawing.plan.now in
+    let r0 = g.W.Sink.says c.args.report.now in let r1 = g.W.Sink.says c.write_lines.new.report in
+    let n0 = g.E.Sink.says c.args.notes.now in let n1 = g.E.Sink.says c.note_groups.new.notes in
+    let seen = c.in_ok-seen.seen.frame in
+    let most = c.in-Groups.most in
+    let is = lines_are plan.lines s c.args.frame seen.pieces seen.verdicts c.in_ok-seen.ensures.pieces c.in_ok-seen.ensures.verdicts in
+    let groups : drawing.groups.now ≡ groups_of s most = drawing.are_groups ∙ ap (λ (beside : Beside). groups_beside beside s) c.in-Groups.is in
+    let line = line_is s c.args.frame most seen.hidden seen.members drawing.groups.now groups c.in_ok-seen.ensures.counted in
+    subst (λ (beside : Beside). LeavesFrames [] plan.lines beside s c.args.frame 1 c.note_groups.result r0 r1 n0 n1) (sym c.in-Groups.is)
+    (groups_noted plan.lines s most c.args.frame c.note_groups.result r0 r1 n0 n1 (subst (Appends r0 r1) is c.in_ok-write_lines.ensures.ok) c.write_lines.ensures.faults_stay
+    (subst (NotesLines n0 n1 c.note_groups.result) line c.note_groups.ensures))
 
 pub returns-in-Looks-clause-reported : goal.returns-in-Looks-clause-reported
 returns-in-Looks-clause-reported g c =

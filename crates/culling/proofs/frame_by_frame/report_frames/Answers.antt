@@ -1,4 +1,4 @@
-use Rattle.std.proofs.Common.{◌≡◌, ℕ, [], ◌*◌, ◌-◌, ◌+◌, length, arith, ap, Ok, Err}
+use Rattle.std.proofs.Common.{◌≡◌, ℕ, [], ◌*◌, ◌-◌, ◌+◌, length, arith, ap, ◌∙◌, Ok, Err}
 use Rattle.std.proofs.lemmas.Result.{err_from_is_err_and}
 use Rattle.culling.specs.declared.frames.Beside.TheVariants.{Nothing}
 use Rattle.culling.proofs.FrameByFrame.{front_of_frames, frames_no_memory, windows_beside, written, wrote_then}
@@ -15,6 +15,15 @@ returns-in_err-table-clause-reported g c =
     let s = c.args.scene.now in let plan = c.args.plan.now in
     let p = err_from_is_err_and c.from_residual-in_err-table.result c.from_residual-in_err-table.ensures.1 in
     rw (p.1, p.2) (frames_no_memory [] plan.lines plan.beside s 0 (length s.cameras) (g.W.Sink.says c.args.report.now) (g.E.Sink.says c.args.notes.now))
+
+pub returns-in_err-groups-clause-reported : goal.returns-in_err-groups-clause-reported
+returns-in_err-groups-clause-reported g c =
+    let s = c.args.scene.now in let plan = c.args.plan.now in
+    let p = err_from_is_err_and c.from_residual-in_err-groups.result c.from_residual-in_err-groups.ensures.1 in
+    rw (p.1, p.2) (frames_no_memory [] plan.lines plan.beside s 0 (length s.cameras) (g.W.Sink.says c.args.report.now) (g.E.Sink.says c.args.notes.now))
+
+pub invariant_of-drawing-clause-are_groups : goal.invariant_of-drawing-clause-are_groups
+invariant_of-drawing-clause-are_groups g c = c.as_slice.ensures.value ∙ c.in_ok-groups.ensures
 
 pub returns-in_err-report_windows-clause-reported : goal.returns-in_err-report_windows-clause-reported
 returns-in_err-report_windows-clause-reported g c =

@@ -1,6 +1,6 @@
 use Rattle.std.proofs.Common.{◌≡◌, ℕ, ◌+◌, ◌<◌, ◌≤◌, None, length, arith, refl, ap, ◌∙◌, subst, length-set}
 use Rattle.cull_base.specs.declared.scene_types.Object.TheVariants.{Mesh}
-use Rattle.tile_cells.proofs.Lists.{set_each}
+use Rattle.cull_base.proofs.Lists.{set_each}
 use Rattle.cull_report.specs.Forms.{shape_of_form}
 use Rattle.cull_report.specs.Scene.{size_of}
 use Rattle.cull_report.specs.declared.form.Form.{Form}
