@@ -44,7 +44,8 @@ fn first_hull(alloc: Global, scene: &Scene, most: u32) -> Result<Option<Hull>, F
     let Some(group) = list.first() else {
         return Err(Fail::from("a group"));
     };
-    if scene.cameras().is_empty() || group.first + group.count > scene.objects().len() as u32 {
+    let end = u64::from(group.first) + u64::from(group.count);
+    if scene.cameras().is_empty() || end > scene.objects().len() as u64 {
         return Err(Fail::from("a group of the scene's first frame"));
     }
     Ok(hull(scene, 0, *group))

@@ -164,6 +164,16 @@ fn tiles_of_the_area_in_order(rt: HostRuntime) -> Result<(), Fail> {
 
 // A scene of one tile without vertices, with one frame and these objects.
 fn scene_of(alloc: Global, objects: Vec<Object>, grade: Grade) -> Result<Scene, Fail> {
+    scene_through(alloc, objects, grade, [0; 12])
+}
+
+// The same through a camera.
+fn scene_through(
+    alloc: Global,
+    objects: Vec<Object>,
+    grade: Grade,
+    camera: [i32; 12],
+) -> Result<Scene, Fail> {
     let none = Batch {
         count: 0,
         winding: Winding::DropCounter,
@@ -179,7 +189,7 @@ fn scene_of(alloc: Global, objects: Vec<Object>, grade: Grade) -> Result<Scene, 
         batches: Vec::from_slice(alloc, &[none])?,
         object_tris: Vec::new(alloc),
         objects,
-        cameras: Vec::from_slice(alloc, &[[0; 12]])?,
+        cameras: Vec::from_slice(alloc, &[camera])?,
     };
     Ok(Scene::new(parts).ok().ok_or("a scene")?)
 }
@@ -323,9 +333,13 @@ fn groups_of_two_over_a_tile(rt: HostRuntime) -> Result<(), Fail> {
     let tile = TileState::of([sub; 8], 2);
     let mut objects = Vec::new(rt.alloc());
     for z in [3, 4, 3, 2, 2, 3] {
-        objects.push(Object::Block { low: [-1, -1, z], high: [1, 1, 6] })?;
+        objects.push(Object::Block {
+            low: [-1, -1, z],
+            high: [1, 1, 6],
+        })?;
     }
-    let scene = scene_of(rt.alloc(), objects, Grade::Narrow)?;
+    let camera = [65536, 0, 0, 0, 0, 65536, 0, 0, 0, 0, 65536, 0];
+    let scene = scene_through(rt.alloc(), objects, Grade::Narrow, camera)?;
     let report = report_by_groups(rt.alloc(), &scene, tile)?;
     assert_eq!(rt; (report.hidden(), report.members()), (1, 2));
     let (hidden, shown) = (Verdict::Occluded, Verdict::Visible);
