@@ -287,20 +287,3 @@ groups_noted lines s most frame result r0 r1 n0 n1 reported stays notes =
       rising = unseen_rises (Groups most) s;
       texts = frame_noted (lines_of lines s frame) (frame_groups s most frame) result r0 r1 n0 n1 reported stays notes;
     }
-
--- ---- windows
-
--- no windows, or nothing to note: the frames of windows are those of any plan
-pub windows_beside : {lines : FrameLines} {s : Parts} {count : ℕ} {r0 r1 n0 n1 : SinkSays} (beside : Beside) (r : Result (Unit {0}) Failure) → ((beside ≡ Nothing → ⊥) → count ≡ 0)
-    → LeavesFrames [] lines Nothing s 0 count r r0 r1 n0 n1 → LeavesFrames [] lines beside s 0 count r r0 r1 n0 n1
-windows_beside Nothing r none l = l
-windows_beside {lines} {s} {count} {r0} {r1} {n0} {n1} (Looks rounds watch) r none l =
-    let zero_count = none (λ is. absurd cc) in
-    let l0 = subst (λ n. LeavesFrames [] lines Nothing s 0 n r r0 r1 n0 n1) zero_count l in
-    let made : LeavesFrames [] lines (Looks rounds watch) s 0 0 r r0 r1 n0 n1 = record { counts = unseen; rising = unseen_rises (Looks rounds watch) s; texts = l0.texts } in
-    subst (λ n. LeavesFrames [] lines (Looks rounds watch) s 0 n r r0 r1 n0 n1) (sym zero_count) made
-windows_beside {lines} {s} {count} {r0} {r1} {n0} {n1} (Groups most) r none l =
-    let zero_count = none (λ is. absurd cc) in
-    let l0 = subst (λ n. LeavesFrames [] lines Nothing s 0 n r r0 r1 n0 n1) zero_count l in
-    let made : LeavesFrames [] lines (Groups most) s 0 0 r r0 r1 n0 n1 = record { counts = unseen; rising = unseen_rises (Groups most) s; texts = l0.texts } in
-    subst (λ n. LeavesFrames [] lines (Groups most) s 0 n r r0 r1 n0 n1) (sym zero_count) made

@@ -10,6 +10,7 @@ pub mod OutcomeTexts
 pub mod GroupLines
 pub mod FrameTexts
 pub mod FrameByFrame
+pub mod WindowBeside
 pub mod Checking
 pub mod Comings
 pub mod Corollaries

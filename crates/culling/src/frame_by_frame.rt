@@ -3,18 +3,16 @@ ghost use Rattle.std.specs.Prelude.{◌≡◌, ◌<◌, ◌≤◌, ◌-◌, [], 
 ghost use Rattle.cull_report.specs.Scene.{frame_clips, frame_pieces, frame_verdicts, scene_header};
 ghost use Rattle.culling.specs.FrameRuns.{LeavesFrames};
 ghost use Rattle.culling.specs.Frames.{AreCounted, AreSeen};
-ghost use Rattle.culling.specs.NotedLines.{NotesLines};
-ghost use Rattle.group_query.specs.Text.{group_line};
 ghost use Rattle.culling.specs.declared.frames.Beside.TheVariants.{Nothing};
 
 use crate::drawing::{Drawing, Plan, draw_plainly};
 use crate::failure::Failure;
-use crate::frames::{Asking, Beside, Frame, groups_beside, write_lines};
-use crate::live_frame::{Seen, draw_live, note_lines};
+use crate::frames::{Asking, Beside, groups_beside};
+use crate::live_frame::{Seen, draw_live};
+use crate::noting::write_and_note;
 use crate::window::{report_windows, round_count};
-use cull_base::{ClipVertex, Memory, Sink, SinkError};
+use cull_base::{ClipVertex, Memory, Sink};
 use cull_report::clip_frame;
-use group_query::group_line;
 use scene_reader::Scene;
 use std::alloc::Global;
 use std::sync::Wait;
@@ -70,23 +68,6 @@ fn draw<R: Threads + Wait + Sync, G: Gate>(
     }
 }
 
-// Notes the line of a frame's groups, of so many. NotesFault where that fails, and Memory where the sink is out of it.
-fn note_groups<E: Sink>(
-    notes: &mut E,
-    frame: u32,
-    groups: usize,
-    drawn: &Frame,
-) -> Result<(), Failure>
-    ensures { NotesLines (E.says notes.old) (E.says notes.new) result
-        (group_line frame groups drawn.now.hidden drawn.now.members) }
-{
-    match group_line(frame, groups, drawn.hidden, drawn.members).write_to(notes) {
-        Ok(()) => Ok(()),
-        Err(SinkError::Failed) => Err(Failure::NotesFault),
-        Err(SinkError::Memory) => Err(Failure::Memory),
-    }
-}
-
 // Draws a frame, writes its lines, and then notes what is noted beside.
 fn report_frame<R: Threads + Wait + Sync, W: Sink, E: Sink, G: Gate>(
     drawing: &Drawing<R, G>,
@@ -104,12 +85,8 @@ fn report_frame<R: Threads + Wait + Sync, W: Sink, E: Sink, G: Gate>(
 {
     clip_frame(drawing.rt, drawing.scene, frame, clips);
     let seen = draw(drawing, frame, clips)?;
-    write_lines(report, drawing.plan.lines, frame, &seen.frame)?;
-    match drawing.plan.beside {
-        Beside::Looks { .. } => note_lines(notes, &seen.lines),
-        Beside::Groups { .. } => note_groups(notes, frame, drawing.groups.len(), &seen.frame),
-        Beside::Nothing => Ok(()),
-    }
+    let lines = seen.lines.as_slice();
+    write_and_note(drawing, frame, &seen.frame, lines, report, notes)
 }
 
 // Draws the frames from a first on, one after the other, each by all workers, and writes and notes the lines of each
@@ -148,7 +125,7 @@ fn keep_freed_memory(alloc: Global) -> Result<(), Memory> {
 }
 
 /// Draws all frames, writes their lines in order and notes what is noted beside: first windows of frames side by side,
-/// where nothing is noted and the scene has as many frames as there are workers, and then what is left, frame after
+/// where there are no looks and the scene has as many frames as there are workers, and then what is left, frame after
 /// frame.
 pub fn report_frames<R: Threads + Wait + Sync, W: Sink, E: Sink, G: Gate>(
     rt: &R,
@@ -178,6 +155,6 @@ pub fn report_frames<R: Threads + Wait + Sync, W: Sink, E: Sink, G: Gate>(
     // an accessor tells what is held of a scene
     let _frames = scene.cameras().len();
     let rounds = round_count(plan, scene);
-    report_windows(&drawing, rounds, report)?;
+    report_windows(&drawing, rounds, report, notes)?;
     report_rest(&drawing, rounds * plan.settings.workers, report, notes)
 }

@@ -192,7 +192,7 @@ fn groups_over_the_scene_of_demo(rt: HostRuntime) -> Result<(), Fail> {
         ),
     ] {
         let plain = run_with(&rt, alloc, CULL, Vec::from_slice(alloc, bytes.held())?)?;
-        for workers in [1u32, 8] {
+        for workers in [1u32, 2, 8] {
             let line = format!(in alloc; "maskcull cull --group {most} --workers {workers}")?;
             let ended = run_with(
                 &rt,
