@@ -60,7 +60,7 @@ def large_boxes(numbers):
     boxes = []
     for _ in range(BOXES):
         x, y, z = numbers.below(1000) - 500, numbers.below(700) - 350, 600 + numbers.below(300)
-        boxes.append(msoc.box((x - 125, y - 30, z), (x + 125, y + 30, z + 20)))
+        boxes.append(msoc.box((x - 175, y - 80, z), (x + 175, y + 80, z + 20)))
     return (1280, 720), wall, boxes, [frames.IDENTITY]
 
 
