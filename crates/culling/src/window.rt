@@ -405,8 +405,8 @@ fn alone(settings: &Settings) -> Settings
     Settings {
         workers: 1,
         cut,
-        batch: settings.batch,
         early: false,
+        ..*settings
     }
 }
 
