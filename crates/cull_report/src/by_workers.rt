@@ -36,8 +36,8 @@ pub fn thread_count(scene: &Scene, workers: u32) -> u32
     shares.min(workers as usize) as u32
 }
 
-// How many objects' lines are one piece, by so many threads. Where a run may end so many objects after its beginning are
-// whole steps.
+// How many objects' lines are one piece, by so many threads. Where a run may end so many objects after its beginning
+// are whole steps.
 fn piece_size(objects: u32, threads: u32, step: u32) -> usize
     ensures { IsRunSize result }
 {
@@ -47,8 +47,8 @@ fn piece_size(objects: u32, threads: u32, step: u32) -> usize
     whole_steps(run_size(objects, threads as usize), step as usize)
 }
 
-/// The answers of objects, by so many threads and the caller, in runs of whole steps; by the caller alone where there is
-/// one thread or none. Err where memory gave out.
+/// The answers of objects, by so many threads and the caller, in runs of whole steps; by the caller alone where there
+/// is one thread or none. Err where memory gave out.
 pub fn answers_by_workers<R: Threads + Wait + Sync, A: Answering + Sync>(
     rt: &R,
     alloc: Global,

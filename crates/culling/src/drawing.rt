@@ -18,8 +18,8 @@ use std::sync::Wait;
 use std::thread::Threads;
 use tile_queues::{BinTable, BinView, Gate, draw_plain_frame};
 
-/// How frames are drawn, what is written of each, and what is noted beside. Conditions: the settings are in range, there
-/// are at most 8 rounds of looks, at 8 objects, and groups may have a member.
+/// How frames are drawn, what is written of each, and what is noted beside. Conditions: the settings are in range,
+/// there are at most 8 rounds of looks, at 8 objects, and groups may have a member.
 #[derive(Drop)]
 pub struct Plan<'a> {
     pub settings: &'a Settings,

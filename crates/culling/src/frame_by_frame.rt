@@ -115,9 +115,9 @@ fn report_rest<R: Threads + Wait + Sync, W: Sink, E: Sink, G: Gate>(
     Ok(())
 }
 
-// Asks for a large block that nobody touches, and gives it up. The C library hands freed memory back to the system where
-// more lies free than twice the largest block that it was given back so far, and then a frame's memory is made anew for
-// each frame, page by page. After this it is kept for the next frame.
+// Asks for a large block that nobody touches, and gives it up. The C library hands freed memory back to the system
+// where more lies free than twice the largest block that it was given back so far, and then a frame's memory is made
+// anew for each frame, page by page. After this it is kept for the next frame.
 fn keep_freed_memory(alloc: Global) -> Result<(), Memory> {
     let block: Vec<u8> = Vec::with_capacity(alloc, LARGE).map_err(|_| Memory)?;
     drop(block);

@@ -45,7 +45,8 @@ pub enum Beside {
 pub enum Asking {
     /// So many workers. Where they start threads these make the lines too, else a line is made when it is written.
     Workers(u32),
-    /// The caller's thread alone, which makes the lines too: in the pieces in which they are written by so many workers.
+    /// The caller's thread alone, which makes the lines too: in the pieces in which they are written by so many
+    /// workers.
     Caller(u32),
 }
 
@@ -103,8 +104,8 @@ pub fn unset_marks(alloc: Global, count: usize) -> Result<Vec<bool>, Memory>
     }
 }
 
-/// The verdicts of a frame's objects over tiles that have taken the whole frame, and which of the groups are hidden. Runs
-/// of objects are made of whole steps.
+/// The verdicts of a frame's objects over tiles that have taken the whole frame, and which of the groups are hidden.
+/// Runs of objects are made of whole steps.
 pub fn verdicts_by<R: Threads + Wait + Sync, V: TileView + Sync>(
     rt: &R,
     alloc: Global,

@@ -32,8 +32,8 @@ fn note_groups<E: Sink>(
     }
 }
 
-/// Writes a frame's lines, and then notes what is noted beside: the lines of its looks, or that of its groups. Condition:
-/// so the frame was drawn, and seen.
+/// Writes a frame's lines, and then notes what is noted beside: the lines of its looks, or that of its groups.
+/// Condition: so the frame was drawn, and seen.
 pub fn write_and_note<R, W: Sink, E: Sink, G>(
     drawing: &Drawing<R, G>,
     frame: u32,

@@ -418,9 +418,9 @@ fn asking_for(lines: FrameLines, workers: u32) -> Asking {
     }
 }
 
-/// Draws so many frames for each worker, side by side, and writes and notes their lines in order. A frame of a window is
-/// made by one thread, as one worker makes it in one bin; where its memory gave out, the run ends behind the frames before
-/// it. Conditions: there are so many frames, and none where frames are looked at.
+/// Draws so many frames for each worker, side by side, and writes and notes their lines in order. A frame of a window
+/// is made by one thread, as one worker makes it in one bin; where its memory gave out, the run ends behind the frames
+/// before it. Conditions: there are so many frames, and none where frames are looked at.
 pub fn report_windows<R: Threads + Wait + Sync, W: Sink, E: Sink, G: Gate>(
     drawing: &Drawing<R, G>,
     rounds: u32,

@@ -41,8 +41,8 @@ fn halved(groups: &[Group], place: u32, _objects: u32, between: Between) -> Betw
     }
 }
 
-/// How many of some groups begin before a place, by halving. Its clauses alone ask for the number of objects. Condition:
-/// the groups are in order.
+/// How many of some groups begin before a place, by halving. Its clauses alone ask for the number of objects.
+/// Condition: the groups are in order.
 pub(crate) fn begun_before(groups: &[Group], place: u32, _objects: u32) -> usize
     requires { AreApart _objects groups.now }
     ensures { AreBegun place groups.now result }

@@ -117,8 +117,8 @@ impl<'a, V: TileView> Grouped<'a, V> {
         tally_of(self.asked, group, tested)
     }
 
-    // Of so many groups that begin before a place the last may reach behind it: appends the verdicts of its members from
-    // the place on to before an end, and tells where that ends. What is counted of it is told where it begins.
+    // Of so many groups that begin before a place the last may reach behind it: appends the verdicts of its members
+    // from the place on to before an end, and tells where that ends. What is counted of it is told where it begins.
     fn answer_cut(
         &self,
         begun: usize,
@@ -156,8 +156,8 @@ impl<'a, V: TileView> Grouped<'a, V> {
         next
     }
 
-    // Appends the verdicts of the objects from a place on to before a group, and of the group's members to before an end;
-    // tells what is counted of the group.
+    // Appends the verdicts of the objects from a place on to before a group, and of the group's members to before an
+    // end; tells what is counted of the group.
     fn answer_next(
         &self,
         group: Group,

@@ -52,8 +52,8 @@ fn boxes_at_front(objects: &[Object], most: u32) -> u32
     looked_at as u32
 }
 
-// Goes on by one object. Where it is a box and the last group takes no more, a group begins. The answer is how many more
-// the last group takes then.
+// Goes on by one object. Where it is a box and the last group takes no more, a group begins. The answer is how many
+// more the last group takes then.
 fn add_object(
     groups: &mut Vec<Group>,
     objects: &[Object],

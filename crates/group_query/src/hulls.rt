@@ -13,8 +13,8 @@ use cull_base::{Rect, Size};
 use cull_report::{Form, object_form};
 use scene_reader::Scene;
 
-/// The smallest rectangle that holds the areas of a group's members that count, the greatest nearness of these, and their
-/// number. A member counts where it is at a rectangle that has a pixel in the screen.
+/// The smallest rectangle that holds the areas of a group's members that count, the greatest nearness of these, and
+/// their number. A member counts where it is at a rectangle that has a pixel in the screen.
 #[derive(Clone, Copy, Debug, PartialEq, Eq)]
 pub struct Hull {
     pub rect: Rect,
@@ -155,8 +155,8 @@ pub(crate) fn hull_keeping(
     hull
 }
 
-/// The hull of a group in a frame. None exactly where no member counts. Conditions: there is such a frame, and the group's
-/// members are objects of the scene, as those of each of `groups` are.
+/// The hull of a group in a frame. None exactly where no member counts. Conditions: there is such a frame, and the
+/// group's members are objects of the scene, as those of each of `groups` are.
 pub fn hull(scene: &Scene, frame: u32, group: Group) -> Option<Hull>
     requires frame { frame < length scene.now.cameras }
     requires group { group.first + group.count ≤ length scene.now.objects }

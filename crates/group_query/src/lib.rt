@@ -1,5 +1,5 @@
-//! Groups of boxes that follow on one another: where the hull of a group is hidden, its members are, and none of them is
-//! tested by itself.
+//! Groups of boxes that follow on one another: where the hull of a group is hidden, its members are, and none of them
+//! is tested by itself.
 #![tactic(auto)]
 
 mod begun;

@@ -61,7 +61,8 @@ fn report_of(answers: Answers) -> GroupReport
 }
 
 /// Each object's verdict as `verdicts` gives it, and how many groups are hidden, by so many workers side by side where
-/// there is much to ask. Runs of objects end where groups of so many do, if boxes come first. Err where memory gave out.
+/// there is much to ask. Runs of objects end where groups of so many do, if boxes come first. Err where memory gave
+/// out.
 pub fn group_verdicts_by_workers<R: Threads + Wait + Sync, V: TileView + Sync>(
     rt: &R,
     alloc: Global,
@@ -101,9 +102,9 @@ pub fn group_verdicts_with_lines<V: TileView>(
     Ok(report_of(answers))
 }
 
-/// Each object's verdict in a frame over the view, as `verdicts` gives it, and how many groups are hidden, with how many
-/// members that count. These aren't tested. Conditions: those of `verdicts`, and the groups are those that `groups` gives
-/// of the scene, or others in order.
+/// Each object's verdict in a frame over the view, as `verdicts` gives it, and how many groups are hidden, with how
+/// many members that count. These aren't tested. Conditions: those of `verdicts`, and the groups are those that
+/// `groups` gives of the scene, or others in order.
 pub fn group_verdicts<V: TileView>(
     alloc: Global,
     scene: &Scene,

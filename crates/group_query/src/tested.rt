@@ -73,9 +73,9 @@ pub(crate) fn tally_of<V: TileView>(asked: &Asked<V>, _group: Group, tested: Tes
 }
 
 /// The verdict of a member of a group that was tested, by the member's form. Of a member that counts it is the hull's
-/// where that is occluded, since the member's samples are among the hull's and it is no nearer; and where no other member
-/// counts, since it is the hull then. Conditions: there is such an object, it is one of the group, and the form is its
-/// own.
+/// where that is occluded, since the member's samples are among the hull's and it is no nearer; and where no other
+/// member counts, since it is the hull then. Conditions: there is such an object, it is one of the group, and the form
+/// is its own.
 pub(crate) fn member_verdict<V: TileView>(
     asked: &Asked<V>,
     _group: Group,

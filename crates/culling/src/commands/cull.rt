@@ -39,8 +39,8 @@ pub fn report_scene<R: Threads + Wait + Sync, W: Sink, E: Sink, G: Gate>(
     report_frames(rt, alloc, plan, scene, report, notes, gate)
 }
 
-/// Reads a scene, draws it and writes its report. Where its boxes are taken in groups a line is noted after each frame's;
-/// else nothing is noted.
+/// Reads a scene, draws it and writes its report. Where its boxes are taken in groups a line is noted after each
+/// frame's; else nothing is noted.
 pub fn cull<R: Threads + Wait + Sync, S: Source, W: Sink, E: Sink, G: Gate>(
     rt: &R,
     alloc: Global,
