@@ -1,5 +1,5 @@
 -- What is counted of objects, from place to place.
-use Rattle.std.specs.Prelude.{ℕ, ◌≡◌, ◌+◌, ◌^◌, ◌<◌}
+use Rattle.std.specs.Prelude.{◌≡◌, ◌+◌, ◌^◌, ◌<◌}
 use Rattle.cull_report.specs.declared.tally.Tally.{Tally}
 
 -- nothing is counted

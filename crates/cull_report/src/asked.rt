@@ -1,5 +1,5 @@
 //! The objects of a frame, tested over tiles that are drawn.
-ghost use Rattle.std.specs.Prelude.{◌≡◌, ℕ, ◌<◌, true, length, IfOk, slice_index_or};
+ghost use Rattle.std.specs.Prelude.{◌≡◌, ℕ, ◌<◌, true, length, slice_index_or};
 ghost use Rattle.cull_base.specs.Screen.{tile_count_of};
 ghost use Rattle.cull_base.specs.declared.scene_types.Object.{Object};
 ghost use Rattle.cull_report.specs.Forms.{shape_of_form, HasTriangles};

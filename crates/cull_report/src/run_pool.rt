@@ -1,5 +1,5 @@
 //! The runs of a frame, made by workers side by side: who comes takes the next, and each is back in its seat then.
-ghost use Rattle.std.specs.Prelude.{◌≡◌, ℕ, ◌<◌, ◌*◌, ◌+◌, List, length, vec_len, IfOk, MatchOption};
+ghost use Rattle.std.specs.Prelude.{◌≡◌, ℕ, ◌<◌, ◌+◌, List, length, vec_len, IfOk, MatchOption};
 ghost use Rattle.cull_base.specs.declared.scene_types.Verdict.{Verdict};
 ghost use Rattle.cull_report.specs.Runs.{AreRunsFor, AreRunsOf, AreToldRuns, IsMadeRun, IsRunOf, IsRunSize, IsToldRun};
 ghost use Rattle.cull_report.specs.declared.tally.Tally.{Tally};

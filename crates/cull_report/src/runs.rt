@@ -1,5 +1,5 @@
 //! Runs of a frame's objects, each with its verdicts, their lines and what is counted of it.
-ghost use Rattle.std.specs.Prelude.{◌≡◌, ℕ, List, ◌+◌, ◌*◌, ◌-◌, ◌/◌, ◌<◌, ◌≤◌, length, IfOk};
+ghost use Rattle.std.specs.Prelude.{◌≡◌, ℕ, List, ◌+◌, ◌*◌, ◌-◌, ◌/◌, ◌<◌, length, IfOk};
 ghost use Rattle.cull_base.specs.declared.scene_types.Verdict.{Verdict};
 ghost use Rattle.cull_report.specs.Runs.{AreRunsFor, AreRunsOf, AreToldRuns, IsMadeRun, IsRunOf, IsRunSize, IsToldRun};
 ghost use Rattle.cull_report.specs.Runs.{IsWaitingRun};

@@ -1,15 +1,15 @@
 -- The line of a frame's groups, and the groups themselves.
 use Rattle.std.proofs.Common.{◌≡◌, ℕ, List, [], length, arith, refl, ap, ◌∙◌, Option, Some, None, Result, Ok, Err}
 use Rattle.std.specs.Prelude.{IfOk}
-use Rattle.std.specs.List.{flat_map, range_with_len}
+use Rattle.std.specs.List.{range_with_len}
 use Rattle.std.proofs.lemmas.List.FromFn.{length-map-range_with_len}
 use Rattle.cull_base.specs.declared.memory.Memory.{Memory}
 use Rattle.cull_base.specs.declared.place.Sub.{Sub}
 use Rattle.cull_base.specs.State.{State}
-use Rattle.scene_reader.specs.Layout.{Parts, IsScene}
+use Rattle.scene_reader.specs.Layout.{Parts}
 use Rattle.group_query.specs.Grouping.{AreApart, groups_of}
 use Rattle.group_query.specs.Hidden.{hidden_groups, hidden_members}
-use Rattle.group_query.specs.Text.{frame_groups, group_line, group_text, states_after}
+use Rattle.group_query.specs.Text.{frame_groups, group_line, states_after}
 use Rattle.group_query.specs.declared.grouping.Group.{Group}
 use Rattle.group_query.specs.declared.report.GroupReport.{GroupReport}
 use Rattle.group_query.proofs.InOrder.{apart_from, groups_apart}

@@ -1,6 +1,6 @@
 //! Frames side by side: in a window each worker has a slot, in which one thread makes some frames that follow on one
 //! another.
-ghost use Rattle.std.specs.Prelude.{◌≡◌, ◌<◌, ◌≤◌, ◌+◌, ◌*◌, ◌^◌, [], length, IfOk, IfSome, OnOk};
+ghost use Rattle.std.specs.Prelude.{◌≡◌, ◌<◌, ◌≤◌, ◌+◌, ◌*◌, ◌^◌, [], length, IfOk, IfSome};
 ghost use Rattle.cull_report.specs.Scene.{frame_clips};
 ghost use Rattle.culling.specs.FrameRuns.{LeavesFrames};
 ghost use Rattle.culling.specs.declared.frames.Beside.TheVariants.{Nothing};

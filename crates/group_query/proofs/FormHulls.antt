@@ -1,5 +1,5 @@
 -- Hulls of objects by their forms, so many from a first on.
-use Rattle.std.proofs.Common.{◌≡◌, ℕ, ◌+◌, ◌-◌, ◌<◌, ◌≤◌, Bool, true, false, cond, List, [], ◌∷◌, ◌++◌, length, map, take, drop, get_or, Option, Some, None, arith, refl, sym, ap, ◌∙◌}
+use Rattle.std.proofs.Common.{◌≡◌, ℕ, ◌+◌, ◌-◌, ◌<◌, ◌≤◌, Bool, true, false, cond, List, [], ◌∷◌, ◌++◌, length, map, take, drop, get_or, Option, Some, arith, refl, sym, ap, ◌∙◌}
 use Rattle.std.proofs.Math.Seq.{take-add}
 use Rattle.std.proofs.lemmas.List.{take_more, map-append, map_push, length-drop, length-map, length-take, get_or-drop, get_or-take, get_or-map, drop-drop}
 use Rattle.cull_base.specs.declared.rect.Rect.{Rect}
@@ -17,7 +17,7 @@ use Rattle.cull_report.specs.Forms.{shape_of_form}
 use Rattle.cull_report.specs.Scene.{object_shape, size_of}
 use Rattle.cull_report.specs.declared.form.Form.{Form}
 use Rattle.cull_report.specs.declared.form.Form.TheVariants as forms
-use Rattle.group_query.specs.Hulls.{IsFormOf, grown, hull_from, is_counted, members_of, member_shapes, shapes_from, with_member}
+use Rattle.group_query.specs.Hulls.{IsFormOf, grown, hull_from, is_counted, member_shapes, shapes_from, with_member}
 use Rattle.group_query.specs.declared.grouping.Group.{Group}
 use Rattle.group_query.specs.declared.hulls.Hull.{Hull}
 use Rattle.group_query.proofs.HullMembers.{hull_from-append}

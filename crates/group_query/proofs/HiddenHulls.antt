@@ -1,11 +1,10 @@
 -- Why a member of a hidden group is occluded: its samples are among the hull's, and it is no nearer.
-use Rattle.std.proofs.Common.{◌≡◌, ℕ, ℤ, pos, negsuc, ◌+◌, ◌-◌, ◌<◌, ◌≤◌, ◌≤ℤ◌, ◌<ℤ◌, Bool, true, false, ◌&&◌, cond, nat_lt, List, length, get_or, Option, Some, None, arith, refl, sym, ap, ◌∙◌, subst, int_lt, int_le}
+use Rattle.std.proofs.Common.{◌≡◌, ℕ, ℤ, pos, negsuc, ◌+◌, ◌-◌, ◌<◌, ◌≤◌, ◌≤ℤ◌, ◌<ℤ◌, Bool, true, false, ◌&&◌, cond, nat_lt, length, get_or, Option, Some, None, arith, refl, sym, ap, ◌∙◌, int_lt, int_le}
 use Rattle.std.specs.Cmp.{both_ways}
 use Rattle.std.specs.Int.{int_min, int_max}
 use Rattle.std.proofs.lemmas.Bool.{and_parts}
 use Rattle.std.proofs.lemmas.Bool.Decides.{nat_tests}
 use Rattle.std.proofs.lemmas.Int.{ints}
-use Rattle.std.proofs.lemmas.Option.{same_Some}
 use Rattle.cull_base.specs.declared.place.Sub.{Sub}
 use Rattle.cull_base.specs.declared.rect.Rect.{Rect}
 use Rattle.cull_base.specs.declared.scene_types.Object.{Object}
@@ -25,11 +24,11 @@ use Rattle.cull_report.specs.Scene.{object_shape, object_verdict, size_of}
 use Rattle.cull_report.specs.Text.{is_occluded}
 use Rattle.cull_report.specs.declared.form.Form.{Form}
 use Rattle.group_query.specs.Hidden.{HidesMembers, IsTested, group_verdict, hull_verdict, is_hidden_group}
-use Rattle.group_query.specs.Hulls.{IsFormOf, counted, counts, hull_from, hull_of, is_counted, member_shapes, members_of}
+use Rattle.group_query.specs.Hulls.{IsFormOf, counted, counts, hull_of, is_counted, member_shapes}
 use Rattle.group_query.specs.declared.grouping.Group.{Group}
 use Rattle.group_query.specs.declared.hulls.Hull.{Hull}
 use Rattle.group_query.specs.declared.tested.Tested.{Tested}
-use Rattle.group_query.proofs.FormHulls.{IsAt, counted_at, shape_at, shape_below, shape_of_flat}
+use Rattle.group_query.proofs.FormHulls.{counted_at, shape_at, shape_below, shape_of_flat}
 use Rattle.group_query.proofs.HullMembers.{IsWithin, holds_member, members_are, one_member, own}
 
 -- ---- pixels of the screen

@@ -1,5 +1,5 @@
 -- Hulls member by member: what they hold, how many members they have, and the hull of one.
-use Rattle.std.proofs.Common.{◌≡◌, ℕ, ℤ, pos, zero, suc, ◌+◌, ◌<◌, ◌≤◌, ◌≤ℤ◌, ◌<ℤ◌, max, Bool, true, false, cond, List, [], ◌∷◌, ◌++◌, length, get_or, Option, Some, None, arith, refl, sym, ap, ◌∙◌, subst}
+use Rattle.std.proofs.Common.{◌≡◌, ℕ, ℤ, zero, suc, ◌+◌, ◌<◌, ◌≤◌, ◌≤ℤ◌, ◌<ℤ◌, Bool, true, false, cond, List, [], ◌∷◌, ◌++◌, length, get_or, Option, Some, None, arith, refl, sym, ap, ◌∙◌, subst}
 use Rattle.std.specs.Prelude.{IfSome}
 use Rattle.std.specs.Int.{int_min, int_max}
 use Rattle.std.proofs.lemmas.Int.{ints}
@@ -8,7 +8,7 @@ use Rattle.cull_base.specs.declared.rect.Rect.{Rect}
 use Rattle.cull_base.specs.Rectangle.{HasPixel, meets, cut_of}
 use Rattle.cull_base.specs.Screen.{Dimensions, screen_of}
 use Rattle.cull_base.specs.Shape.{Shape, AlwaysOutside, AlwaysVisible, Flat, Pieces}
-use Rattle.group_query.specs.Hulls.{HoldsMember, HoldsMembers, counted, counts, grown, holding, hull_from, members_of, with_member}
+use Rattle.group_query.specs.Hulls.{HoldsMembers, counted, counts, grown, holding, hull_from, members_of, with_member}
 use Rattle.group_query.specs.declared.hulls.Hull.{Hull}
 
 -- ---- hulls within hulls

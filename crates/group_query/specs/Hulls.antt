@@ -1,5 +1,5 @@
 -- Hulls of groups: around the areas of the members that count.
-use Rattle.std.specs.Prelude.{ℕ, ℤ, ◌≡◌, ◌+◌, ◌<◌, ◌≤◌, max, Bool, true, false, cond, List, [], ◌∷◌, map, take, drop, length, Option, Some, None, IfSome, slice_index_or}
+use Rattle.std.specs.Prelude.{ℕ, ℤ, ◌≡◌, ◌+◌, ◌<◌, ◌≤◌, max, Bool, true, false, cond, List, [], ◌∷◌, map, take, drop, length, Option, Some, None, slice_index_or}
 use Rattle.std.specs.Int.{int_min, int_max}
 use Rattle.cull_base.specs.declared.rect.Rect.{Rect}
 use Rattle.cull_base.specs.declared.scene_types.Object.{Object}

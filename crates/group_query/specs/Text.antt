@@ -1,5 +1,5 @@
 -- The text of groups: a line a frame.
-use Rattle.std.specs.Prelude.{ℕ, List, [], ◌∷◌, length, map, codes}
+use Rattle.std.specs.Prelude.{ℕ, List, [], ◌∷◌, length, codes}
 use Rattle.std.specs.Fmt.{decimal}
 use Rattle.std.specs.List.{flat_map, range_with_len}
 use Rattle.cull_base.specs.declared.place.Sub.{Sub}

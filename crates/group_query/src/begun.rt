@@ -1,5 +1,5 @@
 //! Which groups begin before a place.
-ghost use Rattle.std.specs.Prelude.{◌≡◌, ◌+◌, ◌-◌, ◌<◌, ◌≤◌, length, nat_lt, slice_index_or};
+ghost use Rattle.std.specs.Prelude.{◌≡◌, ◌+◌, ◌-◌, ◌<◌, length, nat_lt, slice_index_or};
 ghost use Rattle.group_query.specs.Grouping.{AreApart, AreBegun, AreBegunBetween};
 ghost use Rattle.group_query.specs.declared.grouping.Group.{Group};
 

@@ -1,5 +1,5 @@
 //! The objects of a frame, those of groups by their hulls first.
-ghost use Rattle.std.specs.Prelude.{◌≡◌, ℕ, List, ◌+◌, ◌-◌, ◌++◌, ◌<◌, ◌≤◌, min, length, take, drop, vec_capacity};
+ghost use Rattle.std.specs.Prelude.{◌≡◌, ◌+◌, ◌-◌, ◌++◌, ◌<◌, ◌≤◌, min, length, take, drop, vec_capacity};
 ghost use Rattle.std.specs.Prelude.{slice_index_or};
 ghost use Rattle.cull_report.specs.Scene.{size_of, verdicts_in};
 ghost use Rattle.group_query.specs.Grouping.{AreApart, AreBegun};

@@ -1,5 +1,5 @@
 //! Hulls of groups: around the areas of the members that count.
-ghost use Rattle.std.specs.Prelude.{◌≡◌, ℕ, ◌+◌, ◌<◌, ◌≤◌, ◌^◌, cond, length, None, Some, IfSome};
+ghost use Rattle.std.specs.Prelude.{◌≡◌, ◌+◌, ◌<◌, ◌≤◌, ◌^◌, cond, length, None, Some, IfSome};
 ghost use Rattle.std.specs.Int.{int_min, int_max};
 ghost use Rattle.cull_base.specs.Rectangle.{cut_of, meets};
 ghost use Rattle.cull_base.specs.Screen.{screen_of};

@@ -1,5 +1,4 @@
 use Rattle.std.proofs.Common.{length, sym, subst, ap, ◌∙◌, List}
-use Rattle.cull_base.specs.declared.scene_types.Object.{Object}
 use Rattle.group_query.specs.Grouping.{AreApart, groups_from}
 use Rattle.group_query.specs.declared.grouping.Group.{Group}
 use Rattle.group_query.proofs.InOrder.{groups_apart}

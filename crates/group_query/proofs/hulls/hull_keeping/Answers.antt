@@ -1,4 +1,4 @@
-use Rattle.std.proofs.Common.{◌≡◌, ℕ, ◌+◌, ◌<◌, ◌≤◌, None, length, arith, refl, ap, ◌∙◌, subst, length-set}
+use Rattle.std.proofs.Common.{◌≡◌, ℕ, ◌+◌, ◌<◌, None, length, arith, refl, ap, ◌∙◌, length-set}
 use Rattle.cull_base.specs.declared.scene_types.Object.TheVariants.{Mesh}
 use Rattle.cull_base.proofs.Lists.{set_each}
 use Rattle.cull_report.specs.Forms.{shape_of_form}

@@ -1,4 +1,3 @@
-use Rattle.std.proofs.Common.{ap}
 use Rattle.group_query.proofs.tested.test_of.Goals as goal
 
 pub rect_test-requires : goal.rect_test-requires

@@ -1,4 +1,4 @@
-use Rattle.std.proofs.Common.{◌≡◌, ◌+◌, ◌-◌, ◌<◌, ◌≤◌, length, arith, refl, ap}
+use Rattle.std.proofs.Common.{◌≡◌, ◌+◌, ◌-◌, arith, refl, ap}
 use Rattle.cull_report.specs.Scene.{verdicts_in}
 use Rattle.group_query.specs.declared.grouping.Group.{Group}
 use Rattle.group_query.proofs.Answered.{answered_as, answered_none}

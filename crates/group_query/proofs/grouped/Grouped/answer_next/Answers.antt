@@ -1,4 +1,4 @@
-use Rattle.std.proofs.Common.{◌≡◌, ◌+◌, ◌-◌, ◌≤◌, length, arith, refl, sym, ◌∙◌}
+use Rattle.std.proofs.Common.{◌≡◌, ◌+◌, ◌-◌, ◌≤◌, length, arith, refl}
 use Rattle.std.proofs.lemmas.List.{length-map}
 use Rattle.cull_report.specs.Scene.{verdict_in, verdicts_in}
 use Rattle.group_query.proofs.Answered.{answered_as, answered_length, answered_more}

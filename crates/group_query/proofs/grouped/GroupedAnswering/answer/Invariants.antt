@@ -1,4 +1,4 @@
-use Rattle.std.proofs.Common.{◌≡◌, ℕ, ◌+◌, ◌-◌, ◌++◌, ◌<◌, ◌≤◌, length, take, drop, get_or, vec_capacity}
+use Rattle.std.proofs.Common.{◌≡◌, ◌+◌, ◌-◌, ◌++◌, ◌<◌, ◌≤◌, length, take, drop, get_or, vec_capacity}
 use Rattle.masked_update.specs.Views.{state_in}
 use Rattle.cull_report.specs.Scene.{size_of, verdicts_in}
 use Rattle.group_query.specs.Hidden.{members_hidden, one_hidden, total}
