@@ -4,7 +4,6 @@ use Rattle.std.proofs.lemmas.List.{drop_more}
 use Rattle.cull_base.specs.declared.scene_types.Object.{Object}
 use Rattle.group_query.specs.Grouping.{boxes_at_front, group, groups_from, is_box}
 
-
 one_longer : (b : Bool) (m n : ℕ) → m ≤ n → cond b (m + 1) 0 ≤ n + 1
 one_longer true m n le = omega (arith, le)
 one_longer false m n le = omega arith
