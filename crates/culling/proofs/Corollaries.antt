@@ -64,8 +64,9 @@ noted_exactly n0 n1 text h = elim h [
       subst (Appends n0 n1) (append-nil text) (subst (λ (k : ℕ). Appends n0 n1 (text ++ take k [])) none gained)
 ]
 
--- ---- done: the whole report of a scene, and what it calls occluded is hidden, with the line of groups of each frame where boxes are taken in groups; of `live` its live text too; of `demo` the summary, of `upgrade` the layout,
--- and of `picture` the picture of a frame that is there, where what it shows is drawn
+-- ---- done: the whole report of a scene, and what it calls occluded is hidden, with the line of groups of each frame where boxes are taken in groups;
+-- of `live` its live text too; of `demo` the summary, of `upgrade` the layout, and of `picture` the picture of a frame that is there, where what it shows is
+-- drawn
 
 pub done_cull : (words : CullWords) (before after : Streams) (P Q : Type 0) → Comes (Cull words) statuses.Done before after IsNotedBehind P Q
     → (s : Parts) × HasScene (Cull words) before.input s × IfBytes before.input (λ bytes. after.input.left ≡ Some []) × Appends before.report after.report (report_text s) × HidesTruly s
