@@ -32,7 +32,12 @@ fn input_of(alloc: Global, number: u32, scene: &[u8], log: &str) -> Result<Vec<u
 
 // The length of a scene, the scene and a log.
 fn with_log(alloc: Global, scene: Vec<u8>, log: &str) -> Result<Vec<u8>, AllocError> {
-    input_of(alloc, scene.len() as u32, scene.as_slice(), log)
+    input_of(
+        alloc,
+        scene.len().min(0xffff_ffff) as u32,
+        scene.as_slice(),
+        log,
+    )
 }
 
 // Where there is no such number of good lines the log is accepted.
