@@ -1,14 +1,13 @@
 //! Hulls of groups: around the areas of the members that count.
-ghost use Rattle.std.specs.Prelude.{◌≡◌, ◌+◌, ◌<◌, ◌≤◌, ◌^◌, cond, length, None, Some, IfSome};
+ghost use Rattle.std.specs.Prelude.{◌≡◌, ◌+◌, ◌<◌, ◌≤◌, ◌^◌, cond, length, None, Some};
 ghost use Rattle.std.specs.Int.{int_min, int_max};
 ghost use Rattle.cull_base.specs.Rectangle.{cut_of, meets};
 ghost use Rattle.cull_base.specs.Screen.{screen_of};
 ghost use Rattle.cull_report.specs.Forms.{shape_of_form};
 ghost use Rattle.cull_report.specs.Scene.{size_of};
-ghost use Rattle.group_query.specs.Hulls.{AreFormsFrom, HoldsMembers, counted, grown, holding, hull_from, hull_of};
-ghost use Rattle.group_query.specs.Hulls.{is_counted, member_shapes, members_of, shapes_from, with_member};
+ghost use Rattle.group_query.specs.Hulls.{AreFormsFrom, grown, holding, hull_from, is_counted, members_of, shapes_from};
+ghost use Rattle.group_query.specs.Hulls.{with_member};
 
-use crate::grouping::Group;
 use cull_base::{Rect, Size};
 use cull_report::{Form, object_form};
 use scene_reader::Scene;
@@ -99,7 +98,7 @@ fn grown(scene: &Scene, _frame: u32, hull: Option<Hull>, form: Form) -> Option<H
         Form::Outside => hull,
         Form::Visible => hull,
         Form::Flat { rect, q } => flat_grown(scene.size(), hull, rect, q),
-        Form::Mesh { first: _, count: _ } => hull,
+        Form::Mesh { .. } => hull,
     }
 }
 
@@ -153,18 +152,4 @@ pub(crate) fn hull_keeping(
         hull = grown(scene, frame, hull, form);
     }
     hull
-}
-
-/// The hull of a group in a frame. None exactly where no member counts. Conditions: there is such a frame, and the
-/// group's members are objects of the scene, as those of each of `groups` are.
-pub fn hull(scene: &Scene, frame: u32, group: Group) -> Option<Hull>
-    requires frame { frame < length scene.now.cameras }
-    requires group { group.first + group.count ≤ length scene.now.objects }
-    ensures hull { result ≡ hull_of scene.now frame group }
-    ensures members { members_of result ≡ counted (size_of scene.now) (member_shapes scene.now frame group) }
-    ensures none { result ≡ None → counted (size_of scene.now) (member_shapes scene.now frame group) ≡ 0 }
-    ensures some { IfSome result (λ h. 0 < h.members) }
-    ensures holds { IfSome result (HoldsMembers (size_of scene.now) (member_shapes scene.now frame group)) }
-{
-    grown_by(scene, frame, None, group.first, group.count)
 }

@@ -1,8 +1,9 @@
-//! Groups of boxes that follow on one another: where the hull of a group is hidden, its members are, and none of them
-//! is tested by itself.
+//! Groups of boxes that follow on one another: where the hull of a group is hidden, those of its members that count are
+//! occluded, and none of these is tested by itself.
 #![tactic(auto)]
 
 mod begun;
+mod group_hull;
 mod grouped;
 mod grouping;
 mod hulls;
@@ -11,9 +12,10 @@ mod lines;
 mod report;
 mod tested;
 
+pub use group_hull::hull;
 pub use grouped::Grouped;
 pub use grouping::{Group, groups};
-pub use hulls::{Hull, hull};
+pub use hulls::Hull;
 pub use laws::hidden_group_hides_members;
 pub use lines::group_line;
 pub use report::{GroupReport, group_verdicts, group_verdicts_by_workers, group_verdicts_with_lines};

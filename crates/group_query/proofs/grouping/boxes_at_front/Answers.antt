@@ -6,7 +6,7 @@ use Rattle.group_query.proofs.BoxRuns.{drop_nothing, front_length, front_more, f
 use Rattle.group_query.proofs.grouping.boxes_at_front.Goals as goal
 
 pub loop-place-init : goal.loop-place-init
-loop-place-init c = ap boxes_at_front (sym (drop_nothing c.args.objects.now))
+loop-place-init c = omega (arith, ap boxes_at_front (sym (drop_nothing c.args.objects.now)))
 
 pub returns-then-not-is_box_at : goal.returns-then-not-is_box_at
 returns-then-not-is_box_at c =

@@ -4,7 +4,7 @@ use Rattle.cull_report.specs.Scene.{size_of}
 use Rattle.group_query.specs.Hulls.{member_shapes, members_of}
 use Rattle.group_query.specs.declared.hulls.Hull.{Hull}
 use Rattle.group_query.proofs.HullMembers.{holds_members, members_are, some_members}
-use Rattle.group_query.proofs.hulls.hull.Goals as goal
+use Rattle.group_query.proofs.group_hull.hull.Goals as goal
 
 pub returns-clause-members : goal.returns-clause-members
 returns-clause-members c =
