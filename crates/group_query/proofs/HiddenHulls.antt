@@ -1,7 +1,6 @@
 -- Why a member of a hidden group is occluded: its samples are among the hull's, and it is no nearer.
-use Rattle.std.proofs.Common.{◌≡◌, ℕ, ℤ, pos, negsuc, ◌+◌, ◌-◌, ◌<◌, ◌≤◌, ◌≤ℤ◌, ◌<ℤ◌, Bool, true, false, ◌&&◌, cond, nat_lt, length, get_or, Option, Some, None, arith, refl, sym, ap, ◌∙◌, int_lt, int_le}
+use Rattle.std.proofs.Common.{◌≡◌, ℕ, ℤ, pos, negsuc, ◌+◌, ◌-◌, ◌<◌, ◌≤◌, ◌≤ℤ◌, ◌<ℤ◌, Bool, true, false, ◌&&◌, cond, nat_lt, length, get_or, Option, Some, None, arith, refl, sym, ap, ◌∙◌, subst, int_lt, int_le}
 use Rattle.std.specs.Cmp.{both_ways}
-use Rattle.std.specs.Int.{int_min, int_max}
 use Rattle.std.proofs.lemmas.Bool.{and_parts}
 use Rattle.std.proofs.lemmas.Bool.Decides.{nat_tests}
 use Rattle.std.proofs.lemmas.Int.{ints}
@@ -48,17 +47,21 @@ from_pixel r px py p = let h = axis_from r.x0 r.x1 px p.0 p.1 in let v = axis_fr
 on_screen : (size : Dimensions) (px py : ℕ) → px < size.width → py < size.height → HasPixel (screen_of size) (pos px) (pos py)
 on_screen size px py x y = (omega (arith, ints), omega (arith, ints, x), omega (arith, ints), omega (arith, ints, y))
 
--- a rectangle with a pixel in the screen has one there
-axis_first : (a0 a1 : ℤ) (w : ℕ) → int_lt (int_max a0 (pos 0)) (int_min a1 (pos w)) ≡ true → (p : ℕ) × (p < w) × ((int_le a0 (pos p) && int_lt (pos p) a1) ≡ true)
-axis_first (pos n) a1 w e = (n, grind (arith, ints), grind (arith, ints))
-axis_first (negsuc n) a1 w e = (0, grind (arith, ints), grind (arith, ints))
+-- a number that isn't negative
+natural : (z : ℤ) → pos 0 ≤ℤ z → (n : ℕ) × (z ≡ pos n)
+natural (pos n) h = (n, refl)
+natural (negsuc n) h = absurd (omega (arith, ints, h))
 
+-- a rectangle with a pixel in the screen has one there
 some_pixel_of : (r : Rect) (size : Dimensions) → meets r (screen_of size) ≡ true → (px : ℕ) × (py : ℕ) × (px < size.width) × (py < size.height) × (has_pixel r px py ≡ true)
 some_pixel_of r size m =
-    let both = and_parts (int_lt (int_max r.x0 (pos 0)) (int_min r.x1 (pos size.width))) (int_lt (int_max r.y0 (pos 0)) (int_min r.y1 (pos size.height))) m in
-    let (px, x, h) = axis_first r.x0 r.x1 size.width both.0 in
-    let (py, y, v) = axis_first r.y0 r.y1 size.height both.1 in
-    (px, py, x, y, rw (h, v) refl)
+    let (x, y, p, q) = (meets_pixel r (screen_of size)).0 m in
+    let (px, ex) = natural x q.0 in
+    let (py, ey) = natural y q.2 in
+    let there : HasPixel r (pos px) (pos py) = subst (λ (v : ℤ). HasPixel r v (pos py)) ex (subst (λ (v : ℤ). HasPixel r x v) ey p) in
+    let across : pos px <ℤ pos size.width = subst (λ (v : ℤ). v <ℤ pos size.width) ex q.1 in
+    let down : pos py <ℤ pos size.height = subst (λ (v : ℤ). v <ℤ pos size.height) ey q.3 in
+    (px, py, omega (arith, ints, across), omega (arith, ints, down), from_pixel r px py there)
 
 -- ---- one rectangle within another that is as near
 

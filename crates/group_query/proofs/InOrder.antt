@@ -82,7 +82,9 @@ apart_from place n gs h = record {
 
 -- the groups of all objects
 pub groups_apart : (n : ℕ) (os : List Object) → 1 ≤ n → AreApart (length os) (groups_from n 0 0 os)
-groups_apart n os some = apart_from (0 + min 0 (boxes_at_front os)) (0 + length os) (groups_from n 0 0 os) (made_in_order n 0 0 os some)
+groups_apart n os some =
+    let all : 0 + length os ≡ length os = omega arith in
+    subst (λ (m : ℕ). AreApart m (groups_from n 0 0 os)) all (apart_from (0 + min 0 (boxes_at_front os)) (0 + length os) (groups_from n 0 0 os) (made_in_order n 0 0 os some))
 
 -- ---- and back
 

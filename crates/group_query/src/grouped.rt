@@ -152,7 +152,8 @@ impl<'a, V: TileView> Grouped<'a, V> {
         if next <= place {
             return place;
         }
-        self.answer_group(group, place - group.first, next - place, forms, verdicts);
+        let behind = place - group.first;
+        self.answer_group(group, behind, next - place, forms, verdicts);
         next
     }
 

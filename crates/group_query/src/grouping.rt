@@ -39,6 +39,14 @@ fn is_box_at(objects: &[Object], place: usize) -> bool
     is_box(object_at(objects, place))
 }
 
+// The objects from a place on.
+fn objects_from(objects: &[Object], place: usize) -> &[Object]
+    requires { place ≤ length objects.now }
+    ensures { result.now ≡ drop place objects.now }
+{
+    &objects[place..]
+}
+
 // How many boxes stand at the front of some objects: so many are looked at.
 fn boxes_at_front(objects: &[Object], most: u32) -> u32
     ensures { result ≡ min most (boxes_at_front objects.now) }
@@ -72,7 +80,7 @@ fn add_object(
     if left > 0 {
         return Ok(left - 1);
     }
-    let count = boxes_at_front(&objects[place as usize..], most);
+    let count = boxes_at_front(objects_from(objects, place as usize), most);
     groups.push(Group {
         first: place,
         count,

@@ -1,6 +1,5 @@
-use Rattle.std.proofs.Common.{◌≡◌, ℕ, ◌+◌, ◌-◌, ◌++◌, min, true, false, nat_lt, List, [], ◌∷◌, length, take, drop, get_or, append_assoc, arith, sym, ap, ◌∙◌}
+use Rattle.std.proofs.Common.{◌≡◌, ℕ, ◌+◌, ◌-◌, ◌++◌, min, true, false, nat_lt, List, [], ◌∷◌, drop, get_or, append_assoc, arith, sym, ap, ◌∙◌}
 use Rattle.std.proofs.lemmas.Bool.Decides.{nat_tests}
-use Rattle.std.proofs.lemmas.List.{length-drop, take_all}
 use Rattle.cull_base.specs.declared.scene_types.Object.{Object}
 use Rattle.cull_base.specs.declared.scene_types.Object.TheVariants.{Mesh}
 use Rattle.group_query.specs.Grouping.{boxes_at_front, group, groups_from, is_box}
@@ -28,8 +27,7 @@ returns c =
     let none : nat_lt 0 left ≡ false = grind (arith, nat_tests) in
     let old = c.args.groups.now.items in
     let rest = groups_from most (place + 1) (most - 1) (drop (place + 1) os) in
-    let part : take (length os - place) (drop place os) ≡ drop place os = take_all (length os - place) (drop place os) (omega (arith, length-drop place os)) in
-    let count : c.boxes_at_front-count.result ≡ min most (boxes_at_front (drop place os)) = c.boxes_at_front-count.ensures ∙ ap (λ (xs : List Object). min most (boxes_at_front xs)) part in
+    let count : c.boxes_at_front-count.result ≡ min most (boxes_at_front (drop place os)) = c.boxes_at_front-count.ensures ∙ ap (λ (xs : List Object). min most (boxes_at_front xs)) c.objects_from.ensures in
     ap (λ (gs : List Group). gs ++ rest) c.in_ok-push.ensures.items ∙ append_assoc old (group place c.boxes_at_front-count.result ∷ []) rest
     ∙ ap (λ (n : ℕ). old ++ (group place n ∷ rest)) count
     ∙ ap (λ (gs : List Group). old ++ gs) (sym (group_begins most place left os (Mesh 0 0) c.requires.place yes none))

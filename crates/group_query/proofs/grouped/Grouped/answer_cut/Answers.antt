@@ -23,6 +23,13 @@ returns-then-next-place-clause-verdicts g c =
     let a = c.args.self.now.asked.now in
     answered_none (verdicts_in a.scene.now a.frame (g.V.TileView.tile_of a.view.now)) c.args.verdicts.now.items c.args.place (c.args.place - c.args.place) (omega arith)
 
+pub overflow_sub-behind : goal.overflow_sub-behind
+overflow_sub-behind g c =
+    let group = c.group_at-group.result in
+    let before = c.requires.begun.before (c.args.begun - 1) group (omega (arith, c.if-begun-eq0.false)) in
+    let at = ap (λ (x : Group). x.first) (c.group_at-group.ensures.at group) in
+    omega (arith, before, at)
+
 pub answer_group-requires-clause-within : goal.answer_group-requires-clause-within
 answer_group-requires-clause-within g c =
     let group = c.group_at-group.result in

@@ -1,7 +1,8 @@
-use Rattle.std.proofs.Common.{◌≡◌, ℕ, ◌+◌, ◌-◌, ◌<◌, ◌≤◌, length, take, arith, refl, ap, ◌∙◌}
+use Rattle.std.proofs.Common.{◌≡◌, ℕ, ◌+◌, ◌-◌, ◌<◌, ◌≤◌, length, take, arith, refl, sym, ap, ◌∙◌, subst}
 use Rattle.std.proofs.lemmas.List.{length-map}
 use Rattle.masked_update.specs.Views.{state_in}
 use Rattle.cull_report.specs.Scene.{size_of, verdict_in, verdicts_in}
+use Rattle.group_query.specs.Grouping.{AreApart}
 use Rattle.group_query.specs.Hidden.{members_hidden, one_hidden, total}
 use Rattle.group_query.specs.declared.grouping.Group.{Group}
 use Rattle.cull_report.specs.declared.tally.Tally.{Tally}
@@ -12,6 +13,18 @@ use Rattle.group_query.proofs.grouped.GroupedAnswering.answer.Goals as goal
 
 some_group : Group
 some_group = record { first = 0; count = 0 }
+
+pub begun_before-from-requires : goal.begun_before-from-requires
+begun_before-from-requires g c =
+    let grouped = c.args.self.now in let a = grouped.asked.now in
+    let n = length-map a.scene.now.objects (verdict_in a.scene.now a.frame (g.V.TileView.tile_of a.view.now)) in
+    subst (λ (m : ℕ). AreApart m grouped.groups.now) (sym (c.count-objects.ensures.count ∙ n)) grouped.apart
+
+pub begun_before-to-requires : goal.begun_before-to-requires
+begun_before-to-requires g c =
+    let grouped = c.args.self.now in let a = grouped.asked.now in
+    let n = length-map a.scene.now.objects (verdict_in a.scene.now a.frame (g.V.TileView.tile_of a.view.now)) in
+    subst (λ (m : ℕ). AreApart m grouped.groups.now) (sym (c.count-objects.ensures.count ∙ n)) grouped.apart
 
 pub answer_cut-place-requires-clause-end : goal.answer_cut-place-requires-clause-end
 answer_cut-place-requires-clause-end g c =
