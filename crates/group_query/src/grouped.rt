@@ -218,7 +218,9 @@ impl<'a, V: TileView> Answering for Grouped<'a, V> {
     }
 
     fn answer(&self, first: u32, count: u32, verdicts: &mut Vec<Verdict>) -> Tally {
-        let objects = self.count();
+        // it tells that the verdicts' numbers fit
+        let _count = self.count();
+        let objects = self.object_count();
         let end = first + count;
         let from = begun_before(self.groups, first, objects);
         let to = begun_before(self.groups, end, objects);

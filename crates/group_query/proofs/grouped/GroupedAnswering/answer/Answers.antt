@@ -15,16 +15,10 @@ some_group : Group
 some_group = record { first = 0; count = 0 }
 
 pub begun_before-from-requires : goal.begun_before-from-requires
-begun_before-from-requires g c =
-    let grouped = c.args.self.now in let a = grouped.asked.now in
-    let n = length-map a.scene.now.objects (verdict_in a.scene.now a.frame (g.V.TileView.tile_of a.view.now)) in
-    subst (λ (m : ℕ). AreApart m grouped.groups.now) (sym (c.count-objects.ensures.count ∙ n)) grouped.apart
+begun_before-from-requires g c = let grouped = c.args.self.now in subst (λ (m : ℕ). AreApart m grouped.groups.now) (sym c.object_count-objects.ensures) grouped.apart
 
 pub begun_before-to-requires : goal.begun_before-to-requires
-begun_before-to-requires g c =
-    let grouped = c.args.self.now in let a = grouped.asked.now in
-    let n = length-map a.scene.now.objects (verdict_in a.scene.now a.frame (g.V.TileView.tile_of a.view.now)) in
-    subst (λ (m : ℕ). AreApart m grouped.groups.now) (sym (c.count-objects.ensures.count ∙ n)) grouped.apart
+begun_before-to-requires g c = let grouped = c.args.self.now in subst (λ (m : ℕ). AreApart m grouped.groups.now) (sym c.object_count-objects.ensures) grouped.apart
 
 pub answer_cut-place-requires-clause-end : goal.answer_cut-place-requires-clause-end
 answer_cut-place-requires-clause-end g c =
@@ -84,8 +78,7 @@ overflow_add-hidden g c =
     let told = ap (λ (t : Tally). t.hidden) c.answer_next-tally.ensures.told in
     let at = ap f (c.group_at-group.ensures.at group) in
     let all = hidden_fit s a.frame states (length s.objects) gs c.args.self.now.apart in
-    let m = length-map s.objects (verdict_in s a.frame (g.V.TileView.tile_of a.view.now)) in
-    omega (arith, c.loop-number.invariant.hidden, more, told, at, total_grows f gs (n + 1), all, m, c.count-objects.ensures.count)
+    omega (arith, c.loop-number.invariant.hidden, more, told, at, total_grows f gs (n + 1), all, c.object_count-objects.ensures)
 
 pub overflow_add-members : goal.overflow_add-members
 overflow_add-members g c =
@@ -99,8 +92,7 @@ overflow_add-members g c =
     let told = ap (λ (t : Tally). t.members) c.answer_next-tally.ensures.told in
     let at = ap f (c.group_at-group.ensures.at group) in
     let all = members_fit s a.frame states (length s.objects) gs c.args.self.now.apart in
-    let m = length-map s.objects (verdict_in s a.frame (g.V.TileView.tile_of a.view.now)) in
-    omega (arith, c.loop-number.invariant.members, more, told, at, total_grows f gs (n + 1), all, m, c.count-objects.ensures.count)
+    omega (arith, c.loop-number.invariant.members, more, told, at, total_grows f gs (n + 1), all, c.object_count-objects.ensures)
 
 pub loop-number-preserved : goal.loop-number-preserved
 loop-number-preserved g c =
