@@ -1,4 +1,4 @@
-use Rattle.std.proofs.Common.{◌≡◌, ℕ, ◌+◌, ◌*◌, ◌-◌, ◌++◌, min, List, length, take, drop, arith, rules, ap, ◌∙◌, subst}
+use Rattle.std.proofs.Common.{◌≡◌, ℕ, ◌+◌, ◌*◌, ◌-◌, ◌++◌, ◌≤◌, min, List, length, take, drop, vec_len, vec_capacity, arith, rules, ap, ◌∙◌, subst}
 use Rattle.cull_base.specs.declared.scene_types.Verdict.{Verdict}
 use Rattle.cull_report.specs.Runs.{run_of, run_place}
 use Rattle.cull_report.specs.Tallies.{Adds}
@@ -25,6 +25,18 @@ lines_from-lines-requires-clause-numbers g c =
     let old = c.args.self.now.verdicts.items in
     let more = run_length old all c.answer.new.verdicts.items (c.args.size * c.args.self.now.number) c.min-count.result c.answer.ensures.verdicts in
     omega (arith, more, ap length c.requires.waits.no_verdicts, ap length c.as_slice.ensures.value, c.min-count.ensures, c.requires.waits.some, c.count-objects.ensures.count)
+
+-- there is room for the lines
+pub unreachable-requires : goal.unreachable-requires
+unreachable-requires g c =
+    let all = g.A.Answering.all c.args.asked.now in
+    let old = c.args.self.now.verdicts.items in
+    let lines = c.args.self.now.lines in
+    let more = run_length old all c.answer.new.verdicts.items (c.args.size * c.args.self.now.number) c.min-count.result c.answer.ensures.verdicts in
+    let few : length c.as_slice.result.now ≤ c.args.size = omega (arith, more, ap length c.requires.waits.no_verdicts, ap length c.as_slice.ensures.value, c.min-count.ensures) in
+    let short : length c.as_slice-2.result.now ≤ 30 * c.args.size = omega (arith, few, c.lines_from-lines.ensures.short, ap length c.as_slice-2.ensures) in
+    let room : vec_len lines + length c.as_slice-2.result.now ≤ vec_capacity lines = omega (arith, short, ap length c.requires.waits.no_lines, lines.ok.0, c.requires.waits.line_room) in
+    first_of (search rules, omega (arith, room), grind (arith, room))
 
 pub returns-clause-made : goal.returns-clause-made
 returns-clause-made g c =
