@@ -1,4 +1,5 @@
 -- What is written of the frames of a scene, the lines of the report or those of the summary, and what is noted beside.
+use Rattle.std.specs.Coded.{Unit-prop, le_prop}
 use Rattle.std.specs.Prelude.{ℕ, ◌≡◌, ◌≤◌, List, [], length, Option, Some, None}
 use Rattle.cull_base.specs.declared.scene_types.Verdict.{Verdict}
 use Rattle.scene_reader.specs.Layout.{Parts}
@@ -45,6 +46,11 @@ abbrev pub HasMembers : Beside → Type 0
 HasMembers Nothing = Unit {0}
 HasMembers (Looks rounds watch) = Unit {0}
 HasMembers (Groups most) = 1 ≤ most
+
+pub HasMembers-prop : (beside : Beside) → IsProp (HasMembers beside)
+HasMembers-prop Nothing = Unit-prop
+HasMembers-prop (Looks rounds watch) = Unit-prop
+HasMembers-prop (Groups most) = le_prop
 
 -- the groups whose line is noted
 abbrev pub groups_beside : Beside → Parts → List Group

@@ -4,7 +4,7 @@ ghost use Rattle.cull_base.specs.Tiles.{ArePieces};
 ghost use Rattle.cull_report.specs.Scene.{size_of, frame_clips, frame_pieces, frame_verdicts};
 ghost use Rattle.bin_tiles.specs.BinViews.{table_of};
 ghost use Rattle.command_words.specs.Words.{AreInRange};
-ghost use Rattle.culling.specs.Frames.{AreCounted, HasMembers, groups_beside, rounds_of, watch_of};
+ghost use Rattle.culling.specs.Frames.{AreCounted, HasMembers, HasMembers-prop, groups_beside, rounds_of, watch_of};
 
 use crate::frames::{Asking, Beside, Frame, FrameLines, drawn_pieces, step_of, unset_marks, verdicts_by};
 use binning::batch_size;
@@ -28,7 +28,7 @@ pub struct Plan<'a> {
     ghost in_range: { AreInRange settings.now },
     ghost few_rounds: { rounds_of beside ≤ 8 },
     ghost few_objects: { watch_of beside ≤ 8 },
-    ghost members: { HasMembers beside },
+    ghost members: { HasMembers beside } by { HasMembers-prop beside },
 }
 
 /// What all frames of a scene share while they are drawn. Conditions: the table is that of the screen and of the

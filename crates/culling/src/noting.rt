@@ -1,5 +1,6 @@
 //! What is written of a frame, and noted beside.
 ghost use Rattle.std.specs.Prelude.{◌≡◌, [], length};
+ghost use Rattle.cull_base.specs.Stream.{Writes};
 ghost use Rattle.cull_report.specs.Scene.{frame_pieces, frame_verdicts};
 ghost use Rattle.group_query.specs.Text.{group_line};
 ghost use Rattle.culling.specs.FrameRuns.{LeavesFrames};
@@ -15,7 +16,20 @@ use cull_base::{Sink, SinkError};
 use cull_report::LiveLine;
 use group_query::group_line;
 
-// Notes the line of a frame's groups, of so many. NotesFault where that fails, and Memory where the sink is out of it.
+// Writes the line of a frame's groups, of so many. Failed and Memory are the sink's.
+fn write_groups<E: Sink>(
+    notes: &mut E,
+    frame: u32,
+    groups: usize,
+    drawn: &Frame,
+) -> Result<(), SinkError>
+    ensures { Writes (E.says notes.old) (E.says notes.new) result
+        (group_line frame groups drawn.now.hidden drawn.now.members) }
+{
+    group_line(frame, groups, drawn.hidden, drawn.members).write_to(notes)
+}
+
+// The same as a note. NotesFault where that fails, and Memory where the sink is out of it.
 fn note_groups<E: Sink>(
     notes: &mut E,
     frame: u32,
@@ -25,7 +39,7 @@ fn note_groups<E: Sink>(
     ensures { NotesLines (E.says notes.old) (E.says notes.new) result
         (group_line frame groups drawn.now.hidden drawn.now.members) }
 {
-    match group_line(frame, groups, drawn.hidden, drawn.members).write_to(notes) {
+    match write_groups(notes, frame, groups, drawn) {
         Ok(()) => Ok(()),
         Err(SinkError::Failed) => Err(Failure::NotesFault),
         Err(SinkError::Memory) => Err(Failure::Memory),

@@ -45,10 +45,11 @@ invariant_of-asked-clause-right g c =
     let unset : marks ≡ replicate (length s.objects) false = search rules in
     settled_over s c.args.frame (tile_in_bins v.table.now v.bins.now) marks states (none_settled s c.args.frame marks unset)
 
-pub invariant_of-grouped-clause-apart : goal.invariant_of-grouped-clause-apart
-invariant_of-grouped-clause-apart g c =
+pub invariant_of-grouped : goal.invariant_of-grouped
+invariant_of-grouped g c =
     let drawing = c.args.drawing.now in
-    subst (λ (gs : List Group). AreApart (length drawing.scene.now.objects) gs) (sym drawing.are_groups) (beside_apart drawing.plan.now.beside drawing.scene.now drawing.plan.now.members)
+    let apart = beside_apart drawing.plan.now.beside drawing.scene.now drawing.plan.now.members in
+    record { apart = subst (λ (gs : List Group). AreApart (length drawing.scene.now.objects) gs) (sym drawing.are_groups) apart }
 
 pub verdicts_by-requires-after_bounds : goal.verdicts_by-requires-after_bounds
 unfolding frame_list

@@ -28,10 +28,11 @@ invariant_of-asked-clause-holds g c =
     ap length (c.new-view.ensures ∙ c.deref.ensures.value) ∙ subst (λ (l : PieceList). length c.in_ok-states.states.items ≡ tile_count_of l.size) c.in_ok-list.ensures.list c.in_ok-states.ensures.tiles in
     λ t lt. let e : nat_lt t (tile_count_of (size_of s)) ≡ true = grind (arith, nat_tests) in subst (λ n. nat_lt t n ≡ true) (sym count) e
 
-pub invariant_of-grouped-clause-apart : goal.invariant_of-grouped-clause-apart
-invariant_of-grouped-clause-apart g c =
+pub invariant_of-grouped : goal.invariant_of-grouped
+invariant_of-grouped g c =
     let drawing = c.args.drawing.now in
-    subst (λ (gs : List Group). AreApart (length drawing.scene.now.objects) gs) (sym drawing.are_groups) (beside_apart drawing.plan.now.beside drawing.scene.now drawing.plan.now.members)
+    let apart = beside_apart drawing.plan.now.beside drawing.scene.now drawing.plan.now.members in
+    record { apart = subst (λ (gs : List Group). AreApart (length drawing.scene.now.objects) gs) (sym drawing.are_groups) apart }
 
 pub verdicts_by-requires-after_bounds : goal.verdicts_by-requires-after_bounds
 unfolding frame_list

@@ -20,8 +20,8 @@ returns-in_err-write_lines-clause-reported g c =
     let is = lines_are plan.lines s c.args.frame drawn.pieces drawn.verdicts c.requires.pieces c.requires.verdicts in
     rw (p.1, p.2) (frame_unwritten plan.lines plan.beside s c.args.frame e r0 r1 (g.E.Sink.says c.args.notes.now) (subst (λ (t : List ℕ). Writes r0 r1 (Err e) t) is c.in_err-write_lines.ensures))
 
-pub returns-clause-reported : goal.returns-clause-reported
-returns-clause-reported g c =
+pub returns-in-Nothing-clause-reported : goal.returns-in-Nothing-clause-reported
+returns-in-Nothing-clause-reported g c =
     let s = c.args.drawing.now.scene.now in let plan = c.args.drawing.now.plan.now in
     let drawn = c.args.drawn.now in
     let r0 = g.W.Sink.says c.args.report.now in let r1 = g.W.Sink.says c.write_lines.new.report in let n = g.E.Sink.says c.args.notes.now in
