@@ -5,7 +5,8 @@ ghost use Rattle.scene_reader.specs.Layout.{IsScene};
 ghost use Rattle.cull_report.specs.Scene.{frame_clips, frame_list, frame_pieces, frame_verdicts};
 ghost use Rattle.culling.specs.Culling.{TookFrame};
 ghost use Rattle.culling.specs.DrawnPieces.{DrawsAs};
-ghost use Rattle.culling.specs.Frames.{AreCounted, HasMembers, beside_of, groups_beside, lines_by};
+ghost use Rattle.culling.specs.Frames.{AreCounted, HasMembers, beside_of, groups_beside, lines_by, rounds_of};
+ghost use Rattle.culling.specs.Frames.{watch_of};
 
 use crate::summary::write_summary;
 use command_words::Settings;
@@ -65,6 +66,8 @@ pub fn beside_of(group: Option<u32>) -> Beside
     requires { IfSome group (λ n. 1 ≤ n) }
     ensures value { result ≡ beside_of group }
     ensures members { HasMembers result }
+    ensures rounds { rounds_of result ≡ 0 }
+    ensures objects { watch_of result ≡ 0 }
 {
     match group {
         Some(most) => Beside::Groups { most },

@@ -1,4 +1,5 @@
-use Rattle.std.proofs.Common.{length, ap, refl, ◌∙◌, subst, Err}
+use Rattle.std.proofs.Common.{ℕ, ◌≤◌, length, ap, refl, ◌∙◌, subst, Option, Some, None, Err}
+use Rattle.std.specs.Prelude.{IfSome}
 use Rattle.std.proofs.lemmas.Result.{err_from_is_err_and}
 use Rattle.command_words.specs.declared.table.Command.TheVariants.{Cull}
 use Rattle.cull_report.specs.Scene.{scene_header}
@@ -17,6 +18,13 @@ returns-in_err-scene g c =
       outcome = failed_read (Cull c.args.words.now) (g.S.Source.says c.args.input.now) (g.S.Source.says c.read_scene.new.source) (g.W.Sink.says c.args.report.now)
           (g.E.Sink.says c.args.notes.now) c.in_err-scene.field-0.0 _ _ refl read.refused (λ is. read.read (ap Err is)) refl refl;
     })
+
+at_least_one : (group : Option ℕ) → IfSome group (λ n. (1 ≤ n) × (n ≤ 64)) → IfSome group (λ n. 1 ≤ n)
+at_least_one None h = tt
+at_least_one (Some n) h = h.0
+
+pub beside_of-requires : goal.beside_of-requires
+beside_of-requires g c = at_least_one c.args.words.now.group c.requires.limits.1
 
 pub returns : goal.returns
 returns g c =
