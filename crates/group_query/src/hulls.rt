@@ -56,11 +56,14 @@ fn with_member(hull: Option<Hull>, area: Rect, q: u32) -> Hull
             q,
             members: 1,
         },
-        Some(hull) => Hull {
-            rect: holding(&hull.rect, &area),
-            q: hull.q.max(q),
-            members: hull.members + 1,
-        },
+        Some(hull) => {
+            let members = hull.members + 1;
+            Hull {
+                rect: holding(&hull.rect, &area),
+                q: hull.q.max(q),
+                members,
+            }
+        }
     }
 }
 
