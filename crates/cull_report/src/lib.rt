@@ -20,7 +20,8 @@ mod tally;
 pub use answering::Answering;
 pub use asked::Asked;
 pub use by_workers::{
-    Answers, answers_by_workers, answers_with_lines, thread_count, verdicts_by_workers, verdicts_with_lines,
+    Answers, answers_by_workers, answers_with_lines, thread_count, verdicts_by_workers,
+    verdicts_with_lines,
 };
 pub use counts::Counts;
 pub use form::Form;

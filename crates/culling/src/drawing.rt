@@ -6,7 +6,9 @@ ghost use Rattle.bin_tiles.specs.BinViews.{table_of};
 ghost use Rattle.command_words.specs.Words.{AreInRange};
 ghost use Rattle.culling.specs.Frames.{AreCounted, HasMembers, HasMembers-prop, groups_beside, rounds_of, watch_of};
 
-use crate::frames::{Asking, Beside, Frame, FrameLines, drawn_pieces, step_of, unset_marks, verdicts_by};
+use crate::frames::{
+    Asking, Beside, Frame, FrameLines, drawn_pieces, step_of, unset_marks, verdicts_by,
+};
 use binning::batch_size;
 use command_words::Settings;
 use cull_base::{ClipVertex, Memory};

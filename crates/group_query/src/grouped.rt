@@ -63,7 +63,13 @@ impl<'a, V: TileView> Grouped<'a, V> {
         let asked = self.asked;
         let kept = group.count.min(KEPT as u32);
         let front = hull_keeping(asked.scene, asked.frame, group.first, kept, forms);
-        let hull = grown_by(asked.scene, asked.frame, front, group.first + kept, group.count - kept);
+        let hull = grown_by(
+            asked.scene,
+            asked.frame,
+            front,
+            group.first + kept,
+            group.count - kept,
+        );
         test_of(asked.view, asked.scene.size(), hull)
     }
 

@@ -18,4 +18,6 @@ pub use grouping::{Group, groups};
 pub use hulls::Hull;
 pub use laws::hidden_group_hides_members;
 pub use lines::group_line;
-pub use report::{GroupReport, group_verdicts, group_verdicts_by_workers, group_verdicts_with_lines};
+pub use report::{
+    GroupReport, group_verdicts, group_verdicts_by_workers, group_verdicts_with_lines,
+};

@@ -65,17 +65,34 @@ fn assert_hull<R: Abort>(
     members: u32,
 ) -> Result<(), Fail> {
     let scene = scene_from(alloc, behind_the_quad(alloc, boxes)?)?;
-    assert_eq!(rt; first_hull(alloc, &scene, 2)?, Some(Hull { rect, q, members }));
+    assert_eq!(rt;
+        first_hull(alloc, &scene, 2)?,
+        Some(Hull { rect, q, members })
+    );
     Ok(())
 }
 
 #[test]
 fn a_hull_is_around_the_members_that_count(rt: HostRuntime) -> Result<(), Fail> {
     let alloc = rt.alloc();
-    assert_hull(&rt, alloc, &[BEHIND, BEHIND], pixels(10, 2, 22, 6), 21845, 2)?;
+    assert_hull(
+        &rt,
+        alloc,
+        &[BEHIND, BEHIND],
+        pixels(10, 2, 22, 6),
+        21845,
+        2,
+    )?;
     assert_hull(&rt, alloc, &[BEHIND, BEFORE], pixels(8, 2, 25, 7), 32768, 2)?;
     assert_hull(&rt, alloc, &[BEFORE, BEHIND], pixels(8, 2, 25, 7), 32768, 2)?;
-    assert_hull(&rt, alloc, &[ASTRIDE, BEHIND], pixels(10, 2, 22, 6), 21845, 1)?;
+    assert_hull(
+        &rt,
+        alloc,
+        &[ASTRIDE, BEHIND],
+        pixels(10, 2, 22, 6),
+        21845,
+        1,
+    )?;
     assert_hull(&rt, alloc, &[BEHIND, ASIDE], pixels(10, 2, 32, 6), 21845, 2)
 }
 
@@ -125,13 +142,25 @@ fn assert_noted<R: Threads + Wait + Sync + Abort>(
 fn a_hidden_hull_settles_its_members(rt: HostRuntime) -> Result<(), Fail> {
     let alloc = rt.alloc();
     let bytes = behind_the_quad(alloc, &[BEHIND, BEHIND])?;
-    assert_noted(&rt, alloc, &bytes, 2, "groups 0 count 1 hidden 1 members 2\n")?;
+    assert_noted(
+        &rt,
+        alloc,
+        &bytes,
+        2,
+        "groups 0 count 1 hidden 1 members 2\n",
+    )?;
     let ended = run_with(&rt, alloc, "maskcull cull --group=2", bytes)?;
     let report = concat!(
         "msoc-report 1 32 8 1 2\nframe 0 pieces 2\n0 occluded\n1 occluded\n",
         "end 0 visible 0 occluded 2 outside 0\n",
     );
-    assert_ended(&rt, &ended, Status::Done, report, "groups 0 count 1 hidden 1 members 2\n");
+    assert_ended(
+        &rt,
+        &ended,
+        Status::Done,
+        report,
+        "groups 0 count 1 hidden 1 members 2\n",
+    );
     Ok(())
 }
 
@@ -144,7 +173,13 @@ fn members_of_a_group_that_is_not_hidden_are_tested(rt: HostRuntime) -> Result<(
         "msoc-report 1 32 8 1 2\nframe 0 pieces 2\n0 occluded\n1 visible\n",
         "end 0 visible 1 occluded 1 outside 0\n",
     );
-    assert_ended(&rt, &ended, Status::Done, report, "groups 0 count 1 hidden 0 members 0\n");
+    assert_ended(
+        &rt,
+        &ended,
+        Status::Done,
+        report,
+        "groups 0 count 1 hidden 0 members 0\n",
+    );
     Ok(())
 }
 
@@ -152,11 +187,27 @@ fn members_of_a_group_that_is_not_hidden_are_tested(rt: HostRuntime) -> Result<(
 fn members_that_do_not_count_are_no_part_of_it(rt: HostRuntime) -> Result<(), Fail> {
     let alloc = rt.alloc();
     for (objects, most, notes) in [
-        ([].as_slice(), 2, "groups 0 count 0 hidden 0 members 0\n"),
-        (&NOWHERE, 2, "groups 0 count 1 hidden 0 members 0\n"),
-        (&[ASTRIDE, BEHIND], 2, "groups 0 count 1 hidden 1 members 1\n"),
-        (&[NOWHERE[0], BEHIND, NOWHERE[1]], 64, "groups 0 count 1 hidden 1 members 1\n"),
-        (&[BEHIND, BEHIND, BEFORE], 1, "groups 0 count 3 hidden 2 members 2\n"),
+        (
+            NOWHERE.as_slice(),
+            2,
+            "groups 0 count 1 hidden 0 members 0\n",
+        ),
+        (&[], 2, "groups 0 count 0 hidden 0 members 0\n"),
+        (
+            &[ASTRIDE, BEHIND],
+            2,
+            "groups 0 count 1 hidden 1 members 1\n",
+        ),
+        (
+            &[NOWHERE[0], BEHIND, NOWHERE[1]],
+            64,
+            "groups 0 count 1 hidden 1 members 1\n",
+        ),
+        (
+            &[BEHIND, BEHIND, BEFORE],
+            1,
+            "groups 0 count 3 hidden 2 members 2\n",
+        ),
         (
             &[BEHIND, (0, [0, 0, 32, 8, 3, 0]), BEHIND, BEHIND, BEHIND],
             2,
@@ -216,7 +267,15 @@ fn faulty<R: Threads + Wait + Sync>(
     let bytes = seen_from(behind_the_quad(alloc, &[BEHIND, BEHIND])?, 2, 2)?;
     let mut input = BytesSource::new(bytes, 4096, Vec::new(alloc));
     let (report, notes) = (sink(alloc, LARGE, report)?, sink(alloc, LARGE, notes)?);
-    run_over(rt, alloc, "maskcull cull --group 2", &mut input, report, notes, &OpenGate)
+    run_over(
+        rt,
+        alloc,
+        "maskcull cull --group 2",
+        &mut input,
+        report,
+        notes,
+        &OpenGate,
+    )
 }
 
 // The writes of the report are its header, and of each frame a line, the verdicts and a line.

@@ -1,9 +1,11 @@
-use Rattle.std.proofs.Common.{◌≡◌, List, [], ◌∷◌, Bool, false, length, replicate, rules, arith, refl, ap, ◌∙◌, sym}
+use Rattle.std.proofs.Common.{◌≡◌, List, [], ◌∷◌, Bool, false, length, replicate, rules, arith, refl, ap, ◌∙◌, sym, subst}
 use Rattle.std.specs.Prelude.{slice_index_or}
 use Rattle.std.proofs.lemmas.List.{get_or-replicate}
 use Rattle.cull_base.specs.declared.clip.ClipVertex.{ClipVertex}
 use Rattle.cull_report.specs.Scene.{frame_clips}
 use Rattle.cull_report.proofs.Forms.{clip_count}
+use Rattle.group_query.specs.Grouping.{AreApart}
+use Rattle.group_query.specs.declared.grouping.Group.{Group}
 use Rattle.scene_tests.proofs.tests.reports.report_by_groups.Goals as goal
 
 none : (clips : List ClipVertex) → length clips ≡ 0 → [] ≡ clips
@@ -23,3 +25,7 @@ group_verdicts-requires-clause-right c = λ o other lt mark.
     let e = ap (λ (ms : List Bool). slice_index_or ms o false) unset in
     let p = get_or-replicate count o false false lt in
     absurd cc
+
+pub group_verdicts-requires-clause-groups : goal.group_verdicts-requires-clause-groups
+group_verdicts-requires-clause-groups c =
+    subst (λ (gs : List Group). AreApart (length c.args.scene.now.objects) gs) (sym c.as_slice.ensures.value) c.in_ok-list.ensures.apart
