@@ -1,5 +1,6 @@
 pub mod BoxRuns
 pub mod InOrder
+pub mod CutGroups
 pub mod BegunGroups
 pub mod HullMembers
 pub mod FormHulls

@@ -1,5 +1,5 @@
 -- Groups of boxes that follow on one another.
-use Rattle.std.specs.Prelude.{ℕ, ◌+◌, ◌-◌, ◌<◌, ◌≤◌, min, Bool, true, false, cond, nat_lt, List, [], ◌∷◌, length, slice_index_or}
+use Rattle.std.specs.Prelude.{ℕ, ◌≡◌, ◌+◌, ◌-◌, ◌<◌, ◌≤◌, min, Bool, true, false, cond, nat_lt, List, [], ◌∷◌, length, slice_index_or}
 use Rattle.cull_base.specs.declared.scene_types.Object.{Object}
 use Rattle.cull_base.specs.declared.scene_types.Object.TheVariants.{Area, Block, Mesh}
 use Rattle.scene_reader.specs.Layout.{Parts}
@@ -30,6 +30,26 @@ groups_from n place left (o ∷ os) =
 -- each maximal run of consecutive boxes, cut from its front into groups of n, the last with what is left
 abbrev pub groups_of : Parts → ℕ → List Group
 groups_of s n = groups_from n 0 0 s.objects
+
+-- an object is a member of a group
+pub record IsMember (g : Group) (o : ℕ) : Type 0 where
+  pub from : g.first ≤ o
+  pub before : o < g.first + g.count
+
+-- a group of at most n boxes; behind one of fewer stands no box
+pub record IsGroup (n : ℕ) (os : List Object) (g : Group) : Type 0 where
+  pub boxes : (o : ℕ) (e : Object) → g.first ≤ o → o < g.first + g.count → is_box (slice_index_or os o e) ≡ true
+  pub few : g.count ≤ n
+  pub ends : (e : Object) → g.count < n → g.first + g.count < length os → is_box (slice_index_or os (g.first + g.count) e) ≡ false
+
+-- such groups, of which each box is in one
+pub record AreGroups (n : ℕ) (os : List Object) (groups : List Group) : Type 0 where
+  pub each : (k : ℕ) (d : Group) → k < length groups → IsGroup n os (slice_index_or groups k d)
+  pub all : (o : ℕ) (e : Object) → o < length os → is_box (slice_index_or os o e) ≡ true → (k : ℕ) × (k < length groups) × ((d : Group) → IsMember (slice_index_or groups k d) o)
+
+-- the groups of a scene are such
+abbrev pub CutsInGroups : Type 0
+CutsInGroups = (s : Parts) (n : ℕ) → 1 ≤ n → AreGroups n s.objects (groups_of s n)
 
 -- groups in order among so many objects, each with a member and none with another's
 pub record AreApart (objects : ℕ) (groups : List Group) : Type 0 where

@@ -26,7 +26,7 @@ abbrev pub counted : Dimensions → List Shape → ℕ
 counted size [] = 0
 counted size (shape ∷ shapes) = cond (counts size shape) 1 0 + counted size shapes
 
--- the smallest rectangle that holds two, of which each has a pixel
+-- from the lesser sides of two rectangles, of which each has a pixel, to the greater
 abbrev pub holding : Rect → Rect → Rect
 holding a b = record { x0 = int_min a.x0 b.x0; y0 = int_min a.y0 b.y0; x1 = int_max a.x1 b.x1; y1 = int_max a.y1 b.y1 }
 
@@ -54,7 +54,7 @@ shapes_from s frame first count = map (object_shape s frame) (take count (drop f
 abbrev pub member_shapes : Parts → ℕ → Group → List Shape
 member_shapes s frame g = shapes_from s frame g.first g.count
 
--- The smallest rectangle that holds the areas of a group's members that count, the greatest nearness of these, and their number. None where no member counts.
+-- The rectangle from the least to the greatest sides of the areas of a group's members that count, the greatest nearness of these, and their number. None where no member counts.
 abbrev pub hull_of : Parts → ℕ → Group → Option Hull
 hull_of s frame g = hull_from (size_of s) None (member_shapes s frame g)
 

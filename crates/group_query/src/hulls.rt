@@ -12,8 +12,8 @@ use cull_base::{Rect, Size};
 use cull_report::{Form, object_form};
 use scene_reader::Scene;
 
-/// The smallest rectangle that holds the areas of a group's members that count, the greatest nearness of these, and
-/// their number. A member counts where it is at a rectangle that has a pixel in the screen.
+/// The rectangle from the least to the greatest sides of the areas of a group's members that count, the greatest
+/// nearness of these, and their number. A member counts where it is at a rectangle that has a pixel in the screen.
 #[derive(Clone, Copy, Debug, PartialEq, Eq)]
 pub struct Hull {
     pub rect: Rect,
@@ -33,7 +33,7 @@ fn greater(a: i32, b: i32) -> i32
     a.max(b)
 }
 
-// The smallest rectangle that holds two.
+// The rectangle from the lesser sides of two to the greater: it holds both.
 fn holding(a: &Rect, b: &Rect) -> Rect
     ensures { result ≡ holding a.now b.now }
 {

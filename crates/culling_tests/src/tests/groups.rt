@@ -7,7 +7,7 @@ use crate::tests::scenes::{QUAD, TWO, scene, scene_of, seen_from};
 use cull_base::{BytesSource, Rect, SureSink};
 use culling::Status;
 use demo_scene::demo_scene;
-use group_query::{Group, Hull, groups, hidden_group_hides_members, hull};
+use group_query::{Group, Hull, boxes_stand_in_groups, groups, hidden_group_hides_members, hull};
 use scene_reader::{Scene, write_scene};
 use std::alloc::Global;
 use std::process::Abort;
@@ -117,6 +117,7 @@ fn groups_end_with_their_run_of_boxes(rt: HostRuntime) -> Result<(), Fail> {
         Group { first: 4, count: 1 },
     ];
     assert!(rt; list.as_slice() == wanted.as_slice());
+    boxes_stand_in_groups();
     Ok(())
 }
 
