@@ -3,6 +3,7 @@ pub mod InOrder
 pub mod CutGroups
 pub mod BegunGroups
 pub mod HullMembers
+pub mod TightHulls
 pub mod FormHulls
 pub mod HiddenHulls
 pub mod Totals

@@ -72,6 +72,27 @@ abbrev pub HoldsMembers : Dimensions → List Shape → Hull → Type 0
 HoldsMembers size shapes h =
     (k : ℕ) (rect : Rect) (q : ℕ) → k < length shapes → slice_index_or shapes k AlwaysOutside ≡ Flat rect q → meets rect (screen_of size) ≡ true → HoldsMember size h rect q
 
+-- the hull of one member that counts
+pub record IsOneMembers (size : Dimensions) (shapes : List Shape) (h : Hull) : Type 0 where
+  pub place : ℕ
+  pub rect : Rect
+  pub q : ℕ
+  pub below : place < length shapes
+  pub is : slice_index_or shapes place AlwaysOutside ≡ Flat rect q
+  pub met : meets rect (screen_of size) ≡ true
+  pub own : h ≡ with_member None (cut_of rect (screen_of size)) q
+
+-- each side of a hull is that of a member that counts, and so its nearness
+pub record IsTight (size : Dimensions) (shapes : List Shape) (h : Hull) : Type 0 where
+  pub left : (m : Hull) × IsOneMembers size shapes m × (h.rect.x0 ≡ m.rect.x0)
+  pub top : (m : Hull) × IsOneMembers size shapes m × (h.rect.y0 ≡ m.rect.y0)
+  pub right : (m : Hull) × IsOneMembers size shapes m × (h.rect.x1 ≡ m.rect.x1)
+  pub bottom : (m : Hull) × IsOneMembers size shapes m × (h.rect.y1 ≡ m.rect.y1)
+  pub near : (m : Hull) × IsOneMembers size shapes m × (h.q ≡ m.q)
+
+abbrev pub HullsAreTight : Type 0
+HullsAreTight = (s : Parts) (frame : ℕ) (g : Group) (h : Hull) → hull_of s frame g ≡ Some h → IsTight (size_of s) (member_shapes s frame g) h
+
 -- ---- by forms
 
 abbrev pub is_counted : Dimensions → Form → Bool

@@ -16,7 +16,7 @@ pub use group_hull::hull;
 pub use grouped::Grouped;
 pub use grouping::{Group, groups};
 pub use hulls::Hull;
-pub use laws::{boxes_stand_in_groups, hidden_group_hides_members};
+pub use laws::{boxes_stand_in_groups, hidden_group_hides_members, hull_touches_its_members};
 pub use lines::group_line;
 pub use report::{
     GroupReport, group_verdicts, group_verdicts_by_workers, group_verdicts_with_lines,

@@ -7,7 +7,10 @@ use crate::tests::scenes::{QUAD, TWO, scene, scene_of, seen_from};
 use cull_base::{BytesSource, Rect, SureSink};
 use culling::Status;
 use demo_scene::demo_scene;
-use group_query::{Group, Hull, boxes_stand_in_groups, groups, hidden_group_hides_members, hull};
+use group_query::{
+    Group, Hull, boxes_stand_in_groups, groups, hidden_group_hides_members, hull,
+    hull_touches_its_members,
+};
 use scene_reader::{Scene, write_scene};
 use std::alloc::Global;
 use std::process::Abort;
@@ -101,6 +104,7 @@ fn no_hull_is_around_members_that_do_not_count(rt: HostRuntime) -> Result<(), Fa
     let alloc = rt.alloc();
     let scene = scene_from(alloc, behind_the_quad(alloc, &NOWHERE)?)?;
     assert!(rt; first_hull(alloc, &scene, 2)?.is_none());
+    hull_touches_its_members();
     hidden_group_hides_members();
     Ok(())
 }
