@@ -13,6 +13,13 @@ use Rattle.command_words.proofs.table.asked_by.Goals as goal
 one_of_row : (kind own : CommandKind) (o : AnOption) (rows : List Row) → kind ≡ own → find (λ x. bytes_eq x.name o.name) (options_by own) ≡ Some o → HaveValues (options_by kind) rows → HasValue rows o
 one_of_row kind own o rows is at has = value_of (options_by own) o rows at (subst (λ (k : CommandKind). HaveValues (options_by k) rows) is has)
 
+pub settings_of-requires : goal.settings_of-requires
+settings_of-requires c =
+    let rows = rows_of (found_of c.args.matches.now) in
+    let is : c.args.kind ≡ kinds.Cull = search rules in
+    let has : HaveValues (options_by kinds.Cull) rows = subst (λ (k : CommandKind). HaveValues (options_by k) rows) is c.requires in
+    (has.0, (has.1.0, (has.1.1.0, (has.1.1.1.0, (has.1.1.1.1.0, tt)))))
+
 pub number_of-requires : goal.number_of-requires
 number_of-requires c =
     let has : HasValue (rows_of (found_of c.args.matches.now)) group = one_of_row c.args.kind kinds.Cull group (rows_of (found_of c.args.matches.now)) (search rules) refl c.requires in
