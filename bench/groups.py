@@ -4,11 +4,11 @@
 usage: bench/groups.py PROGRAM [--groups 2,16] [--workers 1,4] [--side 500] [--rounds 15]
 
 Three scenes: a city of 2,000 fronts and sides of buildings and 10,000 boxes that stand on the ground, seen from four
-cameras, with its boxes in an order of chance and in that of their cells on the ground, of this side; and 10,000 boxes of
-some 300 by 80 pixels behind a wall. A frame's time is the shortest of so many runs, less that of a run of the same scene
-without boxes, by its number of frames; so reading the scene's triangles isn't counted, reading its boxes is, in both.
-For each number of workers the time without groups comes first, then that of each size of groups, with how many are
-hidden in all frames and how many members these have. Measure on a quiet machine."""
+cameras, with its boxes in an order of chance and in that of their cells on the ground, of this side; and 10,000 boxes
+of some 300 by 80 pixels behind a wall. A frame's time is the shortest of so many runs, less that of a run of the same
+scene without boxes, by its number of frames; so reading the scene's triangles isn't counted, reading its boxes is, in
+both. For each number of workers the time without groups comes first, then that of each size of groups, with how many
+are hidden in all frames and how many members these have. Measure on a quiet machine."""
 import argparse
 import math
 import pathlib
@@ -74,7 +74,8 @@ def seconds(program, words, data, rounds):
 
 def measure(program, name, parts, boxes, asked):
     size, walls, _, cameras = parts
-    bare, data = (msoc.scene(size, frames.FIRST_NEAR, walls.vertices, walls.rows, some, cameras) for some in ([], boxes))
+    near = frames.FIRST_NEAR
+    bare, data = (msoc.scene(size, near, walls.vertices, walls.rows, some, cameras) for some in ([], boxes))
     for workers in map(int, asked.workers.split(",")):
         words = ["cull", "--workers", str(workers)]
         start = frames.seconds(program, words, bare, asked.rounds)
