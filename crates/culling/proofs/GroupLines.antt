@@ -1,7 +1,6 @@
 -- The line of a frame's groups, and the groups themselves.
 use Rattle.std.proofs.Common.{◌≡◌, ℕ, List, [], length, arith, refl, ap, ◌∙◌, Option, Some, None, Result, Ok, Err}
 use Rattle.std.specs.Prelude.{IfOk}
-use Rattle.std.specs.List.{range_with_len}
 use Rattle.std.proofs.lemmas.List.FromFn.{length-map-range_with_len}
 use Rattle.cull_base.specs.declared.memory.Memory.{Memory}
 use Rattle.cull_base.specs.declared.place.Sub.{Sub}

@@ -1,5 +1,5 @@
 -- Each side of a hull is that of a member that counts, and so its nearness.
-use Rattle.std.proofs.Common.{◌≡◌, ◌⊎◌, inl, inr, ℕ, ℤ, suc, ◌+◌, ◌<◌, ◌≤◌, max, Bool, true, false, cond, List, [], ◌∷◌, length, Option, Some, None, arith, refl, sym, ap, ◌∙◌, int_lt}
+use Rattle.std.proofs.Common.{◌≡◌, ◌⊎◌, inl, inr, ℕ, ℤ, suc, max, Bool, true, false, cond, List, [], ◌∷◌, Some, None, arith, refl, sym, ap, ◌∙◌, int_lt}
 use Rattle.std.specs.Int.{int_min, int_max}
 use Rattle.std.proofs.lemmas.Bool.{cases_lt}
 use Rattle.std.proofs.lemmas.Int.{ints}
@@ -9,7 +9,7 @@ use Rattle.cull_base.specs.Rectangle.{meets, cut_of}
 use Rattle.cull_base.specs.Screen.{Dimensions, screen_of}
 use Rattle.cull_base.specs.Shape.{Shape, AlwaysOutside, AlwaysVisible, Flat, Pieces}
 use Rattle.cull_report.specs.Scene.{size_of}
-use Rattle.group_query.specs.Hulls.{HullsAreTight, IsOneMembers, IsTight, hull_from, member_shapes, with_member}
+use Rattle.group_query.specs.Hulls.{HullsAreTight, IsOneMembers, hull_from, member_shapes, with_member}
 use Rattle.group_query.specs.declared.hulls.Hull.{Hull}
 
 -- ---- one of two
