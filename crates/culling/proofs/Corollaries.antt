@@ -251,8 +251,8 @@ refused c status before after P Q bytes e reads left fault h =
 
 -- a fault of the notes comes only of group lines
 not_noted : (group : Option ℕ) (t : Parts) (o : OutcomeOf) (R : Type 0) → o.notes ≡ group_frames t group → ((n : ℕ) → group ≡ Some n → R → ⊥) → (o.notes ≡ [] → ⊥) × R → ⊥
-not_noted None t o R is no fault = fault.0 is
-not_noted (Some n) t o R is no fault = no n refl fault.1
+not_noted None t o R is never fault = fault.0 is
+not_noted (Some n) t o R is never fault = never n refl fault.1
 
 pub complete_cull : (words : CullWords) (status : Status) (before after : Streams) (P Q : Type 0) (s : Parts) (bytes : List ℕ) → before.input.left ≡ Some bytes → bytes ≡ layout s → IsScene s
     → (Rose before.input.faults after.input.faults → ⊥) → (Rose before.report.faults after.report.faults → ⊥) → ((n : ℕ) → words.group ≡ Some n → Rose before.notes.faults after.notes.faults → ⊥)
