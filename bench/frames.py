@@ -91,7 +91,7 @@ def seconds(program, words, data, rounds):
     least = float("inf")
     for _ in range(rounds):
         begin = time.perf_counter()
-        subprocess.run([program, *words], input=data, stdout=subprocess.DEVNULL, check=True)
+        subprocess.run([program, *words], input=data, stdout=subprocess.DEVNULL, stderr=subprocess.DEVNULL, check=True)
         least = min(least, time.perf_counter() - begin)
     return least
 

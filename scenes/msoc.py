@@ -63,6 +63,22 @@ def scene(size, near, vertices, occluders, objects, cameras, object_triangles=()
     return header + b"".join(struct.pack(form, *row) for form, table in tables for row in table)
 
 
+def in_cells(boxes, side):
+    """The boxes in another order, in which those that stand together follow one another, as `cull --group` wants them.
+    The ground, along x and z, is cut into square cells of this side, and the boxes are taken cell by cell along a curve
+    that stays in a square of cells of any size until it has been in all of them. A box is where its middle is."""
+
+    def apart(number):
+        return sum((number >> bit & 1) << 2 * bit for bit in range(26))
+
+    def place(box):
+        _, x0, _, z0, x1, _, z1 = box
+        across, along = (((low + high) // 2 + (1 << 24)) // side for low, high in ((x0, x1), (z0, z1)))
+        return apart(across) | apart(along) << 1
+
+    return sorted(boxes, key=place)
+
+
 class Triangles:
     """Triangles of flat sides, each with vertices of its own, in a table of vertices that all share."""
 

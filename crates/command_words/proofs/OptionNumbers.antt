@@ -1,6 +1,6 @@
 -- An option's number, as its text is read, and the flag.
 use Rattle.std.proofs.Common.{◌≡◌, ◌∙◌, ◌≤◌, ◌==◌, ℕ, Bool, true, false, cond, pos, refl, sym, ap, subst, inl, inr, arith, List, [], ◌∷◌, codes, drop, Option, Some, None, Result, Ok, ◌⊎◌, is_some}
-use Rattle.std.specs.Prelude.{find}
+use Rattle.std.specs.Prelude.{find, IfSome}
 use Rattle.std.specs.Option.{IsSome, unwrap_or}
 use Rattle.std.specs.Str.{bytes_eq}
 use Rattle.std.specs.Str.Parse.{IsNumeral, ParsesUnsigned, digits_value, without_leading_plus}
@@ -53,6 +53,17 @@ value_of (x ∷ rest) o rows is has = go (bytes_eq x.name o.name) is (λ later. 
 pub read_within : (rows : List Row) (name : Text) (least most n : ℕ) → n ≡ number_at rows name → IsNumbered rows name least most → (least ≤ n) × (n ≤ most)
 read_within rows name least most n read is =
     subst (λ m. (least ≤ m) × (m ≤ most)) (sym (read ∙ ap (λ o. unwrap_or (number_said o) 0) is.is)) (value_within is.text least most is.within)
+
+-- the number of an option that may have none
+pub said_within : (rows : List Row) (name : Text) (least most : ℕ) (r : Option ℕ) → r ≡ number_said (one_of name rows) → IsNumbered rows name least most ⊎ (one_of name rows ≡ None)
+    → IfSome r (λ n. (least ≤ n) × (n ≤ most))
+said_within rows name least most r read has =
+    let P : Option Text → Type 0 = λ t. IfSome (number_said t) (λ n. (least ≤ n) × (n ≤ most)) in
+    let said : P (one_of name rows) = elim has [
+      | inl is ↦ subst P (sym is.is) (value_within is.text least most is.within)
+      | inr none ↦ subst P (sym none) tt
+    ] in
+    subst (λ (o : Option ℕ). IfSome o (λ n. (least ≤ n) × (n ≤ most))) (sym read) said
 
 -- and so in a wider one
 pub wider : (rows : List Row) (name : Text) (least most upper : ℕ) → IsNumbered rows name least most → most ≤ upper → IsNumbered rows name 0 upper

@@ -15,7 +15,7 @@ use Rattle.command_words.specs.declared.table.Command.TheVariants.{Cull, Live, D
 use Rattle.command_words.specs.declared.settings.Settings.{Settings}
 use Rattle.command_words.specs.declared.table.CommandKind.{CommandKind}
 use Rattle.command_words.specs.declared.table.CommandKind.TheVariants as kinds
-use Rattle.command_words.specs.declared.table.TheConstants.{BATCH, BINS_X, BINS_Y, CHECK, CULL, DEMO, EARLY, FRAME, LIVE, PICTURE, ROUNDS, SEED, TRIANGLES, WATCH, WORKERS}
+use Rattle.command_words.specs.declared.table.TheConstants.{BATCH, BINS_X, BINS_Y, CHECK, CULL, DEMO, EARLY, FRAME, GROUP, LIVE, PICTURE, ROUNDS, SEED, TRIANGLES, WATCH, WORKERS}
 use Rattle.command_words.specs.declared.rows.Takes.TheVariants.{Number, Nothing}
 use Rattle.command_words.specs.declared.words.Refusal.{Refusal}
 use Rattle.command_words.specs.declared.words.Refusal.TheVariants as refusals
@@ -48,6 +48,9 @@ triangles = option_with (λ t. t.now) TRIANGLES
 
 abbrev pub frame : AnOption
 frame = option_with (λ t. t.now) FRAME
+
+abbrev pub group : AnOption
+group = option_with (λ t. t.now) GROUP
 
 abbrev pub early : AnOption
 early = option_with (λ t. t.now) EARLY
@@ -84,7 +87,7 @@ pub record AreInRange (s : Settings) : Type 0 where
 
 -- such commands can be done: the ranges of the table lie within
 abbrev pub IsWithinLimits : Command → Type 0
-IsWithinLimits (Cull words) = AreInRange words.settings
+IsWithinLimits (Cull words) = AreInRange words.settings × IfSome words.group (λ n. (1 ≤ n) × (n ≤ 64))
 IsWithinLimits (Live words) = AreInRange words.settings × ((1 ≤ words.rounds) × (words.rounds ≤ 8)) × ((1 ≤ words.watch) × (words.watch ≤ 8))
 IsWithinLimits (Demo words) = AreInRange words.settings × (words.triangles ≤ 65536)
 IsWithinLimits (Check words) = ((1 ≤ words.rounds) × (words.rounds ≤ 8)) × ((1 ≤ words.watch) × (words.watch ≤ 8))
@@ -133,7 +136,7 @@ settings_by values = cut_by values (is_some (values early))
 
 -- what a command asks for, where its options have these values
 abbrev pub asked_by : CommandKind → (AnOption → Option ℕ) → Command
-asked_by kinds.Cull values = Cull (record { settings = settings_by values })
+asked_by kinds.Cull values = Cull (record { settings = settings_by values; group = values group })
 asked_by kinds.Live values = Live (record {
   settings = settings_by values;
   rounds = number_of values rounds;

@@ -6,7 +6,7 @@ ghost use Rattle.command_words.specs.Words.{HaveValues, IsWithinLimits, asked_by
 
 use crate::rows::{ACommand, AnOption, CommandRow, OptionRow, Takes};
 use crate::settings::{Settings, cut_of, settings_of};
-use crate::values::number;
+use crate::values::{number, number_of};
 use clap::ArgMatches;
 
 // An option with a number, whose help tells the range. The default is decimal text without leading zeros.
@@ -48,6 +48,17 @@ pub const TRIANGLES: AnOption =
 
 pub const FRAME: AnOption = number!("frame", 0 to 255, "0", "Which frame is drawn");
 
+// It has no default: without it there are no groups.
+pub const GROUP: AnOption = OptionRow {
+    name: "group",
+    takes: Takes::Number {
+        least: 1,
+        most: 64,
+        default: None,
+    },
+    help: "So many boxes that follow on one another are tested as one first, and a line a frame is noted, 1 to 64",
+};
+
 pub const EARLY: AnOption = OptionRow {
     name: "early",
     takes: Takes::Nothing,
@@ -82,16 +93,22 @@ Writes to standard output a header, and for each frame: how many pieces it has, 
 or outside the screen, and how many are. No option changes a byte of it.
 For a path of many cameras give --workers alone: without --early each thread draws frames of its own while the scene has
 as many left, and bins and batches change nothing. For a single frame, which threads share, give bins too.
+With --group boxes that follow on one another in the scene are taken in groups. Those count in a frame that have all
+corners in front of the near plane, or on it, and within the guard, and a rectangle with a pixel on the screen. Where a
+rectangle around those of a group that count, as near as the nearest of them, is hidden, each of these is occluded and
+none is tested by itself. After a frame's lines of the report a line on standard error tells it: groups, the frame,
+count and how many groups there are, hidden and how many of them are hidden, members and how many boxes of these count.
 Tells on standard error why a run isn't done.
 
 Exit status:
-  0  done: the input was read and the report written
+  0  done: the input was read and the report written, and each group line noted
   2  the command line was refused, or help was printed
   3  the input is no scene
   4  the input couldn't be read
   5  the report couldn't be written
+  6  the notes couldn't be written
   7  out of memory",
-    options: &[WORKERS, BINS_X, BINS_Y, BATCH, EARLY],
+    options: &[WORKERS, BINS_X, BINS_Y, BATCH, EARLY, GROUP],
 };
 
 /// The same, and looks at objects while each frame is drawn.
@@ -207,10 +224,11 @@ Exit status:
 /// The commands, in the order of the program's help.
 pub const COMMANDS: &[ACommand] = &[CULL, LIVE, DEMO, UPGRADE, CHECK, PICTURE];
 
-/// What `cull` is to do.
+/// What `cull` is to do: with boxes in groups of at most so many, 1 to 64, or without groups.
 #[derive(Clone, Copy)]
 pub struct CullWords {
     pub settings: Settings,
+    pub group: Option<u32>,
 }
 
 /// What `live` is to do: so many rounds of looks at the first objects, of so many, while each frame is drawn. 1 to 8
@@ -272,6 +290,7 @@ pub fn asked_by(kind: CommandKind, matches: &ArgMatches<'_>) -> Command
     match kind {
         CommandKind::Cull => Command::Cull(CullWords {
             settings: settings_of(matches),
+            group: number_of(matches, &GROUP),
         }),
         CommandKind::Live => Command::Live(LiveWords {
             settings: settings_of(matches),

@@ -1,14 +1,15 @@
 -- Runs of verdicts: how one is made, those that wait or are made, and runs one after the other.
-use Rattle.std.proofs.Common.{◌≡◌, ℕ, ◌+◌, ◌-◌, ◌*◌, ◌<◌, ◌≤◌, min, List, [], ◌∷◌, ◌++◌, map, length, take, drop, get_or, arith, sym, ap, subst, ◌∙◌}
+use Rattle.std.proofs.Common.{◌≡◌, ℕ, ◌+◌, ◌-◌, ◌*◌, ◌<◌, ◌≤◌, min, List, [], ◌∷◌, ◌++◌, map, length, take, drop, get_or, arith, refl, sym, ap, subst, ◌∙◌}
 use Rattle.std.proofs.Math.Seq.{take-add}
-use Rattle.std.proofs.lemmas.List.{take_all, take_min, take_more, length-drop, length-map, length-take, get_or-drop, get_or-map}
+use Rattle.std.proofs.lemmas.List.{take_all, take_min, take_more, length-append, length-drop, length-map, length-take, get_or-drop, get_or-map}
 use Rattle.std.proofs.lemmas.Nat.{mul-le}
 use Rattle.cull_base.specs.declared.scene_types.Object.{Object}
 use Rattle.cull_base.specs.declared.scene_types.Verdict.{Verdict}
-use Rattle.cull_report.specs.Runs.{AreRunsOf, IsMadeRun, IsRunOf, IsWaitingRun, run_of}
-use Rattle.cull_report.specs.Text.{verdict_line, verdict_lines}
+use Rattle.cull_report.specs.Runs.{AreRunsOf, AreToldRuns, IsMadeRun, IsRunOf, IsToldRun, IsWaitingRun, run_of}
+use Rattle.cull_report.specs.Text.{verdict_lines}
 use Rattle.cull_report.specs.declared.runs.Run.{Run}
-use Rattle.cull_report.proofs.ReportLines.{verdict_lines-batch, verdict_lines-push}
+use Rattle.cull_report.specs.declared.tally.Tally.{Tally}
+use Rattle.cull_report.proofs.ReportLines.{verdict_lines-batch}
 
 -- ---- a run that is made
 
@@ -25,32 +26,39 @@ next_verdict f objects first k d lt =
     let rest = drop first (map f objects) in
     take_more rest k (f d) (below_rest f objects first k lt) ∙ ap (λ (v : Verdict). take k rest ++ v ∷ []) (at_next f objects first k d lt)
 
-pub next_line : (f : Object → Verdict) (objects : List Object) (first k : ℕ) (d : Object) → first + k < length objects
-    → verdict_lines first (take (k + 1) (drop first (map f objects))) ≡ verdict_lines first (take k (drop first (map f objects))) ++ verdict_line (first + k) (f (get_or objects (first + k) d))
-next_line f objects first k d lt =
-    let rest = drop first (map f objects) in
-    verdict_lines-push first rest k (f d) (below_rest f objects first k lt) ∙ ap (λ (v : Verdict). verdict_lines first (take k rest) ++ verdict_line (first + k) v) (at_next f objects first k d lt)
-
 -- all objects of a run: so many, or those that are left
-pub whole_run : (f : Object → Verdict) (objects : List Object) (first size count : ℕ) → count ≡ min size (length objects - first)
-    → take count (drop first (map f objects)) ≡ take size (drop first (map f objects))
-whole_run f objects first size count is =
-    let rest = drop first (map f objects) in
-    let n : count ≡ min size (length rest) = omega (arith, is, length-drop first (map f objects), length-map objects f) in
+pub whole_run : (all : List Verdict) (first size count : ℕ) → count ≡ min size (length all - first) → take count (drop first all) ≡ take size (drop first all)
+whole_run all first size count is =
+    let rest = drop first all in
+    let n : count ≡ min size (length rest) = omega (arith, is, length-drop first all) in
     ap (λ (m : ℕ). take m rest) n ∙ take_min size rest
 
+pub drop_none : (xs : List Verdict) → drop 0 xs ≡ xs
+drop_none [] = refl
+drop_none (x ∷ xs) = refl
+
+-- how many verdicts those of a run are behind the ones before
+pub run_length : (old all more : List Verdict) (first count : ℕ) → more ≡ old ++ take count (drop first all) → length more ≤ length old + count
+run_length old all more first count is =
+    let n = ap length is in
+    omega (arith, n, length-append old (take count (drop first all)), length-take count (drop first all))
+
+-- ---- runs that wait or are made
+
 -- a run that waits
-pub waiting_is_run : (all : List Verdict) (size number : ℕ) (r : Run) → size * number < length all → r.number ≡ number → IsWaitingRun all size r → IsRunOf all size number r
-waiting_is_run all size number r some is waits = record {
+pub waiting_is_run : (all : List Verdict) (told : ℕ → Tally) (size number : ℕ) (r : Run) → size * number < length all → r.number ≡ number → IsWaitingRun all size r → IsRunOf all told size number r
+waiting_is_run all told size number r some is waits = record {
   number_is = is;
   some = some;
   waits = λ none. waits;
   made = λ no. absurd (no waits.no_verdicts);
+  counted = λ no. absurd (no waits.no_verdicts);
 }
 
 -- a run that is made has a verdict
-pub made_is_run : (all : List Verdict) (size number : ℕ) (r : Run) → 0 < size → size * number < length all → r.number ≡ number → IsMadeRun all size number r → IsRunOf all size number r
-made_is_run all size number r sized some is made = record {
+pub made_is_run : (all : List Verdict) (told : ℕ → Tally) (size number : ℕ) (r : Run) → 0 < size → size * number < length all → r.number ≡ number → IsMadeRun all size number r → IsToldRun (length all) told size number r
+    → IsRunOf all told size number r
+made_is_run all told size number r sized some is made counted = record {
   number_is = is;
   some = some;
   waits = λ none.
@@ -58,11 +66,12 @@ made_is_run all size number r sized some is made = record {
       let empty = ap length (sym made.verdicts_are ∙ none) in
       absurd (omega (arith, empty, length-take size rest, length-drop (size * number) all, sized, some));
   made = λ no. made;
+  counted = λ no. counted;
 }
 
 -- ---- runs one after the other
 
-next_run : (size k : ℕ) → size * (k + 1) ≡ size * k + size
+pub next_run : (size k : ℕ) → size * (k + 1) ≡ size * k + size
 next_run size k = omega arith
 
 -- the verdicts so far and those of the next run
@@ -80,3 +89,7 @@ joined_all all size k runs are le = take_all (size * k) all (omega (arith, are.w
 -- the run of a place, as a loop reads it
 pub run_at : (all : List Verdict) (size k : ℕ) (runs : List Run) (run : Run) → AreRunsOf all size runs → k < length runs → run ≡ get_or runs k run → IsMadeRun all size k run
 run_at all size k runs run are lt is = subst (IsMadeRun all size k) (sym is) (are.each k run lt)
+
+-- and what is counted of it
+pub told_at : (objects : ℕ) (told : ℕ → Tally) (size k : ℕ) (runs : List Run) (run : Run) → AreToldRuns objects told size runs → k < length runs → run ≡ get_or runs k run → IsToldRun objects told size k run
+told_at objects told size k runs run are lt is = subst (IsToldRun objects told size k) (sym is) (are.each k run lt)

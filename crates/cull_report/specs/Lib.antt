@@ -1,5 +1,6 @@
 pub mod Text
 pub mod Scene
+pub mod Tallies
 pub mod Runs
 pub mod Forms
 pub mod Hiding

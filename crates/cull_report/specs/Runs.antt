@@ -1,8 +1,10 @@
--- Runs of a frame's objects, so many each, with their verdicts and lines.
-use Rattle.std.specs.Prelude.{ℕ, ◌≡◌, ◌*◌, ◌<◌, ◌≤◌, List, [], length, take, drop, vec_capacity, slice_index_or}
+-- Runs of a frame's objects, so many each, with their verdicts and lines, and what is counted of them.
+use Rattle.std.specs.Prelude.{ℕ, ◌≡◌, ◌*◌, ◌+◌, ◌<◌, ◌≤◌, min, List, [], length, take, drop, vec_capacity, slice_index_or}
 use Rattle.cull_base.specs.declared.scene_types.Verdict.{Verdict}
+use Rattle.cull_report.specs.Tallies.{Adds}
 use Rattle.cull_report.specs.Text.{verdict_lines}
 use Rattle.cull_report.specs.declared.runs.Run.{Run}
+use Rattle.cull_report.specs.declared.tally.Tally.{Tally}
 
 -- a run has at least one object and at most so many, whose lines a text has room for
 pub record IsRunSize (size : ℕ) : Type 0 where
@@ -12,6 +14,10 @@ pub record IsRunSize (size : ℕ) : Type 0 where
 -- the verdicts of a run, by its number
 abbrev pub run_of : List Verdict → ℕ → ℕ → List Verdict
 run_of all size number = take size (drop (size * number) all)
+
+-- where a run begins: at the end of all objects where there is no such run
+abbrev pub run_place : ℕ → ℕ → ℕ → ℕ
+run_place objects size number = min (size * number) objects
 
 -- a run that waits: it has an object, and room for the verdicts and the lines of so many
 pub record IsWaitingRun (all : List Verdict) (size : ℕ) (r : Run) : Type 0 where
@@ -26,12 +32,17 @@ pub record IsMadeRun (all : List Verdict) (size number : ℕ) (r : Run) : Type 0
   pub verdicts_are : r.verdicts.items ≡ run_of all size number
   pub lines_are : r.lines.items ≡ verdict_lines (size * number) (run_of all size number)
 
+-- and what is counted of its objects, of so many
+abbrev pub IsToldRun : ℕ → (ℕ → Tally) → ℕ → ℕ → Run → Type 0
+IsToldRun objects told size number r = Adds (told (run_place objects size number)) r.tally (told (run_place objects size (number + 1)))
+
 -- a run of a number, which waits or is made
-pub record IsRunOf (all : List Verdict) (size number : ℕ) (r : Run) : Type 0 where
+pub record IsRunOf (all : List Verdict) (told : ℕ → Tally) (size number : ℕ) (r : Run) : Type 0 where
   pub number_is : r.number ≡ number
   pub some : size * number < length all
   pub waits : r.verdicts.items ≡ [] → IsWaitingRun all size r
   pub made : (r.verdicts.items ≡ [] → ⊥) → IsMadeRun all size number r
+  pub counted : (r.verdicts.items ≡ [] → ⊥) → IsToldRun (length all) told size number r
 
 -- so many runs have all objects, and each has one
 pub record AreRunsFor (objects size count : ℕ) : Type 0 where
@@ -42,3 +53,8 @@ pub record AreRunsFor (objects size count : ℕ) : Type 0 where
 pub record AreRunsOf (all : List Verdict) (size : ℕ) (runs : List Run) : Type 0 where
   pub each : (k : ℕ) (d : Run) → k < length runs → IsMadeRun all size k (slice_index_or runs k d)
   pub whole : length all ≤ size * length runs
+
+-- and what is counted of each
+pub record AreToldRuns (objects : ℕ) (told : ℕ → Tally) (size : ℕ) (runs : List Run) : Type 0 where
+  pub each : (k : ℕ) (d : Run) → k < length runs → IsToldRun objects told size k (slice_index_or runs k d)
+  pub whole : objects ≤ size * length runs

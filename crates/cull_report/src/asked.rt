@@ -1,14 +1,17 @@
 //! The objects of a frame, tested over tiles that are drawn.
-ghost use Rattle.std.specs.Prelude.{◌≡◌, ℕ, ◌<◌, true, length, IfOk, slice_index_or};
+ghost use Rattle.std.specs.Prelude.{◌≡◌, ℕ, ◌<◌, true, length, slice_index_or};
 ghost use Rattle.cull_base.specs.Screen.{tile_count_of};
 ghost use Rattle.cull_base.specs.declared.scene_types.Object.{Object};
-ghost use Rattle.cull_report.specs.Scene.{IsMarkedRight, size_of, frame_clips, verdict_in, verdicts_in};
+ghost use Rattle.cull_report.specs.Forms.{shape_of_form, HasTriangles};
+ghost use Rattle.cull_report.specs.Scene.{IsMarkedRight, size_of, frame_clips, object_shape, verdict_in, verdicts_in};
 
-use crate::objects::{object_count, object_verdict};
-use cull_base::{ClipVertex, Memory, Verdict};
+use crate::answering::Answering;
+use crate::form::Form;
+use crate::objects::{form_verdict, object_count, object_verdict};
+use crate::tally::Tally;
+use cull_base::{ClipVertex, Verdict};
 use masked_update::TileView;
 use scene_reader::Scene;
-use std::alloc::Global;
 
 /// The objects of a scene in one of its frames, and the view over which they are tested. Conditions: there is such a
 /// frame, the clip vertices are the frame's, the view holds every tile, there is one mark per object, and each marked
@@ -28,14 +31,8 @@ pub struct Asked<'a, V: TileView> {
 }
 
 impl<'a, V: TileView> Asked<'a, V> {
-    pub(crate) fn count(&self) -> u32
-        ensures { result ≡ length self.now.scene.now.objects }
-    {
-        object_count(self.scene)
-    }
-
-    // The verdict of an object. One that is marked as settled isn't tested.
-    pub(crate) fn verdict_at(&self, object: u32) -> Verdict
+    /// The verdict of an object. One that is marked as settled isn't tested. Condition: there is such an object.
+    pub fn verdict_at(&self, object: u32) -> Verdict
         requires { object < length self.now.scene.now.objects }
         ensures { (o : Object) → result ≡ verdict_in self.now.scene.now self.now.frame (V.tile_of self.now.view.now)
             (slice_index_or self.now.scene.now.objects object o) }
@@ -46,16 +43,46 @@ impl<'a, V: TileView> Asked<'a, V> {
             object_verdict(self.scene, self.frame, self.clips, object, self.view)
         }
     }
-    // Each object's verdict. Err where memory gave out.
-    pub(crate) fn verdicts(&self, alloc: Global) -> Result<Vec<Verdict>, Memory>
-        ensures { IfOk result (λ v. v.items
-            ≡ verdicts_in self.now.scene.now self.now.frame (V.tile_of self.now.view.now)) }
+
+    /// The same by the object's form, which isn't made again. Conditions: there is such an object, and the form is its
+    /// own.
+    pub fn verdict_by(&self, object: u32, form: Form) -> Verdict
+        requires object { object < length self.now.scene.now.objects }
+        requires triangles { HasTriangles (length self.now.scene.now.object_tris) form }
+        requires own { (o : Object) → shape_of_form self.now.scene.now self.now.frame form
+            ≡ object_shape self.now.scene.now self.now.frame (slice_index_or self.now.scene.now.objects object o) }
+        ensures { (o : Object) → result ≡ verdict_in self.now.scene.now self.now.frame (V.tile_of self.now.view.now)
+            (slice_index_or self.now.scene.now.objects object o) }
     {
-        let count = self.count();
-        let mut verdicts = Vec::with_capacity(alloc, count as usize).map_err(|_| Memory)?;
-        for object in 0..count {
-            verdicts.push_reserved(self.verdict_at(object));
+        if self.settled[object as usize] {
+            return Verdict::Occluded;
         }
-        Ok(verdicts)
+        form_verdict(self.scene, self.frame, self.clips, form, self.view)
+    }
+}
+
+impl<'a, V: TileView> Answering for Asked<'a, V> {
+    ghost use Rattle.cull_report.specs.Scene.{verdicts_in};
+    ghost use Rattle.cull_report.specs.Tallies.{no_tally};
+
+    ghost all = { λ a. verdicts_in a.scene.now a.frame (V.tile_of a.view.now) };
+
+    ghost told = { λ a place. no_tally };
+
+    fn count(&self) -> u32 {
+        object_count(self.scene)
+    }
+
+    fn answer(&self, first: u32, count: u32, verdicts: &mut Vec<Verdict>) -> Tally {
+        // it tells that the objects' numbers fit
+        let _objects = self.count();
+        for k in 0..count {
+            let verdict = self.verdict_at(first + k);
+            verdicts.push_reserved(verdict);
+        }
+        Tally {
+            hidden: 0,
+            members: 0,
+        }
     }
 }

@@ -1,15 +1,19 @@
-//! The verdicts of a frame's objects, by workers side by side, or with their lines by one thread.
-ghost use Rattle.std.specs.Prelude.{◌≡◌, ◌≤◌, IfOk};
+//! Answers of objects by workers side by side, or with their lines by one thread.
+ghost use Rattle.std.specs.Prelude.{◌≡◌, ◌≤◌, length, IfOk};
 ghost use Rattle.cull_report.specs.Runs.{IsRunSize};
 ghost use Rattle.cull_report.specs.Scene.{verdicts_in};
+ghost use Rattle.cull_report.specs.Tallies.{Adds};
 
+use crate::answering::{Answering, all_answers};
 use crate::asked::Asked;
 use crate::frame_verdicts::FrameVerdicts;
 use crate::report::BATCH;
 use crate::run_pool::runs_by_workers;
-use crate::runs::{run_size, runs_in_turn};
+use crate::runs::{run_size, runs_in_turn, tally_of_runs, whole_steps};
+use crate::tally::Tally;
 use cull_base::Memory;
 use masked_update::TileView;
+use scene_reader::Scene;
 use std::alloc::Global;
 use std::sync::Wait;
 use std::thread::Threads;
@@ -17,23 +21,74 @@ use std::thread::Threads;
 /// A thread is worth its start for so many objects and triangles of meshes.
 const SHARE: usize = 512;
 
-// By how many threads so many workers ask the objects. With one or none no thread is started.
-fn thread_count<V: TileView>(asked: &Asked<V>, workers: u32) -> usize
-    ensures { result ≤ workers }
-{
-    let scene = asked.scene;
-    let shares = scene.objects().len() / SHARE + scene.object_tris().len() / SHARE;
-    shares.min(workers as usize)
+/// Each object's verdict, and what is counted of all.
+#[derive(Drop)]
+pub struct Answers {
+    pub verdicts: FrameVerdicts,
+    pub tally: Tally,
 }
 
-// How many objects' lines are one piece, by so many threads.
-fn piece_size(objects: u32, threads: usize) -> usize
+/// By how many threads so many workers ask the objects of a scene. With one or none no thread is started.
+pub fn thread_count(scene: &Scene, workers: u32) -> u32
+    ensures { result ≤ workers }
+{
+    let shares = scene.objects().len() / SHARE + scene.object_tris().len() / SHARE;
+    shares.min(workers as usize) as u32
+}
+
+// How many objects' lines are one piece, by so many threads. Where a run may end so many objects after its beginning
+// are whole steps.
+fn piece_size(objects: u32, threads: u32, step: u32) -> usize
     ensures { IsRunSize result }
 {
     if threads <= 1 {
-        return BATCH;
+        return whole_steps(BATCH, step as usize);
     }
-    run_size(objects, threads)
+    whole_steps(run_size(objects, threads as usize), step as usize)
+}
+
+/// The answers of objects, by so many threads and the caller, in runs of whole steps; by the caller alone where there
+/// is one thread or none. Err where memory gave out.
+pub fn answers_by_workers<R: Threads + Wait + Sync, A: Answering + Sync>(
+    rt: &R,
+    alloc: Global,
+    asked: &A,
+    threads: u32,
+    step: u32,
+) -> Result<Answers, Memory>
+    ensures verdicts { IfOk result (λ v. v.verdicts ≡ A.all asked.now) }
+    ensures told { IfOk result
+        (λ v. Adds (A.told asked.now 0) v.tally (A.told asked.now (length (A.all asked.now)))) }
+{
+    if threads <= 1 {
+        let (list, tally) = all_answers(alloc, asked)?;
+        let verdicts = FrameVerdicts::plain(alloc, list);
+        return Ok(Answers { verdicts, tally });
+    }
+    let size = piece_size(asked.count(), threads, step);
+    let runs = runs_by_workers(rt, alloc, asked, size, threads)?;
+    let tally = tally_of_runs(asked, runs.as_slice(), size);
+    let verdicts = FrameVerdicts::of_runs(alloc, runs, size)?;
+    Ok(Answers { verdicts, tally })
+}
+
+/// The same by the caller's thread alone, with the lines made at once, in the pieces in which the lines by so many
+/// threads are written. Err where memory gave out.
+pub fn answers_with_lines<A: Answering>(
+    alloc: Global,
+    asked: &A,
+    threads: u32,
+    step: u32,
+) -> Result<Answers, Memory>
+    ensures verdicts { IfOk result (λ v. v.verdicts ≡ A.all asked.now) }
+    ensures told { IfOk result
+        (λ v. Adds (A.told asked.now 0) v.tally (A.told asked.now (length (A.all asked.now)))) }
+{
+    let size = piece_size(asked.count(), threads, step);
+    let runs = runs_in_turn(alloc, asked, size)?;
+    let tally = tally_of_runs(asked, runs.as_slice(), size);
+    let verdicts = FrameVerdicts::of_runs(alloc, runs, size)?;
+    Ok(Answers { verdicts, tally })
 }
 
 /// Each object's verdict as `verdicts` gives it, by so many workers side by side where there is much to ask. Err where
@@ -46,13 +101,9 @@ pub fn verdicts_by_workers<R: Threads + Wait + Sync, V: TileView + Sync>(
 ) -> Result<FrameVerdicts, Memory>
     ensures { IfOk result (λ v. v ≡ verdicts_in asked.now.scene.now asked.now.frame (V.tile_of asked.now.view.now)) }
 {
-    let threads = thread_count(asked, workers);
-    if threads <= 1 {
-        return Ok(FrameVerdicts::plain(alloc, asked.verdicts(alloc)?));
-    }
-    let size = piece_size(asked.count(), threads);
-    let runs = runs_by_workers(rt, alloc, asked, size, threads as u32)?;
-    FrameVerdicts::of_runs(alloc, runs, size)
+    let threads = thread_count(asked.scene, workers);
+    let answers = answers_by_workers(rt, alloc, asked, threads, 1)?;
+    Ok(answers.verdicts)
 }
 
 /// The same by the caller's thread alone, with the lines made at once, in the pieces in which the lines by so many
@@ -64,7 +115,7 @@ pub fn verdicts_with_lines<V: TileView>(
 ) -> Result<FrameVerdicts, Memory>
     ensures { IfOk result (λ v. v ≡ verdicts_in asked.now.scene.now asked.now.frame (V.tile_of asked.now.view.now)) }
 {
-    let size = piece_size(asked.count(), thread_count(asked, workers));
-    let runs = runs_in_turn(alloc, asked, size)?;
-    FrameVerdicts::of_runs(alloc, runs, size)
+    let threads = thread_count(asked.scene, workers);
+    let answers = answers_with_lines(alloc, asked, threads, 1)?;
+    Ok(answers.verdicts)
 }

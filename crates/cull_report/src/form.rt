@@ -13,8 +13,8 @@ use cull_base::{ClipVertex, Grade, Object, Rect, Size};
 use rect_query::{BoxAnswer, box_rect, rect_near};
 use scene_reader::Scene;
 
-/// An object is outside or visible whatever the tiles hold; or it has one nearness over a rectangle; or it is a range
-/// of the scene's object triangles.
+/// What is asked of the tiles for an object in a frame. It is outside or visible whatever the tiles hold; or it has one
+/// nearness over a rectangle; or it is a range of the scene's object triangles.
 #[derive(Clone, Copy)]
 pub enum Form {
     Outside,
@@ -62,7 +62,7 @@ fn camera_of(scene: &Scene, frame: u32) -> Camera
 }
 
 /// The form of an object in a frame. Condition: there is such a frame, and the object is one of the scene's.
-pub fn form_of(scene: &Scene, frame: u32, object: &Object) -> Form
+pub(crate) fn form_of(scene: &Scene, frame: u32, object: &Object) -> Form
     requires frame { frame < length scene.now.cameras }
     requires object { IsObject (length scene.now.object_tris) object.now }
     ensures shape { shape_of_form scene.now frame result ≡ object_shape scene.now frame object.now }

@@ -7,9 +7,11 @@ ghost use Rattle.masked_update.specs.Views.{HoldsMet, state_in};
 ghost use Rattle.scene_reader.specs.Layout.{IsObject, IsScene};
 ghost use Rattle.cull_report.specs.Forms.{shape_of_form, range_of, HasTriangles};
 ghost use Rattle.cull_report.specs.Hiding.{HidesObject};
-ghost use Rattle.cull_report.specs.Scene.{IsMarkedRight, size_of, frame_clips, object_area, verdict_in, verdicts_in};
+ghost use Rattle.cull_report.specs.Scene.{IsMarkedRight, size_of, frame_clips, object_area, object_shape};
+ghost use Rattle.cull_report.specs.Scene.{verdict_in, verdicts_in};
 ghost use Rattle.cull_report.specs.Settled.{SettlesObject, is_settled_shape, settled_in};
 
+use crate::answering::all_answers;
 use crate::asked::Asked;
 use crate::form::{Form, form_of};
 use cull_base::{ClipVertex, Memory, NO_PIXELS, Object, Rect, Tri, Verdict};
@@ -69,7 +71,7 @@ fn form_area(scene: &Scene, _frame: u32, clips: &[ClipVertex], form: Form) -> Re
 }
 
 // The verdict of a form over a view that holds the tiles of its area. Its clauses alone ask for the frame.
-fn form_verdict<V: TileView>(
+pub(crate) fn form_verdict<V: TileView>(
     scene: &Scene,
     _frame: u32,
     clips: &[ClipVertex],
@@ -106,6 +108,17 @@ fn is_form_settled<V: TileView>(scene: &Scene, _frame: u32, form: Form, view: &V
         Form::Outside | Form::Visible => false,
         Form::Mesh { .. } => false,
     }
+}
+
+/// The form of an object in a frame. Conditions: there is such a frame, and the object is below the number of objects.
+pub fn object_form(scene: &Scene, frame: u32, object: u32) -> Form
+    requires frame { frame < length scene.now.cameras }
+    requires object { object < length scene.now.objects }
+    ensures shape { (o : Object) → shape_of_form scene.now frame result
+        ≡ object_shape scene.now frame (slice_index_or scene.now.objects object o) }
+    ensures triangles { HasTriangles (length scene.now.object_tris) result }
+{
+    form_of(scene, frame, object_at(scene, object))
 }
 
 /// The pixels of the screen that are looked at for an object in a frame; none where it is outside or visible whatever
@@ -195,5 +208,6 @@ pub fn verdicts<V: TileView>(
         view,
         settled,
     };
-    asked.verdicts(alloc)
+    let (list, _tally) = all_answers(alloc, &asked)?;
+    Ok(list)
 }

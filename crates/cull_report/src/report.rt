@@ -1,5 +1,5 @@
 //! The texts of the report.
-ghost use Rattle.std.specs.Prelude.{◌≡◌, ℕ, List, [], ◌∷◌, ◌++◌, ◌+◌, ◌<◌, ◌≤◌, ◌^◌, length};
+ghost use Rattle.std.specs.Prelude.{◌≡◌, ℕ, List, [], ◌∷◌, ◌++◌, ◌+◌, ◌*◌, ◌<◌, ◌≤◌, ◌^◌, length};
 ghost use Rattle.cull_report.specs.Text.{header_text, frame_line, verdict_line, verdict_lines, end_line, frame_text, verdict_word};
 ghost use Rattle.cull_base.specs.Stream.{Writes};
 ghost use Rattle.cull_report.specs.Scene.{scene_header};
@@ -53,7 +53,7 @@ pub(crate) fn word_of(verdict: Verdict) -> &'static [u8]
 
 // Appends the line of an object. Condition: there is room for it.
 #[tactic(auto, unfolding(crate::specs::Text::verdict_line))]
-pub(crate) fn push_verdict_line(lines: &mut Lines, object: usize, verdict: Verdict)
+fn push_verdict_line(lines: &mut Lines, object: usize, verdict: Verdict)
     requires { length lines.old + 30 ≤ 4096 }
     ensures value { lines.new ≡ lines.old ++ verdict_line object verdict }
     ensures short { length lines.new ≤ length lines.old + 30 }
@@ -83,10 +83,11 @@ pub(crate) fn end_line(frame: u32, counts: Counts) -> Line
 }
 
 // The lines of some verdicts, numbered from a first.
-fn lines_from(first: usize, verdicts: &[Verdict]) -> Lines
+pub(crate) fn lines_from(first: usize, verdicts: &[Verdict]) -> Lines
     requires room { length verdicts.now ≤ 128 }
     requires numbers { first + length verdicts.now < 2 ^ 64 }
-    ensures { result ≡ verdict_lines first verdicts.now }
+    ensures value { result ≡ verdict_lines first verdicts.now }
+    ensures short { length result ≤ 30 * length verdicts.now }
 {
     let mut lines = Lines::empty();
     for (k, verdict) in verdicts.iter().enumerate() {

@@ -1,25 +1,27 @@
-//! Runs of a frame's objects, each with its verdicts and their lines.
+//! Runs of a frame's objects, each with its verdicts, their lines and what is counted of it.
 ghost use Rattle.std.specs.Prelude.{◌≡◌, ℕ, List, ◌+◌, ◌*◌, ◌-◌, ◌/◌, ◌<◌, length, IfOk};
 ghost use Rattle.cull_base.specs.declared.scene_types.Verdict.{Verdict};
-ghost use Rattle.cull_report.specs.Runs.{AreRunsFor, AreRunsOf, IsMadeRun, IsRunOf, IsRunSize, IsWaitingRun};
-ghost use Rattle.cull_report.specs.Scene.{verdicts_in};
+ghost use Rattle.cull_report.specs.Runs.{AreRunsFor, AreRunsOf, AreToldRuns, IsMadeRun, IsRunOf, IsRunSize, IsToldRun};
+ghost use Rattle.cull_report.specs.Runs.{IsWaitingRun};
+ghost use Rattle.cull_report.specs.Tallies.{Adds};
 
-use crate::asked::Asked;
-use crate::report::{BATCH, push_verdict_line};
+use crate::answering::Answering;
+use crate::report::{BATCH, lines_from};
+use crate::tally::Tally;
 use cull_base::{Memory, Verdict};
-use masked_update::TileView;
 use std::alloc::Global;
-use text_lines::Lines;
 
 /// At most so many bytes has the line of an object.
 const LINE: usize = 30;
 
-/// The verdicts of objects that follow on one another, and their lines. Run k of some size begins at object size * k.
+/// The verdicts of objects that follow on one another, their lines, and what is counted of them. Run k of some size
+/// begins at object size * k.
 #[derive(Drop)]
 pub(crate) struct Run {
     pub(crate) number: usize,
     pub(crate) verdicts: Vec<Verdict>,
     pub(crate) lines: Vec<u8>,
+    pub(crate) tally: Tally,
 }
 
 /// How many objects a run has, of so many that so many threads share.
@@ -27,6 +29,18 @@ pub(crate) fn run_size(objects: u32, threads: usize) -> usize
     ensures { IsRunSize result }
 {
     (objects as usize / threads.saturating_mul(8).max(1)).clamp(1, BATCH)
+}
+
+/// The nearest size of runs at which whole steps end where a run does: no greater where one step fits, else one step.
+pub(crate) fn whole_steps(size: usize, step: usize) -> usize
+    requires { IsRunSize size }
+    ensures { IsRunSize result }
+{
+    let step = step.clamp(1, BATCH);
+    if size < step {
+        return step;
+    }
+    size - size % step
 }
 
 /// How many runs of a size so many objects make.
@@ -50,41 +64,38 @@ impl Run {
             number,
             verdicts,
             lines,
+            tally: Tally {
+                hidden: 0,
+                members: 0,
+            },
         })
     }
 
-    // Makes a run that waits: the verdicts of its objects, and their lines.
-    fn make<V: TileView>(&mut self, size: usize, asked: &Asked<V>)
+    // Makes a run that waits: the verdicts of its objects, their lines, and what is counted of them.
+    fn make<A: Answering>(&mut self, size: usize, asked: &A)
         requires size { IsRunSize size }
-        requires waits { IsWaitingRun (verdicts_in asked.now.scene.now asked.now.frame (V.tile_of asked.now.view.now))
-            size self.old }
+        requires waits { IsWaitingRun (A.all asked.now) size self.old }
         ensures number { self.new.number ≡ self.old.number }
-        ensures made { IsMadeRun (verdicts_in asked.now.scene.now asked.now.frame (V.tile_of asked.now.view.now))
-            size self.old.number self.new }
+        ensures made { IsMadeRun (A.all asked.now) size self.old.number self.new }
+        ensures counted { IsToldRun (length (A.all asked.now)) (A.told asked.now) size self.old.number self.new }
     {
-        let mut lines = Lines::empty();
+        let objects = asked.count();
         let first = size * self.number;
-        let count = size.min(asked.count() as usize - first);
-        for k in 0..count {
-            let object = first + k;
-            let verdict = asked.verdict_at(object as u32);
-            self.verdicts.push_reserved(verdict);
-            push_verdict_line(&mut lines, object, verdict);
-        }
+        let count = size.min(objects as usize - first);
+        self.tally = asked.answer(first as u32, count as u32, &mut self.verdicts);
+        let lines = lines_from(first, self.verdicts.as_slice());
         let Ok(()) = self.lines.extend_from_slice(lines.as_slice()) else {
             unreachable!()
         };
     }
 
     /// Makes a run that isn't made yet.
-    pub(crate) fn make_unless_made<V: TileView>(&mut self, size: usize, asked: &Asked<V>)
+    pub(crate) fn make_unless_made<A: Answering>(&mut self, size: usize, asked: &A)
         requires size { IsRunSize size }
-        requires run { IsRunOf (verdicts_in asked.now.scene.now asked.now.frame (V.tile_of asked.now.view.now)) size
-            self.old.number self.old }
-        ensures run { IsRunOf (verdicts_in asked.now.scene.now asked.now.frame (V.tile_of asked.now.view.now)) size
-            self.old.number self.new }
-        ensures made { IsMadeRun (verdicts_in asked.now.scene.now asked.now.frame (V.tile_of asked.now.view.now)) size
-            self.old.number self.new }
+        requires run { IsRunOf (A.all asked.now) (A.told asked.now) size self.old.number self.old }
+        ensures run { IsRunOf (A.all asked.now) (A.told asked.now) size self.old.number self.new }
+        ensures made { IsMadeRun (A.all asked.now) size self.old.number self.new }
+        ensures counted { IsToldRun (length (A.all asked.now)) (A.told asked.now) size self.old.number self.new }
     {
         if self.verdicts.is_empty() {
             self.make(size, asked);
@@ -93,16 +104,17 @@ impl Run {
 }
 
 // A run of a number, made at once. Err where memory gave out.
-fn run_made<V: TileView>(
+fn run_made<A: Answering>(
     alloc: Global,
-    asked: &Asked<V>,
+    asked: &A,
     size: usize,
     number: usize,
 ) -> Result<Run, Memory>
     requires size { IsRunSize size }
-    requires some { size * number < length asked.now.scene.now.objects }
-    ensures { IfOk result (λ r.
-        IsMadeRun (verdicts_in asked.now.scene.now asked.now.frame (V.tile_of asked.now.view.now)) size number r) }
+    requires some { size * number < length (A.all asked.now) }
+    ensures made { IfOk result (λ r. IsMadeRun (A.all asked.now) size number r) }
+    ensures counted { IfOk result
+        (λ r. IsToldRun (length (A.all asked.now)) (A.told asked.now) size number r) }
 {
     let mut run = Run::with_room(alloc, size, number)?;
     run.make(size, asked);
@@ -110,14 +122,15 @@ fn run_made<V: TileView>(
 }
 
 /// The runs of all objects of a frame, made one after the other. Err where memory gave out.
-pub(crate) fn runs_in_turn<V: TileView>(
+pub(crate) fn runs_in_turn<A: Answering>(
     alloc: Global,
-    asked: &Asked<V>,
+    asked: &A,
     size: usize,
 ) -> Result<Vec<Run>, Memory>
     requires size { IsRunSize size }
-    ensures { IfOk result (λ v.
-        AreRunsOf (verdicts_in asked.now.scene.now asked.now.frame (V.tile_of asked.now.view.now)) size v.items) }
+    ensures runs { IfOk result (λ v. AreRunsOf (A.all asked.now) size v.items) }
+    ensures counted { IfOk result
+        (λ v. AreToldRuns (length (A.all asked.now)) (A.told asked.now) size v.items) }
 {
     let count = run_count(asked.count(), size);
     let mut runs = Vec::with_capacity(alloc, count).map_err(|_| Memory)?;
@@ -126,4 +139,19 @@ pub(crate) fn runs_in_turn<V: TileView>(
         runs.push_reserved(run);
     }
     Ok(runs)
+}
+
+/// What is counted of all objects, by their runs. Its clauses alone ask for the size.
+pub(crate) fn tally_of_runs<A: Answering>(asked: &A, runs: &[Run], _size: usize) -> Tally
+    requires { AreToldRuns (length (A.all asked.now)) (A.told asked.now) _size runs.now }
+    ensures { Adds (A.told asked.now 0) result (A.told asked.now (length (A.all asked.now))) }
+{
+    // it tells that all numbers fit
+    let _count = asked.count();
+    let (mut hidden, mut members) = (0u32, 0u32);
+    for run in runs {
+        hidden += run.tally.hidden;
+        members += run.tally.members;
+    }
+    Tally { hidden, members }
 }

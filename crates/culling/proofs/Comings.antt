@@ -40,11 +40,11 @@ use Rattle.culling.specs.declared.failure.Status.{Status}
 use Rattle.culling.specs.declared.failure.Status.TheVariants as statuses
 use Rattle.culling.specs.Checking.{IsNoNumber}
 use Rattle.culling.specs.FrameRuns.{LeavesFrames, LeavesTexts}
-use Rattle.culling.specs.Frames.{lines_of}
+use Rattle.culling.specs.Frames.{beside_of, lines_of}
 use Rattle.culling.specs.NotedLines.{CountsStay}
 use Rattle.culling.specs.Notes.{IsNotedBehind, IsNotedFirst, missing_text, note_by, note_text, refusal_text, status_text, usage_text}
 use Rattle.culling.specs.Outcome.{failure_of, log_failure, refusal_status, sink_failure, status_by, status_of}
-use Rattle.culling.specs.Outcomes.{Ends, EndsBy, EndsByScene, HasFault, HasScene, IfAsked, IfBytes, IsAbout, IsTrue, Makes, MakesBy, Making, OutcomeOf, ReadsScene, answer_alone, answer_text, joined, live_frames, note_alone, notes_at, notes_before, pictured, report_and, report_before, report_of, scene_bytes, scene_bytes_by, text_alone, work_of}
+use Rattle.culling.specs.Outcomes.{Ends, EndsBy, EndsByScene, HasFault, HasScene, IfAsked, IfBytes, IsAbout, IsTrue, Makes, MakesBy, Making, OutcomeOf, ReadsScene, answer_alone, answer_text, group_frames, joined, live_frames, note_alone, notes_at, notes_before, pictured, report_and, report_before, report_of, scene_bytes, scene_bytes_by, text_alone, work_of}
 use Rattle.culling.specs.Picture.{frame_picture}
 use Rattle.culling.specs.Runs.{AwaitsNote, Comes, HasCause, IsComplete, IsUnasked, Leaves, LeavesFront, Streams, WithoutFault, streams}
 use Rattle.culling.specs.Summary.{demo_line, frames_summary, summary_text}
@@ -54,6 +54,7 @@ use Rattle.culling.proofs.Checking.{short_fault}
 use Rattle.culling.proofs.FrameByFrame.{are_empty, unseen, unseen_rises}
 use Rattle.culling.proofs.FrameTexts.{as_one_text, counts_same, never_done, none_at, unwritten, whole_leaves, without_notes}
 use Rattle.culling.proofs.Fronts.{nothing_appended, rose_later}
+use Rattle.culling.proofs.GroupLines.{group_frames_are}
 use Rattle.culling.proofs.OutcomeTexts.{ended_by, header_some, joined_is, live_frames_are, not_empty, summary_some}
 use Rattle.culling.proofs.ScenePieces.{all_are_pieces, lines_hide}
 use Rattle.culling.proofs.Shown.{picture_not_empty, shows_truly}
@@ -214,13 +215,26 @@ none_left source after s takes = by source.left takes
     by None takes = tt
     by (Some bytes) takes = takes.1
 
-pub cull_comes : (words : CullWords) (s : Parts) (i0 i1 : SourceSays) (r0 r1 n0 n1 : SinkSays) (r : Result (Unit {0}) Failure) (P Q : Type 0) → IsScene s → TakesLayout i0 i1 s → Q
-    → LeavesFrames (scene_header s) Report Nothing s 0 (length s.cameras) r r0 r1 n0 n1 → Comes (Cull words) (status_by r) (streams i0 r0 n0) (streams i1 r1 n1) (AwaitsNote r) P Q
-cull_comes words s i0 i1 r0 r1 n0 n1 r P Q scene takes q w =
-    let o = report_and s [] in
-    texts_come (Cull words) o i0 i1 r0 r1 n0 n1 r P Q (inl (s, has_scene (Cull words) i0 i1 s (λ bytes. refl) scene takes, made_unseen (λ t counts. report_and t []) 0 0 i0.left s)) refl (not_empty (scene_header s) (joined o.frames) (header_some s))
-    (λ reads. none_left i0 i1 s takes) (λ none. q)
-    (without_notes (scene_header s) o.frames (map (λ (frame : ℕ). []) (range_with_len 0 (length s.cameras))) r r0 r1 n0 n1 (are_empty 0 (length s.cameras)) w.texts)
+-- the texts of a report, and of its groups where there are
+group_texts : (group : Option ℕ) (s : Parts) (r0 r1 n0 n1 : SinkSays) (r : Result (Unit {0}) Failure) → LeavesFrames (scene_header s) Report (beside_of group) s 0 (length s.cameras) r r0 r1 n0 n1
+    → LeavesTexts (report_and s (group_frames s group)) r r0 r1 n0 n1
+group_texts None s r0 r1 n0 n1 r w =
+    without_notes (scene_header s) (report_and s []).frames (map (λ (frame : ℕ). []) (range_with_len 0 (length s.cameras))) r r0 r1 n0 n1 (are_empty 0 (length s.cameras)) w.texts
+group_texts (Some most) s r0 r1 n0 n1 r w = w.texts
+
+-- nothing is noted only where boxes aren't taken in groups
+group_quiet : (group : Option ℕ) (s : Parts) (Q : Type 0) → IsScene s → (beside_of group ≡ Nothing → Q) → group_frames s group ≡ [] → Q
+group_quiet None s Q scene quiet none = quiet refl
+group_quiet (Some most) s Q scene quiet none = absurd (omega (arith, ap length none, group_frames_are s most, scene.some_frames))
+
+pub cull_comes : (words : CullWords) (s : Parts) (i0 i1 : SourceSays) (r0 r1 n0 n1 : SinkSays) (r : Result (Unit {0}) Failure) (P Q : Type 0) → IsScene s → TakesLayout i0 i1 s
+    → (beside_of words.group ≡ Nothing → Q) → LeavesFrames (scene_header s) Report (beside_of words.group) s 0 (length s.cameras) r r0 r1 n0 n1
+    → Comes (Cull words) (status_by r) (streams i0 r0 n0) (streams i1 r1 n1) (AwaitsNote r) P Q
+cull_comes words s i0 i1 r0 r1 n0 n1 r P Q scene takes quiet w =
+    let o = report_and s (group_frames s words.group) in
+    texts_come (Cull words) o i0 i1 r0 r1 n0 n1 r P Q
+    (inl (s, has_scene (Cull words) i0 i1 s (λ bytes. refl) scene takes, made_unseen (λ t counts. report_and t (group_frames t words.group)) 0 0 i0.left s)) refl
+    (not_empty (scene_header s) (joined o.frames) (header_some s)) (λ reads. none_left i0 i1 s takes) (group_quiet words.group s Q scene quiet) (group_texts words.group s r0 r1 n0 n1 r w)
 
 live_noted : (s : Parts) (rounds watch : ℕ) (counts : Counts) → IsScene s → live_frames s rounds watch counts ≡ [] → ⊥
 live_noted s rounds watch counts scene is = omega (arith, ap length is, live_frames_are s rounds watch counts, scene.some_frames)

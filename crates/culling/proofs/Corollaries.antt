@@ -26,13 +26,14 @@ use Rattle.command_words.specs.declared.table.DemoWords.{DemoWords}
 use Rattle.command_words.specs.declared.table.LiveWords.{LiveWords}
 use Rattle.command_words.specs.declared.table.PictureWords.{PictureWords}
 use Rattle.culling.specs.Notes.{IsNotedBehind}
-use Rattle.culling.specs.Outcomes.{Ends, EndsBy, EndsByScene, HasScene, IfBytes, Makes, Making, OutcomeOf, ReadsScene, answer_alone, answer_status, answer_text, input_fault, input_fault_by, joined, live_frames, log_bytes, pictured, report_of, scene_bytes, scene_bytes_by, work_of}
+use Rattle.culling.specs.Outcomes.{Ends, EndsBy, EndsByScene, HasScene, IfBytes, Makes, Making, OutcomeOf, ReadsScene, answer_alone, answer_status, answer_text, group_frames, group_notes, input_fault, input_fault_by, joined, live_frames, log_bytes, pictured, report_of, scene_bytes, scene_bytes_by, work_of}
 use Rattle.culling.specs.Picture.{ShowsTruly, frame_picture}
 use Rattle.culling.specs.Runs.{Comes, IsCut, Leaves, LeavesWhole, Streams}
 use Rattle.culling.specs.Summary.{summary_text}
 use Rattle.culling.specs.declared.failure.Status.{Status}
 use Rattle.culling.specs.declared.failure.Status.TheVariants as statuses
 use Rattle.culling.proofs.Comings.{layout_some, pictured_missing, pictured_there}
+use Rattle.culling.proofs.GroupLines.{group_notes_are}
 use Rattle.culling.proofs.OutcomeTexts.{live_is, report_is}
 use Rattle.culling.proofs.ScenePieces.{all_are_pieces, lines_hide}
 use Rattle.culling.proofs.Shown.{shows_truly}
@@ -63,16 +64,27 @@ noted_exactly n0 n1 text h = elim h [
       subst (Appends n0 n1) (append-nil text) (subst (λ (k : ℕ). Appends n0 n1 (text ++ take k [])) none gained)
 ]
 
--- ---- done: the whole report of a scene, and what it calls occluded is hidden; of `live` its live text too; of `demo` the summary, of `upgrade` the layout,
--- and of `picture` the picture of a frame that is there, where what it shows is drawn
+-- ---- done: the whole report of a scene, and what it calls occluded is hidden, with the line of groups of each frame where boxes are taken in groups;
+-- of `live` its live text too; of `demo` the summary, of `upgrade` the layout, and of `picture` the picture of a frame that is there, where what it shows is
+-- drawn
 
 pub done_cull : (words : CullWords) (before after : Streams) (P Q : Type 0) → Comes (Cull words) statuses.Done before after IsNotedBehind P Q
     → (s : Parts) × HasScene (Cull words) before.input s × IfBytes before.input (λ bytes. after.input.left ≡ Some []) × Appends before.report after.report (report_text s) × HidesTruly s
+    × Appends before.notes after.notes (group_notes s words.group)
 done_cull words before after P Q h =
-    let w = done_whole h.outcome before.report after.report (IsNotedBehind before.notes after.notes) h.leaves in
+    let r0 = before.report in let r1 = after.report in let n0 = before.notes in let n1 = after.notes in
+    let w = done_whole h.outcome r0 r1 (IsNotedBehind n0 n1) h.leaves in
     let (s, has, makes) = done_scene (Cull words) before.input h.outcome (Makes (work_of (Cull words)) before.input.left h.outcome) h.ends w.0 in
     let (counts, rising, is) = makes in
-    (s, has, h.taken refl refl, subst (Appends before.report after.report) (ap report_of is ∙ report_is s []) w.1.reported, hides_truly s has.scene (all_are_pieces s has.scene))
+    let notes = group_frames s words.group in
+    let noted : IsNotedBehind n0 n1 (joined notes) [] = subst (λ (o : OutcomeOf). IsNotedBehind n0 n1 (joined o.notes) o.note) is w.1.noted_is in (
+      s,
+      has,
+      h.taken refl refl,
+      subst (Appends r0 r1) (ap report_of is ∙ report_is s notes) w.1.reported,
+      hides_truly s has.scene (all_are_pieces s has.scene),
+      subst (Appends n0 n1) (group_notes_are s words.group) (noted_exactly n0 n1 (joined notes) noted),
+    )
 
 pub done_live : (words : LiveWords) (before after : Streams) (P Q : Type 0) → Comes (Live words) statuses.Done before after IsNotedBehind P Q
     → (s : Parts) × HasScene (Live words) before.input s × IfBytes before.input (λ bytes. after.input.left ≡ Some []) × Appends before.report after.report (report_text s) × HidesTruly s
@@ -235,33 +247,41 @@ refused c status before after P Q bytes e reads left fault h =
       h.untouched no_report,
     )
 
--- ---- complete: a scene, and no fault of the input or the report: `cull` ends as Done, or memory ran out
+-- ---- complete: a scene, and no fault of the input or the report, nor of the notes where group lines are noted: `cull` ends as Done, or memory ran out
+
+-- a fault of the notes comes only of group lines
+not_noted : (group : Option ℕ) (t : Parts) (o : OutcomeOf) (R : Type 0) → o.notes ≡ group_frames t group → ((n : ℕ) → group ≡ Some n → R → ⊥) → (o.notes ≡ [] → ⊥) × R → ⊥
+not_noted None t o R is never fault = fault.0 is
+not_noted (Some n) t o R is never fault = never n refl fault.1
 
 pub complete_cull : (words : CullWords) (status : Status) (before after : Streams) (P Q : Type 0) (s : Parts) (bytes : List ℕ) → before.input.left ≡ Some bytes → bytes ≡ layout s → IsScene s
-    → (Rose before.input.faults after.input.faults → ⊥) → (Rose before.report.faults after.report.faults → ⊥) → Comes (Cull words) status before after IsNotedBehind P Q
-    → (status ≡ statuses.Done) ⊎ (status ≡ statuses.Memory)
-complete_cull words status before after P Q s bytes left spelled scene no_read no_report h =
+    → (Rose before.input.faults after.input.faults → ⊥) → (Rose before.report.faults after.report.faults → ⊥) → ((n : ℕ) → words.group ≡ Some n → Rose before.notes.faults after.notes.faults → ⊥)
+    → Comes (Cull words) status before after IsNotedBehind P Q → (status ≡ statuses.Done) ⊎ (status ≡ statuses.Memory)
+complete_cull words status before after P Q s bytes left spelled scene no_read no_report no_notes h =
     let first : first_fault bytes ≡ None = ap first_fault spelled ∙ scene_first s scene in
-    let (no_notes, which) = by_layout before.input h.outcome bytes left first h.ends in
+    let (noted, which) = by_layout before.input h.outcome bytes left first h.ends in
     elim h.leaves [
       | inl whole ↦ elim which [ inl done ↦ inl (whole.0 ∙ done) | inr unread ↦ absurd (no_read (h.causes.read (whole.0 ∙ unread))) ]
       | inr front ↦ elim front.0 [
         | inl report ↦ absurd (no_report (h.causes.report report).1)
-        | inr rest ↦ elim rest [ inl notes ↦ absurd ((h.causes.notes notes).0 no_notes) | inr memory ↦ inr memory ]
+        | inr rest ↦ elim rest [ inl notes ↦ absurd (noted (h.causes.notes notes)) | inr memory ↦ inr memory ]
       ]
     ]
   where
     by_layout : (source : SourceSays) (o : OutcomeOf) (b : List ℕ) → source.left ≡ Some b → first_fault b ≡ None → EndsByScene (Cull words) source o (Makes (work_of (Cull words)) source.left o)
-        → (o.notes ≡ []) × ((o.status ≡ statuses.Done) ⊎ (o.status ≡ statuses.ReadFault))
+        → ((o.notes ≡ [] → ⊥) × Rose before.notes.faults after.notes.faults → ⊥) × ((o.status ≡ statuses.Done) ⊎ (o.status ≡ statuses.ReadFault))
     by_layout source o b is none ends = elim ends [
-      | inl made ↦ let (t, has, makes) = made in let (counts, rising, same) = makes in (ap (λ (x : OutcomeOf). x.notes) same, inl (ap (λ (x : OutcomeOf). x.status) same))
+      | inl made ↦
+          let (t, has, makes) = made in
+          let (counts, rising, same) = makes in
+          (not_noted words.group t o (Rose before.notes.faults after.notes.faults) (ap (λ (x : OutcomeOf). x.notes) same) no_notes, inl (ap (λ (x : OutcomeOf). x.status) same))
       | inr rest ↦ elim rest [
         | inl bad ↦
             let (e, refusal, fault, same) = bad in
             let some : first_fault b ≡ Some e = subst (λ (l : Option (List ℕ)). IfSome l (λ x. first_fault x ≡ Some e)) is fault in
             let no : Some e ≡ None = sym some ∙ none in
             absurd cc
-        | inr unread ↦ (ap (λ (x : OutcomeOf). x.notes) unread, inr (ap (λ (x : OutcomeOf). x.status) unread))
+        | inr unread ↦ ((λ fault. fault.0 (ap (λ (x : OutcomeOf). x.notes) unread)), inr (ap (λ (x : OutcomeOf). x.status) unread))
       ]
     ]
 

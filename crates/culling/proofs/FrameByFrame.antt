@@ -12,6 +12,7 @@ use Rattle.scene_reader.specs.Layout.{Parts}
 use Rattle.cull_report.specs.Live.{Counts, LiveLineOf, text_of_line}
 use Rattle.cull_report.specs.Scene.{frame_pieces, frame_verdicts}
 use Rattle.std.specs.List.{flat_map}
+use Rattle.group_query.specs.Text.{frame_groups}
 use Rattle.culling.specs.FrameRuns.{LeavesFrames, LeavesTexts, frames_told, texts_told}
 use Rattle.culling.specs.Frames.{AreSeen, IsRisingBeside, lines_by, lines_of, noted_of}
 use Rattle.culling.specs.NotedLines.{NotesLines}
@@ -20,7 +21,7 @@ use Rattle.culling.specs.Outcomes.{OutcomeOf}
 use Rattle.culling.specs.declared.failure.Failure.{Failure}
 use Rattle.culling.specs.declared.failure.Failure.TheVariants.{Memory}
 use Rattle.culling.specs.declared.frames.Beside.{Beside}
-use Rattle.culling.specs.declared.frames.Beside.TheVariants.{Nothing, Looks}
+use Rattle.culling.specs.declared.frames.Beside.TheVariants.{Nothing, Looks, Groups}
 use Rattle.culling.specs.declared.frames.FrameLines.{FrameLines}
 use Rattle.culling.proofs.Fronts.{nothing_appended}
 use Rattle.culling.proofs.FrameTexts.{AreEmpty, Stands, counts_same, frame_noted, frame_stands, leaves_after, leaves_no_more, leaves_whole, no_memory, stands_then, unwritten, whole_leaves}
@@ -85,6 +86,7 @@ unseen frame r o t = 0
 
 none_rise : (beside : Beside) (s : Parts) (frame : ℕ) → IsRisingBeside beside s frame (λ r o t. 0)
 none_rise Nothing s frame = tt
+none_rise (Groups most) s frame = tt
 none_rise (Looks rounds watch) s frame = record { within = λ r o t is stated. omega arith; rises = λ r o p q t is then before stated stated_then. omega arith }
 
 pub unseen_rises : (beside : Beside) (s : Parts) → AreRising beside s unseen
@@ -276,14 +278,12 @@ looks_noted lines s rounds watch frame result seen r0 r1 n0 n1 reported stays li
       texts = frame_noted (lines_of lines s frame) (noted_of beside s (counts frame) frame) result r0 r1 n0 n1 reported stays (subst (NotesLines n0 n1 result) (sym own) notes);
     }
 
--- ---- windows
-
--- no windows, or nothing to note: the frames of windows are those of any plan
-pub windows_beside : {lines : FrameLines} {s : Parts} {count : ℕ} {r0 r1 n0 n1 : SinkSays} (beside : Beside) (r : Result (Unit {0}) Failure) → ((beside ≡ Nothing → ⊥) → count ≡ 0)
-    → LeavesFrames [] lines Nothing s 0 count r r0 r1 n0 n1 → LeavesFrames [] lines beside s 0 count r r0 r1 n0 n1
-windows_beside Nothing r none l = l
-windows_beside {lines} {s} {count} {r0} {r1} {n0} {n1} (Looks rounds watch) r none l =
-    let zero_count = none (λ is. absurd cc) in
-    let l0 = subst (λ n. LeavesFrames [] lines Nothing s 0 n r r0 r1 n0 n1) zero_count l in
-    let made : LeavesFrames [] lines (Looks rounds watch) s 0 0 r r0 r1 n0 n1 = record { counts = unseen; rising = unseen_rises (Looks rounds watch) s; texts = l0.texts } in
-    subst (λ n. LeavesFrames [] lines (Looks rounds watch) s 0 n r r0 r1 n0 n1) (sym zero_count) made
+-- written, and the line of its groups noted
+pub groups_noted : (lines : FrameLines) (s : Parts) (most frame : ℕ) (result : Result (Unit {0}) Failure) (r0 r1 n0 n1 : SinkSays) → Appends r0 r1 (lines_of lines s frame) → r0.faults ≤ r1.faults
+    → NotesLines n0 n1 result (frame_groups s most frame) → LeavesFrames [] lines (Groups most) s frame 1 result r0 r1 n0 n1
+groups_noted lines s most frame result r0 r1 n0 n1 reported stays notes =
+    record {
+      counts = unseen;
+      rising = unseen_rises (Groups most) s;
+      texts = frame_noted (lines_of lines s frame) (frame_groups s most frame) result r0 r1 n0 n1 reported stays notes;
+    }

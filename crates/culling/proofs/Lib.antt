@@ -7,8 +7,10 @@ pub mod Shown
 pub mod Shares
 pub mod Fronts
 pub mod OutcomeTexts
+pub mod GroupLines
 pub mod FrameTexts
 pub mod FrameByFrame
+pub mod WindowBeside
 pub mod Checking
 pub mod Comings
 pub mod Corollaries

@@ -12,7 +12,6 @@ use Rattle.culling.specs.declared.failure.Failure.{Failure}
 use Rattle.culling.specs.declared.failure.Failure.TheVariants.{ReportFault, NotesFault, Memory}
 use Rattle.culling.specs.declared.failure.Status.TheVariants as statuses
 use Rattle.culling.specs.declared.frames.Beside.{Beside}
-use Rattle.culling.specs.declared.frames.Beside.TheVariants.{Nothing}
 use Rattle.culling.specs.declared.frames.FrameLines.{FrameLines}
 
 -- a report and notes of frames
@@ -42,8 +41,3 @@ pub record LeavesFrames (head : List ℕ) (lines : FrameLines) (beside : Beside)
   pub counts : Counts
   pub rising : (frame : ℕ) → IsRisingBeside beside s frame (counts frame)
   pub texts : LeavesTexts (frames_told head lines beside s counts first count) result report_before report_after before after
-
--- where nothing is noted, whatever stands on the notes
-abbrev pub LeavesQuiet : FrameLines → Parts → ℕ → ℕ → Result (Unit {0}) Failure → SinkSays → SinkSays → Type 0
-LeavesQuiet lines s first count result report_before report_after =
-    (notes : SinkSays) → LeavesFrames [] lines Nothing s first count result report_before report_after notes notes

@@ -10,6 +10,7 @@ use Rattle.scene_reader.specs.declared.error.SceneError.TheVariants.{Truncated}
 use Rattle.cull_report.specs.Hiding.{HidesTruly}
 use Rattle.cull_report.specs.Live.{Counts, HidesLive, IsRising, frame_live}
 use Rattle.cull_report.specs.Scene.{frame_report, scene_header}
+use Rattle.group_query.specs.Text.{frame_groups, group_text}
 use Rattle.text_lines.specs.Lines.{line}
 use Rattle.live_check.specs.Logs.{IsJudged}
 use Rattle.live_check.specs.declared.answer.LogAnswer.{LogAnswer}
@@ -76,6 +77,15 @@ report_and s notes = record {
 abbrev pub live_frames : Parts → ℕ → ℕ → Counts → List (List ℕ)
 live_frames s rounds watch counts = map (λ frame. frame_live s rounds watch (counts frame) frame) (range_with_len 0 (length s.cameras))
 
+-- the line of groups of each frame, and all of them; nothing where boxes aren't taken in groups
+abbrev pub group_frames : Parts → Option ℕ → List (List ℕ)
+group_frames s None = []
+group_frames s (Some most) = map (frame_groups s most) (range_with_len 0 (length s.cameras))
+
+abbrev pub group_notes : Parts → Option ℕ → List ℕ
+group_notes s None = []
+group_notes s (Some most) = group_text s most
+
 -- the picture of a frame; where there is no such frame, no text, and a note that says so
 abbrev pub pictured : Parts → ℕ → OutcomeOf
 pictured s frame =
@@ -120,7 +130,7 @@ reading outcome = record { own = None; rounds = 0; watch = 0; outcome = Some (λ
 
 -- what each command does
 abbrev pub work_of : Command → Work
-work_of (Cull words) = reading (λ s. report_and s [])
+work_of (Cull words) = reading (λ s. report_and s (group_frames s words.group))
 work_of (Live words) = record {
   own = None;
   rounds = words.rounds;

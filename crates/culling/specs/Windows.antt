@@ -5,18 +5,35 @@ use Rattle.std.specs.declared.option.Option.{Option}
 use Rattle.cull_base.specs.Tiles.{ArePieces}
 use Rattle.scene_reader.specs.Layout.{Parts}
 use Rattle.cull_report.specs.Scene.{frame_pieces, frame_verdicts}
+use Rattle.group_query.specs.declared.grouping.Group.{Group}
+use Rattle.culling.specs.Frames.{AreCounted}
+use Rattle.culling.specs.declared.frames.Beside.{Beside}
+use Rattle.culling.specs.declared.frames.Beside.TheVariants.{Nothing, Looks, Groups}
 use Rattle.culling.specs.declared.frames.Frame.{Frame}
 use Rattle.culling.specs.declared.window.Slot.{Slot}
 
--- what was drawn is a frame of a scene: so many pieces, and the verdicts after all of them
-pub record IsDrawn (s : Parts) (frame : ℕ) (drawn : Frame) : Type 0 where
+-- windows are of frames that aren't looked at
+abbrev pub IsUnseen : Beside → Type 0
+IsUnseen Nothing = Unit {0}
+IsUnseen (Looks rounds watch) = ⊥
+IsUnseen (Groups most) = Unit {0}
+
+-- so there are none where there are looks
+abbrev pub AreUnseen : Beside → ℕ → Type 0
+AreUnseen Nothing count = Unit {0}
+AreUnseen (Looks rounds watch) count = count ≡ 0
+AreUnseen (Groups most) count = Unit {0}
+
+-- what was drawn is a frame of a scene: so many pieces, the verdicts after all of them, and what is counted of some groups
+pub record IsDrawn (s : Parts) (gs : List Group) (frame : ℕ) (drawn : Frame) : Type 0 where
   pub pieces : drawn.pieces ≡ length (frame_pieces s frame)
   pub verdicts : drawn.verdicts ≡ frame_verdicts s frame
+  pub counted : AreCounted s frame gs drawn.hidden drawn.members
   pub valid : ArePieces (frame_pieces s frame)
 
 -- so many frames from a first on: each is there, or none where memory gave out
-abbrev pub AreDrawnFrom : Parts → ℕ → ℕ → List (Option Frame) → Type 0
-AreDrawnFrom s first count frames = (k : ℕ) (d : Option Frame) → k < count → IfSome (slice_index_or frames k d) (IsDrawn s (first + k))
+abbrev pub AreDrawnFrom : Parts → List Group → ℕ → ℕ → List (Option Frame) → Type 0
+AreDrawnFrom s gs first count frames = (k : ℕ) (d : Option Frame) → k < count → IfSome (slice_index_or frames k d) (IsDrawn s gs (first + k))
 
 -- a slot with a place for each vertex, and for eight frames
 pub record HasPlaces (s : Parts) (slot : Slot) : Type 0 where
@@ -27,10 +44,10 @@ abbrev pub HavePlaces : Parts → List Slot → Type 0
 HavePlaces s slots = All (HasPlaces s) slots
 
 -- a slot in which so many frames from a first on were made
-pub record IsMade (s : Parts) (first count : ℕ) (slot : Slot) : Type 0 where
+pub record IsMade (s : Parts) (gs : List Group) (first count : ℕ) (slot : Slot) : Type 0 where
   pub places : HasPlaces s slot
-  pub drawn : AreDrawnFrom s first count slot.drawn.items
+  pub drawn : AreDrawnFrom s gs first count slot.drawn.items
 
 -- the frames from a first on, so many in each slot
-abbrev pub AreMadeFrom : Parts → ℕ → ℕ → List Slot → Type 0
-AreMadeFrom s first count slots = (k : ℕ) (d : Slot) → k < length slots → IsMade s (first + k * count) count (slice_index_or slots k d)
+abbrev pub AreMadeFrom : Parts → List Group → ℕ → ℕ → List Slot → Type 0
+AreMadeFrom s gs first count slots = (k : ℕ) (d : Slot) → k < length slots → IsMade s gs (first + k * count) count (slice_index_or slots k d)

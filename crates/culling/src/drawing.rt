@@ -4,21 +4,24 @@ ghost use Rattle.cull_base.specs.Tiles.{ArePieces};
 ghost use Rattle.cull_report.specs.Scene.{size_of, frame_clips, frame_pieces, frame_verdicts};
 ghost use Rattle.bin_tiles.specs.BinViews.{table_of};
 ghost use Rattle.command_words.specs.Words.{AreInRange};
-ghost use Rattle.culling.specs.Frames.{rounds_of, watch_of};
+ghost use Rattle.culling.specs.Frames.{AreCounted, HasMembers, HasMembers-prop, groups_beside, rounds_of, watch_of};
 
-use crate::frames::{Asking, Beside, Frame, FrameLines, drawn_pieces, unset_marks, verdicts_by};
+use crate::frames::{
+    Asking, Beside, Frame, FrameLines, drawn_pieces, step_of, unset_marks, verdicts_by,
+};
 use binning::batch_size;
 use command_words::Settings;
 use cull_base::{ClipVertex, Memory};
 use cull_report::Asked;
+use group_query::{Group, Grouped};
 use scene_reader::Scene;
 use std::alloc::Global;
 use std::sync::Wait;
 use std::thread::Threads;
 use tile_queues::{BinTable, BinView, Gate, draw_plain_frame};
 
-/// How frames are drawn, what is written of each, and what is noted beside. Conditions: the settings are in range, and
-/// there are at most 8 rounds of looks, at 8 objects.
+/// How frames are drawn, what is written of each, and what is noted beside. Conditions: the settings are in range,
+/// there are at most 8 rounds of looks, at 8 objects, and groups may have a member.
 #[derive(Drop)]
 pub struct Plan<'a> {
     pub settings: &'a Settings,
@@ -27,10 +30,11 @@ pub struct Plan<'a> {
     ghost in_range: { AreInRange settings.now },
     ghost few_rounds: { rounds_of beside ≤ 8 },
     ghost few_objects: { watch_of beside ≤ 8 },
+    ghost members: { HasMembers beside } by { HasMembers-prop beside },
 }
 
-/// What all frames of a scene share while they are drawn. Condition: the table is that of the screen and of the
-/// settings' cut.
+/// What all frames of a scene share while they are drawn. Conditions: the table is that of the screen and of the
+/// settings' cut, and the groups are those whose line is noted.
 #[derive(Drop)]
 pub struct Drawing<'a, R, G> {
     pub rt: &'a R,
@@ -38,8 +42,10 @@ pub struct Drawing<'a, R, G> {
     pub plan: &'a Plan<'a>,
     pub table: &'a BinTable,
     pub scene: &'a Scene,
+    pub groups: &'a [Group],
     pub gate: &'a G,
     ghost is_table: { table.now ≡ table_of (size_of scene.now) plan.now.settings.now.cut },
+    ghost are_groups: { groups.now ≡ groups_beside plan.now.beside scene.now },
 }
 
 /// Draws a frame and then tests the objects, by workers as the settings ask: what each tile takes, and in which order,
@@ -55,6 +61,8 @@ pub fn draw_plainly<R: Threads + Wait + Sync, G: Gate>(
     requires clips { clips.now ≡ frame_clips drawing.now.scene.now frame }
     ensures pieces { IfOk result (λ f. f.pieces ≡ length (frame_pieces drawing.now.scene.now frame)) }
     ensures verdicts { IfOk result (λ f. f.verdicts ≡ frame_verdicts drawing.now.scene.now frame) }
+    ensures counted { IfOk result
+        (λ f. AreCounted drawing.now.scene.now frame drawing.now.groups.now f.hidden f.members) }
     ensures valid { OnOk result (ArePieces (frame_pieces drawing.now.scene.now frame)) }
 {
     let (rt, alloc, scene) = (drawing.rt, drawing.alloc, drawing.scene);
@@ -80,9 +88,15 @@ pub fn draw_plainly<R: Threads + Wait + Sync, G: Gate>(
         view: &view,
         settled: &settled,
     };
-    let verdicts = verdicts_by(rt, alloc, &asked, asking)?;
+    let grouped = Grouped {
+        asked: &asked,
+        groups: drawing.groups,
+    };
+    let report = verdicts_by(rt, alloc, &grouped, asking, step_of(drawing.plan.beside))?;
     Ok(Frame {
         pieces: drawn.listed,
-        verdicts,
+        hidden: report.hidden,
+        members: report.members,
+        verdicts: report.frame,
     })
 }

@@ -2,13 +2,14 @@
 ghost use Rattle.std.specs.Prelude.{◌≡◌, ◌<◌, ◌≤◌, ◌-◌, [], length, IfOk};
 ghost use Rattle.cull_report.specs.Scene.{frame_clips, frame_pieces, frame_verdicts, scene_header};
 ghost use Rattle.culling.specs.FrameRuns.{LeavesFrames};
-ghost use Rattle.culling.specs.Frames.{AreSeen};
+ghost use Rattle.culling.specs.Frames.{AreCounted, AreSeen};
 ghost use Rattle.culling.specs.declared.frames.Beside.TheVariants.{Nothing};
 
 use crate::drawing::{Drawing, Plan, draw_plainly};
 use crate::failure::Failure;
-use crate::frames::{Asking, Beside, write_lines};
-use crate::live_frame::{Seen, draw_live, note_lines};
+use crate::frames::{Asking, Beside, groups_beside};
+use crate::live_frame::{Seen, draw_live};
+use crate::noting::write_and_note;
 use crate::window::{report_windows, round_count};
 use cull_base::{ClipVertex, Memory, Sink};
 use cull_report::clip_frame;
@@ -21,8 +22,32 @@ use tile_queues::{BinTable, Gate};
 /// In bytes, above half of what a frame takes at any time.
 const LARGE: usize = 0x100_0000;
 
-// Draws a frame and tests the objects, by workers as the settings ask. Where there are looks the frame is drawn through
-// cells, which the caller reads meanwhile. So it is where objects are settled meanwhile, and then nothing is looked at.
+// Draws a frame without looks at it and tests the objects, by workers as the settings ask. Where objects are settled
+// meanwhile it is drawn through cells, which the caller reads.
+fn draw_unseen<R: Threads + Wait + Sync, G: Gate>(
+    drawing: &Drawing<R, G>,
+    frame: u32,
+    clips: &[ClipVertex],
+) -> Result<Seen, Memory>
+    requires frame { frame < length drawing.now.scene.now.cameras }
+    requires clips { clips.now ≡ frame_clips drawing.now.scene.now frame }
+    ensures pieces { IfOk result (λ f. f.frame.pieces ≡ length (frame_pieces drawing.now.scene.now frame)) }
+    ensures verdicts { IfOk result (λ f. f.frame.verdicts ≡ frame_verdicts drawing.now.scene.now frame) }
+    ensures counted { IfOk result
+        (λ f. AreCounted drawing.now.scene.now frame drawing.now.groups.now f.frame.hidden f.frame.members) }
+{
+    let settings = drawing.plan.settings;
+    if settings.early {
+        return draw_live(drawing, 0, 0, frame, clips);
+    }
+    let frame = draw_plainly(drawing, Asking::Workers(settings.workers), frame, clips)?;
+    Ok(Seen {
+        frame,
+        lines: Vec::new(drawing.alloc),
+    })
+}
+
+// The same, where there are looks with these: then the frame is drawn through cells too.
 fn draw<R: Threads + Wait + Sync, G: Gate>(
     drawing: &Drawing<R, G>,
     frame: u32,
@@ -32,21 +57,14 @@ fn draw<R: Threads + Wait + Sync, G: Gate>(
     requires clips { clips.now ≡ frame_clips drawing.now.scene.now frame }
     ensures pieces { IfOk result (λ f. f.frame.pieces ≡ length (frame_pieces drawing.now.scene.now frame)) }
     ensures verdicts { IfOk result (λ f. f.frame.verdicts ≡ frame_verdicts drawing.now.scene.now frame) }
+    ensures counted { IfOk result
+        (λ f. AreCounted drawing.now.scene.now frame drawing.now.groups.now f.frame.hidden f.frame.members) }
     ensures seen { IfOk result (λ f. AreSeen drawing.now.plan.now.beside drawing.now.scene.now frame f.lines.items) }
 {
-    let settings = drawing.plan.settings;
     match drawing.plan.beside {
         Beside::Looks { rounds, watch } => draw_live(drawing, rounds, watch, frame, clips),
-        Beside::Nothing => {
-            if settings.early {
-                return draw_live(drawing, 0, 0, frame, clips);
-            }
-            let frame = draw_plainly(drawing, Asking::Workers(settings.workers), frame, clips)?;
-            Ok(Seen {
-                frame,
-                lines: Vec::new(drawing.alloc),
-            })
-        }
+        Beside::Groups { .. } => draw_unseen(drawing, frame, clips),
+        Beside::Nothing => draw_unseen(drawing, frame, clips),
     }
 }
 
@@ -67,11 +85,8 @@ fn report_frame<R: Threads + Wait + Sync, W: Sink, E: Sink, G: Gate>(
 {
     clip_frame(drawing.rt, drawing.scene, frame, clips);
     let seen = draw(drawing, frame, clips)?;
-    write_lines(report, drawing.plan.lines, frame, &seen.frame)?;
-    match drawing.plan.beside {
-        Beside::Looks { .. } => note_lines(notes, &seen.lines),
-        Beside::Nothing => Ok(()),
-    }
+    let lines = seen.lines.as_slice();
+    write_and_note(drawing, frame, &seen.frame, lines, report, notes)
 }
 
 // Draws the frames from a first on, one after the other, each by all workers, and writes and notes the lines of each
@@ -100,9 +115,9 @@ fn report_rest<R: Threads + Wait + Sync, W: Sink, E: Sink, G: Gate>(
     Ok(())
 }
 
-// Asks for a large block that nobody touches, and gives it up. The C library hands freed memory back to the system where
-// more lies free than twice the largest block that it was given back so far, and then a frame's memory is made anew for
-// each frame, page by page. After this it is kept for the next frame.
+// Asks for a large block that nobody touches, and gives it up. The C library hands freed memory back to the system
+// where more lies free than twice the largest block that it was given back so far, and then a frame's memory is made
+// anew for each frame, page by page. After this it is kept for the next frame.
 fn keep_freed_memory(alloc: Global) -> Result<(), Memory> {
     let block: Vec<u8> = Vec::with_capacity(alloc, LARGE).map_err(|_| Memory)?;
     drop(block);
@@ -110,7 +125,7 @@ fn keep_freed_memory(alloc: Global) -> Result<(), Memory> {
 }
 
 /// Draws all frames, writes their lines in order and notes what is noted beside: first windows of frames side by side,
-/// where nothing is noted and the scene has as many frames as there are workers, and then what is left, frame after
+/// where there are no looks and the scene has as many frames as there are workers, and then what is left, frame after
 /// frame.
 pub fn report_frames<R: Threads + Wait + Sync, W: Sink, E: Sink, G: Gate>(
     rt: &R,
@@ -127,17 +142,19 @@ pub fn report_frames<R: Threads + Wait + Sync, W: Sink, E: Sink, G: Gate>(
 {
     keep_freed_memory(alloc)?;
     let table = BinTable::of(alloc, scene.size(), &plan.settings.cut)?;
+    let groups = groups_beside(alloc, plan.beside, scene)?;
     let drawing = Drawing {
         rt,
         alloc,
         plan,
         table: &table,
         scene,
+        groups: groups.as_slice(),
         gate,
     };
     // an accessor tells what is held of a scene
     let _frames = scene.cameras().len();
     let rounds = round_count(plan, scene);
-    report_windows(&drawing, rounds, report)?;
+    report_windows(&drawing, rounds, report, notes)?;
     report_rest(&drawing, rounds * plan.settings.workers, report, notes)
 }

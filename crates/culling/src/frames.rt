@@ -1,17 +1,19 @@
 //! A frame of a scene: the pieces that are drawn, the verdicts of its objects, and the lines that are written of it.
-ghost use Rattle.std.specs.Prelude.{◌≡◌, ◌<◌, length, IfOk, replicate, false};
+ghost use Rattle.std.specs.Prelude.{◌≡◌, ◌<◌, ◌≤◌, length, IfOk, IfSome, replicate, false};
 ghost use Rattle.cull_base.specs.Stream.{Writes};
 ghost use Rattle.scene_reader.specs.Layout.{IsScene};
 ghost use Rattle.cull_report.specs.Scene.{frame_clips, frame_list, frame_pieces, frame_verdicts};
 ghost use Rattle.culling.specs.Culling.{TookFrame};
 ghost use Rattle.culling.specs.DrawnPieces.{DrawsAs};
-ghost use Rattle.culling.specs.Frames.{lines_by};
+ghost use Rattle.culling.specs.Frames.{AreCounted, HasMembers, beside_of, groups_beside, lines_by, rounds_of};
+ghost use Rattle.culling.specs.Frames.{watch_of};
 
 use crate::summary::write_summary;
 use command_words::Settings;
 use cull_base::{ClipVertex, Memory, Sink, SinkError};
-use cull_report::{
-    Asked, FrameVerdicts, occluders_of, pieces_of, verdicts_by_workers, verdicts_with_lines,
+use cull_report::{FrameVerdicts, occluders_of, pieces_of};
+use group_query::{
+    Group, GroupReport, Grouped, group_verdicts_by_workers, group_verdicts_with_lines, groups,
 };
 use masked_update::TileView;
 use scene_reader::Scene;
@@ -35,6 +37,8 @@ pub enum Beside {
     Nothing,
     /// The lines of looks while the frame is drawn: so many rounds of them, each at the first objects, of so many.
     Looks { rounds: u32, watch: u32 },
+    /// The line of its groups of boxes, of at most so many each: how many are hidden.
+    Groups { most: u32 },
 }
 
 /// Who tests a frame's objects.
@@ -42,15 +46,55 @@ pub enum Beside {
 pub enum Asking {
     /// So many workers. Where they start threads these make the lines too, else a line is made when it is written.
     Workers(u32),
-    /// The caller's thread alone, which makes the lines too: in the pieces in which they are written by so many workers.
+    /// The caller's thread alone, which makes the lines too: in the pieces in which they are written by so many
+    /// workers.
     Caller(u32),
 }
 
-/// What a frame's lines tell.
+/// What a frame's lines tell: its pieces, its objects' verdicts, how many groups are hidden, and how many members of
+/// these count.
 #[derive(Drop)]
 pub struct Frame {
     pub pieces: u32,
     pub verdicts: FrameVerdicts,
+    pub hidden: u32,
+    pub members: u32,
+}
+
+/// What is noted where boxes are taken in groups of at most so many, or not.
+pub fn beside_of(group: Option<u32>) -> Beside
+    requires { IfSome group (λ n. 1 ≤ n) }
+    ensures value { result ≡ beside_of group }
+    ensures members { HasMembers result }
+    ensures rounds { rounds_of result ≡ 0 }
+    ensures objects { watch_of result ≡ 0 }
+{
+    match group {
+        Some(most) => Beside::Groups { most },
+        None => Beside::Nothing,
+    }
+}
+
+/// The groups of a scene whose line is noted beside; else none. Err: out of memory. Condition: a group may have a
+/// member.
+pub fn groups_beside(alloc: Global, beside: Beside, scene: &Scene) -> Result<Vec<Group>, Memory>
+    requires { HasMembers beside }
+    ensures { IfOk result (λ v. v.items ≡ groups_beside beside scene.now) }
+{
+    match beside {
+        Beside::Nothing => Ok(Vec::new(alloc)),
+        Beside::Looks { .. } => Ok(Vec::new(alloc)),
+        Beside::Groups { most } => groups(alloc, scene, most),
+    }
+}
+
+/// So many objects are a whole step of runs: the most members of a group.
+pub fn step_of(beside: Beside) -> u32 {
+    match beside {
+        Beside::Nothing => 1,
+        Beside::Looks { .. } => 1,
+        Beside::Groups { most } => most,
+    }
 }
 
 /// So many marks, none of them set.
@@ -63,19 +107,24 @@ pub fn unset_marks(alloc: Global, count: usize) -> Result<Vec<bool>, Memory>
     }
 }
 
-/// The verdicts of a frame's objects over tiles that have taken the whole frame.
+/// The verdicts of a frame's objects over tiles that have taken the whole frame, and which of the groups are hidden.
+/// Runs of objects are made of whole steps.
 pub fn verdicts_by<R: Threads + Wait + Sync, V: TileView + Sync>(
     rt: &R,
     alloc: Global,
-    asked: &Asked<V>,
+    grouped: &Grouped<V>,
     asking: Asking,
-) -> Result<FrameVerdicts, Memory>
-    requires { TookFrame asked.now.scene.now asked.now.frame (V.tile_of asked.now.view.now) }
-    ensures { IfOk result (λ v. v ≡ frame_verdicts asked.now.scene.now asked.now.frame) }
+    step: u32,
+) -> Result<GroupReport, Memory>
+    requires { let a = grouped.now.asked.now in TookFrame a.scene.now a.frame (V.tile_of a.view.now) }
+    ensures verdicts { let a = grouped.now.asked.now in
+        IfOk result (λ v. v.frame ≡ frame_verdicts a.scene.now a.frame) }
+    ensures counted { let a = grouped.now.asked.now in
+        IfOk result (λ v. AreCounted a.scene.now a.frame grouped.now.groups.now v.hidden v.members) }
 {
     match asking {
-        Asking::Workers(workers) => verdicts_by_workers(rt, alloc, asked, workers),
-        Asking::Caller(workers) => verdicts_with_lines(alloc, asked, workers),
+        Asking::Workers(workers) => group_verdicts_by_workers(rt, alloc, grouped, workers, step),
+        Asking::Caller(workers) => group_verdicts_with_lines(alloc, grouped, workers, step),
     }
 }
 

@@ -9,6 +9,7 @@ mod frame_by_frame;
 mod frames;
 mod live_caller;
 mod live_frame;
+mod noting;
 mod summary;
 mod window;
 

@@ -8,16 +8,18 @@ ghost use Rattle.cull_report.specs.Live.{text_of_line, watched};
 ghost use Rattle.cull_report.specs.Scene.{frame_clips, frame_list, frame_pieces, frame_verdicts};
 ghost use Rattle.tile_cells.specs.Cells.{Reading};
 ghost use Rattle.tile_queues.specs.Frames.{HaveStates};
+ghost use Rattle.culling.specs.Frames.{AreCounted};
 ghost use Rattle.culling.specs.LiveFrames.{AreLive, HaveRoom, IsReady, IsWatching, RoomFor};
 ghost use Rattle.culling.specs.NotedLines.{NotesLines};
 
 use crate::drawing::Drawing;
 use crate::failure::Failure;
-use crate::frames::{Asking, Frame, unset_marks, verdicts_by};
+use crate::frames::{Asking, Frame, step_of, unset_marks, verdicts_by};
 use crate::live_caller::{LiveCaller, Watched};
 use binning::batch_size;
 use cull_base::{ClipVertex, FrameList, Memory, Sink, SinkError, TileSpan};
 use cull_report::{Asked, LiveLine, object_area, pieces_of, write_live};
+use group_query::Grouped;
 use masked_update::{PlainView, TileState};
 use std::alloc::Global;
 use std::sync::Wait;
@@ -152,6 +154,8 @@ pub fn draw_live<R: Threads + Wait + Sync, G: Gate>(
     requires clips { clips.now ≡ frame_clips drawing.now.scene.now frame }
     ensures pieces { IfOk result (λ f. f.frame.pieces ≡ length (frame_pieces drawing.now.scene.now frame)) }
     ensures verdicts { IfOk result (λ f. f.frame.verdicts ≡ frame_verdicts drawing.now.scene.now frame) }
+    ensures counted { IfOk result
+        (λ f. AreCounted drawing.now.scene.now frame drawing.now.groups.now f.frame.hidden f.frame.members) }
     ensures valid { OnOk result (ArePieces (frame_pieces drawing.now.scene.now frame)) }
     ensures live { IfOk result (λ f. AreLive drawing.now.scene.now rounds watch frame f.lines.items) }
 {
@@ -168,10 +172,17 @@ pub fn draw_live<R: Threads + Wait + Sync, G: Gate>(
         view: &view,
         settled: &caller.settled,
     };
-    let verdicts = verdicts_by(rt, alloc, &asked, Asking::Workers(workers))?;
+    let grouped = Grouped {
+        asked: &asked,
+        groups: drawing.groups,
+    };
+    let step = step_of(drawing.plan.beside);
+    let report = verdicts_by(rt, alloc, &grouped, Asking::Workers(workers), step)?;
     let frame = Frame {
         pieces: list.len(),
-        verdicts,
+        hidden: report.hidden,
+        members: report.members,
+        verdicts: report.frame,
     };
     Ok(Seen {
         frame,

@@ -1,15 +1,17 @@
 //! Frames side by side: in a window each worker has a slot, in which one thread makes some frames that follow on one
 //! another.
-ghost use Rattle.std.specs.Prelude.{◌≡◌, ◌<◌, ◌≤◌, ◌+◌, ◌*◌, ◌^◌, length, IfOk, IfSome, OnOk};
+ghost use Rattle.std.specs.Prelude.{◌≡◌, ◌<◌, ◌≤◌, ◌+◌, ◌*◌, ◌^◌, [], length, IfOk, IfSome};
 ghost use Rattle.cull_report.specs.Scene.{frame_clips};
-ghost use Rattle.culling.specs.FrameRuns.{LeavesQuiet};
+ghost use Rattle.culling.specs.FrameRuns.{LeavesFrames};
 ghost use Rattle.culling.specs.declared.frames.Beside.TheVariants.{Nothing};
 ghost use Rattle.command_words.specs.Words.{AreInRange};
-ghost use Rattle.culling.specs.Windows.{AreDrawnFrom, AreMadeFrom, HavePlaces, IsDrawn, IsMade, HasPlaces};
+ghost use Rattle.culling.specs.Windows.{AreDrawnFrom, AreMadeFrom, AreUnseen, HavePlaces, IsDrawn, IsMade, IsUnseen};
+ghost use Rattle.culling.specs.Windows.{HasPlaces};
 
 use crate::drawing::{Drawing, Plan, draw_plainly};
 use crate::failure::Failure;
-use crate::frames::{Asking, Beside, Frame, FrameLines, write_lines};
+use crate::frames::{Asking, Beside, Frame, FrameLines};
+use crate::noting::write_and_note;
 use binning::Cut;
 use camera_path::Camera;
 use command_words::Settings;
@@ -61,20 +63,31 @@ fn frame_size(scene: &Scene) -> u64 {
         .saturating_add(REST)
 }
 
-/// How many frames each worker has of a scene's windows. None where a worker is alone, where a frame is looked at or
-/// objects are settled while it is drawn, and where a frame for each worker would take too much memory.
-pub fn round_count(plan: &Plan, scene: &Scene) -> u32
-    ensures within { result * plan.now.settings.now.workers ≤ length scene.now.cameras }
-    ensures quiet { (plan.now.beside ≡ Nothing → ⊥) → result ≡ 0 }
+// How many frames each worker has of a scene's windows. None where a worker is alone, where objects are settled while a
+// frame is drawn, and where a frame for each worker would take too much memory.
+fn unseen_rounds(settings: &Settings, scene: &Scene) -> u32
+    ensures { result * settings.now.workers ≤ length scene.now.cameras }
 {
-    let workers = plan.settings.workers;
-    if workers < 2 || plan.settings.early || matches!(plan.beside, Beside::Looks { .. }) {
+    let workers = settings.workers;
+    if workers < 2 || settings.early {
         return 0;
     }
     if frame_size(scene).saturating_mul(u64::from(workers)) > MOST {
         return 0;
     }
     scene.cameras().len() as u32 / workers
+}
+
+/// The same; and none where frames are looked at while they are drawn.
+pub fn round_count(plan: &Plan, scene: &Scene) -> u32
+    ensures within { result * plan.now.settings.now.workers ≤ length scene.now.cameras }
+    ensures unseen { AreUnseen plan.now.beside result }
+{
+    match plan.beside {
+        Beside::Looks { .. } => 0,
+        Beside::Groups { .. } => unseen_rounds(plan.settings, scene),
+        Beside::Nothing => unseen_rounds(plan.settings, scene),
+    }
 }
 
 // At most so many frames are a slot's in a window, so that what is kept of them until it is written isn't too much.
@@ -137,7 +150,7 @@ fn drawn_alone<R: Threads + Wait + Sync, G: Gate>(
 ) -> Option<Frame>
     requires frame { frame < length drawing.now.scene.now.cameras }
     requires places { length clips.old ≡ length drawing.now.scene.now.vertices }
-    ensures drawn { IfSome result (IsDrawn drawing.now.scene.now frame) }
+    ensures drawn { IfSome result (IsDrawn drawing.now.scene.now drawing.now.groups.now frame) }
     ensures places { length clips.new ≡ length clips.old }
 {
     clip_alone(drawing.scene, frame, clips);
@@ -159,7 +172,7 @@ fn make_frames<R: Threads + Wait + Sync, G: Gate>(
     requires within { first + count ≤ length drawing.now.scene.now.cameras }
     requires room { count ≤ length frames.old }
     requires places { length clips.old ≡ length drawing.now.scene.now.vertices }
-    ensures drawn { AreDrawnFrom drawing.now.scene.now first count frames.new }
+    ensures drawn { AreDrawnFrom drawing.now.scene.now drawing.now.groups.now first count frames.new }
     ensures room { length frames.new ≡ length frames.old }
     ensures places { length clips.new ≡ length clips.old }
 {
@@ -181,7 +194,7 @@ fn make<R: Threads + Wait + Sync, G: Gate>(
     requires within { first + count ≤ length drawing.now.scene.now.cameras }
     requires few { count ≤ 8 }
     requires places { HasPlaces drawing.now.scene.now slot.old }
-    ensures { IsMade drawing.now.scene.now first count slot.new }
+    ensures { IsMade drawing.now.scene.now drawing.now.groups.now first count slot.new }
 {
     make_frames(
         drawing,
@@ -205,7 +218,7 @@ fn make_window<R: Threads + Wait + Sync, G: Gate>(
     requires few { count ≤ 8 }
     requires workers { length slots.old ≤ 64 }
     requires places { HavePlaces drawing.now.scene.now slots.old }
-    ensures { AreMadeFrom drawing.now.scene.now first count slots.new }
+    ensures { AreMadeFrom drawing.now.scene.now drawing.now.groups.now first count slots.new }
 {
     // an accessor tells what is held of a scene
     let _frames = drawing.scene.cameras().len();
@@ -220,140 +233,154 @@ fn make_window<R: Threads + Wait + Sync, G: Gate>(
             requires small { first < 2 ^ 31 }
             requires within { first + k * count + count ≤ length drawing.now.scene.now.cameras }
             requires places { HasPlaces drawing.now.scene.now slot.old }
-            ensures { IsMade drawing.entry.now.scene.now (first + k * count) count slot.new }
+            ensures { IsMade drawing.entry.now.scene.now drawing.entry.now.groups.now (first + k * count) count
+                slot.new }
         { make(drawing, asking, first + k as u32 * count, count, slot) },
     );
 }
 
-// Writes the lines of a frame that was drawn, if it was.
-fn write_drawn<W: Sink>(
-    report: &mut W,
-    lines: FrameLines,
-    _scene: &Scene,
+// Writes and notes the lines of a frame that was drawn, if it was.
+fn write_drawn<R, W: Sink, E: Sink, G>(
+    drawing: &Drawing<R, G>,
     frame: u32,
     drawn: &Option<Frame>,
+    report: &mut W,
+    notes: &mut E,
 ) -> Result<(), Failure>
-    requires { IfSome drawn.now (IsDrawn _scene.now frame) }
-    ensures { LeavesQuiet lines _scene.now frame 1 result (W.says report.old) (W.says report.new) }
+    requires unseen { IsUnseen drawing.now.plan.now.beside }
+    requires drawn { IfSome drawn.now (IsDrawn drawing.now.scene.now drawing.now.groups.now frame) }
+    ensures reported { LeavesFrames [] drawing.now.plan.now.lines drawing.now.plan.now.beside drawing.now.scene.now
+        frame 1 result
+        (W.says report.old) (W.says report.new) (E.says notes.old) (E.says notes.new) }
+    ensures quiet { drawing.now.plan.now.beside ≡ Nothing → notes.new ≡ notes.old }
 {
     match drawn {
-        Some(drawn) => {
-            write_lines(report, lines, frame, drawn)?;
-            Ok(())
-        }
+        Some(drawn) => write_and_note(drawing, frame, drawn, &[], report, notes),
         None => Err(Failure::Memory),
     }
 }
 
-// Writes the lines of so many frames from a first on, up to the first that memory gave out for.
-fn write_frames<W: Sink>(
-    report: &mut W,
-    lines: FrameLines,
-    scene: &Scene,
+// Writes and notes the lines of so many frames from a first on, up to the first that memory gave out for.
+fn write_frames<R, W: Sink, E: Sink, G>(
+    drawing: &Drawing<R, G>,
     first: u32,
     count: u32,
     frames: &[Option<Frame>],
+    report: &mut W,
+    notes: &mut E,
 ) -> Result<(), Failure>
-    requires within { first + count ≤ length scene.now.cameras }
+    requires unseen { IsUnseen drawing.now.plan.now.beside }
+    requires within { first + count ≤ length drawing.now.scene.now.cameras }
     requires room { count ≤ length frames.now }
-    requires drawn { AreDrawnFrom scene.now first count frames.now }
-    ensures { LeavesQuiet lines scene.now first count result (W.says report.old) (W.says report.new) }
+    requires drawn { AreDrawnFrom drawing.now.scene.now drawing.now.groups.now first count frames.now }
+    ensures reported { LeavesFrames [] drawing.now.plan.now.lines drawing.now.plan.now.beside drawing.now.scene.now
+        first count result
+        (W.says report.old) (W.says report.new) (E.says notes.old) (E.says notes.new) }
+    ensures quiet { drawing.now.plan.now.beside ≡ Nothing → notes.new ≡ notes.old }
 {
     // an accessor tells what is held of a scene
-    let _frames = scene.cameras().len();
+    let _frames = drawing.scene.cameras().len();
     for k in 0..count as usize {
-        write_drawn(report, lines, scene, first + k as u32, &frames[k])?;
+        write_drawn(drawing, first + k as u32, &frames[k], report, notes)?;
     }
     Ok(())
 }
 
-// Writes the lines of so many frames of a slot.
-fn write_slot<W: Sink>(
-    report: &mut W,
-    lines: FrameLines,
-    scene: &Scene,
+// Writes and notes the lines of so many frames of a slot.
+fn write_slot<R, W: Sink, E: Sink, G>(
+    drawing: &Drawing<R, G>,
     first: u32,
     count: u32,
     slot: &Slot,
+    report: &mut W,
+    notes: &mut E,
 ) -> Result<(), Failure>
-    requires within { first + count ≤ length scene.now.cameras }
+    requires unseen { IsUnseen drawing.now.plan.now.beside }
+    requires within { first + count ≤ length drawing.now.scene.now.cameras }
     requires few { count ≤ 8 }
-    requires made { IsMade scene.now first count slot.now }
-    ensures { LeavesQuiet lines scene.now first count result (W.says report.old) (W.says report.new) }
+    requires made { IsMade drawing.now.scene.now drawing.now.groups.now first count slot.now }
+    ensures reported { LeavesFrames [] drawing.now.plan.now.lines drawing.now.plan.now.beside drawing.now.scene.now
+        first count result
+        (W.says report.old) (W.says report.new) (E.says notes.old) (E.says notes.new) }
+    ensures quiet { drawing.now.plan.now.beside ≡ Nothing → notes.new ≡ notes.old }
 {
-    write_frames(report, lines, scene, first, count, slot.drawn.as_slice())
+    write_frames(drawing, first, count, slot.drawn.as_slice(), report, notes)
 }
 
-// Writes the lines of the frames of a window in order: so many of each slot.
-fn write_window<W: Sink>(
-    report: &mut W,
-    lines: FrameLines,
-    scene: &Scene,
+// Writes and notes the lines of the frames of a window in order: so many of each slot.
+fn write_window<R, W: Sink, E: Sink, G>(
+    drawing: &Drawing<R, G>,
     first: u32,
     count: u32,
     slots: &[Slot],
+    report: &mut W,
+    notes: &mut E,
 ) -> Result<(), Failure>
-    requires within { first + length slots.now * count ≤ length scene.now.cameras }
+    requires unseen { IsUnseen drawing.now.plan.now.beside }
+    requires within { first + length slots.now * count ≤ length drawing.now.scene.now.cameras }
     requires few { count ≤ 8 }
     requires workers { length slots.now ≤ 64 }
-    requires made { AreMadeFrom scene.now first count slots.now }
-    ensures { LeavesQuiet lines scene.now first (length slots.now * count) result
-        (W.says report.old) (W.says report.new) }
+    requires made { AreMadeFrom drawing.now.scene.now drawing.now.groups.now first count slots.now }
+    ensures reported { LeavesFrames [] drawing.now.plan.now.lines drawing.now.plan.now.beside drawing.now.scene.now
+        first (length slots.now * count) result
+        (W.says report.old) (W.says report.new) (E.says notes.old) (E.says notes.new) }
+    ensures quiet { drawing.now.plan.now.beside ≡ Nothing → notes.new ≡ notes.old }
 {
     // an accessor tells what is held of a scene
-    let _frames = scene.cameras().len();
+    let _frames = drawing.scene.cameras().len();
     for k in 0..slots.len() {
         let place = first + k as u32 * count;
-        write_slot(report, lines, scene, place, count, &slots[k])?;
+        write_slot(drawing, place, count, &slots[k], report, notes)?;
     }
     Ok(())
 }
 
-// Makes the frames of a window from a first on, so many in each slot, and writes their lines.
-fn report_window<R: Threads + Wait + Sync, W: Sink, G: Gate>(
+// Makes the frames of a window from a first on, so many in each slot, and writes and notes their lines.
+fn report_window<R: Threads + Wait + Sync, W: Sink, E: Sink, G: Gate>(
     drawing: &Drawing<R, G>,
     asking: Asking,
     first: u32,
     count: u32,
     slots: &mut [Slot],
     report: &mut W,
+    notes: &mut E,
 ) -> Result<(), Failure>
+    requires unseen { IsUnseen drawing.now.plan.now.beside }
     requires within { first + length slots.old * count ≤ length drawing.now.scene.now.cameras }
     requires few { count ≤ 8 }
     requires workers { length slots.old ≤ 64 }
     requires places { HavePlaces drawing.now.scene.now slots.old }
-    ensures reported { LeavesQuiet drawing.now.plan.now.lines drawing.now.scene.now first (length slots.old * count)
-        result (W.says report.old) (W.says report.new) }
+    ensures reported { LeavesFrames [] drawing.now.plan.now.lines drawing.now.plan.now.beside drawing.now.scene.now
+        first (length slots.old * count) result
+        (W.says report.old) (W.says report.new) (E.says notes.old) (E.says notes.new) }
+    ensures quiet { drawing.now.plan.now.beside ≡ Nothing → notes.new ≡ notes.old }
     ensures places { HavePlaces drawing.now.scene.now slots.new }
 {
     make_window(drawing, asking, first, count, slots);
-    write_window(
-        report,
-        drawing.plan.lines,
-        drawing.scene,
-        first,
-        count,
-        slots,
-    )
+    write_window(drawing, first, count, slots, report, notes)
 }
 
 // Makes window after window in these slots, of so many frames a slot at most, until each slot had so many as there are
-// rounds, and writes the lines of each before the next begins.
-fn report_in_slots<R: Threads + Wait + Sync, W: Sink, G: Gate>(
+// rounds, and writes and notes the lines of each before the next begins.
+fn report_in_slots<R: Threads + Wait + Sync, W: Sink, E: Sink, G: Gate>(
     drawing: &Drawing<R, G>,
     asking: Asking,
     rounds: u32,
     depth: u32,
     slots: &mut [Slot],
     report: &mut W,
+    notes: &mut E,
 ) -> Result<(), Failure>
+    requires unseen { IsUnseen drawing.now.plan.now.beside }
     requires some { 1 ≤ depth }
     requires few { depth ≤ 8 }
     requires workers { length slots.old ≤ 64 }
     requires within { rounds * length slots.old ≤ length drawing.now.scene.now.cameras }
     requires places { HavePlaces drawing.now.scene.now slots.old }
-    ensures { LeavesQuiet drawing.now.plan.now.lines drawing.now.scene.now 0 (rounds * length slots.old) result
-        (W.says report.old) (W.says report.new) }
+    ensures reported { LeavesFrames [] drawing.now.plan.now.lines drawing.now.plan.now.beside drawing.now.scene.now
+        0 (rounds * length slots.old) result
+        (W.says report.old) (W.says report.new) (E.says notes.old) (E.says notes.new) }
+    ensures quiet { drawing.now.plan.now.beside ≡ Nothing → notes.new ≡ notes.old }
 {
     // an accessor tells what is held of a scene
     let _frames = drawing.scene.cameras().len();
@@ -361,7 +388,7 @@ fn report_in_slots<R: Threads + Wait + Sync, W: Sink, G: Gate>(
     while done < rounds {
         let count = depth.min(rounds - done);
         let first = done * slots.len() as u32;
-        report_window(drawing, asking, first, count, slots, report)?;
+        report_window(drawing, asking, first, count, slots, report, notes)?;
         done += count;
     }
     Ok(())
@@ -391,17 +418,21 @@ fn asking_for(lines: FrameLines, workers: u32) -> Asking {
     }
 }
 
-/// Draws so many frames for each worker, side by side, and writes their lines in order. A frame of a window is made by
-/// one thread, as one worker makes it in one bin; where its memory gave out, the run ends behind the frames before it.
-/// Condition: there are so many frames.
-pub fn report_windows<R: Threads + Wait + Sync, W: Sink, G: Gate>(
+/// Draws so many frames for each worker, side by side, and writes and notes their lines in order. A frame of a window
+/// is made by one thread, as one worker makes it in one bin; where its memory gave out, the run ends behind the frames
+/// before it. Conditions: there are so many frames, and none where frames are looked at.
+pub fn report_windows<R: Threads + Wait + Sync, W: Sink, E: Sink, G: Gate>(
     drawing: &Drawing<R, G>,
     rounds: u32,
     report: &mut W,
+    notes: &mut E,
 ) -> Result<(), Failure>
-    requires { rounds * drawing.now.plan.now.settings.now.workers ≤ length drawing.now.scene.now.cameras }
-    ensures { LeavesQuiet drawing.now.plan.now.lines drawing.now.scene.now
-        0 (rounds * drawing.now.plan.now.settings.now.workers) result (W.says report.old) (W.says report.new) }
+    requires within { rounds * drawing.now.plan.now.settings.now.workers ≤ length drawing.now.scene.now.cameras }
+    requires unseen { AreUnseen drawing.now.plan.now.beside rounds }
+    ensures reported { LeavesFrames [] drawing.now.plan.now.lines drawing.now.plan.now.beside drawing.now.scene.now
+        0 (rounds * drawing.now.plan.now.settings.now.workers) result
+        (W.says report.old) (W.says report.new) (E.says notes.old) (E.says notes.new) }
+    ensures quiet { drawing.now.plan.now.beside ≡ Nothing → notes.new ≡ notes.old }
 {
     if rounds == 0 {
         return Ok(());
@@ -413,7 +444,7 @@ pub fn report_windows<R: Threads + Wait + Sync, W: Sink, G: Gate>(
     let plan = Plan {
         settings: &settings,
         lines: drawing.plan.lines,
-        beside: Beside::Nothing,
+        beside: drawing.plan.beside,
     };
     let table = BinTable::of(alloc, scene.size(), &settings.cut)?;
     let in_slot = Drawing {
@@ -422,6 +453,7 @@ pub fn report_windows<R: Threads + Wait + Sync, W: Sink, G: Gate>(
         plan: &plan,
         table: &table,
         scene,
+        groups: drawing.groups,
         gate: drawing.gate,
     };
     let asking = asking_for(plan.lines, workers);
@@ -432,5 +464,6 @@ pub fn report_windows<R: Threads + Wait + Sync, W: Sink, G: Gate>(
         depth_for(scene, workers),
         slots.as_mut_slice(),
         report,
+        notes,
     )
 }

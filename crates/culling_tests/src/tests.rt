@@ -6,6 +6,7 @@ mod drawing;
 mod endings;
 mod faults;
 mod frame_tools;
+mod groups;
 mod holding_gate;
 mod last_numbers;
 mod live;

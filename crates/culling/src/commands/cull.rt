@@ -10,7 +10,7 @@ ghost use Rattle.culling.specs.declared.frames.Beside.TheVariants.{Nothing};
 use crate::drawing::Plan;
 use crate::failure::Failure;
 use crate::frame_by_frame::report_frames;
-use crate::frames::{Beside, FrameLines};
+use crate::frames::{FrameLines, beside_of};
 use command_words::{Command, CullWords};
 use cull_base::{Sink, Source};
 use cull_report::write_header;
@@ -39,7 +39,8 @@ pub fn report_scene<R: Threads + Wait + Sync, W: Sink, E: Sink, G: Gate>(
     report_frames(rt, alloc, plan, scene, report, notes, gate)
 }
 
-/// Reads a scene, draws it and writes its report; nothing is noted.
+/// Reads a scene, draws it and writes its report. Where its boxes are taken in groups a line is noted after each
+/// frame's; else nothing is noted.
 pub fn cull<R: Threads + Wait + Sync, S: Source, W: Sink, E: Sink, G: Gate>(
     rt: &R,
     alloc: Global,
@@ -59,7 +60,7 @@ pub fn cull<R: Threads + Wait + Sync, S: Source, W: Sink, E: Sink, G: Gate>(
     let plan = Plan {
         settings: &words.settings,
         lines: FrameLines::Report,
-        beside: Beside::Nothing,
+        beside: beside_of(words.group),
     };
     report_scene(rt, alloc, &plan, &scene, report, notes, gate)
 }

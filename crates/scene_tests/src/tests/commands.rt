@@ -209,6 +209,22 @@ fn check_has_two_options(rt: HostRuntime) -> Result<(), Fail> {
 }
 
 #[test]
+fn cull_asks_for_groups_if_it_is_to(rt: HostRuntime) -> Result<(), Fail> {
+    let alloc = rt.alloc();
+    for (given, wanted) in [
+        (["maskcull", "cull"].as_slice(), None),
+        (&["maskcull", "cull", "--group", "1"], Some(1)),
+        (&["maskcull", "cull", "--early", "--group=64"], Some(64)),
+    ] {
+        let Command::Cull(words) = command_for(&rt, alloc, given)? else {
+            return Err(Fail::from("the command that culls"));
+        };
+        assert_eq!(rt; words.group, wanted);
+    }
+    Ok(())
+}
+
+#[test]
 fn picture_asks_for_a_frame(rt: HostRuntime) -> Result<(), Fail> {
     let alloc = rt.alloc();
     for (given, sharing, frame) in [

@@ -10,6 +10,7 @@ use cull_base::{
 use cull_report::{
     Asked, LiveLine, object_settled, upgrade_keeps_texts, verdicts_by_workers, write_live,
 };
+use group_query::{GroupReport, group_verdicts, groups};
 use masked_update::{PlainView, SubTile, TileState};
 use scene_reader::{Scene, SceneParts};
 use std::alloc::Global;
@@ -163,6 +164,16 @@ fn tiles_of_the_area_in_order(rt: HostRuntime) -> Result<(), Fail> {
 
 // A scene of one tile without vertices, with one frame and these objects.
 fn scene_of(alloc: Global, objects: Vec<Object>, grade: Grade) -> Result<Scene, Fail> {
+    scene_through(alloc, objects, grade, [0; 12])
+}
+
+// The same through a camera.
+fn scene_through(
+    alloc: Global,
+    objects: Vec<Object>,
+    grade: Grade,
+    camera: [i32; 12],
+) -> Result<Scene, Fail> {
     let none = Batch {
         count: 0,
         winding: Winding::DropCounter,
@@ -178,7 +189,7 @@ fn scene_of(alloc: Global, objects: Vec<Object>, grade: Grade) -> Result<Scene, 
         batches: Vec::from_slice(alloc, &[none])?,
         object_tris: Vec::new(alloc),
         objects,
-        cameras: Vec::from_slice(alloc, &[[0; 12]])?,
+        cameras: Vec::from_slice(alloc, &[camera])?,
     };
     Ok(Scene::new(parts).ok().ok_or("a scene")?)
 }
@@ -294,5 +305,45 @@ fn lines_of_two_workers_are_those_of_one(rt: HostRuntime) -> Result<(), Fail> {
     assert!(rt; one.held() == two.held());
     let last = b"end 0 visible 1000 occluded 500 outside 0\n".as_slice();
     assert!(rt; two.held().ends_with(last));
+    Ok(())
+}
+
+// The verdicts of a scene without vertices over its only tile, with boxes in groups of two.
+fn report_by_groups(alloc: Global, scene: &Scene, tile: TileState) -> Result<GroupReport, Fail> {
+    if scene.size().tile_count() != 1 || scene.cameras().is_empty() {
+        return Err(Fail::new("a scene of one tile"));
+    }
+    if !scene.vertices().is_empty() {
+        return Err(Fail::new("a scene without vertices"));
+    }
+    let tiles = [tile];
+    let view = PlainView::new(&tiles);
+    let settled = vec![in alloc; false; scene.objects().len()]?;
+    let list = groups(alloc, scene, 2)?;
+    let marks = settled.as_slice();
+    let report = group_verdicts(alloc, scene, 0, &[], &view, marks, list.as_slice())?;
+    Ok(report)
+}
+
+// Of six boxes the first two are hidden behind the tile, and of the others each second one.
+#[test]
+fn groups_of_two_over_a_tile(rt: HostRuntime) -> Result<(), Fail> {
+    let mut sub = SubTile::empty();
+    sub.merge(32767, 0xFFFF_FFFF);
+    let tile = TileState::of([sub; 8], 2);
+    let mut objects = Vec::new(rt.alloc());
+    for z in [3, 4, 3, 2, 2, 3] {
+        objects.push(Object::Block {
+            low: [-1, -1, z],
+            high: [1, 1, 6],
+        })?;
+    }
+    let camera = [65536, 0, 0, 0, 0, 65536, 0, 0, 0, 0, 65536, 0];
+    let scene = scene_through(rt.alloc(), objects, Grade::Narrow, camera)?;
+    let report = report_by_groups(rt.alloc(), &scene, tile)?;
+    assert_eq!(rt; (report.hidden(), report.members()), (1, 2));
+    let (hidden, shown) = (Verdict::Occluded, Verdict::Visible);
+    let wanted = [hidden, hidden, hidden, shown, shown, hidden];
+    assert!(rt; report.verdicts() == wanted.as_slice());
     Ok(())
 }

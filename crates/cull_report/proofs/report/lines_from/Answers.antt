@@ -13,7 +13,11 @@ loop-k-preserved c =
     record {
       are = rw (c.push_verdict_line.ensures.value, c.loop-k.invariant.are) (sym (verdict_lines-push c.args.first c.args.verdicts.now c.loop-k.k Visible c.loop-k-test.true));
       short = omega (arith, c.loop-k.invariant.short, c.push_verdict_line.ensures.short);
+      within = omega (arith, c.loop-k-test.true);
     }
 
-pub returns : goal.returns
-returns c = c.loop-k.invariant.are ∙ ap (verdict_lines c.args.first) (take_all c.loop-k.k c.args.verdicts.now c.loop-k-test.false)
+pub returns-clause-short : goal.returns-clause-short
+returns-clause-short c = omega (arith, c.loop-k.invariant.short, c.loop-k.invariant.within)
+
+pub returns-clause-value : goal.returns-clause-value
+returns-clause-value c = c.loop-k.invariant.are ∙ ap (verdict_lines c.args.first) (take_all c.loop-k.k c.args.verdicts.now c.loop-k-test.false)

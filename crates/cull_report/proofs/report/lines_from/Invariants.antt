@@ -6,4 +6,5 @@ abbrev pub invariant-loop-k : goal.invariant-loop-k
 invariant-loop-k l = record {
   are : l.lines ≡ verdict_lines l.fn.first (take l.k l.verdicts);
   short : length l.lines ≤ 30 * l.k;
+  within : l.k ≤ length l.verdicts;
 }

@@ -18,7 +18,7 @@ loop-batch-preserved g c =
     let le : first ≤ length verdicts = omega (arith, c.loop-batch-test.true, c.div_ceil-batch-end.ensures) in
     let is : count ≡ min 128 (length verdicts - first) = omega (arith, c.min.ensures) in
     let next : 128 * (c.loop-batch.batch + 1) ≡ first + 128 = omega arith in
-    let text = ap (λ n. verdict_lines 0 (take n verdicts)) next ∙ ap (verdict_lines 0) (taken_batch verdicts first count le is) ∙ verdict_lines-batch verdicts first count ∙ ap (λ (t : List ℕ). verdict_lines 0 (take first verdicts) ++ t) (sym c.lines_from.ensures) in
+    let text = ap (λ n. verdict_lines 0 (take n verdicts)) next ∙ ap (verdict_lines 0) (taken_batch verdicts first count le is) ∙ verdict_lines-batch verdicts first count ∙ ap (λ (t : List ℕ). verdict_lines 0 (take first verdicts) ++ t) (sym c.lines_from.ensures.value) in
     record {
       written = subst (λ (t : List ℕ). Appends s0 s2 t) (sym text) (appends_then s0 s1 s2 (verdict_lines 0 (take first verdicts)) c.lines_from.result so_far.written c.in_ok-write_to.ensures.ok);
       faults = omega (arith, so_far.faults, c.in_ok-write_to.ensures.faults_stay);
@@ -37,6 +37,6 @@ returns-in_err-write_to g c =
     let s2 = g.W.Sink.says c.write_to.new.sink in
     let batch = verdict_lines first (take count (drop first verdicts)) in
     let (others, split) = verdict_lines-batches verdicts first count in
-    let failed : Writes s1 s2 (Err e) batch = rw (← c.lines_from.ensures) c.in_err-write_to.ensures in
+    let failed : Writes s1 s2 (Err e) batch = rw (← c.lines_from.ensures.value) c.in_err-write_to.ensures in
     let whole = writes_then s0 s1 s2 (Err e) (verdict_lines 0 (take first verdicts)) (batch ++ others) c.loop-batch.invariant.written c.loop-batch.invariant.faults c.loop-batch.invariant.refusals (writes_no_more s1 s2 e batch others failed) in
     rw (p.1, p.2) (subst (λ (t : List ℕ). Writes s0 s2 (Err e) t) (sym split) whole)

@@ -20,17 +20,17 @@ loop-number-preserved c =
     let grown = length_push old (Some loan) in
     record {
       count = (let e = ap length items in omega (arith, e, grown, i.count));
-      first = λ all is.
+      first = λ all told is.
           let some : size * n < length all = omega (arith, c.run_count-count.ensures.some n (omega (arith, c.loop-number-test.true)), is) in
-          let at : IsRunOf all size n run = waiting_is_run all size n run some c.in_ok-run.ensures.number (c.in_ok-run.ensures.waits all some) in
-          let begins : BeginsWith (IsRunOf all size) n (Some loan) = record {
+          let at : IsRunOf all told size n run = waiting_is_run all told size n run some c.in_ok-run.ensures.number (c.in_ok-run.ensures.waits all some) in
+          let begins : BeginsWith (IsRunOf all told size) n (Some loan) = record {
             seat_is = c.new.ensures.seat;
             seal_parts = c.new.ensures.seal;
-            at = subst (IsRunOf all size n) (sym c.new.ensures.task) at;
+            at = subst (IsRunOf all told size n) (sym c.new.ensures.task) at;
           } in
-          subst (λ (xs : List (Option (Loan Run))). AreFirst (IsRunOf all size) xs) (sym items) (first_pushed (IsRunOf all size) old (Some loan) (i.first all is) (subst (λ m. BeginsWith (IsRunOf all size) m (Some loan)) (sym i.count) begins));
+          subst (λ (xs : List (Option (Loan Run))). AreFirst (IsRunOf all told size) xs) (sym items) (first_pushed (IsRunOf all told size) old (Some loan) (i.first all told is) (subst (λ m. BeginsWith (IsRunOf all told size) m (Some loan)) (sym i.count) begins));
       room = omega (arith, i.room, c.push_reserved.ensures.capacity);
     }
 
 pub returns-clause-slots : goal.returns-clause-slots
-returns-clause-slots c = λ all is. all_seated (IsRunOf all c.args.size) c.loop-number.slots.items (c.loop-number.invariant.first all is)
+returns-clause-slots c = λ all told is. all_seated (IsRunOf all told c.args.size) c.loop-number.slots.items (c.loop-number.invariant.first all told is)

@@ -7,6 +7,9 @@ use Rattle.masked_update.specs.Canvas.{CanvasOf}
 use Rattle.bin_tiles.specs.Bins.{AreBinsAt}
 use Rattle.bin_tiles.specs.BinViews.{TableOf, holds_in, tile_in_bins}
 use Rattle.bin_tiles.specs.Plain.{StandsPlain}
+use Rattle.group_query.specs.Grouping.{AreApart}
+use Rattle.group_query.specs.declared.grouping.Group.{Group}
+use Rattle.culling.proofs.GroupLines.{beside_apart}
 use Rattle.culling.proofs.Marks.{none_settled, settled_over}
 use Rattle.culling.proofs.ScenePieces.{frame_pieces_are}
 use Rattle.culling.proofs.drawing.draw_plainly.Goals as goal
@@ -41,6 +44,12 @@ invariant_of-asked-clause-right g c =
     let marks = c.deref-2.result.now in
     let unset : marks ≡ replicate (length s.objects) false = search rules in
     settled_over s c.args.frame (tile_in_bins v.table.now v.bins.now) marks states (none_settled s c.args.frame marks unset)
+
+pub invariant_of-grouped : goal.invariant_of-grouped
+invariant_of-grouped g c =
+    let drawing = c.args.drawing.now in
+    let apart = beside_apart drawing.plan.now.beside drawing.scene.now drawing.plan.now.members in
+    record { apart = subst (λ (gs : List Group). AreApart (length drawing.scene.now.objects) gs) (sym drawing.are_groups) apart }
 
 pub verdicts_by-requires-after_bounds : goal.verdicts_by-requires-after_bounds
 unfolding frame_list

@@ -1,13 +1,8 @@
-use Rattle.std.proofs.Common.{ℕ, List, [], sym, subst, Ok, Err}
+use Rattle.std.proofs.Common.{List, [], sym, subst}
 use Rattle.std.proofs.lemmas.Result.{err_from_is_err_and}
-use Rattle.cull_base.specs.Stream.{Appends, Writes}
-use Rattle.std.specs.List.{flat_map}
-use Rattle.cull_report.specs.Live.{LiveLineOf, text_of_line}
-use Rattle.culling.specs.FrameRuns.{LeavesFrames}
-use Rattle.culling.specs.NotedLines.{NotesLines}
+use Rattle.cull_report.specs.Live.{LiveLineOf}
 use Rattle.culling.specs.Frames.{AreSeen}
-use Rattle.culling.specs.declared.frames.Beside.{Beside}
-use Rattle.culling.proofs.FrameByFrame.{frame_unwritten, frame_written, frames_no_memory, lines_are, looks_noted}
+use Rattle.culling.proofs.FrameByFrame.{frames_no_memory}
 use Rattle.culling.proofs.frame_by_frame.report_frame.Goals as goal
 
 pub returns-in_err-seen-clause-reported : goal.returns-in_err-seen-clause-reported
@@ -16,33 +11,7 @@ returns-in_err-seen-clause-reported g c =
     let p = err_from_is_err_and c.from_residual.result c.from_residual.ensures.1 in
     rw (p.1, p.2) (frames_no_memory [] plan.lines plan.beside c.args.drawing.now.scene.now c.args.frame 1 (g.W.Sink.says c.args.report.now) (g.E.Sink.says c.args.notes.now))
 
-pub returns-in_err-write_lines-clause-reported : goal.returns-in_err-write_lines-clause-reported
-returns-in_err-write_lines-clause-reported g c =
-    let s = c.args.drawing.now.scene.now in let plan = c.args.drawing.now.plan.now in
-    let r0 = g.W.Sink.says c.args.report.now in let r1 = g.W.Sink.says c.write_lines.new.report in
-    let e = c.in_err-write_lines.field-0.0 in
-    let seen = c.in_ok-seen.seen.frame in
-    let p = err_from_is_err_and c.from_residual-in_err-write_lines.result c.from_residual-in_err-write_lines.ensures.1 in
-    let is = lines_are plan.lines s c.args.frame seen.pieces seen.verdicts c.in_ok-seen.ensures.pieces c.in_ok-seen.ensures.verdicts in
-    rw (p.1, p.2) (frame_unwritten plan.lines plan.beside s c.args.frame e r0 r1 (g.E.Sink.says c.args.notes.now) (subst (λ (t : List ℕ). Writes r0 r1 (Err e) t) is c.in_err-write_lines.ensures))
-
-pub returns-clause-reported : goal.returns-clause-reported
-returns-clause-reported g c =
-    let s = c.args.drawing.now.scene.now in let plan = c.args.drawing.now.plan.now in
-    let r0 = g.W.Sink.says c.args.report.now in let r1 = g.W.Sink.says c.write_lines.new.report in let n = g.E.Sink.says c.args.notes.now in
-    let seen = c.in_ok-seen.seen.frame in
-    let is = lines_are plan.lines s c.args.frame seen.pieces seen.verdicts c.in_ok-seen.ensures.pieces c.in_ok-seen.ensures.verdicts in
-    subst (λ (beside : Beside). LeavesFrames [] plan.lines beside s c.args.frame 1 (Ok tt) r0 r1 n n) (sym c.in-Nothing.is)
-    (frame_written plan.lines s c.args.frame tt r0 r1 n (subst (Appends r0 r1) is c.in_ok-write_lines.ensures.ok) c.write_lines.ensures.faults_stay)
-
-pub returns-in-Looks-clause-reported : goal.returns-in-Looks-clause-reported
-returns-in-Looks-clause-reported g c =
-    let s = c.args.drawing.now.scene.now in let plan = c.args.drawing.now.plan.now in
-    let r0 = g.W.Sink.says c.args.report.now in let r1 = g.W.Sink.says c.write_lines.new.report in
-    let n0 = g.E.Sink.says c.args.notes.now in let n1 = g.E.Sink.says c.note_lines.new.notes in
-    let seen = c.in_ok-seen.seen in
-    let is = lines_are plan.lines s c.args.frame seen.frame.pieces seen.frame.verdicts c.in_ok-seen.ensures.pieces c.in_ok-seen.ensures.verdicts in
-    let looked = subst (λ (beside : Beside). AreSeen beside s c.args.frame seen.lines.items) c.in-Looks.is c.in_ok-seen.ensures.seen in
-    subst (λ (beside : Beside). LeavesFrames [] plan.lines beside s c.args.frame 1 c.note_lines.result r0 r1 n0 n1) (sym c.in-Looks.is)
-    (looks_noted plan.lines s c.in-Looks.rounds c.in-Looks.watch c.args.frame c.note_lines.result seen.lines.items r0 r1 n0 n1 (subst (Appends r0 r1) is c.in_ok-write_lines.ensures.ok) c.write_lines.ensures.faults_stay
-    looked (subst (λ (l : List LiveLineOf). NotesLines n0 n1 c.note_lines.result (flat_map text_of_line l)) c.deref.ensures.value c.note_lines.ensures))
+pub write_and_note-requires-clause-seen : goal.write_and_note-requires-clause-seen
+write_and_note-requires-clause-seen g c =
+    let drawing = c.args.drawing.now in
+    subst (λ (l : List LiveLineOf). AreSeen drawing.plan.now.beside drawing.scene.now c.args.frame l) (sym c.as_slice-lines.ensures.value) c.in_ok-seen.ensures.seen

@@ -6,6 +6,9 @@ use Rattle.tile_queues.specs.Frames.{HaveStates}
 use Rattle.masked_update.specs.TileOf.{TileOf, tile_at}
 use Rattle.cull_report.specs.Scene.{frame_list, size_of}
 use Rattle.culling.proofs.LiveTexts.{kept_is_live}
+use Rattle.group_query.specs.Grouping.{AreApart}
+use Rattle.group_query.specs.declared.grouping.Group.{Group}
+use Rattle.culling.proofs.GroupLines.{beside_apart}
 use Rattle.culling.proofs.Marks.{settled_in_end, settled_over}
 use Rattle.culling.proofs.live_frame.draw_live.Goals as goal
 
@@ -24,6 +27,12 @@ invariant_of-asked-clause-holds g c =
     let count : length c.new-view.result.states.now ≡ tile_count_of (frame_list s c.args.frame).size =
     ap length (c.new-view.ensures ∙ c.deref.ensures.value) ∙ subst (λ (l : PieceList). length c.in_ok-states.states.items ≡ tile_count_of l.size) c.in_ok-list.ensures.list c.in_ok-states.ensures.tiles in
     λ t lt. let e : nat_lt t (tile_count_of (size_of s)) ≡ true = grind (arith, nat_tests) in subst (λ n. nat_lt t n ≡ true) (sym count) e
+
+pub invariant_of-grouped : goal.invariant_of-grouped
+invariant_of-grouped g c =
+    let drawing = c.args.drawing.now in
+    let apart = beside_apart drawing.plan.now.beside drawing.scene.now drawing.plan.now.members in
+    record { apart = subst (λ (gs : List Group). AreApart (length drawing.scene.now.objects) gs) (sym drawing.are_groups) apart }
 
 pub verdicts_by-requires-after_bounds : goal.verdicts_by-requires-after_bounds
 unfolding frame_list

@@ -10,7 +10,7 @@ pub loop-k-preserved : goal.loop-k-preserved
 loop-k-preserved g c =
     let s = c.args.drawing.now.scene.now in let first = c.args.first in let k = c.loop-k.k in
     record {
-      drawn = λ j d lt. set_each (λ (i : ℕ) (x : Option Frame). IfSome x (IsDrawn s (first + i))) c.loop-k.frames k c.drawn_alone.result (k + 1) (omega arith)
+      drawn = λ j d lt. set_each (λ (i : ℕ) (x : Option Frame). IfSome x (IsDrawn s c.args.drawing.now.groups.now (first + i))) c.loop-k.frames k c.drawn_alone.result (k + 1) (omega arith)
           (λ i e below ne. c.loop-k.invariant.drawn i e (omega arith)) c.drawn_alone.ensures.drawn j d lt;
       room = search rules;
       places = search rules;

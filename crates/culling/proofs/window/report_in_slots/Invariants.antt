@@ -1,5 +1,4 @@
-use Rattle.std.proofs.Common.{[], ◌*◌, ◌-◌, ◌≤◌, length}
-use Rattle.cull_base.specs.Stream.{SinkSays}
+use Rattle.std.proofs.Common.{◌≡◌, [], ◌*◌, ◌-◌, ◌≤◌, length}
 use Rattle.culling.specs.Windows.{HavePlaces}
 use Rattle.culling.specs.declared.frames.Beside.TheVariants.{Nothing}
 use Rattle.culling.proofs.FrameByFrame.{Wrote}
@@ -7,7 +6,9 @@ use Rattle.culling.proofs.window.report_in_slots.Given as goal
 
 abbrev pub invariant-loop-done : goal.invariant-loop-done
 invariant-loop-done g l = record {
-  wrote : (notes : SinkSays) → Wrote [] l.drawing.plan.now.lines Nothing l.drawing.scene.now 0 (l.done * length l.fn.slots) (g.W.Sink.says l.fn.report) (g.W.Sink.says l.report) notes notes;
+  wrote : Wrote [] l.drawing.plan.now.lines l.drawing.plan.now.beside l.drawing.scene.now 0 (l.done * length l.fn.slots)
+      (g.W.Sink.says l.fn.report) (g.W.Sink.says l.report) (g.E.Sink.says l.fn.notes) (g.E.Sink.says l.notes);
+  quiet : l.drawing.plan.now.beside ≡ Nothing → l.notes ≡ l.fn.notes;
   places : HavePlaces l.drawing.scene.now l.slots;
   within : l.done ≤ l.rounds;
 }

@@ -1,8 +1,11 @@
-use Rattle.std.proofs.Common.{[]}
-use Rattle.cull_base.specs.Stream.{SinkSays}
+use Rattle.std.proofs.Common.{◌≡◌, []}
 use Rattle.culling.specs.declared.frames.Beside.TheVariants.{Nothing}
 use Rattle.culling.proofs.FrameByFrame.{Wrote}
 use Rattle.culling.proofs.window.write_frames.Given as goal
 
 abbrev pub invariant-loop-k : goal.invariant-loop-k
-invariant-loop-k g l = (notes : SinkSays) → Wrote [] l.lines Nothing l.scene l.first l.k (g.W.Sink.says l.fn.report) (g.W.Sink.says l.report) notes notes
+invariant-loop-k g l = record {
+  wrote : Wrote [] l.fn.drawing.plan.now.lines l.fn.drawing.plan.now.beside l.fn.drawing.scene.now l.fn.first l.k
+      (g.W.Sink.says l.fn.report) (g.W.Sink.says l.report) (g.E.Sink.says l.fn.notes) (g.E.Sink.says l.notes);
+  quiet : l.fn.drawing.plan.now.beside ≡ Nothing → l.notes ≡ l.fn.notes;
+}

@@ -1,0 +1,179 @@
+-- Why a member of a hidden group is occluded: its samples are among the hull's, and it is no nearer.
+use Rattle.std.proofs.Common.{◌≡◌, ℕ, ℤ, pos, negsuc, ◌+◌, ◌-◌, ◌<◌, ◌≤◌, ◌≤ℤ◌, ◌<ℤ◌, Bool, true, false, ◌&&◌, cond, nat_lt, length, get_or, Option, Some, None, arith, refl, sym, ap, ◌∙◌, subst, int_lt, int_le}
+use Rattle.std.specs.Cmp.{both_ways}
+use Rattle.std.proofs.lemmas.Bool.{and_parts}
+use Rattle.std.proofs.lemmas.Bool.Decides.{nat_tests}
+use Rattle.std.proofs.lemmas.Int.{ints}
+use Rattle.cull_base.specs.declared.place.Sub.{Sub}
+use Rattle.cull_base.specs.declared.rect.Rect.{Rect}
+use Rattle.cull_base.specs.declared.scene_types.Object.{Object}
+use Rattle.cull_base.specs.declared.scene_types.Verdict.{Verdict}
+use Rattle.cull_base.specs.declared.scene_types.Verdict.TheVariants.{Visible, Occluded, Outside}
+use Rattle.cull_base.specs.Rectangle.{HasPixel, meets, cut_of}
+use Rattle.cull_base.specs.Screen.{Dimensions, screen_of}
+use Rattle.cull_base.specs.Pixels.{sub_of_pixel, sample_of_pixel, has_pixel}
+use Rattle.cull_base.specs.Shape.{Shape, AlwaysOutside, AlwaysVisible, Flat, Pieces, flat_shape, is_hidden, verdict_of}
+use Rattle.cull_base.specs.State.{State, bound_at}
+use Rattle.cull_base.proofs.HiddenObjects.{hidden_each, hidden_if, hidden_some, occluded_is_hidden}
+use Rattle.cull_base.proofs.Rectangles.{cut_pixels, meets_pixel}
+use Rattle.rect_query.proofs.Areas.{held_axis}
+use Rattle.rect_query.proofs.Hiding.{flat_tested}
+use Rattle.scene_reader.specs.Layout.{Parts}
+use Rattle.cull_report.specs.Scene.{object_shape, object_verdict, size_of}
+use Rattle.cull_report.specs.Text.{is_occluded}
+use Rattle.cull_report.specs.declared.form.Form.{Form}
+use Rattle.group_query.specs.Hidden.{HidesMembers, IsTested, group_verdict, hull_verdict, is_hidden_group}
+use Rattle.group_query.specs.Hulls.{IsFormOf, counted, counts, hull_of, is_counted, member_shapes}
+use Rattle.group_query.specs.declared.grouping.Group.{Group}
+use Rattle.group_query.specs.declared.hulls.Hull.{Hull}
+use Rattle.group_query.specs.declared.tested.Tested.{Tested}
+use Rattle.group_query.proofs.FormHulls.{counted_at, shape_at, shape_below, shape_of_flat}
+use Rattle.group_query.proofs.HullMembers.{IsWithin, holds_member, members_are, one_member, own}
+
+-- ---- pixels of the screen
+
+axis_from : (a0 a1 : ℤ) (p : ℕ) → a0 ≤ℤ pos p → pos p <ℤ a1 → (int_le a0 (pos p) && int_lt (pos p) a1) ≡ true
+axis_from a0 a1 p h k = grind (arith, ints)
+
+pub to_pixel : (r : Rect) (px py : ℕ) → has_pixel r px py ≡ true → HasPixel r (pos px) (pos py)
+to_pixel r px py e =
+    let both = and_parts (int_le r.x0 (pos px) && int_lt (pos px) r.x1) (int_le r.y0 (pos py) && int_lt (pos py) r.y1) e in
+    let h = held_axis r.x0 r.x1 px both.0 in let v = held_axis r.y0 r.y1 py both.1 in
+    (h.0, h.1, v.0, v.1)
+
+pub from_pixel : (r : Rect) (px py : ℕ) → HasPixel r (pos px) (pos py) → has_pixel r px py ≡ true
+from_pixel r px py p = let h = axis_from r.x0 r.x1 px p.0 p.1 in let v = axis_from r.y0 r.y1 py p.2 p.3 in rw (h, v) refl
+
+on_screen : (size : Dimensions) (px py : ℕ) → px < size.width → py < size.height → HasPixel (screen_of size) (pos px) (pos py)
+on_screen size px py x y = (omega (arith, ints), omega (arith, ints, x), omega (arith, ints), omega (arith, ints, y))
+
+-- a number that isn't negative
+natural : (z : ℤ) → pos 0 ≤ℤ z → (n : ℕ) × (z ≡ pos n)
+natural (pos n) h = (n, refl)
+natural (negsuc n) h = absurd (omega (arith, ints, h))
+
+-- a rectangle with a pixel in the screen has one there
+some_pixel_of : (r : Rect) (size : Dimensions) → meets r (screen_of size) ≡ true → (px : ℕ) × (py : ℕ) × (px < size.width) × (py < size.height) × (has_pixel r px py ≡ true)
+some_pixel_of r size m =
+    let (x, y, p, q) = (meets_pixel r (screen_of size)).0 m in
+    let (px, ex) = natural x q.0 in
+    let (py, ey) = natural y q.2 in
+    let there : HasPixel r (pos px) (pos py) = subst (λ (v : ℤ). HasPixel r v (pos py)) ex (subst (λ (v : ℤ). HasPixel r x v) ey p) in
+    let across : pos px <ℤ pos size.width = subst (λ (v : ℤ). v <ℤ pos size.width) ex q.1 in
+    let down : pos py <ℤ pos size.height = subst (λ (v : ℤ). v <ℤ pos size.height) ey q.3 in
+    (px, py, omega (arith, ints, across), omega (arith, ints, down), from_pixel r px py there)
+
+-- ---- one rectangle within another that is as near
+
+less_near : (q n b : ℕ) → q ≤ n → nat_lt n b ≡ true → nat_lt q b ≡ true
+less_near q n b le e = grind (arith, nat_tests)
+
+-- each pixel of a rectangle in the screen is one of another
+abbrev Covers : Dimensions → Rect → Rect → Type 0
+Covers size a b = (px py : ℕ) → px < size.width → py < size.height → has_pixel b px py ≡ true → has_pixel a px py ≡ true
+
+covered_hidden : (size : Dimensions) (f : Sub → State) (a b : Rect) (n q : ℕ) → Covers size a b → q ≤ n → meets b (screen_of size) ≡ true → is_hidden size f (Flat a n) ≡ true → is_hidden size f (Flat b q) ≡ true
+covered_hidden size f a b n q covers le m hidden =
+    let (px, py, x, y, has) = some_pixel_of b size m in
+    hidden_if size f (Flat b q) px py x y has
+    (λ i j u v one. less_near q n (bound_at (f (sub_of_pixel i j)) (sample_of_pixel i j)) le (hidden_each size f (Flat a n) hidden i j u v (covers i j u v one)))
+
+-- a hull covers its members
+within_covers : (size : Dimensions) (h : Hull) (r : Rect) (q : ℕ) → IsWithin (own size r q) h → Covers size h.rect r
+within_covers size h r q w px py x y e =
+    let there = (cut_pixels r (screen_of size) (pos px) (pos py)).1 (to_pixel r px py e, on_screen size px py x y) in
+    from_pixel h.rect px py (w.pixels (pos px) (pos py) there)
+
+flat_hidden : (size : Dimensions) (f : Sub → State) (r : Rect) (q : ℕ) → is_hidden size f (flat_shape size r q) ≡ true → is_hidden size f (Flat r q) ≡ true
+flat_hidden size f r q e = by (meets r (screen_of size)) e
+  where
+    by : (b : Bool) → is_hidden size f (cond b (Flat r q) AlwaysOutside) ≡ true → is_hidden size f (Flat r q) ≡ true
+    by true g = g
+    by false g = let (px, py, x, y, has) = hidden_some size f AlwaysOutside g in absurd cc
+
+pub member_occluded : (size : Dimensions) (f : Sub → State) (h : Hull) (r : Rect) (q : ℕ) → IsWithin (own size r q) h → meets r (screen_of size) ≡ true
+    → verdict_of size f (flat_shape size h.rect h.q) ≡ Occluded → verdict_of size f (flat_shape size r q) ≡ Occluded
+member_occluded size f h r q w m e =
+    let hull = flat_hidden size f h.rect h.q (occluded_is_hidden size f (flat_shape size h.rect h.q) e) in
+    flat_tested size r q f true m (covered_hidden size f h.rect r h.q q (within_covers size h r q w) w.nearness m hull)
+
+-- ---- a rectangle cut to the screen
+
+cut_meets : (size : Dimensions) (r : Rect) → meets r (screen_of size) ≡ true → meets (cut_of r (screen_of size)) (screen_of size) ≡ true
+cut_meets size r m =
+    let (x, y, p, q) = (meets_pixel r (screen_of size)).0 m in
+    (meets_pixel (cut_of r (screen_of size)) (screen_of size)).1 (x, y, (cut_pixels r (screen_of size) x y).1 (p, q), q)
+
+covers_cut : (size : Dimensions) (r : Rect) → Covers size r (cut_of r (screen_of size))
+covers_cut size r px py x y e = from_pixel r px py ((cut_pixels r (screen_of size) (pos px) (pos py)).0 (to_pixel (cut_of r (screen_of size)) px py e)).0
+
+cut_covers : (size : Dimensions) (r : Rect) → Covers size (cut_of r (screen_of size)) r
+cut_covers size r px py x y e = from_pixel (cut_of r (screen_of size)) px py ((cut_pixels r (screen_of size) (pos px) (pos py)).1 (to_pixel r px py e, on_screen size px py x y))
+
+pub cut_verdict : (size : Dimensions) (f : Sub → State) (r : Rect) (q : ℕ) → meets r (screen_of size) ≡ true
+    → verdict_of size f (flat_shape size (cut_of r (screen_of size)) q) ≡ verdict_of size f (flat_shape size r q)
+cut_verdict size f r q m =
+    let c = cut_of r (screen_of size) in
+    let at = cut_meets size r m in
+    let same = both_ways (is_hidden size f (Flat c q)) (is_hidden size f (Flat r q))
+    (covered_hidden size f c r q q (cut_covers size r) (omega arith) m) (covered_hidden size f r c q q (covers_cut size r) (omega arith) at) in
+    flat_tested size c q f (is_hidden size f (Flat r q)) at same ∙ sym (flat_tested size r q f (is_hidden size f (Flat r q)) m refl)
+
+-- ---- members of groups
+
+pub occluded_is : (v : Verdict) → is_occluded v ≡ true → v ≡ Occluded
+occluded_is Visible e = absurd cc
+occluded_is Occluded e = refl
+occluded_is Outside e = absurd cc
+
+-- a member that counts lies within its group's hull
+member_within : (s : Parts) (frame : ℕ) (g : Group) (o : ℕ) (d : Object) (r : Rect) (q : ℕ) (h : Hull) → g.first ≤ o → o < g.first + g.count → o < length s.objects
+    → object_shape s frame (get_or s.objects o d) ≡ Flat r q → meets r (screen_of (size_of s)) ≡ true → hull_of s frame g ≡ Some h → IsWithin (own (size_of s) r q) h
+member_within s frame g o d r q h from below lt is m e =
+    holds_member (size_of s) None (member_shapes s frame g) (o - g.first) r q h (shape_below s frame g o from below lt) (shape_at s frame g o d AlwaysOutside from below lt ∙ is) m e
+
+-- a flat shape with a pixel in the screen
+flat_there : (size : Dimensions) (r : Rect) (q : ℕ) → meets r (screen_of size) ≡ true → flat_shape size r q ≡ Flat r q
+flat_there size r q m = ap (λ (b : Bool). cond b (Flat r q) AlwaysOutside) m
+
+-- by a hull that is occluded
+by_hull : (s : Parts) (frame : ℕ) (f : Sub → State) (g : Group) (o : ℕ) (d : Object) (r : Rect) (q : ℕ) (hull : Option Hull) → hull_of s frame g ≡ hull → hull_verdict (size_of s) f hull ≡ Occluded
+    → g.first ≤ o → o < g.first + g.count → o < length s.objects → object_shape s frame (get_or s.objects o d) ≡ Flat r q → meets r (screen_of (size_of s)) ≡ true
+    → object_verdict s frame f (get_or s.objects o d) ≡ Occluded
+by_hull s frame f g o d r q None e v from below lt is m = absurd cc
+by_hull s frame f g o d r q (Some h) e v from below lt is m =
+    let size = size_of s in
+    ap (verdict_of size f) (is ∙ sym (flat_there size r q m)) ∙ member_occluded size f h r q (member_within s frame g o d r q h from below lt is m e) m v
+
+-- in a hidden group a member at a rectangle in the screen is occluded
+hidden_flat : (s : Parts) (frame : ℕ) (f : Sub → State) (g : Group) (o : ℕ) (d : Object) (shape : Shape) → is_hidden_group s frame f g ≡ true → g.first ≤ o → o < g.first + g.count → o < length s.objects
+    → object_shape s frame (get_or s.objects o d) ≡ shape → counts (size_of s) shape ≡ true → object_verdict s frame f (get_or s.objects o d) ≡ Occluded
+hidden_flat s frame f g o d AlwaysOutside hidden from below lt is c = absurd cc
+hidden_flat s frame f g o d AlwaysVisible hidden from below lt is c = absurd cc
+hidden_flat s frame f g o d (Flat r q) hidden from below lt is c =
+    by_hull s frame f g o d r q (hull_of s frame g) refl (occluded_is (group_verdict s frame f g) hidden) from below lt is c
+hidden_flat s frame f g o d (Pieces ps hull) hidden from below lt is c = absurd cc
+
+pub hides_members : HidesMembers
+hides_members s frame f g o d hidden from below lt c = hidden_flat s frame f g o d (object_shape s frame (get_or s.objects o d)) hidden from below lt refl c
+
+-- ---- by a group that was tested
+
+pub tested_occluded : (s : Parts) (frame : ℕ) (f : Sub → State) (g : Group) (t : Tested) (o : ℕ) (d : Object) (form : Form) → IsTested s frame f g t → is_occluded t.verdict ≡ true
+    → g.first ≤ o → o < g.first + g.count → o < length s.objects → IsFormOf s frame o form → is_counted (size_of s) form ≡ true → t.verdict ≡ object_verdict s frame f (get_or s.objects o d)
+tested_occluded s frame f g t o d form tested e from below lt own counted_is =
+    let at = counted_at (size_of s) form counted_is in
+    let is = shape_of_flat s frame o d form at.rect at.q own at.form_is at.met in
+    let v = occluded_is t.verdict e in
+    v ∙ sym (by_hull s frame f g o d at.rect at.q (hull_of s frame g) refl (sym tested.verdict ∙ v) from below lt is at.met)
+
+pub tested_alone : (s : Parts) (frame : ℕ) (f : Sub → State) (g : Group) (t : Tested) (o : ℕ) (d : Object) (form : Form) → IsTested s frame f g t → t.members ≡ 1
+    → g.first ≤ o → o < g.first + g.count → o < length s.objects → IsFormOf s frame o form → is_counted (size_of s) form ≡ true → t.verdict ≡ object_verdict s frame f (get_or s.objects o d)
+tested_alone s frame f g t o d form tested one from below lt own counted_is =
+    let size = size_of s in
+    let at = counted_at size form counted_is in
+    let is = shape_of_flat s frame o d form at.rect at.q own at.form_is at.met in
+    let shapes = member_shapes s frame g in
+    let all : counted size shapes ≡ 1 = omega (arith, members_are size None shapes, tested.members, one) in
+    let hull = one_member size shapes (o - g.first) at.rect at.q (shape_below s frame g o from below lt) (shape_at s frame g o d AlwaysOutside from below lt ∙ is) at.met all in
+    tested.verdict ∙ ap (hull_verdict size f) hull ∙ cut_verdict size f at.rect at.q at.met ∙ ap (verdict_of size f) (flat_there size at.rect at.q at.met ∙ sym is)

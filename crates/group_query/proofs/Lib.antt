@@ -1,0 +1,11 @@
+pub mod BoxRuns
+pub mod InOrder
+pub mod CutGroups
+pub mod BegunGroups
+pub mod HullMembers
+pub mod TightHulls
+pub mod FormHulls
+pub mod HiddenHulls
+pub mod Totals
+pub mod Answered
+pub mod CountsAlike

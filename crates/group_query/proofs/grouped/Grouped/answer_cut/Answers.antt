@@ -1,0 +1,57 @@
+use Rattle.std.proofs.Common.{◌≡◌, ◌+◌, ◌-◌, arith, refl, ap}
+use Rattle.cull_report.specs.Scene.{verdicts_in}
+use Rattle.group_query.specs.declared.grouping.Group.{Group}
+use Rattle.group_query.proofs.Answered.{answered_as, answered_none}
+use Rattle.group_query.proofs.grouped.Grouped.answer_cut.Goals as goal
+
+pub returns-then-begun-eq0-clause-next : goal.returns-then-begun-eq0-clause-next
+returns-then-begun-eq0-clause-next g c d lt = c.requires.begun.behind c.args.begun d (omega arith) lt
+
+pub returns-then-begun-eq0-clause-verdicts : goal.returns-then-begun-eq0-clause-verdicts
+returns-then-begun-eq0-clause-verdicts g c =
+    let a = c.args.self.now.asked.now in
+    answered_none (verdicts_in a.scene.now a.frame (g.V.TileView.tile_of a.view.now)) c.args.verdicts.now.items c.args.place (c.args.place - c.args.place) (omega arith)
+
+pub group_at-group-requires : goal.group_at-group-requires
+group_at-group-requires g c = omega (arith, c.requires.begun.within, c.if-begun-eq0.false)
+
+pub returns-then-next-place-clause-next : goal.returns-then-next-place-clause-next
+returns-then-next-place-clause-next g c d lt = c.requires.begun.behind c.args.begun d (omega arith) lt
+
+pub returns-then-next-place-clause-verdicts : goal.returns-then-next-place-clause-verdicts
+returns-then-next-place-clause-verdicts g c =
+    let a = c.args.self.now.asked.now in
+    answered_none (verdicts_in a.scene.now a.frame (g.V.TileView.tile_of a.view.now)) c.args.verdicts.now.items c.args.place (c.args.place - c.args.place) (omega arith)
+
+pub overflow_sub-behind : goal.overflow_sub-behind
+overflow_sub-behind g c =
+    let group = c.group_at-group.result in
+    let before = c.requires.begun.before (c.args.begun - 1) group (omega (arith, c.if-begun-eq0.false)) in
+    let at = ap (λ (x : Group). x.first) (c.group_at-group.ensures.at group) in
+    omega (arith, before, at)
+
+pub answer_group-requires-clause-within : goal.answer_group-requires-clause-within
+answer_group-requires-clause-within g c =
+    let group = c.group_at-group.result in
+    let before = c.requires.begun.before (c.args.begun - 1) group (omega (arith, c.if-begun-eq0.false)) in
+    let at = ap (λ (x : Group). x.first) (c.group_at-group.ensures.at group) in
+    omega (arith, before, at, c.min-next.ensures, c.if-next-place.false)
+
+pub returns-clause-next : goal.returns-clause-next
+returns-clause-next g c d lt =
+    let last = c.args.begun - 1 in
+    let apart = c.args.self.now.apart.apart last c.args.begun d (omega (arith, c.if-begun-eq0.false)) lt in
+    let first = ap (λ (x : Group). x.first) (c.group_at-group.ensures.at d) in
+    let count = ap (λ (x : Group). x.count) (c.group_at-group.ensures.at d) in
+    omega (arith, apart, first, count, c.min-next.ensures)
+
+pub returns-clause-verdicts : goal.returns-clause-verdicts
+returns-clause-verdicts g c =
+    let a = c.args.self.now.asked.now in
+    let all = verdicts_in a.scene.now a.frame (g.V.TileView.tile_of a.view.now) in
+    let group = c.group_at-group.result in let place = c.args.place in
+    let before = c.requires.begun.before (c.args.begun - 1) group (omega (arith, c.if-begun-eq0.false)) in
+    let at = ap (λ (x : Group). x.first) (c.group_at-group.ensures.at group) in
+    let from : group.first + (place - group.first) ≡ place = omega (arith, before, at) in
+    let count = c.min-next.result - place in
+    answered_as all c.args.verdicts.now.items c.answer_group.new.verdicts.items (group.first + (place - group.first)) count place count from refl c.answer_group.ensures.verdicts

@@ -1,0 +1,4 @@
+pub mod Grouping
+pub mod Hulls
+pub mod Hidden
+pub mod Text

@@ -1,0 +1,247 @@
+//! The objects of a frame, those of groups by their hulls first.
+ghost use Rattle.std.specs.Prelude.{◌≡◌, ◌+◌, ◌-◌, ◌++◌, ◌<◌, ◌≤◌, min, length, take, drop, vec_capacity};
+ghost use Rattle.std.specs.Prelude.{slice_index_or};
+ghost use Rattle.cull_report.specs.Scene.{size_of, verdicts_in};
+ghost use Rattle.group_query.specs.Grouping.{AreApart, AreBegun};
+ghost use Rattle.group_query.specs.Hidden.{IsTested, group_tally};
+ghost use Rattle.group_query.specs.Hulls.{AreFormsFrom, IsFormOf};
+ghost use Rattle.group_query.specs.declared.grouping.Group.{Group};
+ghost use Rattle.masked_update.specs.Views.{state_in};
+
+use crate::begun::begun_before;
+use crate::grouping::Group;
+use crate::hulls::{grown_by, hull_keeping};
+use crate::tested::{Tested, member_verdict, tally_of, test_of};
+use cull_base::Verdict;
+use cull_report::{Answering, Asked, Form, Tally, object_form};
+use masked_update::TileView;
+
+/// So many members' forms are kept from the hull to their verdicts; those of others are made twice.
+const KEPT: usize = 64;
+
+/// The objects of a scene in one of its frames, tested over a view, and groups of them. Condition: the groups are in
+/// order among the objects and share none, as those of `groups` do.
+#[derive(Drop)]
+pub struct Grouped<'a, V: TileView> {
+    pub asked: &'a Asked<'a, V>,
+    pub groups: &'a [Group],
+    ghost apart: { AreApart (length asked.now.scene.now.objects) groups.now },
+}
+
+impl<'a, V: TileView> Grouped<'a, V> {
+    // How many objects there are.
+    fn object_count(&self) -> u32
+        ensures { result ≡ length self.now.asked.now.scene.now.objects }
+    {
+        let scene = self.asked.scene;
+        // an accessor tells what is held of a scene: its objects are at most 65,536
+        let _near = scene.near();
+        scene.objects().len() as u32
+    }
+
+    // The group of a number.
+    fn group_at(&self, number: usize) -> Group
+        requires { number < length self.now.groups.now }
+        ensures at { (d : Group) → result ≡ slice_index_or self.now.groups.now number d }
+        ensures within { result.first + result.count ≤ length self.now.asked.now.scene.now.objects }
+    {
+        self.groups[number]
+    }
+
+    // Tests the hull of a group, and keeps the forms of its first members.
+    fn tested(&self, group: Group, forms: &mut [Form]) -> Tested
+        requires places { 64 ≤ length forms.old }
+        requires group { group.first + group.count ≤ length self.now.asked.now.scene.now.objects }
+        ensures tested { let a = self.now.asked.now in
+            IsTested a.scene.now a.frame (state_in (size_of a.scene.now) (V.tile_of a.view.now)) group result }
+        ensures kept { let a = self.now.asked.now in
+            AreFormsFrom a.scene.now a.frame group.first (min group.count 64) forms.new }
+        ensures places { length forms.new ≡ length forms.old }
+    {
+        // it tells that the objects' numbers fit
+        let _objects = self.object_count();
+        let asked = self.asked;
+        let kept = group.count.min(KEPT as u32);
+        let front = hull_keeping(asked.scene, asked.frame, group.first, kept, forms);
+        let hull = grown_by(
+            asked.scene,
+            asked.frame,
+            front,
+            group.first + kept,
+            group.count - kept,
+        );
+        test_of(asked.view, asked.scene.size(), hull)
+    }
+
+    // The form of a member of a group: it is kept, or made anew.
+    fn member_form(&self, group: Group, member: u32, forms: &[Form]) -> Form
+        requires places { 64 ≤ length forms.now }
+        requires member { member < group.count }
+        requires group { group.first + group.count ≤ length self.now.asked.now.scene.now.objects }
+        requires kept { let a = self.now.asked.now in
+            AreFormsFrom a.scene.now a.frame group.first (min group.count 64) forms.now }
+        ensures { let a = self.now.asked.now in IsFormOf a.scene.now a.frame (group.first + member) result }
+    {
+        // it tells that the objects' numbers fit
+        let _objects = self.object_count();
+        if (member as usize) < KEPT {
+            return forms[member as usize];
+        }
+        object_form(self.asked.scene, self.asked.frame, group.first + member)
+    }
+
+    // Appends the verdicts of so many members of a group from a first on, and tells what is counted of the group.
+    fn answer_group(
+        &self,
+        group: Group,
+        first: u32,
+        count: u32,
+        forms: &mut [Form],
+        verdicts: &mut Vec<Verdict>,
+    ) -> Tally
+        requires places { 64 ≤ length forms.old }
+        requires group { group.first + group.count ≤ length self.now.asked.now.scene.now.objects }
+        requires within { first + count ≤ group.count }
+        requires room { length verdicts.old.items + count ≤ vec_capacity verdicts.old }
+        ensures told { let a = self.now.asked.now in
+            result ≡ group_tally a.scene.now a.frame (state_in (size_of a.scene.now) (V.tile_of a.view.now)) group }
+        ensures verdicts { let a = self.now.asked.now in
+            let all = verdicts_in a.scene.now a.frame (V.tile_of a.view.now) in
+            verdicts.new.items ≡ verdicts.old.items ++ take count (drop (group.first + first) all) }
+        ensures room { vec_capacity verdicts.new ≡ vec_capacity verdicts.old }
+        ensures places { length forms.new ≡ length forms.old }
+    {
+        // it tells that the objects' numbers fit
+        let _objects = self.object_count();
+        let tested = self.tested(group, forms);
+        for k in 0..count {
+            let form = self.member_form(group, first + k, forms);
+            let object = group.first + (first + k);
+            let verdict = member_verdict(self.asked, group, tested, object, form);
+            verdicts.push_reserved(verdict);
+        }
+        tally_of(self.asked, group, tested)
+    }
+
+    // Of so many groups that begin before a place the last may reach behind it: appends the verdicts of its members
+    // from the place on to before an end, and tells where that ends. What is counted of it is told where it begins.
+    fn answer_cut(
+        &self,
+        begun: usize,
+        place: u32,
+        end: u32,
+        forms: &mut [Form],
+        verdicts: &mut Vec<Verdict>,
+    ) -> u32
+        requires places { 64 ≤ length forms.old }
+        requires begun { AreBegun place self.now.groups.now begun }
+        requires ordered { place ≤ end }
+        requires end { end ≤ length self.now.asked.now.scene.now.objects }
+        requires room { length verdicts.old.items + (end - place) ≤ vec_capacity verdicts.old }
+        ensures behind { place ≤ result }
+        ensures before { result ≤ end }
+        ensures next { (d : Group) → begun < length self.now.groups.now
+            → result ≤ (slice_index_or self.now.groups.now begun d).first }
+        ensures verdicts { let a = self.now.asked.now in
+            let all = verdicts_in a.scene.now a.frame (V.tile_of a.view.now) in
+            verdicts.new.items ≡ verdicts.old.items ++ take (result - place) (drop place all) }
+        ensures room { vec_capacity verdicts.new ≡ vec_capacity verdicts.old }
+        ensures places { length forms.new ≡ length forms.old }
+    {
+        // it tells that the objects' numbers fit
+        let _objects = self.object_count();
+        if begun == 0 {
+            return place;
+        }
+        let group = self.group_at(begun - 1);
+        let next = end.min(group.first + group.count);
+        if next <= place {
+            return place;
+        }
+        let behind = place - group.first;
+        self.answer_group(group, behind, next - place, forms, verdicts);
+        next
+    }
+
+    // Appends the verdicts of the objects from a place on to before a group, and of the group's members to before an
+    // end; tells what is counted of the group.
+    fn answer_next(
+        &self,
+        group: Group,
+        place: u32,
+        end: u32,
+        forms: &mut [Form],
+        verdicts: &mut Vec<Verdict>,
+    ) -> Tally
+        requires places { 64 ≤ length forms.old }
+        requires group { group.first + group.count ≤ length self.now.asked.now.scene.now.objects }
+        requires behind { place ≤ group.first }
+        requires ordered { group.first ≤ end }
+        requires within { end ≤ group.first + group.count }
+        requires room { length verdicts.old.items + (end - place) ≤ vec_capacity verdicts.old }
+        ensures told { let a = self.now.asked.now in
+            result ≡ group_tally a.scene.now a.frame (state_in (size_of a.scene.now) (V.tile_of a.view.now)) group }
+        ensures verdicts { let a = self.now.asked.now in
+            let all = verdicts_in a.scene.now a.frame (V.tile_of a.view.now) in
+            verdicts.new.items ≡ verdicts.old.items ++ take (end - place) (drop place all) }
+        ensures room { vec_capacity verdicts.new ≡ vec_capacity verdicts.old }
+        ensures places { length forms.new ≡ length forms.old }
+    {
+        self.answer_alone(place, group.first - place, verdicts);
+        self.answer_group(group, 0, end - group.first, forms, verdicts)
+    }
+
+    // Appends the verdicts of so many objects from a place on, each by itself.
+    fn answer_alone(&self, place: u32, count: u32, verdicts: &mut Vec<Verdict>)
+        requires within { place + count ≤ length self.now.asked.now.scene.now.objects }
+        requires room { length verdicts.old.items + count ≤ vec_capacity verdicts.old }
+        ensures verdicts { let a = self.now.asked.now in
+            let all = verdicts_in a.scene.now a.frame (V.tile_of a.view.now) in
+            verdicts.new.items ≡ verdicts.old.items ++ take count (drop place all) }
+        ensures room { vec_capacity verdicts.new ≡ vec_capacity verdicts.old }
+    {
+        // it tells that the objects' numbers fit
+        let _objects = self.object_count();
+        for k in 0..count {
+            let verdict = self.asked.verdict_at(place + k);
+            verdicts.push_reserved(verdict);
+        }
+    }
+}
+
+impl<'a, V: TileView> Answering for Grouped<'a, V> {
+    ghost use Rattle.cull_report.specs.Scene.{size_of, verdicts_in};
+    ghost use Rattle.group_query.specs.Hidden.{told_before};
+    ghost use Rattle.masked_update.specs.Views.{state_in};
+
+    ghost all = { λ g. verdicts_in g.asked.now.scene.now g.asked.now.frame (V.tile_of g.asked.now.view.now) };
+
+    ghost told = { λ g place. told_before g.asked.now.scene.now g.asked.now.frame
+        (state_in (size_of g.asked.now.scene.now) (V.tile_of g.asked.now.view.now)) g.groups.now place };
+
+    fn count(&self) -> u32 {
+        self.object_count()
+    }
+
+    fn answer(&self, first: u32, count: u32, verdicts: &mut Vec<Verdict>) -> Tally {
+        // it tells that the verdicts' numbers fit
+        let _count = self.count();
+        let objects = self.object_count();
+        let end = first + count;
+        let from = begun_before(self.groups, first, objects);
+        let to = begun_before(self.groups, end, objects);
+        let mut forms = [Form::Outside; KEPT];
+        let mut place = self.answer_cut(from, first, end, &mut forms, verdicts);
+        let (mut hidden, mut members) = (0u32, 0u32);
+        for number in from..to {
+            let group = self.group_at(number);
+            let next = end.min(group.first + group.count);
+            let tally = self.answer_next(group, place, next, &mut forms, verdicts);
+            hidden += tally.hidden;
+            members += tally.members;
+            place = next;
+        }
+        self.answer_alone(place, end - place, verdicts);
+        Tally { hidden, members }
+    }
+}

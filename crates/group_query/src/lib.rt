@@ -1,0 +1,23 @@
+//! Groups of boxes that follow on one another: where the hull of a group is hidden, those of its members that count are
+//! occluded, and none of these is tested by itself.
+#![tactic(auto)]
+
+mod begun;
+mod group_hull;
+mod grouped;
+mod grouping;
+mod hulls;
+mod laws;
+mod lines;
+mod report;
+mod tested;
+
+pub use group_hull::hull;
+pub use grouped::Grouped;
+pub use grouping::{Group, groups};
+pub use hulls::Hull;
+pub use laws::{boxes_stand_in_groups, hidden_group_hides_members, hull_touches_its_members};
+pub use lines::group_line;
+pub use report::{
+    GroupReport, group_verdicts, group_verdicts_by_workers, group_verdicts_with_lines,
+};
