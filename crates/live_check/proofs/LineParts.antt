@@ -21,12 +21,12 @@ use Rattle.cull_report.specs.Scene.{frame_list, object_area, size_of, verdict_in
 use Rattle.cull_report.specs.Text.{verdict_word}
 use Rattle.cull_report.proofs.LiveSnapshots.{kept_alike, verdict_of_area}
 use Rattle.live_check.specs.Fitting.{FitsAt, LineComes}
-use Rattle.live_check.specs.Moving.{AreNotStated, AreOnly, AreStated, MayState, fields_of}
+use Rattle.live_check.specs.Moving.{AreNotStated, AreOnly, AreStated, MayState, fields_by, fields_of}
 use Rattle.live_check.specs.Standing.{AreStanding, HaveMoved, IsIn, TilesOf, count_at, met_before}
 use Rattle.live_check.specs.Waiting.{Came, IsBehindNumber, NeverComes}
 use Rattle.live_check.proofs.Frames.{came_as, came_then}
 use Rattle.live_check.proofs.Small.{few_own}
-use Rattle.live_check.proofs.Texts.{fields_by, front_of_line, line_parts, met_of, word_same}
+use Rattle.live_check.proofs.Texts.{front_of_line, line_parts, met_of, word_same}
 
 -- ---- what never comes
 

@@ -17,6 +17,7 @@ use Rattle.cull_report.specs.Scene.{frame_list, object_area, size_of}
 use Rattle.cull_report.specs.Text.{verdict_word}
 use Rattle.cull_report.proofs.LiveFields.{line_is}
 use Rattle.live_check.specs.Logs.{AreLines, IsBare}
+use Rattle.live_check.specs.Moving.{fields_by}
 use Rattle.live_check.specs.Waiting.{IsBehindNumber}
 use Rattle.live_check.proofs.Digits.{decimal_bare, decimal_same}
 use Rattle.live_check.proofs.Lines.{bare_append, one_line, tail_same}
@@ -75,9 +76,6 @@ head_parts l =
 -- the tiles whose counts it states
 abbrev pub met_of : Parts → ℕ → ℕ → List ℕ
 met_of s frame object = tiles_met (size_of s) (object_area s frame (object_at s object))
-
-abbrev pub fields_by : List ℕ → (ℕ → ℕ) → List ℕ
-fields_by ts k = counts_text (map (λ t. tile_count t (k t)) ts)
 
 pub line_parts : (s : Parts) (frame round object : ℕ) (k : ℕ → ℕ)
     → object_line s frame round object k

@@ -1,5 +1,5 @@
 -- What a line states of tiles, and how these move forward to it.
-use Rattle.std.specs.Prelude.{ℕ, ◌≡◌, ◌+◌, ◌^◌, ◌<◌, ◌≤◌, Bool, true, ◌&&◌, nat_lt, nat_le, cond, List, ◌∷◌, ◌++◌, map, filter, codes, Option, IfSome, slice_index, slice_set}
+use Rattle.std.specs.Prelude.{ℕ, ◌≡◌, ◌+◌, ◌^◌, ◌<◌, ◌≤◌, Bool, ◌&&◌, nat_lt, nat_le, cond, List, ◌∷◌, ◌++◌, map, filter, codes, Option, IfSome, slice_index, slice_set}
 use Rattle.std.specs.Fmt.{decimal}
 use Rattle.std.specs.List.{range_with_len}
 use Rattle.cull_base.specs.declared.tile_span.TileSpan.{TileSpan}
@@ -20,9 +20,13 @@ use Rattle.live_check.specs.Waiting.{Came, IsBehindNumber}
 abbrev pub field_head : ℕ → List ℕ
 field_head t = 32 ∷ (decimal t ++ codes ":")
 
--- the fields of the first n tiles, as far as they stand in a span, each after a space, by their counts
+-- the fields of some tiles, each after a space, by their counts
+abbrev pub fields_by : List ℕ → (ℕ → ℕ) → List ℕ
+fields_by tiles k = counts_text (map (λ t. tile_count t (k t)) tiles)
+
+-- the fields of the first n tiles, as far as they stand in a span
 abbrev pub fields_before : Dimensions → TileSpan → ℕ → (ℕ → ℕ) → List ℕ
-fields_before size span n k = counts_text (map (λ t. tile_count t (k t)) (filter (λ t. has_tile span (tile_place size t)) (range_with_len 0 n)))
+fields_before size span n k = fields_by (filter (λ t. has_tile span (tile_place size t)) (range_with_len 0 n)) k
 
 -- the fields of all of a span's tiles
 abbrev pub fields_of : Dimensions → TileSpan → (ℕ → ℕ) → List ℕ

@@ -1,5 +1,6 @@
-use Rattle.std.proofs.Common.{◌≡◌, ℕ, ◌+◌, ◌*◌, ◌<◌, ◌++◌, List, Option, length, take, drop, arith, rules, refl, sym, ap, ◌∙◌, subst}
+use Rattle.std.proofs.Common.{◌≡◌, ℕ, ◌+◌, ◌*◌, ◌<◌, ◌≤◌, ◌++◌, List, Option, length, take, drop, arith, rules, refl, sym, ap, ◌∙◌, subst}
 use Rattle.std.proofs.lemmas.List.{length-append, length-drop, length-take}
+use Rattle.std.proofs.lemmas.Nat.{mul-le}
 use Rattle.cull_base.specs.declared.clip.ClipVertex.{ClipVertex}
 use Rattle.scene_reader.specs.Layout.{Parts}
 use Rattle.cull_report.specs.Live.{watched}
@@ -20,6 +21,11 @@ stopped_at s rounds watch n good lines place more a b objects lines_are at good_
     let count : (rounds * objects) * n + good ≡ lines * place + more =
     sym (ap (λ (k : ℕ). k * place + more) lines_are ∙ ap (λ (k : ℕ). (rounds * objects) * k + more) at ∙ ap (λ (k : ℕ). (rounds * objects) * n + k) good_are) in
     subst (LogStops s rounds watch a) count (stopped_frame s rounds watch n good a b objects lt is came stops)
+
+-- a frame has at most 64 lines, and a scene at most 256 frames
+few_lines : (lines place rounds objects n frames : ℕ) → lines ≡ rounds * objects → place ≡ n → rounds ≤ 8 → objects ≤ 8 → n < frames → frames ≤ 256 → lines * place ≤ 16384
+few_lines lines place rounds objects n frames lines_are at few few_objects lt few_frames =
+    let most = mul-le rounds objects 8 8 few few_objects in mul-le lines place 64 256 (omega (arith, lines_are, most)) (omega (arith, at, lt, few_frames))
 
 pub loop-number-init : goal.loop-number-init
 loop-number-init g c = record {
@@ -53,6 +59,19 @@ loop-number-preserved g c =
       came = λ watch objects. next_frame s c.args.plan.now.rounds watch c.loop-number.number _ _ _ (i.came watch objects) (c.in_ok-good.ensures.comes watch objects c.in_default.is);
       faults = omega (arith, i.faults, c.in_ok-good.ensures.fails.faults_stay);
     }
+
+pub overflow_mul-result : goal.overflow_mul-result
+overflow_mul-result g c =
+    let p = c.args.plan.now in
+    let lt : c.loop-number.number < length p.scene.now.cameras = omega (arith, c.loop-number-test.true, ap length c.cameras.ensures.value) in
+    omega (arith, few_lines c.from-lines.result c.from.result p.rounds p.objects c.loop-number.number (length p.scene.now.cameras) c.from-lines.ensures c.from.ensures p.few_rounds p.few_objects lt c.cameras.ensures.valid.few_frames)
+
+pub overflow_add-result : goal.overflow_add-result
+overflow_add-result g c =
+    let p = c.args.plan.now in
+    let lt : c.loop-number.number < length p.scene.now.cameras = omega (arith, c.loop-number-test.true, ap length c.cameras.ensures.value) in
+    let few = few_lines c.from-lines.result c.from.result p.rounds p.objects c.loop-number.number (length p.scene.now.cameras) c.from-lines.ensures c.from.ensures p.few_rounds p.few_objects lt c.cameras.ensures.valid.few_frames in
+    omega (arith, few, rw c.in-Some.is at c.in_ok-good.ensures.few, c.from-in-Some.ensures)
 
 pub returns-in-Some-clause-stops : goal.returns-in-Some-clause-stops
 returns-in-Some-clause-stops g c watch objects =
