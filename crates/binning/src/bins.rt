@@ -3,7 +3,8 @@ ghost use Rattle.std.specs.Prelude.{◌≡◌, ℤ, ◌<◌, ◌↔◌};
 ghost use Rattle.cull_base.specs.Rectangle.{HasPixel, no_pixels};
 ghost use Rattle.cull_base.specs.Screen.{tile_count_of};
 ghost use Rattle.cull_base.specs.Span.{IsSpan};
-ghost use Rattle.binning.specs.Bins.{bin_of, bin_span_of, bin_rect_of, HasTilesOfBin, HasNoTile, IsInTileOfBin, has_tiles, span_rect_of, spread_of};
+ghost use Rattle.binning.specs.Bins.{HasNoTile, HasTilesOfBin, IsInTileOfBin, bin_of, bin_rect_of, bin_span_of};
+ghost use Rattle.binning.specs.Bins.{has_tiles, span_rect_of, spread_of};
 ghost use Rattle.binning.specs.Cut.{bin_count_of};
 
 use crate::axis::Axis;

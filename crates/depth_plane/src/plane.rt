@@ -5,7 +5,8 @@ ghost use Rattle.std.specs.Int.{int_max};
 ghost use Rattle.cull_base.specs.Depth.{floor_of, least_nearness, greatest_nearness, numerator, denominator, low_of, high_of};
 ghost use Rattle.cull_base.specs.Bounds.{Bounded};
 ghost use Rattle.cull_base.specs.declared.nearness.TheConstants.{HELD_TOP};
-ghost use Rattle.depth_plane.specs.Plane.{plane_of, numerator_at, IsNearer, point_of, IsLowBound, IsHighBound, TellsNearerPiece, IsNarrow, low_from, sub_in};
+ghost use Rattle.depth_plane.specs.Plane.{IsHighBound, IsLowBound, IsNarrow, IsNearer, TellsNearerPiece};
+ghost use Rattle.depth_plane.specs.Plane.{low_from, numerator_at, plane_of, point_of, sub_in};
 
 use crate::corner::{
     SPAN_ACROSS, SPAN_DOWN, greatest_along, least_along, narrow_first, narrow_numerator,

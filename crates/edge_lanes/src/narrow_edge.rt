@@ -5,7 +5,8 @@ ghost use Rattle.std.specs.Int.{int_div_euclid};
 ghost use Rattle.cull_base.specs.Piece.{IsCoordinate, point};
 ghost use Rattle.cull_base.specs.Bounds.{Bounded};
 ghost use Rattle.edge_lanes.specs.Lanes.{offsets_of, highest_of, lowest_of, subtile_step, subtile_steps, subtile_signs, row_of};
-ghost use Rattle.edge_lanes.specs.Lines.{IsEdge, IsShort, candidates_of, clamped, counts_at, inside_from, line, moved_to, sub_value, tile_value, whole_of};
+ghost use Rattle.edge_lanes.specs.Lines.{IsEdge, IsShort, candidates_of, clamped, counts_at, inside_from};
+ghost use Rattle.edge_lanes.specs.Lines.{line, moved_to, sub_value, tile_value, whole_of};
 
 use crate::arithmetic::{shift, steps};
 use crate::bias::first_value;

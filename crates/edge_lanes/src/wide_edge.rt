@@ -3,7 +3,8 @@ ghost use Rattle.std.specs.Prelude.{◌≡◌, ℕ, ℤ, pos, ◌^◌, ◌+◌, 
 ghost use Rattle.std.specs.Simd.Lanes.{mask_l};
 ghost use Rattle.cull_base.specs.Piece.{IsCoordinate, point, each_sample};
 ghost use Rattle.cull_base.specs.Bounds.{Bounded};
-ghost use Rattle.edge_lanes.specs.Lanes.{columns, is_not_negative, highest_of, lowest_of, row_of, subtile_step, subtile_steps, subtile_signs};
+ghost use Rattle.edge_lanes.specs.Lanes.{columns, highest_of, is_not_negative, lowest_of, row_of};
+ghost use Rattle.edge_lanes.specs.Lanes.{subtile_signs, subtile_step, subtile_steps};
 ghost use Rattle.edge_lanes.specs.Lines.{IsEdge, candidates_of, inside_from, moved_to, tile_value};
 
 use crate::arithmetic::{highest, lowest, opposite, pixel_step, shift, steps, total};

@@ -25,7 +25,8 @@ pub enum SceneError {
     #[error("byte 13 is {0}: it is 0 in version 1")]
     BadReserved(u8),
     /// The counts by field: 0 frames, 1 vertices, 2 occluder triangles, 3 object triangles, 4 objects, 5 batches.
-    #[error("count {field} of the header (0 frames, 1 vertices, 2 occluder triangles, 3 object triangles, 4 objects, 5 batches) is {value}, out of its limits")]
+    #[error("count {field} of the header (0 frames, 1 vertices, 2 occluder triangles, 3 object triangles, 4 objects, \
+         5 batches) is {value}, out of its limits")]
     BadCount { field: u8, value: u32 },
     #[error("bytes follow behind the scene")]
     Trailing,
