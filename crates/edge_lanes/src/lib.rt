@@ -6,6 +6,7 @@ mod bias;
 mod crossing;
 mod crossings;
 mod edges;
+mod eight_columns;
 mod narrow_edge;
 mod narrow_edges;
 mod reciprocal;
