@@ -82,7 +82,7 @@ impl PieceSetup {
 
     /// The edges over a row of tiles. Condition: the row is below 256.
     #[inline(always)]
-    pub(crate) fn over_row(&self, row: u32) -> TileRow<'_>
+    pub fn over_row(&self, row: u32) -> TileRow<'_>
         requires { row < 256 }
         ensures { AreRowOf result row self.now }
     {
