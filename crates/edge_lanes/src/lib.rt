@@ -13,6 +13,7 @@ mod reciprocal;
 mod row_edges;
 mod shared;
 mod slant;
+mod small_edge;
 mod small_edges;
 mod spans;
 mod tile_edges;
