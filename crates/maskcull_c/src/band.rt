@@ -111,8 +111,10 @@ fn merge_in_span(
     ensures { MergedWhere (has_tile span) reached.now.size piece.now
         (band_of window tiles.old) (band_of window tiles.new) }
 {
+    // a copy: what is computed of it is known to stay while tiles are written
+    let here = *reached;
     for row in span.first_row..span.end_row {
-        merge_in_row(tiles, window, piece, reached, span, row);
+        merge_in_row(tiles, window, piece, &here, span, row);
     }
 }
 
