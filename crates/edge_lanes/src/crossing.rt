@@ -53,8 +53,8 @@ fn parts(pixels: i64, size: &Reciprocal) -> i64
 /// The last column that 16 bits hold, far beyond any screen.
 const LAST: i32 = 0xFFFF;
 
-// The column that so many parts lie in, the first where they lie before it, and the last that is held where they lie past
-// that.
+// The column that so many parts lie in; the first where they lie before it, and the last that is held where they lie
+// past that.
 #[inline(always)]
 fn column_of(parts: i64) -> u16
     ensures { pos result ≡ held_column (int_div_euclid parts (pos (2 ^ 32))) }
@@ -138,7 +138,8 @@ impl Crossing {
     #[inline(always)]
     fn columns(&self, row: u32) -> [u16; 8]
         requires { row < 256 }
-        ensures { (r : ℕ) → r < 8 → pos (slice_index result r) ≡ held_column (crossed_at self.now (8 * row + r)) }
+        ensures { (r : ℕ) → r < 8 → pos (slice_index result r)
+            ≡ held_column (crossed_at self.now (8 * row + r)) }
     {
         columns_of(self.parts_by_row(row))
     }
@@ -147,7 +148,8 @@ impl Crossing {
     #[inline(always)]
     pub fn spans(&self, row: u32) -> Spans
         requires { row < 256 }
-        ensures { (r x : ℕ) → r < 8 → x < 2 ^ 11 → in_span result r x ≡ is_beside self.now x (8 * row + r) }
+        ensures { (r x : ℕ) → r < 8 → x < 2 ^ 11
+            → in_span result r x ≡ is_beside self.now x (8 * row + r) }
     {
         let crossed = u16x8::from_array(self.columns(row));
         let limit = u16x8::splat(self.limit);

@@ -1,5 +1,5 @@
-//! An edge of a piece of a few pixels, at most 2^10 sixteenths of a pixel long each way, by its values' sixteenths as in
-//! `NarrowEdge`, in lanes of 16 bits.
+//! An edge of a piece of a few pixels, at most 2^10 sixteenths of a pixel long each way, by its values' sixteenths as
+//! in `NarrowEdge`, in lanes of 16 bits.
 ghost use Rattle.std.specs.Prelude.{◌≡◌, ℕ, pos, ◌^◌, ◌+◌, ◌*◌, ◌<◌, ◌*ℤ◌};
 ghost use Rattle.cull_base.specs.Bounds.{Bounded};
 ghost use Rattle.cull_base.specs.Piece.{IsCoordinate, point};

@@ -1,5 +1,5 @@
-//! The columns of samples that are inside, row by row of a row of tiles, and the masks that they make. Columns take lanes
-//! of 16 bits, so that eight rows are one vector of the least processor.
+//! The columns of samples that are inside, row by row of a row of tiles, and the masks that they make. Columns take
+//! lanes of 16 bits, so that those of eight rows are one vector.
 ghost use Rattle.std.specs.Prelude.{◌≡◌, ℕ, ◌+◌, ◌-◌, ◌*◌, ◌/◌, ◌%◌, ◌<◌, ◌≤◌, ◌^◌, ◌&&◌, cond, length, min, nat_le, nat_lt, slice_index, slice_index_or};
 ghost use Rattle.std.specs.Int.{bit_at};
 ghost use Rattle.std.specs.Simd.Lanes.{mask_l};

@@ -143,9 +143,9 @@ impl TileState {
         piece.merge_over(&mut self.layers, reached, over, place);
     }
 
-    /// Merges a piece, whose edges over the tile's row are at hand, and doesn't count it. A tile to which the edges leave
-    /// nothing stays, and so does one that is nowhere behind the piece. Conditions as for `merge`, and the edges are the
-    /// piece's.
+    /// Merges a piece, whose edges over the tile's row are at hand, and doesn't count it. A tile to which the edges
+    /// leave nothing stays, and so does one that is nowhere behind the piece. Conditions as for `merge`, and the edges
+    /// are the piece's.
     #[inline(always)]
     pub fn merge_ahead(
         &mut self,

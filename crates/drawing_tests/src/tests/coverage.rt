@@ -211,8 +211,8 @@ fn a_diagonal_through_samples_is_exact_at_each_height(rt: HostRuntime) {
     }
 }
 
-// An edge that crosses rows of samples 4,063 columns apart, from column 2,031 to column 62,969, and below the piece past
-// the last column that 16 bits hold.
+// An edge that crosses rows of samples 4,063 columns apart, from column 2,031 to column 62,969, and below the piece
+// past the last column that 16 bits hold.
 #[test]
 fn a_flat_edge_crosses_far_beside_the_screen(rt: HostRuntime) {
     let full = u32::MAX;

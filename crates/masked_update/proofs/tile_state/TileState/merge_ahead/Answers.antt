@@ -1,7 +1,6 @@
 use Rattle.std.proofs.Common.{◌≡◌, ◌+◌, ◌<◌, ◌≤◌, ℕ, arith, sym, subst}
 use Rattle.masked_update.specs.Least.{NoneBelow}
 use Rattle.masked_update.specs.Merged.{CoversNone}
-use Rattle.masked_update.specs.TileOf.{sub_at}
 use Rattle.masked_update.proofs.Covering.{covers_none}
 use Rattle.masked_update.proofs.Merging.{merged_behind, merged_uncovered}
 use Rattle.masked_update.proofs.Tiles.{tile_with}
