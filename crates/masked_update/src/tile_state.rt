@@ -147,13 +147,7 @@ impl TileState {
     /// leave nothing stays, and so does one that is nowhere behind the piece. Conditions as for `merge`, and the edges
     /// are the piece's.
     #[inline(always)]
-    pub fn merge_ahead(
-        &mut self,
-        piece: &PieceSetup,
-        reached: &SubBox,
-        over: &TileRow,
-        place: Tile,
-    )
+    pub fn merge_ahead(&mut self, piece: &PieceSetup, reached: &SubBox, over: &TileRow, place: Tile)
         requires reached { IsSubBox (box_of piece.now) reached.now }
         requires over { AreRowOf over.now place.row piece.now }
         requires column { place.column < tile_columns_of reached.now.size }
