@@ -1,11 +1,11 @@
 //! A piece is drawn into the tiles of a window that its box reaches.
 ghost use Rattle.std.specs.Prelude.{◌≡◌, ◌<◌, ◌≤◌, true, length};
-ghost use Rattle.cull_base.specs.Piece.{IsPiece, box_of};
+ghost use Rattle.cull_base.specs.Piece.{IsPiece};
 ghost use Rattle.cull_base.specs.Screen.{IsSize};
 ghost use Rattle.cull_base.specs.Span.{IsPartOf, IsSpan, has_tile};
 ghost use Rattle.masked_update.specs.Canvas.{IsCanvas, MergedMet};
 ghost use Rattle.masked_update.specs.Least.{NoneBelow};
-ghost use Rattle.masked_update.specs.Merged.{IsSubBox};
+ghost use Rattle.masked_update.specs.Samples.{HoldsSampled};
 ghost use Rattle.masked_update.specs.Walk.{MergedWhere, NoneBelowWhere, is_in_row};
 ghost use Rattle.maskcull_c.specs.Bands.{band_of};
 
@@ -74,7 +74,7 @@ fn merge_in_row(
 )
     requires whole { IsCanvas (band_of window tiles.old) }
     requires part { IsPartOf window span }
-    requires reached { IsSubBox (box_of piece.now) reached.now }
+    requires reached { HoldsSampled piece.now reached.now }
     requires span { IsSpan reached.now.size span }
     requires row { (span.first_row ≤ row) × (row < span.end_row) }
     requires small { row < 256 }
@@ -105,7 +105,7 @@ fn merge_in_span(
 )
     requires whole { IsCanvas (band_of window tiles.old) }
     requires part { IsPartOf window span }
-    requires reached { IsSubBox (box_of piece.now) reached.now }
+    requires reached { HoldsSampled piece.now reached.now }
     requires span { IsSpan reached.now.size span }
     requires sized { IsSize reached.now.size.width reached.now.size.height }
     ensures { MergedWhere (has_tile span) reached.now.size piece.now
@@ -124,17 +124,19 @@ fn merge_set_up(
     tiles: &mut [TileState],
     window: TileSpan,
     tri: &ScreenTri,
-    size: Size,
+    reached: &SubBox,
     span: TileSpan,
 )
     requires whole { IsCanvas (band_of window tiles.old) }
     requires part { IsPartOf window span }
-    requires span { IsSpan size span }
-    requires sized { IsSize size.width size.height }
-    ensures { MergedWhere (has_tile span) size tri.now (band_of window tiles.old) (band_of window tiles.new) }
+    requires reached { HoldsSampled tri.now reached.now }
+    requires span { IsSpan reached.now.size span }
+    requires sized { IsSize reached.now.size.width reached.now.size.height }
+    ensures { MergedWhere (has_tile span) reached.now.size tri.now
+        (band_of window tiles.old) (band_of window tiles.new) }
 {
     let piece = PieceSetup::of(tri);
-    merge_in_span(tiles, window, &piece, &piece.reached_on(size), span);
+    merge_in_span(tiles, window, &piece, reached, span);
 }
 
 // Merges a piece into the tiles of a span, a small one subtile by subtile.
@@ -156,7 +158,7 @@ fn merge_piece(
     let reached = SubBox::of(&sampled, size);
     match SmallPiece::of(tri, &reached) {
         Some(piece) => merge_small_in_span(tiles, window, &piece, &reached, span),
-        None => merge_set_up(tiles, window, tri, size, span),
+        None => merge_set_up(tiles, window, tri, &reached, span),
     }
 }
 

@@ -123,8 +123,9 @@ impl TileState {
         piece.merge_into(&mut self.layers, reached, place)
     }
 
-    /// Merges a piece, whose edges over the tile's row are at hand, and doesn't count it. Conditions as for `merge`,
-    /// and the edges are the piece's.
+    /// Merges a piece, whose edges over the tile's row are at hand, and doesn't count it. Conditions: the column and the
+    /// row are below the screen's, what is reached on it has each sample that the piece covers, and the edges are the
+    /// piece's.
     #[inline(always)]
     pub(crate) fn merge_over(
         &mut self,
@@ -133,7 +134,7 @@ impl TileState {
         over: &TileRow,
         place: Tile,
     )
-        requires reached { IsSubBox (box_of piece.now) reached.now }
+        requires reached { HoldsSampled piece.now reached.now }
         requires over { AreRowOf over.now place.row piece.now }
         requires column { place.column < tile_columns_of reached.now.size }
         requires row { place.row < tile_rows_of reached.now.size }
@@ -144,11 +145,11 @@ impl TileState {
     }
 
     /// Merges a piece, whose edges over the tile's row are at hand, and doesn't count it. A tile to which the edges
-    /// leave nothing stays, and so does one that is nowhere behind the piece. Conditions as for `merge`, and the edges
-    /// are the piece's.
+    /// leave nothing stays, and so does one that is nowhere behind the piece. Conditions: the column and the row are
+    /// below the screen's, what is reached on it has each sample that the piece covers, and the edges are the piece's.
     #[inline(always)]
     pub fn merge_ahead(&mut self, piece: &PieceSetup, reached: &SubBox, over: &TileRow, place: Tile)
-        requires reached { IsSubBox (box_of piece.now) reached.now }
+        requires reached { HoldsSampled piece.now reached.now }
         requires over { AreRowOf over.now place.row piece.now }
         requires column { place.column < tile_columns_of reached.now.size }
         requires row { place.row < tile_rows_of reached.now.size }
