@@ -68,4 +68,4 @@ limit-le limit is = by (nat_eq limit 0) refl (nat_eq limit 2048) refl is
     by : (a : Bool) → nat_eq limit 0 ≡ a → (b : Bool) → nat_eq limit 2048 ≡ b → IsTrue (a || b) → limit ≤ 2048
     by true p b q h = let e : limit ≡ 0 = grind (arith, nat_tests) in omega (arith, e)
     by false p true q h = let e : limit ≡ 2048 = grind (arith, nat_tests) in omega (arith, e)
-    by false p false q h = cc
+    by false p false q h = absurd cc
