@@ -1,4 +1,4 @@
-use Rattle.std.proofs.Common.{◌≡◌, ◌+◌, ◌<◌, ◌≤◌, ℕ, arith, sym, subst}
+use Rattle.std.proofs.Common.{◌≡◌, ◌+◌, ◌<◌, ℕ, arith, sym, subst}
 use Rattle.masked_update.specs.Least.{NoneBelow}
 use Rattle.masked_update.specs.Merged.{CoversNone}
 use Rattle.masked_update.proofs.Covering.{covers_none}
