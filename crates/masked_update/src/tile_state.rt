@@ -123,9 +123,9 @@ impl TileState {
         piece.merge_into(&mut self.layers, reached, place)
     }
 
-    /// Merges a piece, whose edges over the tile's row are at hand, and doesn't count it. Conditions: the column and the
-    /// row are below the screen's, what is reached on it has each sample that the piece covers, and the edges are the
-    /// piece's.
+    /// Merges a piece, whose edges over the tile's row are at hand, and doesn't count it. Conditions: the column and
+    /// the row are below the screen's, what is reached on it has each sample that the piece covers, and the edges are
+    /// the piece's.
     #[inline(always)]
     pub(crate) fn merge_over(
         &mut self,
