@@ -274,9 +274,9 @@ pub(crate) fn push_shared(
         AreCornersOf tri (top_of o.grade) o.near.distance o.size corners.now }
     requires room { length list.old.list.members + 2 ≤ list.old.room }
     ensures value { let o = occluders.now in Took keeping list.old list.new result
-        (pieces_of_corners tri (top_of o.grade) o.near.distance o.size winding) }
+        (pieces_of_corners tri.entry (top_of o.grade) o.near.distance o.size winding) }
     ensures most { let o = occluders.now in
-        length (pieces_of_corners tri (top_of o.grade) o.near.distance o.size winding) ≤ 2 }
+        length (pieces_of_corners tri.entry (top_of o.grade) o.near.distance o.size winding) ≤ 2 }
 {
     // an accessor tells what is held of a size
     let _width = occluders.size.width();
