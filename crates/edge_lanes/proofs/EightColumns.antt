@@ -1,5 +1,5 @@
 -- The lesser and the greater of columns in lanes of 16 bits.
-use Rattle.std.proofs.Common.{◌≡◌, ℕ, Bool, cond, nat_lt, min, max, List, [], ◌∷◌, map, refl, ap, ap₂, ◌∙◌, arith, w16}
+use Rattle.std.proofs.Common.{◌≡◌, ℕ, cond, nat_lt, min, max, List, [], ◌∷◌, map, refl, ap, ap₂, ◌∙◌, arith, w16}
 use Rattle.std.specs.Simd.Lanes.{zip2, sel_l, top}
 use Rattle.std.proofs.lemmas.Bool.Decides.{nat_tests}
 use Rattle.std.proofs.lemmas.Simd.{tops_compared}

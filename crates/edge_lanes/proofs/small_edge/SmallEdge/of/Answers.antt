@@ -15,6 +15,15 @@ short-requires c =
     let fc : FitsSigned w32 c.step.result = search rules in
     simp to_z-of_z (turned c.args.ay c.args.by c.step.result c.requires.few.down (simp to_z-of_z at c.step.ensures))
 
+same : (a b v : ℤ) → Bounded (2 ^ 10) (b -ℤ a) → v ≡ b -ℤ a → Bounded (2 ^ 10) v
+same a b v h e = omega (arith, ints)
+
+pub short-requires-2 : goal.short-requires-2
+short-requires-2 c =
+    let fax : FitsSigned w32 c.args.ax = c.ranges.ax in let fbx : FitsSigned w32 c.args.bx = c.ranges.bx in
+    let fr : FitsSigned w32 c.step-2.result = search rules in
+    simp to_z-of_z (same c.args.ax c.args.bx c.step-2.result c.requires.few.across (simp to_z-of_z at c.step-2.ensures))
+
 pub returns : goal.returns
 returns c =
     let fax : FitsSigned w32 c.args.ax = c.ranges.ax in let fay : FitsSigned w32 c.args.ay = c.ranges.ay in

@@ -15,7 +15,7 @@ returns-then-ahead-eq0 c =
     let column : c.from.result ≡ place.column = c.from.ensures in
     let within : c.from.result + 0 < 64 = omega (arith, column, c.requires.column, c.tile_columns-columns.ensures.value, c.tile_columns-columns.ensures.small) in
     let small : place.row < 256 = omega (arith, c.requires.row, c.tile_rows-rows.ensures.value, c.tile_rows-rows.ensures.small) in
-    let none = covers_none c.args.over.now place.row x c.from.result c.ahead.result 0 c.requires.over small c.ahead.ensures.clear (omega arith) within (omega (arith, c.if-ahead-eq0.true)) in
+    let none = covers_none c.args.over.now place.row x c.from.result c.ahead-ahead.result 0 c.requires.over small c.ahead-ahead.ensures.clear (omega arith) within (omega (arith, c.if-ahead-eq0.true)) in
     let same : c.from.result + 0 ≡ place.column = omega (arith, column) in
     sym (merged_uncovered size place x c.args.self.now c.sub-first.ensures.eight (subst (λ (n : ℕ). CoversNone x (tile_with n place.row)) same none))
 
