@@ -2,6 +2,7 @@ pub mod SubTile
 pub mod Packing
 pub mod Fields
 pub mod Setup
+pub mod Depths
 pub mod Lanes
 pub mod LanesBack
 pub mod TileOf
