@@ -253,6 +253,7 @@ fn merge_piece(canvas: &mut Canvas, tri: &ScreenTri, reached: &SubBox, span: Til
 
 /// Merges a piece into the tiles of the canvas that its box reaches, and counts it nowhere. One that has no sample there,
 /// or stands behind all of them, changes nothing and isn't set up. Condition: the window is of the screen.
+#[inline(always)]
 pub fn draw_piece(canvas: &mut Canvas, tri: &ScreenTri, size: Size)
     requires window { IsSpan size canvas.old.window }
     ensures { MergedMet size tri.now canvas.old canvas.new }
