@@ -10,6 +10,7 @@ pub mod Views
 pub mod Grid
 pub mod Merged
 pub mod Samples
+pub mod Reached
 pub mod Small
 pub mod Coverage
 pub mod Taken

@@ -251,6 +251,23 @@ fn merge_piece(canvas: &mut Canvas, tri: &ScreenTri, reached: &SubBox, span: Til
     }
 }
 
+// Merges a piece into the tiles of a span. One that stands behind all of them changes nothing and isn't set up.
+#[inline(always)]
+fn merge_where_ahead(canvas: &mut Canvas, tri: &ScreenTri, reached: &SubBox, span: TileSpan)
+    requires part { IsPartOf canvas.old.window span }
+    requires reached { HoldsSampled tri.now reached.now }
+    requires span { IsSpan reached.now.size span }
+    requires sized { IsSize reached.now.size.width reached.now.size.height }
+    ensures { MergedWhere (has_tile span) reached.now.size tri.now canvas.old canvas.new }
+{
+    // an accessor tells what is held of a canvas
+    let _window = canvas.window();
+    let first_row = first_row_ahead(canvas, span, tri.greatest_nearness());
+    if first_row < span.end_row {
+        merge_piece(canvas, tri, reached, TileSpan { first_row, ..span });
+    }
+}
+
 /// Merges a piece into the tiles of the canvas that its box reaches, and counts it nowhere. One that has no sample there,
 /// or stands behind all of them, changes nothing and isn't set up. Condition: the window is of the screen.
 #[inline(always)]
@@ -258,15 +275,23 @@ pub fn draw_piece(canvas: &mut Canvas, tri: &ScreenTri, size: Size)
     requires window { IsSpan size canvas.old.window }
     ensures { MergedMet size tri.now canvas.old canvas.new }
 {
-    // an accessor tells what is held of a canvas
+    // accessors tell what is held of a canvas, of a size and of a piece
     let _count = canvas.tile_count();
+    let _width = size.width();
+    let _nearest = tri.greatest_nearness();
     let sampled = sampled(tri);
-    let span = TileSpan::of(&sampled, size).cut(&canvas.window());
-    let first_row = first_row_ahead(canvas, span, tri.greatest_nearness());
-    if first_row < span.end_row {
-        let reached = SubBox::of(&sampled, size);
-        merge_piece(canvas, tri, &reached, TileSpan { first_row, ..span });
+    let reached = SubBox::of(&sampled, size);
+    let window = canvas.window();
+    let span = reached.tiles_in(&window);
+    let (left, right) = (span.first_column, span.end_column);
+    if right <= left {
+        return;
     }
+    let (top, bottom) = (span.first_row, span.end_row);
+    if bottom <= top {
+        return;
+    }
+    merge_where_ahead(canvas, tri, &reached, span);
 }
 
 /// Counts a piece in the tiles of the canvas that its box reaches, and merges it nowhere. Conditions: the window is of
