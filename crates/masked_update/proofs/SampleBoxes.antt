@@ -160,7 +160,7 @@ reached_part b window span is columns rows =
     record { first_column = omega (arith, a); columns = omega (arith, columns); end_column = omega (arith, c); first_row = omega (arith, d); rows = omega (arith, rows); end_row = omega (arith, e) }
 
 pub part_span : (size : Dimensions) (window span : TileSpan) → IsPartOf window span → IsSpan size window → IsSpan size span
-part_span size window span part of = record { columns = part.columns; rows = part.rows; columns_within = omega (arith, part.end_column, of.columns_within); rows_within = omega (arith, part.end_row, of.rows_within) }
+part_span size window span part whole = record { columns = part.columns; rows = part.rows; columns_within = omega (arith, part.end_column, whole.columns_within); rows_within = omega (arith, part.end_row, whole.rows_within) }
 
 -- a span whose end isn't past its first has no tile
 none_here : (first end n : ℕ) → end ≤ first → is_between first end n ≡ false

@@ -38,8 +38,8 @@ merge_where_ahead-requires-clause-reached c = (c.sampled-sampled.result, c.sampl
 pub merge_where_ahead-requires-clause-span : goal.merge_where_ahead-requires-clause-span
 merge_where_ahead-requires-clause-span c =
     let part = reached_part c.of-reached.result c.window-window.result c.tiles_in-span.result c.tiles_in-span.ensures c.if-right-left.false c.if-bottom-top.false in
-    let of = subst (λ (w : TileSpan). IsSpan c.args.size w) (sym c.window-window.ensures.value) c.requires.window in
-    subst (λ (s : Dimensions). IsSpan s c.tiles_in-span.result) (sym c.of-reached.ensures.size) (part_span c.args.size c.window-window.result c.tiles_in-span.result part of)
+    let whole = subst (λ (w : TileSpan). IsSpan c.args.size w) (sym c.window-window.ensures.value) c.requires.window in
+    subst (λ (s : Dimensions). IsSpan s c.tiles_in-span.result) (sym c.of-reached.ensures.size) (part_span c.args.size c.window-window.result c.tiles_in-span.result part whole)
 
 pub merge_where_ahead-requires-clause-sized : goal.merge_where_ahead-requires-clause-sized
 merge_where_ahead-requires-clause-sized c = subst (λ (s : Dimensions). IsSize s.width s.height) (sym c.of-reached.ensures.size) c.width-width.ensures.valid
