@@ -51,7 +51,8 @@ fn of_narrow(tri: &ScreenTri) -> RowEdges
 }
 
 impl RowEdges {
-    #[inline(always)]
+    // Out of line, so that what is made is written where the caller keeps it, and no copy passes through its branches.
+    #[inline(never)]
     pub fn of(tri: &ScreenTri) -> RowEdges
         ensures { (u : Sub) → u.column < 256 → u.row < 512 → inside_rows result u ≡ covered tri.now u }
     {

@@ -5,13 +5,15 @@ ghost use Rattle.cull_base.specs.Screen.{IsSize};
 ghost use Rattle.cull_base.specs.Span.{IsPartOf, IsSpan, has_tile};
 ghost use Rattle.masked_update.specs.Canvas.{IsCanvas, MergedMet};
 ghost use Rattle.masked_update.specs.Least.{NoneBelow};
+ghost use Rattle.masked_update.specs.Merged.{AreEdgesOf};
 ghost use Rattle.masked_update.specs.Samples.{HoldsSampled};
 ghost use Rattle.masked_update.specs.Walk.{MergedWhere, NoneBelowWhere, is_in_row};
 ghost use Rattle.maskcull_c.specs.Bands.{band_of};
 
 use crate::small_band::merge_small_in_span;
 use cull_base::{ScreenTri, Size, Tile, TileSpan};
-use masked_update::{PieceSetup, SmallPiece, SubBox, TileState, sampled};
+use edge_lanes::RowEdges;
+use masked_update::{PieceDepths, SmallPiece, SubBox, TileState, sampled};
 
 // Whether a piece that is nowhere nearer changes nothing in a tile.
 #[inline(always)]
@@ -67,13 +69,15 @@ fn is_behind_in_span(tiles: &[TileState], window: TileSpan, span: TileSpan, near
 fn merge_in_row(
     tiles: &mut [TileState],
     window: TileSpan,
-    piece: &PieceSetup,
+    piece: &PieceDepths,
+    edges: &RowEdges,
     reached: &SubBox,
     span: TileSpan,
     row: u32,
 )
     requires whole { IsCanvas (band_of window tiles.old) }
     requires part { IsPartOf window span }
+    requires edges { AreEdgesOf edges.now piece.now }
     requires reached { HoldsSampled piece.now reached.now }
     requires span { IsSpan reached.now.size span }
     requires row { (span.first_row ≤ row) × (row < span.end_row) }
@@ -84,7 +88,7 @@ fn merge_in_row(
     let start = window.row_start(row);
     // an accessor tells how many columns there may be
     let _columns = reached.size.tile_columns();
-    let over = piece.over_row(row);
+    let over = piece.over_row(edges, row);
     for column in span.first_column..span.end_column {
         let number = start + (column - window.first_column) as usize;
         let place = Tile {
@@ -99,12 +103,14 @@ fn merge_in_row(
 fn merge_in_span(
     tiles: &mut [TileState],
     window: TileSpan,
-    piece: &PieceSetup,
+    piece: &PieceDepths,
+    edges: &RowEdges,
     reached: &SubBox,
     span: TileSpan,
 )
     requires whole { IsCanvas (band_of window tiles.old) }
     requires part { IsPartOf window span }
+    requires edges { AreEdgesOf edges.now piece.now }
     requires reached { HoldsSampled piece.now reached.now }
     requires span { IsSpan reached.now.size span }
     requires sized { IsSize reached.now.size.width reached.now.size.height }
@@ -114,7 +120,7 @@ fn merge_in_span(
     // a copy: what is computed of it is known to stay while tiles are written
     let here = *reached;
     for row in span.first_row..span.end_row {
-        merge_in_row(tiles, window, piece, &here, span, row);
+        merge_in_row(tiles, window, piece, edges, &here, span, row);
     }
 }
 
@@ -135,8 +141,10 @@ fn merge_set_up(
     ensures { MergedWhere (has_tile span) reached.now.size tri.now
         (band_of window tiles.old) (band_of window tiles.new) }
 {
-    let piece = PieceSetup::of(tri);
-    merge_in_span(tiles, window, &piece, reached, span);
+    // the edges stay where they are made: they are large to copy
+    let edges = RowEdges::of(tri);
+    let piece = PieceDepths::of(tri);
+    merge_in_span(tiles, window, &piece, &edges, reached, span);
 }
 
 // Merges a piece into the tiles of a span, a small one subtile by subtile.

@@ -1,18 +1,20 @@
 -- The samples that a piece may cover stand between its least and its greatest coordinates.
-use Rattle.std.proofs.Common.{◌≡◌, ◌∙◌, ℕ, ℤ, pos, negsuc, ◌+◌, ◌*◌, ◌<◌, ◌≤◌, ◌+ℤ◌, ◌≤ℤ◌, ◌<ℤ◌, ◌/◌, ◌%◌, ◌&&◌, arith, refl, ap, sym, true, false, Bool, List, length, cond, slice_index_or}
+use Rattle.std.proofs.Common.{◌≡◌, ◌∙◌, ℕ, ℤ, pos, negsuc, ◌+◌, ◌-◌, ◌*◌, ◌<◌, ◌≤◌, ◌+ℤ◌, ◌≤ℤ◌, ◌<ℤ◌, ◌/◌, ◌%◌, arith, refl, ap, sym, subst, true, false, Bool, List, length, cond, min, max, slice_index_or}
 use Rattle.std.specs.List.{All}
-use Rattle.std.specs.Int.{int_div_euclid}
-use Rattle.std.proofs.lemmas.Bool.{both_ways, cond-false, cond-true}
+use Rattle.std.specs.Int.{div_ceil, int_div_euclid}
+use Rattle.std.proofs.lemmas.Bool.{and_left, and_parts, and_right, both_ways, cond-false, cond-true, false_from_ne_true, leb-true, ltb-true}
+use Rattle.std.proofs.lemmas.Bool.Decides.{nat_tests}
 use Rattle.std.proofs.lemmas.Int.{ints, clamps}
 use Rattle.cull_base.specs.Piece.{Piece, IsPiece, IsCoordinate, covers, sample, middle, least_of, greatest_of, first_pixel, box_of}
 use Rattle.cull_base.specs.Rectangle.{meets}
 use Rattle.cull_base.specs.Screen.{Dimensions, IsSize, tile_place, tile_rect_of, tile_sub, is_on_screen}
-use Rattle.cull_base.specs.Span.{HasTilesOf, has_tile, number_in}
+use Rattle.cull_base.specs.Span.{IsPartOf, IsSpan, has_column, has_row, has_tile, is_between, number_in}
 use Rattle.cull_base.specs.Fold.{step}
 use Rattle.cull_base.specs.State.{State, empty_state}
 use Rattle.cull_base.specs.declared.place.Tile.{Tile}
 use Rattle.cull_base.specs.declared.rect.Rect.{Rect}
 use Rattle.cull_base.specs.declared.tile_span.TileSpan.{TileSpan}
+use Rattle.edge_lanes.specs.Inside.{sub_of}
 use Rattle.cull_base.proofs.Extents.{least_of_three, greatest_of_three}
 use Rattle.cull_base.proofs.Rectangles.{meets_pixel}
 use Rattle.depth_plane.proofs.Boxes.{touches-between, covers-in_box}
@@ -20,12 +22,15 @@ use Rattle.depth_plane.proofs.Mean.{touches_covered}
 use Rattle.masked_update.specs.Samples.{HoldsCovered}
 use Rattle.masked_update.specs.TileOf.{TileOf, tile_at}
 use Rattle.masked_update.specs.Taken.{merged_tile}
-use Rattle.masked_update.specs.Merged.{merged_at, merged_by}
+use Rattle.masked_update.specs.Merged.{IsSubBox, IsSubSpan, has_sub, merged_at, merged_by, span_at, sub_rect_of}
+use Rattle.masked_update.specs.Reached.{reached_in}
+use Rattle.masked_update.specs.declared.sub_span.SubBox.{SubBox}
 use Rattle.masked_update.specs.Canvas.{CanvasOf, IsCanvas, IsInWindow, MergedMet, tile_in}
 use Rattle.masked_update.specs.Walk.{ChangedWhere}
 use Rattle.masked_update.proofs.Boxes.{in_tile}
 use Rattle.masked_update.proofs.Merging.{eight_of}
-use Rattle.masked_update.proofs.Tiles.{number_within}
+use Rattle.masked_update.proofs.SampledSubs.{step_apart_from}
+use Rattle.masked_update.proofs.Tiles.{has, number_within, stands}
 use Rattle.masked_update.proofs.Unchanged.{step_unless_covered}
 
 -- a pixel whose sample isn't before a coordinate, and one whose sample isn't past it
@@ -81,28 +86,50 @@ merged_apart size n x r t valid holds off eight = ap (λ subs. tile_with subs t.
     stays j h true on = sym (cond-true _ _ _ on ∙ step_unless_covered (tile_sub size n j) (slice_index_or t.subs j empty_state) x (λ k below c. absurd (clear j k h on below c)))
     stays j h false off = sym (cond-false _ _ _ off)
 
--- of the tiles of a window, a span cut to it has those that a rectangle meets
-pub cut_meets : (size : Dimensions) (window given reached cut : TileSpan) (r : Rect) → given ≡ window → HasTilesOf reached size r → ((p : Tile) → has_tile cut p ≡ (has_tile reached p && has_tile given p))
-    → (t : ℕ) → IsInWindow size window t → has_tile cut (tile_place size t) ≡ meets r (tile_rect_of size t)
-cut_meets size window given reached cut r same tiles cuts t within =
-    let p = tile_place size t in
-    cuts p ∙ ap (λ b. has_tile reached p && b) (ap (λ (w : TileSpan). has_tile w p) same ∙ within.within) ∙ and-true (has_tile reached p) ∙ tiles t within.on_screen
+-- a number whose first of two or of four parts is reached, and that isn't past the end
+within_two : (first end n k : ℕ) → min (first - 2 * n) 2 ≤ k → k < min (end - 2 * n) 2 → (first / 2 ≤ n) × (n < div_ceil end 2)
+within_two first end n k from before = (omega arith, omega arith)
+
+within_four : (first end n k : ℕ) → min (first - 4 * n) 4 ≤ k → k < min (end - 4 * n) 4 → (first / 4 ≤ n) × (n < div_ceil end 4)
+within_four first end n k from before = (omega arith, omega arith)
+
+-- a tile of a window in which some of the subtiles stand is one of those tiles
+pub reached_has : (b : SubBox) (window : TileSpan) (p : Tile) (j : ℕ) → has_tile window p ≡ true → has_sub (span_at b p) j ≡ true → has_tile (reached_in b window) p ≡ true
+reached_has b window p j within on =
+    let w = stands window p within in
+    let (rows, columns) = and_parts _ _ on in
+    let (row_from, row_before) = and_parts _ _ rows in
+    let (column_from, column_before) = and_parts _ _ columns in
+    let row = within_two b.first_row b.end_row p.row (j / 4) (leb-true _ _ row_from) (ltb-true _ _ row_before) in
+    let column = within_four b.first_column b.end_column p.column (j % 4) (leb-true _ _ column_from) (ltb-true _ _ column_before) in
+    has (reached_in b window) p (record { row_from = omega (arith, row.0, w.row_from); row_before = omega (arith, row.1, w.row_before); column_from = omega (arith, column.0, w.column_from); column_before = omega (arith, column.1, w.column_before) })
+
+-- a piece isn't merged anywhere in another tile of the window
+merged_unreached : (size : Dimensions) (p : Tile) (x : Piece) (r : Rect) (b : SubBox) (window : TileSpan) (t : TileOf) → HoldsCovered x r → IsSubSpan r size p (span_at b p) → has_tile window p ≡ true → has_tile (reached_in b window) p ≡ false
+    → length t.subs ≡ 8 → merged_tile size p x t ≡ t
+unfolding merged_by
+merged_unreached size p x r b window t holds is within off eight = ap (λ subs. tile_with subs t.count) (sym (eight_of (merged_at size p x t.subs) t.subs eight (λ j h. stays j h (is_on_screen size (sub_of p j)) refl)))
   where
-    and-true : (b : Bool) → (b && true) ≡ b
-    and-true true = refl
-    and-true false = refl
+    tile_with : List State → ℕ → TileOf
+    tile_with subs count = record { subs = subs; count = count }
+
+    apart : (j : ℕ) → j < 8 → is_on_screen size (sub_of p j) ≡ true → meets r (sub_rect_of (sub_of p j)) ≡ false
+    apart j h on = false_from_ne_true _ (λ m. both_ways (has_tile (reached_in b window) p) off (reached_has b window p j within (is.reached j h on m)))
+
+    stays : (j : ℕ) → j < 8 → (on : Bool) → is_on_screen size (sub_of p j) ≡ on → let s = slice_index_or t.subs j empty_state in s ≡ cond (is_on_screen size (sub_of p j)) (step (sub_of p j) s x) s
+    stays j h true on = sym (cond-true _ _ _ on ∙ step_apart_from (sub_of p j) (slice_index_or t.subs j empty_state) x r holds (apart j h on))
+    stays j h false off = sym (cond-false _ _ _ off)
 
 -- each tile of a canvas has eight subtiles
 abbrev pub AreEight : CanvasOf → Type 0
 AreEight c = (t : ℕ) → t < length c.tiles → length (tile_at c.tiles t).subs ≡ 8
 
--- a piece is merged into the tiles of the span, which are those of the window that such a rectangle meets
-pub merged_sampled : (span : TileSpan) (size : Dimensions) (x : Piece) (r : Rect) (old new : CanvasOf) → IsSize size.width size.height → IsPiece x → HoldsCovered x r → IsCanvas old → AreEight old
-    → ((t : ℕ) → IsInWindow size old.window t → has_tile span (tile_place size t) ≡ meets r (tile_rect_of size t))
-    → ChangedWhere (has_tile span) (λ p t. merged_tile size p x t) old new → MergedMet size x old new
-merged_sampled span size x r old new valid piece holds whole eights tests changed = record {
+-- a piece is merged into the tiles of the window in which the subtiles stand that hold each sample that it may cover
+pub merged_reached : (span : TileSpan) (size : Dimensions) (x : Piece) (r : Rect) (b : SubBox) (old new : CanvasOf) → IsSize size.width size.height → IsPiece x → HoldsCovered x r → IsSubBox r b → b.size ≡ size → IsCanvas old → AreEight old
+    → span ≡ reached_in b old.window → ChangedWhere (has_tile span) (λ p t. merged_tile size p x t) old new → MergedMet size x old new
+merged_reached span size x r b old new valid piece holds is same whole eights tiles changed = record {
   window = changed.window;
-  tiles = λ t within. changed.tiles (tile_place size t) within.within ∙ ap (λ b. cond b (merged t) (tile_in size old t)) (tests t within) ∙ either t (eight t within) (meets r (tile_rect_of size t)) (meets (box_of x) (tile_rect_of size t)) refl refl;
+  tiles = λ t within. changed.tiles (tile_place size t) within.within ∙ either t within (eight t within) (has_tile span (tile_place size t)) (meets (box_of x) (tile_rect_of size t)) refl refl;
 }
   where
     merged : ℕ → TileOf
@@ -111,9 +138,36 @@ merged_sampled span size x r old new valid piece holds whole eights tests change
     eight : (t : ℕ) → IsInWindow size old.window t → length (tile_in size old t).subs ≡ 8
     eight t within = let lt = number_within old.window (tile_place size t) within.within in eights (number_in old.window (tile_place size t)) (omega (arith, lt, whole))
 
-    either : (t : ℕ) → length (tile_in size old t).subs ≡ 8 → (a b : Bool) → meets r (tile_rect_of size t) ≡ a → meets (box_of x) (tile_rect_of size t) ≡ b
-        → cond (meets r (tile_rect_of size t)) (merged t) (tile_in size old t) ≡ cond (meets (box_of x) (tile_rect_of size t)) (merged t) (tile_in size old t)
-    either t h true true e f = rw (e, f) refl
-    either t h true false e f = rw (e, f) (merged_apart size t x (box_of x) (tile_in size old t) valid (λ px py c. covers-in_box x px py piece c) f h)
-    either t h false true e f = rw (e, f) (sym (merged_apart size t x r (tile_in size old t) valid holds e h))
-    either t h false false e f = rw (e, f) refl
+    unreached : (t : ℕ) → IsInWindow size old.window t → length (tile_in size old t).subs ≡ 8 → has_tile span (tile_place size t) ≡ false → merged t ≡ tile_in size old t
+    unreached t within h off =
+        let p = tile_place size t in
+        merged_unreached size p x r b old.window (tile_in size old t) holds (subst (λ (s : Dimensions). IsSubSpan r s p (span_at b p)) same (is p)) within.within (ap (λ (s : TileSpan). has_tile s p) (sym tiles) ∙ off) h
+
+    either : (t : ℕ) → IsInWindow size old.window t → length (tile_in size old t).subs ≡ 8 → (a c : Bool) → has_tile span (tile_place size t) ≡ a → meets (box_of x) (tile_rect_of size t) ≡ c
+        → cond (has_tile span (tile_place size t)) (merged t) (tile_in size old t) ≡ cond (meets (box_of x) (tile_rect_of size t)) (merged t) (tile_in size old t)
+    either t within h true true e f = cond-true _ _ _ e ∙ sym (cond-true _ _ _ f)
+    either t within h true false e f = cond-true _ _ _ e ∙ merged_apart size t x (box_of x) (tile_in size old t) valid (λ px py c. covers-in_box x px py piece c) f h ∙ sym (cond-false _ _ _ f)
+    either t within h false true e f = cond-false _ _ _ e ∙ sym (unreached t within h e) ∙ sym (cond-true _ _ _ f)
+    either t within h false false e f = cond-false _ _ _ e ∙ sym (cond-false _ _ _ f)
+
+-- such tiles are the window's where there are any
+pub reached_part : (b : SubBox) (window span : TileSpan) → span ≡ reached_in b window → span.first_column < span.end_column → span.first_row < span.end_row → IsPartOf window span
+reached_part b window span is columns rows =
+    let a : span.first_column ≡ max (b.first_column / 4) window.first_column = ap (λ (s : TileSpan). s.first_column) is in
+    let c : span.end_column ≡ min (div_ceil b.end_column 4) window.end_column = ap (λ (s : TileSpan). s.end_column) is in
+    let d : span.first_row ≡ max (b.first_row / 2) window.first_row = ap (λ (s : TileSpan). s.first_row) is in
+    let e : span.end_row ≡ min (div_ceil b.end_row 2) window.end_row = ap (λ (s : TileSpan). s.end_row) is in
+    record { first_column = omega (arith, a); columns = omega (arith, columns); end_column = omega (arith, c); first_row = omega (arith, d); rows = omega (arith, rows); end_row = omega (arith, e) }
+
+pub part_span : (size : Dimensions) (window span : TileSpan) → IsPartOf window span → IsSpan size window → IsSpan size span
+part_span size window span part whole = record { columns = part.columns; rows = part.rows; columns_within = omega (arith, part.end_column, whole.columns_within); rows_within = omega (arith, part.end_row, whole.rows_within) }
+
+-- a span whose end isn't past its first has no tile
+none_here : (first end n : ℕ) → end ≤ first → is_between first end n ≡ false
+none_here first end n le = grind (arith, nat_tests)
+
+pub no_columns : (span : TileSpan) → span.end_column ≤ span.first_column → (p : Tile) → has_tile span p ≡ false
+no_columns span le p = and_right (has_row span p.row) _ (none_here span.first_column span.end_column p.column le)
+
+pub no_rows : (span : TileSpan) → span.end_row ≤ span.first_row → (p : Tile) → has_tile span p ≡ false
+no_rows span le p = and_left _ (has_column span p.column) (none_here span.first_row span.end_row p.row le)

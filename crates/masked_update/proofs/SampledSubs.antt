@@ -23,7 +23,7 @@ use Rattle.masked_update.proofs.Unchanged.{step_behind, step_unless_covered}
 use Rattle.masked_update.proofs.Wanting.{held, not_held}
 
 -- a piece changes no subtile that has none of those pixels
-step_apart_from : (u : Sub) (s : State) (x : Piece) (r : Rect) → HoldsCovered x r → meets r (sub_rect_of u) ≡ false → step u s x ≡ s
+pub step_apart_from : (u : Sub) (s : State) (x : Piece) (r : Rect) → HoldsCovered x r → meets r (sub_rect_of u) ≡ false → step u s x ≡ s
 step_apart_from u s x r holds off = step_unless_covered u s x (λ k below c.
     absurd (both_ways (meets r (sub_rect_of u)) off ((meets_pixel r (sub_rect_of u)).1 (pos (8 * u.column + k % 8), pos (4 * u.row + k / 8), holds (8 * u.column + k % 8) (4 * u.row + k / 8) c, in_sub k below))))
   where

@@ -2,6 +2,7 @@ pub mod SubTile
 pub mod Packing
 pub mod Fields
 pub mod Setup
+pub mod Depths
 pub mod Lanes
 pub mod LanesBack
 pub mod TileOf
@@ -9,6 +10,7 @@ pub mod Views
 pub mod Grid
 pub mod Merged
 pub mod Samples
+pub mod Reached
 pub mod Small
 pub mod Coverage
 pub mod Taken

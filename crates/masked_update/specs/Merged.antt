@@ -11,6 +11,7 @@ use Rattle.cull_base.specs.State.{State, empty_state, no_samples}
 use Rattle.cull_base.specs.Fold.{step}
 use Rattle.edge_lanes.specs.Inside.{sub_of}
 use Rattle.edge_lanes.specs.Crossings.{inside_rows}
+use Rattle.edge_lanes.specs.declared.row_edges.RowEdges.{RowEdges}
 use Rattle.edge_lanes.specs.declared.tile_row.TileRow.{TileRow}
 use Rattle.masked_update.specs.Grid.{is_in_rows}
 use Rattle.masked_update.specs.declared.sub_span.SubBox.{SubBox}
@@ -29,6 +30,10 @@ merged_at size place x subs j =
 
 unfoldable pub merged_by : Dimensions → Tile → Piece → List State → List State
 merged_by size place x subs = map (merged_at size place x subs) (range_with_len 0 8)
+
+-- the edges are the piece's
+abbrev pub AreEdgesOf : RowEdges → Piece → Type 0
+AreEdgesOf edges x = (u : Sub) → u.column < 256 → u.row < 512 → inside_rows edges u ≡ covered x u
 
 -- the edges over a row of tiles are the piece's
 pub record AreRowOf (over : TileRow) (row : ℕ) (x : Piece) : Type 0 where

@@ -11,7 +11,7 @@ ghost use Rattle.masked_update.specs.Samples.{HoldsSampled};
 ghost use Rattle.masked_update.specs.Taken.{counted_tile, merged_tile};
 ghost use Rattle.masked_update.specs.TileOf.{tile_at};
 
-use crate::piece_setup::PieceSetup;
+use crate::piece_setup::PieceDepths;
 use crate::small_piece::SmallPiece;
 use crate::sub_span::SubBox;
 use crate::tile_state::TileState;
@@ -125,7 +125,7 @@ impl Canvas {
     pub(crate) fn merge(
         &mut self,
         number: usize,
-        piece: &PieceSetup,
+        piece: &PieceDepths,
         reached: &SubBox,
         over: &TileRow,
         place: Tile,

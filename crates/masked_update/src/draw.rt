@@ -15,6 +15,7 @@ use std::alloc::Global;
 impl Canvas {
     /// Draws a member of a list, and counts it nowhere. Conditions: there is such a member, the window is of the list's
     /// screen, and each of its tiles stands at the members before. Afterwards each stands at this one too.
+    #[inline(always)]
     pub fn draw_member(&mut self, list: &FrameList, index: u32)
         requires index { index < length list.now.list.members }
         requires window { IsSpan list.now.list.size self.old.window }

@@ -26,7 +26,7 @@ pub use canvas::Canvas;
 pub use cut::lower_cut;
 pub use draw::draw_plain;
 pub use member::next_member;
-pub use piece_setup::PieceSetup;
+pub use piece_setup::{PieceDepths, PieceSetup};
 pub use sample_box::{sampled, sampled_members};
 pub use small_piece::SmallPiece;
 pub use sub_span::SubBox;

@@ -1,11 +1,12 @@
-//! A piece set up for the tiles that take it: what each subtile needs of it is computed once.
+//! A piece set up for the tiles that take it: what each subtile needs of it is computed once. The drawing keeps its edges
+//! apart, where they are made: they are large to copy.
 ghost use Rattle.std.specs.Prelude.{◌≡◌, ◌<◌, ◌^◌, false, length, List};
 ghost use Rattle.cull_base.specs.Piece.{IsPiece, box_of};
 ghost use Rattle.cull_base.specs.Depth.{greatest_nearness};
 ghost use Rattle.cull_base.specs.Screen.{tile_columns_of, tile_rows_of};
 ghost use Rattle.cull_base.specs.State.{State};
 ghost use Rattle.masked_update.specs.Coverage.{IsCoverage, AreWanted};
-ghost use Rattle.masked_update.specs.Merged.{AreRowOf, IsSubBox, merged_by};
+ghost use Rattle.masked_update.specs.Merged.{AreEdgesOf, AreRowOf, IsSubBox, merged_by};
 ghost use Rattle.masked_update.specs.Samples.{HoldsSampled};
 
 use crate::coverage::Coverage;
@@ -16,14 +17,32 @@ use depth_plane::Plane;
 use edge_lanes::{RowEdges, TileRow};
 use std::marker::Model;
 
-/// A piece with what each tile needs of it: its edges, its plane, its greatest and its least nearness.
+/// A piece with what each tile needs of it besides its edges: its plane, its greatest and its least nearness.
 #[derive(Drop)]
-pub struct PieceSetup {
+pub struct PieceDepths {
     tri: ScreenTri,
-    edges: RowEdges,
     plane: Plane,
     nearest: u32,
     least: u32,
+}
+
+impl Model for PieceDepths {
+    ghost use Rattle.cull_base.specs.Piece.{Piece};
+
+    ghost Value = { Piece };
+
+    ghost use Rattle.masked_update.specs.Depths.{HasDepths};
+
+    ghost view = { λ s. s.tri };
+
+    ghost invariant = { HasDepths };
+}
+
+/// The same, with its edges.
+#[derive(Drop)]
+pub struct PieceSetup {
+    depths: PieceDepths,
+    edges: RowEdges,
 }
 
 impl Model for PieceSetup {
@@ -33,21 +52,20 @@ impl Model for PieceSetup {
 
     ghost use Rattle.masked_update.specs.Setup.{IsSetUp};
 
-    ghost view = { λ s. s.tri };
+    ghost view = { λ s. s.depths };
 
     ghost invariant = { IsSetUp };
 }
 
-impl PieceSetup {
+impl PieceDepths {
     /// Sets a piece up.
     #[inline(always)]
-    pub fn of(tri: &ScreenTri) -> PieceSetup
+    pub fn of(tri: &ScreenTri) -> PieceDepths
         ensures value { result ≡ tri.now }
         ensures valid { IsPiece tri.now }
     {
-        PieceSetup {
+        PieceDepths {
             tri: *tri,
-            edges: RowEdges::of(tri),
             plane: Plane::of(tri),
             nearest: tri.greatest_nearness(),
             least: tri.least_nearness(),
@@ -79,13 +97,14 @@ impl PieceSetup {
         SubBox::of(&self.boxed(), size)
     }
 
-    /// The edges over a row of tiles. Condition: the row is below 256.
+    /// Its edges over a row of tiles. Conditions: they are the piece's, and the row is below 256.
     #[inline(always)]
-    pub fn over_row(&self, row: u32) -> TileRow<'_>
-        requires { row < 256 }
+    pub fn over_row<'a>(&self, edges: &'a RowEdges, row: u32) -> TileRow<'a>
+        requires edges { AreEdgesOf edges.now self.now }
+        requires row { row < 256 }
         ensures { AreRowOf result row self.now }
     {
-        self.edges.over_row(row)
+        edges.over_row(row)
     }
 
     // What the piece brings to the wanted subtiles of a tile.
@@ -155,7 +174,14 @@ impl PieceSetup {
 
     /// The same where the row's edges aren't at hand, and what is reached is what the piece reaches. Says whether any
     /// subtile may have changed.
-    pub(crate) fn merge_into(&self, layers: &mut TileLayers, reached: &SubBox, place: Tile) -> bool
+    pub(crate) fn merge_into(
+        &self,
+        edges: &RowEdges,
+        layers: &mut TileLayers,
+        reached: &SubBox,
+        place: Tile,
+    ) -> bool
+        requires edges { AreEdgesOf edges.now self.now }
         requires reached { IsSubBox (box_of self.now) reached.now }
         requires column { place.column < tile_columns_of reached.now.size }
         requires row { place.row < tile_rows_of reached.now.size }
@@ -167,8 +193,40 @@ impl PieceSetup {
         if self.subtiles_behind(layers, reached, place) == 0 {
             return false;
         }
-        let over = self.over_row(u32::from(place.row));
+        let over = self.over_row(edges, u32::from(place.row));
         self.merge_over(layers, reached, &over, place);
         true
+    }
+}
+
+impl PieceSetup {
+    /// Sets a piece up.
+    pub fn of(tri: &ScreenTri) -> PieceSetup
+        ensures value { result ≡ tri.now }
+        ensures valid { IsPiece tri.now }
+    {
+        let depths = PieceDepths::of(tri);
+        let edges = RowEdges::of(tri);
+        PieceSetup { depths, edges }
+    }
+
+    /// The subtiles of a screen that the piece may reach.
+    pub fn reached_on(&self, size: Size) -> SubBox
+        ensures reached { IsSubBox (box_of self.now) result }
+        ensures size { result.size ≡ size }
+    {
+        self.depths.reached_on(size)
+    }
+
+    /// Merges the piece into a tile's subtiles on the screen. Says whether any subtile may have changed. Conditions: the
+    /// column and the row are below the screen's, and what is reached on it is what the piece reaches.
+    pub(crate) fn merge_into(&self, layers: &mut TileLayers, reached: &SubBox, place: Tile) -> bool
+        requires reached { IsSubBox (box_of self.now) reached.now }
+        requires column { place.column < tile_columns_of reached.now.size }
+        requires row { place.row < tile_rows_of reached.now.size }
+        ensures merged { layers.new ≡ merged_by reached.now.size place self.now layers.old }
+        ensures same { result ≡ false → layers.new ≡ layers.old }
+    {
+        self.depths.merge_into(&self.edges, layers, reached, place)
     }
 }

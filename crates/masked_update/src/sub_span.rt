@@ -3,7 +3,7 @@ ghost use Rattle.std.specs.Prelude.{◌≡◌, ℕ, pos, ◌+◌, ◌-◌, ◌*�
 ghost use Rattle.std.specs.Int.{int_min, int_max, div_ceil, bit_at};
 
 use cull_base::arithmetic::pixel_of;
-use cull_base::{Rect, Size, Tile};
+use cull_base::{Rect, Size, Tile, TileSpan};
 
 /// Columns and rows of a screen's subtiles, each from a first to before an end.
 #[derive(Clone, Copy)]
@@ -53,6 +53,7 @@ pub(crate) fn ones_between(first: u32, end: u32) -> u32
 
 impl SubBox {
     ghost use Rattle.masked_update.specs.Merged.{IsSubBox, span_at};
+    ghost use Rattle.masked_update.specs.Reached.{reached_in};
 
     /// The subtiles on the screen that the rectangle reaches. Condition: no corner of the rectangle is before its
     /// first.
@@ -69,6 +70,19 @@ impl SubBox {
             end_column: pixels_before(rect.x1, size.width()).div_ceil(8),
             first_row: pixels_before(rect.y0, size.height()) / 4,
             end_row: pixels_before(rect.y1, size.height()).div_ceil(4),
+        }
+    }
+
+    /// The tiles of a window in which they stand. There may be none: a first may be past its end then.
+    #[inline(always)]
+    pub(crate) fn tiles_in(&self, window: &TileSpan) -> TileSpan
+        ensures { result ≡ reached_in self.now window.now }
+    {
+        TileSpan {
+            first_column: (self.first_column / 4).max(window.first_column),
+            end_column: self.end_column.div_ceil(4).min(window.end_column),
+            first_row: (self.first_row / 2).max(window.first_row),
+            end_row: self.end_row.div_ceil(2).min(window.end_row),
         }
     }
 

@@ -4,7 +4,7 @@ ghost use Rattle.cull_base.specs.Fold.{IsLayered};
 ghost use Rattle.cull_base.specs.Piece.{IsPiece, box_of};
 ghost use Rattle.cull_base.specs.Screen.{IsSize, tile_columns_of, tile_rows_of, tile_count_of};
 
-use crate::piece_setup::PieceSetup;
+use crate::piece_setup::{PieceDepths, PieceSetup};
 use crate::small_piece::SmallPiece;
 use crate::sub_span::SubBox;
 use crate::sub_tile::SubTile;
@@ -129,7 +129,7 @@ impl TileState {
     #[inline(always)]
     pub(crate) fn merge_over(
         &mut self,
-        piece: &PieceSetup,
+        piece: &PieceDepths,
         reached: &SubBox,
         over: &TileRow,
         place: Tile,
@@ -148,7 +148,13 @@ impl TileState {
     /// leave nothing stays, and so does one that is nowhere behind the piece. Conditions: the column and the row are
     /// below the screen's, what is reached on it has each sample that the piece covers, and the edges are the piece's.
     #[inline(always)]
-    pub fn merge_ahead(&mut self, piece: &PieceSetup, reached: &SubBox, over: &TileRow, place: Tile)
+    pub fn merge_ahead(
+        &mut self,
+        piece: &PieceDepths,
+        reached: &SubBox,
+        over: &TileRow,
+        place: Tile,
+    )
         requires reached { HoldsSampled piece.now reached.now }
         requires over { AreRowOf over.now place.row piece.now }
         requires column { place.column < tile_columns_of reached.now.size }

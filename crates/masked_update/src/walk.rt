@@ -5,18 +5,18 @@ ghost use Rattle.cull_base.specs.Screen.{IsSize, tile_rows_of};
 ghost use Rattle.cull_base.specs.Span.{IsPartOf, IsSpan, has_tile};
 ghost use Rattle.masked_update.specs.Canvas.{CountedMet, IsInWindow, MergedMet, tile_in, tile_on};
 ghost use Rattle.masked_update.specs.Least.{NoneBelow};
-ghost use Rattle.masked_update.specs.Merged.{AreRowOf};
+ghost use Rattle.masked_update.specs.Merged.{AreEdgesOf, AreRowOf};
 ghost use Rattle.masked_update.specs.Samples.{HoldsSampled};
 ghost use Rattle.masked_update.specs.Walk.{CountedWhere, MayCount, MergedWhere, NoneBelowWhere, is_in_row, is_marked, rows_before};
 
 use crate::canvas::Canvas;
-use crate::piece_setup::PieceSetup;
+use crate::piece_setup::PieceDepths;
 use crate::sample_box::sampled;
 use crate::small_piece::SmallPiece;
 use crate::small_walk::merge_small_in_span;
 use crate::sub_span::{SubBox, ones_between};
 use cull_base::{ScreenTri, Size, Tile, TileSpan};
-use edge_lanes::TileRow;
+use edge_lanes::{RowEdges, TileRow};
 
 /// So many tiles of a row are tested at once.
 const AT_ONCE: u32 = 8;
@@ -113,7 +113,7 @@ struct Marked {
 #[inline(always)]
 fn merge_marked(
     canvas: &mut Canvas,
-    piece: &PieceSetup,
+    piece: &PieceDepths,
     reached: &SubBox,
     over: &TileRow,
     span: TileSpan,
@@ -155,8 +155,16 @@ fn merge_marked(
 
 // Merges a piece into the tiles of one row, in the columns of a span. One that it stands behind stays.
 #[inline(always)]
-fn merge_in_row(canvas: &mut Canvas, piece: &PieceSetup, reached: &SubBox, span: TileSpan, row: u32)
+fn merge_in_row(
+    canvas: &mut Canvas,
+    piece: &PieceDepths,
+    edges: &RowEdges,
+    reached: &SubBox,
+    span: TileSpan,
+    row: u32,
+)
     requires part { IsPartOf canvas.old.window span }
+    requires edges { AreEdgesOf edges.now piece.now }
     requires reached { HoldsSampled piece.now reached.now }
     requires span { IsSpan reached.now.size span }
     requires row { (span.first_row ≤ row) × (row < span.end_row) }
@@ -173,7 +181,7 @@ fn merge_in_row(canvas: &mut Canvas, piece: &PieceSetup, reached: &SubBox, span:
         let marked = marks(canvas, span, row, column, count, nearest);
         if marked != 0 {
             // where the edges leave a tile nothing, it stays
-            let over = piece.over_row(row);
+            let over = piece.over_row(edges, row);
             let bits = marked & over.ahead(column);
             merge_marked(
                 canvas,
@@ -190,8 +198,15 @@ fn merge_in_row(canvas: &mut Canvas, piece: &PieceSetup, reached: &SubBox, span:
 
 // Merges a piece into the tiles of a span. Out of line, so that the loops only read what the set-up has computed.
 #[inline(never)]
-fn merge_in_span(canvas: &mut Canvas, piece: &PieceSetup, reached: &SubBox, span: TileSpan)
+fn merge_in_span(
+    canvas: &mut Canvas,
+    piece: &PieceDepths,
+    edges: &RowEdges,
+    reached: &SubBox,
+    span: TileSpan,
+)
     requires part { IsPartOf canvas.old.window span }
+    requires edges { AreEdgesOf edges.now piece.now }
     requires reached { HoldsSampled piece.now reached.now }
     requires span { IsSpan reached.now.size span }
     requires sized { IsSize reached.now.size.width reached.now.size.height }
@@ -202,7 +217,7 @@ fn merge_in_span(canvas: &mut Canvas, piece: &PieceSetup, reached: &SubBox, span
     // a copy: what is computed of it is known to stay while tiles are written
     let here = *reached;
     for row in span.first_row..span.end_row {
-        merge_in_row(canvas, piece, &here, span, row);
+        merge_in_row(canvas, piece, edges, &here, span, row);
     }
 }
 
@@ -215,8 +230,10 @@ fn merge_set_up(canvas: &mut Canvas, tri: &ScreenTri, reached: &SubBox, span: Ti
     requires sized { IsSize reached.now.size.width reached.now.size.height }
     ensures { MergedWhere (has_tile span) reached.now.size tri.now canvas.old canvas.new }
 {
-    let piece = PieceSetup::of(tri);
-    merge_in_span(canvas, &piece, reached, span);
+    // the edges stay where they are made: they are large to copy
+    let edges = RowEdges::of(tri);
+    let piece = PieceDepths::of(tri);
+    merge_in_span(canvas, &piece, &edges, reached, span);
 }
 
 // Merges a piece into the tiles of a span, a small one subtile by subtile.
@@ -234,21 +251,47 @@ fn merge_piece(canvas: &mut Canvas, tri: &ScreenTri, reached: &SubBox, span: Til
     }
 }
 
+// Merges a piece into the tiles of a span. One that stands behind all of them changes nothing and isn't set up.
+#[inline(always)]
+fn merge_where_ahead(canvas: &mut Canvas, tri: &ScreenTri, reached: &SubBox, span: TileSpan)
+    requires part { IsPartOf canvas.old.window span }
+    requires reached { HoldsSampled tri.now reached.now }
+    requires span { IsSpan reached.now.size span }
+    requires sized { IsSize reached.now.size.width reached.now.size.height }
+    ensures { MergedWhere (has_tile span) reached.now.size tri.now canvas.old canvas.new }
+{
+    // an accessor tells what is held of a canvas
+    let _window = canvas.window();
+    let first_row = first_row_ahead(canvas, span, tri.greatest_nearness());
+    if first_row < span.end_row {
+        merge_piece(canvas, tri, reached, TileSpan { first_row, ..span });
+    }
+}
+
 /// Merges a piece into the tiles of the canvas that its box reaches, and counts it nowhere. One that has no sample there,
 /// or stands behind all of them, changes nothing and isn't set up. Condition: the window is of the screen.
+#[inline(always)]
 pub fn draw_piece(canvas: &mut Canvas, tri: &ScreenTri, size: Size)
     requires window { IsSpan size canvas.old.window }
     ensures { MergedMet size tri.now canvas.old canvas.new }
 {
-    // an accessor tells what is held of a canvas
+    // accessors tell what is held of a canvas, of a size and of a piece
     let _count = canvas.tile_count();
+    let _width = size.width();
+    let _nearest = tri.greatest_nearness();
     let sampled = sampled(tri);
-    let span = TileSpan::of(&sampled, size).cut(&canvas.window());
-    let first_row = first_row_ahead(canvas, span, tri.greatest_nearness());
-    if first_row < span.end_row {
-        let reached = SubBox::of(&sampled, size);
-        merge_piece(canvas, tri, &reached, TileSpan { first_row, ..span });
+    let reached = SubBox::of(&sampled, size);
+    let window = canvas.window();
+    let span = reached.tiles_in(&window);
+    let (left, right) = (span.first_column, span.end_column);
+    if right <= left {
+        return;
     }
+    let (top, bottom) = (span.first_row, span.end_row);
+    if bottom <= top {
+        return;
+    }
+    merge_where_ahead(canvas, tri, &reached, span);
 }
 
 /// Counts a piece in the tiles of the canvas that its box reaches, and merges it nowhere. Conditions: the window is of

@@ -5,8 +5,8 @@ ghost use Rattle.cull_base.specs.declared.nearness.TheConstants.{HELD_TOP};
 
 use cull_base::{FrameList, HELD_TOP, Memory, ScreenTri, Size, Tile, TileSpan};
 use masked_update::{
-    Canvas, PieceSetup, PlainView, SubTile, TileState, TileView, draw_plain, drawn_window,
-    lower_cut, missing_members, next_member,
+    Canvas, PieceDepths, PieceSetup, PlainView, SubTile, TileState, TileView, draw_plain,
+    drawn_window, lower_cut, missing_members, next_member,
 };
 use std::alloc::Global;
 use std::process::Abort;
@@ -140,9 +140,10 @@ fn subtiles_off_the_screen_stay_empty(rt: HostRuntime) -> Result<(), Fail> {
 fn piece_set_up_once_is_taken_by_two_tiles(rt: HostRuntime) -> Result<(), Fail> {
     let size = Size::new(64, 8).ok_or("a size")?;
     let piece = ScreenTri::new([0, 4096, 0], [0, 0, 4096], [1000, 1000, 1000]).ok_or("a piece")?;
+    let depths = PieceDepths::of(&piece);
+    assert_eq!(rt; depths.nearest(), 1000);
+    assert_eq!(rt; depths.boxed().x1, 257);
     let piece = PieceSetup::of(&piece);
-    assert_eq!(rt; piece.nearest(), 1000);
-    assert_eq!(rt; piece.boxed().x1, 257);
     let mut first = TileState::empty();
     first.take_set_up(&piece, size, 0);
     let mut second = TileState::empty();

@@ -1,33 +1,55 @@
-use Rattle.std.proofs.Common.{arith, subst}
-use Rattle.cull_base.specs.Screen.{Dimensions}
-use Rattle.cull_base.specs.Span.{has_tile}
-use Rattle.masked_update.specs.Walk.{MergedWhere, NoneBelowWhere, rows_before}
-use Rattle.masked_update.proofs.SampleBoxes.{cut_meets, merged_sampled}
-use Rattle.masked_update.proofs.Tiles.{stands}
-use Rattle.masked_update.proofs.Walks.{among_before, merged_from, merged_where_behind, rows_from}
+use Rattle.std.proofs.Common.{◌≡◌, ◌∙◌, ap, subst, sym}
+use Rattle.cull_base.specs.Screen.{Dimensions, IsSize}
+use Rattle.cull_base.specs.Span.{IsPartOf, IsSpan, has_tile}
+use Rattle.cull_base.specs.declared.tile_span.TileSpan.{TileSpan}
+use Rattle.masked_update.specs.Reached.{reached_in}
+use Rattle.masked_update.specs.Taken.{merged_tile}
+use Rattle.masked_update.specs.Walk.{MergedWhere}
+use Rattle.masked_update.proofs.SampleBoxes.{merged_reached, no_columns, no_rows, part_span, reached_part}
+use Rattle.masked_update.proofs.Walks.{none_changed}
 use Rattle.masked_update.proofs.walk.draw_piece.Goals as goal
 
-pub merge_piece-requires-clause-reached : goal.merge_piece-requires-clause-reached
-merge_piece-requires-clause-reached c = (c.sampled-sampled.result, c.sampled-sampled.ensures.holds, c.of-reached.ensures.reached)
-
-pub returns-then-first_row-span : goal.returns-then-first_row-span
-returns-then-first_row-span c =
+pub returns-then-right-left : goal.returns-then-right-left
+returns-then-right-left c =
     let old = c.args.canvas.now in
-    let x = c.args.tri.now in
-    let span = c.cut-span.result in
-    let row = c.first_row_ahead-first_row.result in
-    let behind = subst (λ q. NoneBelowWhere q (has_tile (rows_before span row)) old) c.greatest_nearness.ensures.value c.first_row_ahead-first_row.ensures.behind in
-    merged_sampled span c.args.size x c.sampled-sampled.result old c.merge_piece.new.canvas c.of.ensures.sized c.greatest_nearness.ensures.valid c.sampled-sampled.ensures.holds c.window.ensures.whole c.tile_count-count.ensures.eight
-    (cut_meets c.args.size old.window c.window.result c.of.result span c.sampled-sampled.result c.window.ensures.value c.of.ensures.tiles c.cut-span.ensures.tiles)
-    (merged_from span row c.args.size x old c.merge_piece.new.canvas c.greatest_nearness.ensures.valid c.first_row_ahead-first_row.ensures.from behind
-    (subst (λ (s : Dimensions). MergedWhere (has_tile (rows_from span row)) s x old c.merge_piece.new.canvas) c.of-reached.ensures.size c.merge_piece.ensures))
+    let span = c.tiles_in-span.result in
+    let tiles : span ≡ reached_in c.of-reached.result old.window = c.tiles_in-span.ensures ∙ ap (reached_in c.of-reached.result) c.window-window.ensures.value in
+    merged_reached span c.args.size c.args.tri.now c.sampled-sampled.result c.of-reached.result old old c.width-width.ensures.valid c.greatest_nearness-nearest.ensures.valid c.sampled-sampled.ensures.holds
+    c.of-reached.ensures.reached c.of-reached.ensures.size c.window-window.ensures.whole c.tile_count-count.ensures.eight tiles
+    (none_changed (has_tile span) (λ p t. merged_tile c.args.size p c.args.tri.now t) old c.window-window.ensures.whole (no_columns span c.if-right-left.true))
 
-pub returns-else-first_row-span : goal.returns-else-first_row-span
-returns-else-first_row-span c =
+pub returns-then-bottom-top : goal.returns-then-bottom-top
+returns-then-bottom-top c =
     let old = c.args.canvas.now in
-    let span = c.cut-span.result in
-    let behind = subst (λ q. NoneBelowWhere q (has_tile (rows_before span c.first_row_ahead-first_row.result)) old) c.greatest_nearness.ensures.value c.first_row_ahead-first_row.ensures.behind in
-    merged_sampled span c.args.size c.args.tri.now c.sampled-sampled.result old old c.of.ensures.sized c.greatest_nearness.ensures.valid c.sampled-sampled.ensures.holds c.window.ensures.whole c.tile_count-count.ensures.eight
-    (cut_meets c.args.size old.window c.window.result c.of.result span c.sampled-sampled.result c.window.ensures.value c.of.ensures.tiles c.cut-span.ensures.tiles)
-    (merged_where_behind (has_tile span) c.args.size c.args.tri.now old c.greatest_nearness.ensures.valid c.window.ensures.whole
-    (λ p h on. let before = (stands span p on).row_before in behind p h (among_before span c.first_row_ahead-first_row.result p on (omega (arith, before, c.if-first_row-span.false)))))
+    let span = c.tiles_in-span.result in
+    let tiles : span ≡ reached_in c.of-reached.result old.window = c.tiles_in-span.ensures ∙ ap (reached_in c.of-reached.result) c.window-window.ensures.value in
+    merged_reached span c.args.size c.args.tri.now c.sampled-sampled.result c.of-reached.result old old c.width-width.ensures.valid c.greatest_nearness-nearest.ensures.valid c.sampled-sampled.ensures.holds
+    c.of-reached.ensures.reached c.of-reached.ensures.size c.window-window.ensures.whole c.tile_count-count.ensures.eight tiles
+    (none_changed (has_tile span) (λ p t. merged_tile c.args.size p c.args.tri.now t) old c.window-window.ensures.whole (no_rows span c.if-bottom-top.true))
+
+pub merge_where_ahead-requires-clause-part : goal.merge_where_ahead-requires-clause-part
+merge_where_ahead-requires-clause-part c =
+    let part = reached_part c.of-reached.result c.window-window.result c.tiles_in-span.result c.tiles_in-span.ensures c.if-right-left.false c.if-bottom-top.false in
+    subst (λ (w : TileSpan). IsPartOf w c.tiles_in-span.result) c.window-window.ensures.value part
+
+pub merge_where_ahead-requires-clause-reached : goal.merge_where_ahead-requires-clause-reached
+merge_where_ahead-requires-clause-reached c = (c.sampled-sampled.result, c.sampled-sampled.ensures.holds, c.of-reached.ensures.reached)
+
+pub merge_where_ahead-requires-clause-span : goal.merge_where_ahead-requires-clause-span
+merge_where_ahead-requires-clause-span c =
+    let part = reached_part c.of-reached.result c.window-window.result c.tiles_in-span.result c.tiles_in-span.ensures c.if-right-left.false c.if-bottom-top.false in
+    let whole = subst (λ (w : TileSpan). IsSpan c.args.size w) (sym c.window-window.ensures.value) c.requires.window in
+    subst (λ (s : Dimensions). IsSpan s c.tiles_in-span.result) (sym c.of-reached.ensures.size) (part_span c.args.size c.window-window.result c.tiles_in-span.result part whole)
+
+pub merge_where_ahead-requires-clause-sized : goal.merge_where_ahead-requires-clause-sized
+merge_where_ahead-requires-clause-sized c = subst (λ (s : Dimensions). IsSize s.width s.height) (sym c.of-reached.ensures.size) c.width-width.ensures.valid
+
+pub returns : goal.returns
+returns c =
+    let old = c.args.canvas.now in
+    let new = c.merge_where_ahead.new.canvas in
+    let span = c.tiles_in-span.result in
+    let tiles : span ≡ reached_in c.of-reached.result old.window = c.tiles_in-span.ensures ∙ ap (reached_in c.of-reached.result) c.window-window.ensures.value in
+    merged_reached span c.args.size c.args.tri.now c.sampled-sampled.result c.of-reached.result old new c.width-width.ensures.valid c.greatest_nearness-nearest.ensures.valid c.sampled-sampled.ensures.holds
+    c.of-reached.ensures.reached c.of-reached.ensures.size c.window-window.ensures.whole c.tile_count-count.ensures.eight tiles
+    (subst (λ (s : Dimensions). MergedWhere (has_tile span) s c.args.tri.now old new) c.of-reached.ensures.size c.merge_where_ahead.ensures)

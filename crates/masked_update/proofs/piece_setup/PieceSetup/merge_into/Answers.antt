@@ -1,12 +1,13 @@
-use Rattle.cull_base.specs.Piece.{box_of}
-use Rattle.depth_plane.proofs.Boxes.{covers-in_box}
-use Rattle.masked_update.proofs.Merging.{merged_nowhere}
+use Rattle.std.proofs.Common.{ap, ◌∙◌, subst, sym}
+use Rattle.cull_base.specs.Piece.{Piece, box_of}
+use Rattle.masked_update.specs.Merged.{IsSubBox, merged_by}
 use Rattle.masked_update.proofs.piece_setup.PieceSetup.merge_into.Goals as goal
 
-pub returns-then-subtiles_behind-eq0-clause-merged : goal.returns-then-subtiles_behind-eq0-clause-merged
-returns-then-subtiles_behind-eq0-clause-merged c =
-    merged_nowhere c.args.reached.now.size c.args.place c.args.self.now c.subtiles_behind.result c.args.layers.now c.subtiles_behind.ensures.eight c.if-subtiles_behind-eq0.true c.subtiles_behind.ensures.wanted
+pub merge_into-requires-clause-edges : goal.merge_into-requires-clause-edges
+merge_into-requires-clause-edges c = c.self.invariant.edges_cover
 
--- the box has each sample that the piece covers
-pub merge_over-requires-clause-reached : goal.merge_over-requires-clause-reached
-merge_over-requires-clause-reached c = (box_of c.args.self.now, λ px py on. covers-in_box c.args.self.now px py c.nearest-nearest.ensures.valid on, c.requires.reached)
+pub merge_into-requires-clause-reached : goal.merge_into-requires-clause-reached
+merge_into-requires-clause-reached c = subst (λ (y : Piece). IsSubBox (box_of y) c.args.reached.now) (sym c.self.view_is) c.requires.reached
+
+pub returns-clause-merged : goal.returns-clause-merged
+returns-clause-merged c = c.merge_into.ensures.merged ∙ ap (λ (y : Piece). merged_by c.args.reached.now.size c.args.place y c.args.layers.now) c.self.view_is

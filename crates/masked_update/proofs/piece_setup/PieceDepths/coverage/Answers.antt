@@ -6,7 +6,7 @@ use Rattle.cull_base.specs.declared.nearness.TheConstants.{HELD_TOP}
 use Rattle.depth_plane.specs.Plane.{plane_of}
 use Rattle.edge_lanes.specs.Rows.{inside_in}
 use Rattle.masked_update.proofs.Covering.{covered_in_row}
-use Rattle.masked_update.proofs.piece_setup.PieceSetup.coverage.Goals as goal
+use Rattle.masked_update.proofs.piece_setup.PieceDepths.coverage.Goals as goal
 
 pub returns : goal.returns
 returns c =

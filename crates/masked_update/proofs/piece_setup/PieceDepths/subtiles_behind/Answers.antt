@@ -5,7 +5,7 @@ use Rattle.cull_base.specs.Piece.{Piece, IsPiece, box_of}
 use Rattle.masked_update.specs.Merged.{IsSubSpan}
 use Rattle.masked_update.specs.declared.sub_span.SubSpan.{SubSpan}
 use Rattle.masked_update.proofs.Wanting.{behind_of}
-use Rattle.masked_update.proofs.piece_setup.PieceSetup.subtiles_behind.Goals as goal
+use Rattle.masked_update.proofs.piece_setup.PieceDepths.subtiles_behind.Goals as goal
 
 pub returns-clause-wanted : goal.returns-clause-wanted
 returns-clause-wanted c =

@@ -3,7 +3,7 @@ use Rattle.cull_base.specs.Depth.{least_nearness}
 use Rattle.cull_base.specs.Piece.{Piece}
 use Rattle.masked_update.specs.Coverage.{IsRaised}
 use Rattle.masked_update.proofs.Merging.{merged_all}
-use Rattle.masked_update.proofs.piece_setup.PieceSetup.merge_over.Goals as goal
+use Rattle.masked_update.proofs.piece_setup.PieceDepths.merge_over.Goals as goal
 
 pub returns : goal.returns
 returns c =

@@ -3,7 +3,7 @@ use Rattle.masked_update.specs.Merged.{IsSubSpan}
 use Rattle.masked_update.specs.declared.sub_span.SubSpan.{SubSpan}
 use Rattle.masked_update.proofs.SampledSubs.{sampled_reached}
 use Rattle.masked_update.proofs.Wanting.{all_of}
-use Rattle.masked_update.proofs.piece_setup.PieceSetup.subtiles_on_screen.Goals as goal
+use Rattle.masked_update.proofs.piece_setup.PieceDepths.subtiles_on_screen.Goals as goal
 
 pub returns-then-from-tile_rows-clause-wanted : goal.returns-then-from-tile_rows-clause-wanted
 returns-then-from-tile_rows-clause-wanted c subs =
