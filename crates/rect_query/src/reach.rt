@@ -1,12 +1,13 @@
 //! How far the corners of a box reach in clip space.
 ghost use Rattle.std.specs.Prelude.{◌≡◌};
 ghost use Rattle.std.specs.Int.{int_min, int_max};
-ghost use Rattle.rect_query.specs.Reaches.{limits_of, reach_of, reach_with, reach_of_all, is_reach_astray};
+ghost use Rattle.rect_query.specs.Reaches.{limits_of, are_beyond};
+ghost use Rattle.rect_query.specs.Reaches.{reach_of, reach_with, reach_of_all, is_reach_astray};
 
 use cull_base::{ClipVertex, Near};
 
 /// The guard in near distances.
-const GUARD: i64 = 16384;
+const GUARD: u32 = 16384;
 
 /// The least and the greatest of some numbers.
 #[derive(Clone, Copy)]
@@ -40,8 +41,11 @@ impl Limits {
 
     // Whether some number lies further from 0 than this.
     #[inline(always)]
-    fn are_beyond(self, limit: i64) -> bool {
-        self.least < -limit || limit < self.greatest
+    fn are_beyond(&self, limit: u32) -> bool
+        ensures { result ≡ are_beyond limit self.now }
+    {
+        let limit = i64::from(limit);
+        (self.least < -limit) | (limit < self.greatest)
     }
 }
 
@@ -95,11 +99,9 @@ impl Reach {
     pub(crate) fn is_astray(&self, near: Near) -> bool
         ensures { result ≡ is_reach_astray near.distance self.now }
     {
-        let near = i64::from(near.distance);
-        let limit = GUARD * near;
-        self.x.are_beyond(limit)
-            || self.y.are_beyond(limit)
-            || self.w.are_beyond(limit)
-            || self.w.least < near
+        let limit = GUARD * u32::from(near.distance);
+        let beyond =
+            self.x.are_beyond(limit) | self.y.are_beyond(limit) | self.w.are_beyond(limit);
+        beyond | (self.w.least < i64::from(near.distance))
     }
 }

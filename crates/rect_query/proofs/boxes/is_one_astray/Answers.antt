@@ -1,0 +1,9 @@
+use Rattle.std.proofs.Common.{◌≡◌, ◌∙◌, ap, arith}
+use Rattle.rect_query.specs.declared.reach.Reach.{Reach}
+use Rattle.rect_query.specs.Reaches.{is_reach_astray}
+use Rattle.rect_query.proofs.Reaching.{astray_is}
+use Rattle.rect_query.proofs.boxes.is_one_astray.Goals as goal
+
+pub returns : goal.returns
+returns c =
+    c.is_astray.ensures ∙ ap (λ (r : Reach). is_reach_astray c.args.near.distance r) c.requires ∙ astray_is c.args.near.distance c.args.corners.now (omega (arith, c.told-corners))
