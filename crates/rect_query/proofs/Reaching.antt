@@ -1,5 +1,5 @@
 -- What the reach of some vertices says of each of them.
-use Rattle.std.proofs.Common.{◌≡◌, ◌∙◌, ℕ, ℤ, pos, neg_ℤ, ◌*◌, ◌<◌, ◌≤ℤ◌, List, [], ◌∷◌, length, map, take, drop, get_or, ◌+◌, Bool, true, false, ◌||◌, ◌&&◌, int_lt, cond, arith, refl, sym, ap}
+use Rattle.std.proofs.Common.{◌≡◌, ◌∙◌, ℕ, ℤ, pos, neg_ℤ, ◌*◌, ◌<◌, ◌≤◌, ◌≤ℤ◌, FitsSigned, w32, List, [], ◌∷◌, length, map, take, drop, get_or, ◌+◌, Bool, true, false, ◌||◌, ◌&&◌, int_lt, cond, arith, refl, sym, ap}
 use Rattle.std.specs.Int.{int_min, int_max}
 use Rattle.std.specs.List.{fold, list_all, list_any, All}
 use Rattle.std.proofs.lemmas.Int.{ints, clamps, fold-int_min_bounds}
@@ -12,7 +12,7 @@ use Rattle.cull_base.specs.Piece.{least_of}
 use Rattle.rect_query.specs.declared.reach.Limits.{Limits}
 use Rattle.rect_query.specs.declared.reach.Reach.{Reach}
 use Rattle.rect_query.specs.Reaches.{widened, reach_of, reach_with, reach_of_all, are_beyond, is_reach_astray}
-use Rattle.rect_query.proofs.Corners.{no_vertex, w_front, w_guarded}
+use Rattle.rect_query.proofs.Corners.{w_front, w_guarded}
 
 -- tests joined by `or` and `and`
 or_swap : (a b c d : Bool) → ((a || b) || (c || d)) ≡ ((a || c) || (b || d))
@@ -147,7 +147,7 @@ reach_is (v ∷ vs) d lt = refl
 pub record IsLeastW (near : ℕ) (vs : List ClipVertex) (w : ℤ) : Type 0 where
   pub value : w ≡ least_of (map (λ v. v.w) vs)
   pub front : pos near ≤ℤ w
-  pub guarded : w ≤ℤ pos (16384 * near)
+  pub fits : FitsSigned w32 w
 
 front_from : (near : ℕ) (a : ℤ) (vs : List ClipVertex) → pos near ≤ℤ a → All (λ v. is_behind near v ≡ false) vs → pos near ≤ℤ fold int_min a (map (λ v. v.w) vs)
 front_from near a [] h all = h
@@ -159,13 +159,16 @@ front_from near a (v ∷ vs) h all =
     both : (n x y m : ℤ) → m ≡ int_min x y → n ≤ℤ x → n ≤ℤ y → n ≤ℤ m
     both n x y m e i j = omega (arith, ints, clamps, e, i, j)
 
-pub least_w_is : (near : ℕ) (vs : List ClipVertex) → 0 < length vs → All (λ v. is_past_guard v near ≡ false) vs → All (λ v. is_behind near v ≡ false) vs → IsLeastW near vs (reach_of_all vs).w.least
-least_w_is near [] lt g f = absurd (omega arith)
-least_w_is near (v ∷ vs) lt g f =
+pub least_w_is : (near : ℕ) (vs : List ClipVertex) → near ≤ 1024 → 0 < length vs → All (λ v. is_past_guard v near ≡ false) vs → All (λ v. is_behind near v ≡ false) vs → IsLeastW near vs (reach_of_all vs).w.least
+least_w_is near [] few lt g f = absurd (omega arith)
+least_w_is near (v ∷ vs) few lt g f =
     let e = least_w_from vs (reach_of v) in
     let low = front_from near v.w vs (w_front near v (f 0 v (omega arith))) (All-drop (λ u. is_behind near u ≡ false) 1 (v ∷ vs) f) in
     let most = (fold-int_min_bounds v.w (map (λ u. u.w) vs) _ refl).0 in
-    record { value = e; front = rw e low; guarded = rw e (through _ _ _ most (w_guarded near v (g 0 v (omega arith)))) }
+    record { value = e; front = rw e low; fits = rw e (between _ _ low most (w_guarded near v (g 0 v (omega arith)))) }
   where
-    through : (x y z : ℤ) → x ≤ℤ y → y ≤ℤ z → x ≤ℤ z
-    through x y z i j = omega (arith, ints, i, j)
+    between : (x y : ℤ) → pos near ≤ℤ x → x ≤ℤ y → y ≤ℤ pos (16384 * near) → FitsSigned w32 x
+    between x y low i j = omega (arith, ints, few, low, i, j)
+
+pub least_w_of : (near : ℕ) (vs : List ClipVertex) (r : Reach) → near ≤ 1024 → r ≡ reach_of_all vs → 0 < length vs → All (λ v. is_past_guard v near ≡ false) vs → All (λ v. is_behind near v ≡ false) vs → IsLeastW near vs r.w.least
+least_w_of near vs r few e lt g f = rw e (least_w_is near vs few lt g f)

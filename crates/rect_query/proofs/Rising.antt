@@ -1,22 +1,16 @@
 -- A place rises with the quotient that it is of.
-use Rattle.std.proofs.Common.{◌≡◌, ◌∙◌, ℕ, ℤ, pos, negsuc, neg_ℤ, ◌*◌, ◌+◌, ◌^◌, ◌<◌, ◌≤◌, ◌≤ℤ◌, ◌<ℤ◌, ◌+ℤ◌, ◌-ℤ◌, ◌*ℤ◌, Bool, true, false, int_lt, arith, refl, ap}
+use Rattle.std.proofs.Common.{◌≡◌, ◌∙◌, ℕ, ℤ, pos, negsuc, neg_ℤ, ◌*◌, ◌+◌, ◌^◌, ◌<◌, ◌≤◌, ◌≤ℤ◌, ◌<ℤ◌, ◌+ℤ◌, ◌-ℤ◌, ◌*ℤ◌, Bool, true, false, int_lt, FitsSigned, w64, arith, ap}
 use Rattle.std.specs.Int.{int_min, int_max, int_div_euclid}
 use Rattle.std.proofs.lemmas.Int.{ints, clamps}
 use Rattle.cull_base.specs.declared.clip.ClipVertex.{ClipVertex}
 use Rattle.cull_base.specs.Bounds.{Bounded}
-use Rattle.cull_base.specs.Guard.{is_past_guard}
-use Rattle.cull_base.specs.NearPlane.{is_behind}
 use Rattle.cull_base.specs.Screen.{Dimensions}
 use Rattle.cull_base.proofs.Ring.{diff-add, diff-mul, diff-same, pos_is, over3}
 use Rattle.edge_lanes.proofs.Floors.{times-swap, le-times, le-from_times, floor-le, from_below_floor}
 use Rattle.near_clip.specs.NearPart.{whole}
-use Rattle.near_clip.specs.Reach.{IsInReach}
-use Rattle.near_clip.specs.declared.hom_point.HomPoint.{HomPoint}
-use Rattle.near_clip.proofs.Guarded.{guarded}
 use Rattle.snap_setup.specs.Snapping.{round_half, screen_y}
 use Rattle.rect_query.specs.declared.ratio.Ratio.{Ratio}
-use Rattle.rect_query.specs.Ratios.{place_at, across, down, IsRatio}
-use Rattle.rect_query.proofs.Corners.{w_front, w_guarded}
+use Rattle.rect_query.specs.Ratios.{place_at, down, IsRatio}
 
 -- the floor of a quotient is no greater than that of one that is no less
 floors_rise : (m n : ℤ) (p q : ℕ) → 0 < p → 0 < q → (m *ℤ pos q) ≤ℤ (n *ℤ pos p) → int_div_euclid m (pos p) ≤ℤ int_div_euclid n (pos q)
@@ -91,43 +85,14 @@ number_small near r few h = (omega (arith, ints, few, h.number_within), omega (a
 pub w_small : (near : ℕ) (r : Ratio) → near ≤ 1024 → IsRatio near r → Bounded (2 ^ 30) r.w
 w_small near r few h = (omega (arith, ints, few, h.w_least, h.w_most), omega (arith, ints, few, h.w_least, h.w_most))
 
--- a corner's ratios
-pub across_within : (near : ℕ) (v : ClipVertex) → is_past_guard v near ≡ false → is_behind near v ≡ false → IsRatio near (across v)
-across_within near v g f = let k = guarded v near g in record { number_within = k.x_within; w_least = w_front near v f; w_most = w_guarded near v g }
+pub fits_small : (z : ℤ) → Bounded (2 ^ 30) z → FitsSigned w64 z
+fits_small z h = omega (arith, ints, h)
 
-pub down_within : (near : ℕ) (v : ClipVertex) → is_past_guard v near ≡ false → is_behind near v ≡ false → IsRatio near (down v)
-down_within near v g f =
-    let k = guarded v near g in
-    record { number_within = opposite (16384 * near) v.y k.y_within; w_least = w_front near v f; w_most = w_guarded near v g }
+-- a ratio's place down the screen is that of the point with its opposite as y
+pub place_down_is : (pixels : ℕ) (r : Ratio) → round_half (pos (8 * pixels) *ℤ (r.w -ℤ (pos 0 -ℤ r.number))) r.w ≡ place_at pixels r
+place_down_is pixels r = ap (λ (z : ℤ). round_half (pos (8 * pixels) *ℤ z) r.w) (sum r.number r.w)
   where
-    opposite : (n : ℕ) (z : ℤ) → Bounded n z → Bounded n (neg_ℤ z)
-    opposite n z h = (omega (arith, ints, h), omega (arith, ints, h))
-
--- the points at which a ratio's place is taken
-pub across_reaches : (near : ℕ) (r : Ratio) → IsRatio near r → let p : HomPoint = record { x = r.number; y = r.w; w = r.w; scale = pos 1 } in IsInReach near p
-across_reaches near r h = record {
-  scale_least = omega (arith, ints);
-  scale_most = omega (arith, ints);
-  w_least = omega (arith, ints, h.w_least);
-  w_most = omega (arith, ints, h.w_most);
-  x_within = (omega (arith, ints, h.number_within), omega (arith, ints, h.number_within));
-  y_within = (omega (arith, ints, h.w_least), omega (arith, ints, h.w_most));
-}
-
-pub down_reaches : (near : ℕ) (r : Ratio) → IsRatio near r → let p : HomPoint = record { x = neg_ℤ r.w; y = neg_ℤ r.number; w = r.w; scale = pos 1 } in IsInReach near p
-down_reaches near r h = record {
-  scale_least = omega (arith, ints);
-  scale_most = omega (arith, ints);
-  w_least = omega (arith, ints, h.w_least);
-  w_most = omega (arith, ints, h.w_most);
-  x_within = (omega (arith, ints, h.w_most), omega (arith, ints, h.w_least));
-  y_within = (omega (arith, ints, h.number_within), omega (arith, ints, h.number_within));
-}
-
-pub place_down_is : (r : Ratio) (size : Dimensions) → let p : HomPoint = record { x = neg_ℤ r.w; y = neg_ℤ r.number; w = r.w; scale = pos 1 } in screen_y p size ≡ place_at size.height r
-place_down_is r size = ap (λ (z : ℤ). round_half (pos (8 * size.height) *ℤ z) r.w) (sum r.number r.w)
-  where
-    sum : (n w : ℤ) → w -ℤ neg_ℤ n ≡ n +ℤ w
+    sum : (n w : ℤ) → w -ℤ (pos 0 -ℤ n) ≡ n +ℤ w
     sum n w = omega (arith, ints)
 
 -- a corner's place down the screen

@@ -1,5 +1,5 @@
 //! Boxes in space, each by the clip vertices of its corners, and their rectangles on the screen.
-ghost use Rattle.std.specs.Prelude.{◌≡◌, pos, ◌≤◌, ◌≤ℤ◌, ◌*◌, ◌||◌, false, map};
+ghost use Rattle.std.specs.Prelude.{◌≡◌, pos, ◌<◌, ◌≤◌, ◌≤ℤ◌, ◌||◌, false, length, map};
 ghost use Rattle.std.specs.List.{All, list_all, list_any};
 ghost use Rattle.cull_base.specs.Grade.{top_of};
 ghost use Rattle.cull_base.specs.Guard.{is_past_guard};
@@ -24,15 +24,17 @@ pub enum BoxAnswer {
 }
 
 fn are_all_behind(corners: &[ClipVertex; 8], reach: &Reach, near: u16) -> bool
-    requires { reach.now ≡ reach_of_all corners.now }
+    requires reach { reach.now ≡ reach_of_all corners.now }
+    requires some { 0 < length corners.now }
     ensures { result ≡ list_all (is_behind near) corners.now }
 {
-    reach.w.greatest < i64::from(near)
+    reach.is_behind(near)
 }
 
 // Whether a corner is past the guard or behind the near plane.
 fn is_one_astray(corners: &[ClipVertex; 8], reach: &Reach, near: Near) -> bool
-    requires { reach.now ≡ reach_of_all corners.now }
+    requires reach { reach.now ≡ reach_of_all corners.now }
+    requires some { 0 < length corners.now }
     ensures { result
         ≡ list_any (λ v. is_past_guard v near.distance || is_behind near.distance v) corners.now }
 {
@@ -42,6 +44,7 @@ fn is_one_astray(corners: &[ClipVertex; 8], reach: &Reach, near: Near) -> bool
 // The least distance of some corners.
 fn least_w(corners: &[ClipVertex; 8], reach: &Reach, near: Near) -> i32
     requires reach { reach.now ≡ reach_of_all corners.now }
+    requires some { 0 < length corners.now }
     requires guarded { All (λ v. is_past_guard v near.distance ≡ false) corners.now }
     requires front { All (λ v. is_behind near.distance v ≡ false) corners.now }
     ensures value { result ≡ least_of (map (λ v. v.w) corners.now) }

@@ -1,5 +1,5 @@
 //! How far the corners of a box reach in clip space.
-ghost use Rattle.std.specs.Prelude.{◌≡◌};
+ghost use Rattle.std.specs.Prelude.{◌≡◌, ◌<◌, pos, int_lt, length};
 ghost use Rattle.std.specs.Int.{int_min, int_max};
 ghost use Rattle.rect_query.specs.Reaches.{limits_of, are_beyond};
 ghost use Rattle.rect_query.specs.Reaches.{reach_of, reach_with, reach_of_all, is_reach_astray};
@@ -84,7 +84,8 @@ impl Reach {
     /// How far all corners reach.
     #[inline(always)]
     pub(crate) fn of_all(corners: &[ClipVertex; 8]) -> Reach
-        ensures { result ≡ reach_of_all corners.now }
+        ensures value { result ≡ reach_of_all corners.now }
+        ensures some { 0 < length corners.now }
     {
         let rest = &corners[1..];
         let mut reach = Reach::of(&corners[0]);
@@ -92,6 +93,14 @@ impl Reach {
             reach = reach.with(corner);
         }
         reach
+    }
+
+    /// Whether all vertices lie before the near distance.
+    #[inline(always)]
+    pub(crate) fn is_behind(&self, near: u16) -> bool
+        ensures { result ≡ int_lt self.now.w.greatest (pos near) }
+    {
+        self.w.greatest < i64::from(near)
     }
 
     /// Whether a vertex is past the guard or behind the near plane.
