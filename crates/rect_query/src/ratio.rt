@@ -31,7 +31,10 @@ fn across(v: &ClipVertex, near: Near) -> Ratio
     ensures value { result ≡ across v.now }
     ensures within { IsRatio near.distance result }
 {
-    Ratio { number: v.x, w: v.w }
+    Ratio {
+        number: v.x,
+        w: v.w,
+    }
 }
 
 #[inline(always)]

@@ -109,8 +109,7 @@ impl Reach {
         ensures { result ≡ is_reach_astray near.distance self.now }
     {
         let limit = GUARD * u32::from(near.distance);
-        let beyond =
-            self.x.are_beyond(limit) | self.y.are_beyond(limit) | self.w.are_beyond(limit);
+        let beyond = self.x.are_beyond(limit) | self.y.are_beyond(limit) | self.w.are_beyond(limit);
         beyond | (self.w.least < i64::from(near.distance))
     }
 }
