@@ -1,5 +1,5 @@
 -- What the reach of some vertices says of each of them.
-use Rattle.std.proofs.Common.{◌≡◌, ◌∙◌, ℕ, ℤ, pos, neg_ℤ, ◌*◌, ◌<◌, ◌≤◌, ◌≤ℤ◌, FitsSigned, w32, List, [], ◌∷◌, length, map, take, drop, get_or, ◌+◌, Bool, true, false, ◌||◌, ◌&&◌, int_lt, cond, arith, refl, sym, ap}
+use Rattle.std.proofs.Common.{◌≡◌, ◌∙◌, ℕ, ℤ, pos, neg_ℤ, ◌*◌, ◌<◌, ◌≤◌, ◌≤ℤ◌, FitsSigned, w32, w64, List, [], ◌∷◌, length, map, take, drop, get_or, ◌+◌, Bool, true, false, ◌||◌, ◌&&◌, int_lt, cond, arith, refl, sym, ap}
 use Rattle.std.specs.Int.{int_min, int_max}
 use Rattle.std.specs.List.{fold, list_all, list_any, All}
 use Rattle.std.proofs.lemmas.Int.{ints, clamps, fold-int_min_bounds}
@@ -172,3 +172,6 @@ least_w_is near (v ∷ vs) few lt g f =
 
 pub least_w_of : (near : ℕ) (vs : List ClipVertex) (r : Reach) → near ≤ 1024 → r ≡ reach_of_all vs → 0 < length vs → All (λ v. is_past_guard v near ≡ false) vs → All (λ v. is_behind near v ≡ false) vs → IsLeastW near vs r.w.least
 least_w_of near vs r few e lt g f = rw e (least_w_is near vs few lt g f)
+
+pub fits_wide : (z : ℤ) → FitsSigned w32 z → FitsSigned w64 z
+fits_wide z h = omega (arith, ints, h)
