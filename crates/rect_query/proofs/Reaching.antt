@@ -4,6 +4,8 @@ use Rattle.std.specs.Int.{int_min, int_max}
 use Rattle.std.specs.List.{fold, list_all, list_any, All}
 use Rattle.std.proofs.lemmas.Int.{ints, clamps, fold-int_min_bounds}
 use Rattle.std.proofs.lemmas.List.Elements.{All-drop}
+use Rattle.std.proofs.lemmas.Bool.{both_ways, or_parts, false_from_ne_true}
+use Rattle.std.proofs.lemmas.List.Folds.{list_any_at}
 use Rattle.std.proofs.lemmas.List.Sums.{fold_more}
 use Rattle.cull_base.specs.declared.clip.ClipVertex.{ClipVertex}
 use Rattle.cull_base.specs.Guard.{is_beyond, is_past_guard}
@@ -175,3 +177,12 @@ least_w_of near vs r few e lt g f = rw e (least_w_is near vs few lt g f)
 
 pub fits_wide : (z : ℤ) → FitsSigned w32 z → FitsSigned w64 z
 fits_wide z h = omega (arith, ints, h)
+
+-- limits by their two numbers
+pub limits_is : (l : Limits) (a b : ℤ) → l.least ≡ a → l.greatest ≡ b → let k : Limits = record { least = a; greatest = b } in l ≡ k
+limits_is l a b e f = rw (← e, ← f) refl
+
+-- where no vertex is astray
+pub none_stray : (near : ℕ) (vs : List ClipVertex) (k : ℕ) (d : ClipVertex) → list_any (λ v. is_past_guard v near || is_behind near v) vs ≡ false → k < length vs
+    → (is_past_guard (get_or vs k d) near ≡ false) × (is_behind near (get_or vs k d) ≡ false)
+none_stray near vs k d e lt = or_parts _ _ (false_from_ne_true (is_stray near (get_or vs k d)) (λ h. both_ways (list_any (is_stray near) vs) e (list_any_at (is_stray near) vs k d lt h)))
