@@ -1,8 +1,8 @@
 -- How far the corners of a box reach.
-use Rattle.std.proofs.Common.{◌≡◌, ℕ, ℤ, pos, ◌+◌, ◌*◌, ◌<◌, ◌≤ℤ◌, List, [], ◌∷◌, length, map, take, drop, get_or, length-drop, false, true, arith, refl, sym, ap, ◌∙◌}
+use Rattle.std.proofs.Common.{◌≡◌, ℕ, ℤ, pos, ◌+◌, ◌*◌, ◌<◌, ◌≤ℤ◌, List, [], ◌∷◌, length, map, take, drop, get_or, length-drop, false, arith, refl, sym, ap, ◌∙◌}
 use Rattle.std.specs.Int.{int_min, int_max}
 use Rattle.std.specs.List.{fold, All}
-use Rattle.std.proofs.lemmas.Int.{ints, clamps}
+use Rattle.std.proofs.lemmas.Int.{ints}
 use Rattle.std.proofs.lemmas.List.{take_all}
 use Rattle.std.proofs.lemmas.List.Elements.{All-get_or, All-take, All-drop}
 use Rattle.std.proofs.lemmas.List.Folds.{fold-map}
@@ -14,7 +14,7 @@ use Rattle.cull_base.specs.Guard.{is_past_guard}
 use Rattle.cull_base.specs.NearPlane.{is_behind}
 use Rattle.cull_base.specs.Piece.{least_of, greatest_of}
 use Rattle.cull_base.specs.Screen.{Dimensions}
-use Rattle.near_clip.specs.NearPart.{is_in_front, whole}
+use Rattle.near_clip.specs.NearPart.{whole}
 use Rattle.near_clip.proofs.Guarded.{guarded}
 use Rattle.snap_setup.specs.Boxes.{rect_between}
 use Rattle.snap_setup.specs.Snapping.{screen_x, screen_y}
@@ -24,9 +24,6 @@ use Rattle.rect_query.specs.Boxes.{box_rect_of}
 abbrev pub no_vertex : ClipVertex
 no_vertex = record { x = pos 0; y = pos 0; w = pos 0 }
 
-pub in_front : (v : ClipVertex) (near : ℕ) → is_behind near v ≡ false → is_in_front v near ≡ true
-in_front v near e = grind (arith, ints)
-
 -- the least and the greatest of a coordinate of a first vertex and some more
 abbrev pub least_from : (ClipVertex → ℤ) → ClipVertex → List ClipVertex → ℤ
 least_from f v vs = fold (λ a u. int_min a (f u)) (f v) vs
@@ -34,19 +31,11 @@ least_from f v vs = fold (λ a u. int_min a (f u)) (f v) vs
 abbrev pub greatest_from : (ClipVertex → ℤ) → ClipVertex → List ClipVertex → ℤ
 greatest_from f v vs = fold (λ a u. int_max a (f u)) (f v) vs
 
-pub record Reaches (e : Extent) (f : ClipVertex → ℤ) (v : ClipVertex) (vs : List ClipVertex) : Type 0 where
-  pub least : e.least ≡ least_from f v vs
-  pub greatest : e.greatest ≡ greatest_from f v vs
-
 pub least_more : (f : ClipVertex → ℤ) (v : ClipVertex) (vs : List ClipVertex) (i : ℕ) (d : ClipVertex) (a b : ℤ) → i < length vs → a ≡ least_from f v (take i vs) → b ≡ int_min a (f (get_or vs i d)) → b ≡ least_from f v (take (i + 1) vs)
 least_more f v vs i d a b lt e g = g ∙ ap (λ (x : ℤ). int_min x (f (get_or vs i d))) e ∙ sym (fold_more (λ x u. int_min x (f u)) (f v) vs i d lt)
 
-pub reaches_more : (e next : Extent) (f : ClipVertex → ℤ) (v : ClipVertex) (vs : List ClipVertex) (i : ℕ) (d : ClipVertex) → i < length vs → Reaches e f v (take i vs)
-    → next.least ≡ int_min e.least (f (get_or vs i d)) → next.greatest ≡ int_max e.greatest (f (get_or vs i d)) → Reaches next f v (take (i + 1) vs)
-reaches_more e next f v vs i d lt r l g = record {
-  least = least_more f v vs i d e.least next.least lt r.least l;
-  greatest = g ∙ ap (λ (x : ℤ). int_max x (f (get_or vs i d))) r.greatest ∙ sym (fold_more (λ x u. int_max x (f u)) (f v) vs i d lt);
-}
+pub greatest_more : (f : ClipVertex → ℤ) (v : ClipVertex) (vs : List ClipVertex) (i : ℕ) (d : ClipVertex) (a b : ℤ) → i < length vs → a ≡ greatest_from f v (take i vs) → b ≡ int_max a (f (get_or vs i d)) → b ≡ greatest_from f v (take (i + 1) vs)
+greatest_more f v vs i d a b lt e g = g ∙ ap (λ (x : ℤ). int_max x (f (get_or vs i d))) e ∙ sym (fold_more (λ x u. int_max x (f u)) (f v) vs i d lt)
 
 -- the vertices but the first, as a part of the list is read
 pub rest_is : (vs : List ClipVertex) → length vs ≡ 8 → take 7 (drop 1 vs) ≡ drop 1 vs
@@ -61,21 +50,15 @@ pub greatest_of_all : (f : ClipVertex → ℤ) (vs : List ClipVertex) (d : ClipV
 greatest_of_all f [] d lt = absurd (omega arith)
 greatest_of_all f (v ∷ vs) d lt = sym (fold-map int_max f (f v) vs)
 
-pub rect_is : (across down : Extent) (size : Dimensions) (vs : List ClipVertex) (d : ClipVertex) (r : Rect) → 0 < length vs → Reaches across (λ v. screen_x (whole v) size) (get_or vs 0 d) (drop 1 vs)
-    → Reaches down (λ v. screen_y (whole v) size) (get_or vs 0 d) (drop 1 vs) → r ≡ rect_between across down → r ≡ box_rect_of size vs
-rect_is across down size vs d r lt a b e =
-    let x0 = a.least ∙ least_of_all (λ v. screen_x (whole v) size) vs d lt in let x1 = a.greatest ∙ greatest_of_all (λ v. screen_x (whole v) size) vs d lt in
-    let y0 = b.least ∙ least_of_all (λ v. screen_y (whole v) size) vs d lt in let y1 = b.greatest ∙ greatest_of_all (λ v. screen_y (whole v) size) vs d lt in
-    rw (e, x0, x1, y0, y1) refl
+pub rect_is : (across down : Extent) (size : Dimensions) (vs : List ClipVertex) (r : Rect) → across.least ≡ least_of (map (λ v. screen_x (whole v) size) vs) → across.greatest ≡ greatest_of (map (λ v. screen_x (whole v) size) vs)
+    → down.least ≡ least_of (map (λ v. screen_y (whole v) size) vs) → down.greatest ≡ greatest_of (map (λ v. screen_y (whole v) size) vs) → r ≡ rect_between across down → r ≡ box_rect_of size vs
+rect_is across down size vs r x0 x1 y0 y1 e = rw (e, x0, x1, y0, y1) refl
 
 pub w_front : (near : ℕ) (v : ClipVertex) → is_behind near v ≡ false → pos near ≤ℤ v.w
 w_front near v e = grind (arith, ints)
 
 pub w_guarded : (near : ℕ) (v : ClipVertex) → is_past_guard v near ≡ false → v.w ≤ℤ pos (16384 * near)
 w_guarded near v e = let g = guarded v near e in g.w_within.1
-
-pub least_between : (low high a b c : ℤ) → c ≡ int_min a b → low ≤ℤ a → low ≤ℤ b → a ≤ℤ high → (low ≤ℤ c) × (c ≤ℤ high)
-least_between low high a b c e p q r = (omega (arith, ints, clamps, e), omega (arith, ints, clamps, e))
 
 -- what holds of each vertex holds of each but the first
 rest_has : (P : ClipVertex → Type 0) (vs : List ClipVertex) (i : ℕ) → All P vs → i < length (take 7 (drop 1 vs)) → P (get_or (take 7 (drop 1 vs)) i no_vertex)

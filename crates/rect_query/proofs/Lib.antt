@@ -3,5 +3,7 @@ pub mod Hiding
 pub mod Areas
 pub mod Subtiles
 pub mod Corners
+pub mod Rising
+pub mod Reaching
 pub mod Bare
 pub mod References

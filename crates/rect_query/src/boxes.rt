@@ -1,17 +1,18 @@
 //! Boxes in space, each by the clip vertices of its corners, and their rectangles on the screen.
-ghost use Rattle.std.specs.Prelude.{◌≡◌, pos, ◌≤◌, ◌≤ℤ◌, ◌*◌, ◌||◌, false, map};
+ghost use Rattle.std.specs.Prelude.{◌≡◌, pos, ◌<◌, ◌≤◌, ◌≤ℤ◌, ◌||◌, false, length, map};
 ghost use Rattle.std.specs.List.{All, list_all, list_any};
 ghost use Rattle.cull_base.specs.Grade.{top_of};
 ghost use Rattle.cull_base.specs.Guard.{is_past_guard};
 ghost use Rattle.cull_base.specs.NearPlane.{is_behind};
 ghost use Rattle.cull_base.specs.Piece.{least_of};
 ghost use Rattle.rect_query.specs.Boxes.{box_answer, box_rect_of};
+ghost use Rattle.rect_query.specs.Reaches.{reach_of_all};
 
+use crate::ratio::{extent_across, extent_down};
+use crate::reach::Reach;
 use crate::rectangle::nearness;
-use camera_path::{is_behind, past_guard};
-use cull_base::{ClipVertex, Extent, Grade, Near, Rect, Size};
-use near_clip::whole;
-use snap_setup::{place_of, rect_between};
+use cull_base::{ClipVertex, Grade, Near, Rect, Size};
+use snap_setup::rect_between;
 
 /// Where a box stands: behind the near plane, on both sides of it or past the guard, or before the viewer with a
 /// rectangle on the screen, which isn't cut to it, and one nearness.
@@ -22,35 +23,34 @@ pub enum BoxAnswer {
     At { rect: Rect, q: u32 },
 }
 
-fn are_all_behind(corners: &[ClipVertex; 8], near: u16) -> bool
+fn are_all_behind(corners: &[ClipVertex; 8], reach: &Reach, near: u16) -> bool
+    requires reach { reach.now ≡ reach_of_all corners.now }
+    requires some { 0 < length corners.now }
     ensures { result ≡ list_all (is_behind near) corners.now }
 {
-    corners.iter().all(|corner| is_behind(corner, near))
+    reach.is_behind(near)
 }
 
 // Whether a corner is past the guard or behind the near plane.
-fn is_one_astray(corners: &[ClipVertex; 8], near: Near) -> bool
+fn is_one_astray(corners: &[ClipVertex; 8], reach: &Reach, near: Near) -> bool
+    requires reach { reach.now ≡ reach_of_all corners.now }
+    requires some { 0 < length corners.now }
     ensures { result
         ≡ list_any (λ v. is_past_guard v near.distance || is_behind near.distance v) corners.now }
 {
-    corners.iter().any(|corner| {
-        past_guard(corner, near.distance) || is_behind(corner, near.distance)
-    })
+    reach.is_astray(near)
 }
 
 // The least distance of some corners.
-fn least_w(corners: &[ClipVertex; 8], near: Near) -> i32
+fn least_w(corners: &[ClipVertex; 8], reach: &Reach, near: Near) -> i32
+    requires reach { reach.now ≡ reach_of_all corners.now }
+    requires some { 0 < length corners.now }
     requires guarded { All (λ v. is_past_guard v near.distance ≡ false) corners.now }
     requires front { All (λ v. is_behind near.distance v ≡ false) corners.now }
     ensures value { result ≡ least_of (map (λ v. v.w) corners.now) }
     ensures front { pos near.distance ≤ℤ result }
 {
-    let rest = &corners[1..];
-    let mut least = corners[0].w;
-    for corner in rest {
-        least = least.min(corner.w);
-    }
-    least as i32
+    reach.w.least as i32
 }
 
 // The pixels that the corners reach on the screen.
@@ -59,15 +59,8 @@ fn rect_around(corners: &[ClipVertex; 8], near: Near, size: Size) -> Rect
     requires front { All (λ v. is_behind near.distance v ≡ false) corners.now }
     ensures { result ≡ box_rect_of size corners.now }
 {
-    let rest = &corners[1..];
-    let first = place_of(&whole(&corners[0]), near.distance, size);
-    let mut across = Extent::of(first.x);
-    let mut down = Extent::of(first.y);
-    for corner in rest {
-        let place = place_of(&whole(corner), near.distance, size);
-        across = across.with(place.x);
-        down = down.with(place.y);
-    }
+    let across = extent_across(corners, near, size);
+    let down = extent_down(corners, near, size);
     rect_between(across, down)
 }
 
@@ -80,15 +73,16 @@ pub fn box_rect(corners: &[ClipVertex; 8], near: u16, size: Size, grade: Grade) 
     requires most { near ≤ 1024 }
     ensures { result ≡ box_answer (top_of grade) near size corners.now }
 {
-    if are_all_behind(corners, near) {
+    let reach = Reach::of_all(corners);
+    if are_all_behind(corners, &reach, near) {
         return BoxAnswer::Outside;
     }
     let near = Near { distance: near };
-    if is_one_astray(corners, near) {
+    if is_one_astray(corners, &reach, near) {
         return BoxAnswer::Straddles;
     }
     BoxAnswer::At {
         rect: rect_around(corners, near, size),
-        q: nearness(least_w(corners, near), near, grade),
+        q: nearness(least_w(corners, &reach, near), near, grade),
     }
 }

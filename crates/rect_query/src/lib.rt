@@ -3,6 +3,8 @@
 
 mod area;
 mod boxes;
+mod ratio;
+mod reach;
 mod rectangle;
 mod settled;
 #[cfg(test)]

@@ -154,6 +154,66 @@ fn a_box_that_straddles_the_near_plane_or_the_guard_has_no_rectangle(
     Ok(())
 }
 
+// The quotients of x are 31 / 512 and 1 / (512 * 16351) less, of y 132 / 512 and a little more: each pair lies on both
+// sides of a pixel's edge.
+#[test]
+fn corners_with_nearly_the_same_quotient_are_told_apart(rt: HostRuntime) -> Result<(), Fail> {
+    let size = Size::new(32, 8).ok_or("size")?;
+    let a = ClipVertex {
+        x: 31,
+        y: 132,
+        w: 512,
+    };
+    let b = ClipVertex {
+        x: 990,
+        y: 4216,
+        w: 16351,
+    };
+    let rect = rect(16, 2, 18, 4);
+    for corners in [
+        [a, b, a, b, a, b, a, b],
+        [b, a, b, a, b, a, b, a],
+        [a, a, a, a, a, a, a, b],
+        [b, b, b, b, b, b, b, a],
+    ] {
+        let answer = box_rect(&corners, 1, size, Grade::Narrow);
+        assert_eq!(rt; answer, BoxAnswer::At { rect, q: 128 });
+    }
+    Ok(())
+}
+
+#[test]
+fn a_box_at_the_guard_has_the_greatest_products(rt: HostRuntime) -> Result<(), Fail> {
+    let size = Size::new(32, 8).ok_or("size")?;
+    let most = 0x100_0000;
+    let at = |x: i64, y: i64, w: i64| ClipVertex { x, y, w };
+    let far = at(most, most, most);
+    let corners = [
+        far,
+        at(-most, most, most),
+        at(most, -most, 1024),
+        at(-most, most, 1024),
+        far,
+        far,
+        far,
+        far,
+    ];
+    let rect = rect(-262_128, -65_532, 262_161, 65_541);
+    let answer = box_rect(&corners, 1024, size, Grade::Narrow);
+    assert_eq!(rt; answer, BoxAnswer::At { rect, q: 65535 });
+    Ok(())
+}
+
+#[test]
+fn corners_at_one_distance_are_told_apart_by_their_coordinates(
+    rt: HostRuntime,
+) -> Result<(), Fail> {
+    let rect = rect(10, 2, 22, 6);
+    let wanted = BoxAnswer::At { rect, q: 21845 };
+    assert_eq!(rt; answer([-1, -1, 3], [1, 1, 3])?, wanted);
+    Ok(())
+}
+
 // docs/LIBRARY.md shows this test as the way in which another crate uses these layers.
 #[test]
 fn a_triangle_hides_what_lies_behind_it(rt: HostRuntime) -> Result<(), Fail> {
