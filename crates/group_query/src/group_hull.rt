@@ -19,6 +19,13 @@ pub fn hull(scene: &Scene, frame: u32, group: Group) -> Option<Hull>
     ensures holds { IfSome result (HoldsMembers (size_of scene.now) (member_shapes scene.now frame group)) }
 {
     let size = scene.size();
-    let hull = grown_by(scene, frame, size, no_members(size), group.first, group.count);
+    let hull = grown_by(
+        scene,
+        frame,
+        size,
+        no_members(size),
+        group.first,
+        group.count,
+    );
     told(hull)
 }

@@ -85,7 +85,8 @@ impl<'a, V: TileView> Grouped<'a, V> {
         requires size { size ≡ size_of self.now.asked.now.scene.now }
         requires tested { let a = self.now.asked.now in
             IsTested a.scene.now a.frame (state_in (size_of a.scene.now) (V.tile_of a.view.now)) group tested }
-        ensures { (o : Object) → let a = self.now.asked.now in result ≡ verdict_in a.scene.now a.frame (V.tile_of a.view.now)
+        ensures { (o : Object) → let a = self.now.asked.now in
+            result ≡ verdict_in a.scene.now a.frame (V.tile_of a.view.now)
             (slice_index_or a.scene.now.objects (group.first + member) o) }
     {
         // it tells that the objects' numbers fit
@@ -113,7 +114,8 @@ impl<'a, V: TileView> Grouped<'a, V> {
             IsTested a.scene.now a.frame (state_in (size_of a.scene.now) (V.tile_of a.view.now)) group tested }
         requires kept { let a = self.now.asked.now in
             AreFormsFrom a.scene.now a.frame group.first (min group.count 64) forms.now }
-        ensures { (o : Object) → let a = self.now.asked.now in result ≡ verdict_in a.scene.now a.frame (V.tile_of a.view.now)
+        ensures { (o : Object) → let a = self.now.asked.now in
+            result ≡ verdict_in a.scene.now a.frame (V.tile_of a.view.now)
             (slice_index_or a.scene.now.objects (group.first + member) o) }
     {
         // it tells that the objects' numbers fit
@@ -122,7 +124,14 @@ impl<'a, V: TileView> Grouped<'a, V> {
             return self.late_verdict(size, group, tested, member);
         }
         let object = group.first + member;
-        verdict_by_form(self.asked, size, group, tested, object, &forms[member as usize])
+        verdict_by_form(
+            self.asked,
+            size,
+            group,
+            tested,
+            object,
+            &forms[member as usize],
+        )
     }
 
     // Appends the verdicts of so many members of a group from a first on, and tells what is counted of the group.
