@@ -1,7 +1,7 @@
-use Rattle.std.proofs.Common.{◌≡◌, ◌<◌, None, Option, arith, sym, ap, ◌∙◌, subst}
+use Rattle.std.proofs.Common.{◌<◌, None, Option, arith, sym, ap, ◌∙◌, subst}
 use Rattle.std.specs.Prelude.{IfSome}
 use Rattle.cull_report.specs.Scene.{size_of}
-use Rattle.group_query.specs.Hulls.{hull_of, member_shapes, members_of}
+use Rattle.group_query.specs.Hulls.{member_shapes, members_of}
 use Rattle.group_query.specs.declared.hulls.Hull.{Hull}
 use Rattle.group_query.proofs.FormHulls.{whole_hull}
 use Rattle.group_query.proofs.HullMembers.{holds_members, members_are, some_members}

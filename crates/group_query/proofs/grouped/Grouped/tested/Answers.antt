@@ -1,10 +1,9 @@
-use Rattle.std.proofs.Common.{◌≡◌, ℕ, ◌+◌, ◌-◌, ◌<◌, ◌≤◌, min, None, Option, true, arith, sym, ap, ◌∙◌, subst}
+use Rattle.std.proofs.Common.{◌≡◌, ℕ, ◌<◌, ◌≤◌, min, None, true, arith, sym, ap, ◌∙◌, subst}
 use Rattle.cull_base.specs.Screen.{Dimensions, tile_count_of}
 use Rattle.masked_update.specs.Views.{state_in}
 use Rattle.cull_report.specs.Scene.{size_of}
 use Rattle.group_query.specs.Hidden.{hull_verdict}
 use Rattle.group_query.specs.Hulls.{AreFormsFrom, hull_from, hull_of, kept_hull, members_of, shapes_from}
-use Rattle.group_query.specs.declared.hulls.Hull.{Hull}
 use Rattle.group_query.proofs.FormHulls.{hull_in_two, told_of}
 use Rattle.group_query.proofs.grouped.Grouped.tested.Goals as goal
 
