@@ -5,10 +5,11 @@ usage: bench/groups.py PROGRAM [--groups 2,16] [--workers 1,4] [--side 500] [--r
 
 Three scenes: a city of 2,000 fronts and sides of buildings and 10,000 boxes that stand on the ground, seen from four
 cameras, with its boxes in an order of chance and in that of their cells on the ground, of this side; and 10,000 boxes
-of some 300 by 80 pixels behind a wall. A frame's time is the shortest of so many runs, less that of a run of the same
-scene without boxes, by its number of frames; so reading the scene's triangles isn't counted, reading its boxes is, in
-both. For each number of workers the time without groups comes first, then that of each size of groups, with how many
-are hidden in all frames and how many members these have. Measure on a quiet machine."""
+of some 300 by 80 pixels on shelves behind a wall, where those that stand side by side follow one another, and then
+those behind them. Each scene has 64 frames, its cameras in turn. A frame's time is the shortest of so many runs, less
+that of a run of the same scene without boxes, by its number of frames; so reading the scene's triangles isn't counted,
+reading its boxes is, in both. For each number of workers the time without groups comes first, then that of each size of
+groups, with how many are hidden in all frames and how many members these have. Measure on a quiet machine."""
 import argparse
 import math
 import pathlib
@@ -22,6 +23,9 @@ import msoc  # noqa: E402
 
 GROUND = -170
 BOXES = 10000
+FRAMES = 64
+# boxes side by side on a shelf, and shelves above one another
+ACROSS, HIGH = 4, 9
 
 
 def city(numbers):
@@ -54,13 +58,21 @@ def city(numbers):
 
 
 def large_boxes(numbers):
-    """A wall before all, and boxes behind it."""
+    """A wall before all, and shelves behind it. Those at one height stand one behind the other, and their boxes are the
+    larger the farther they stand."""
     wall = msoc.Triangles([])
     wall.quad((-400, 400, 300), (400, 400, 300), (400, -400, 300), (-400, -400, 300))
     boxes = []
-    for _ in range(BOXES):
-        x, y, z = numbers.below(1000) - 500, numbers.below(700) - 350, 600 + numbers.below(300)
-        boxes.append(msoc.box((x - 175, y - 80, z), (x + 175, y + 80, z + 20)))
+    for number in range(BOXES):
+        shelf, place = divmod(number, ACROSS)
+        height, row = divmod(shelf, -(-BOXES // (ACROSS * HIGH)))
+        z = 600 + 20 * row
+        # half a pixel there is a 1280th of the distance, since the screen shows as much to either side as to the front
+        at = [z * (300 * (2 * place + 1 - ACROSS) + numbers.below(41) - 20) // 1280,
+              z * (80 * (2 * height + 1 - HIGH) + numbers.below(11) - 5) // 720]
+        half = [z * (280 + numbers.below(41)) // 1280, z * (75 + numbers.below(11)) // 720]
+        low, high = ([middle + side * long for middle, long in zip(at, half)] for side in (-1, 1))
+        boxes.append(msoc.box((*low, z), (*high, z + 10)))
     return (1280, 720), wall, boxes, [frames.IDENTITY]
 
 
@@ -73,7 +85,8 @@ def seconds(program, words, data, rounds):
 
 
 def measure(program, name, parts, boxes, asked):
-    size, walls, _, cameras = parts
+    size, walls, _, seen = parts
+    cameras = seen * (FRAMES // len(seen))
     near = frames.FIRST_NEAR
     bare, data = (msoc.scene(size, near, walls.vertices, walls.rows, some, cameras) for some in ([], boxes))
     for workers in map(int, asked.workers.split(",")):
@@ -98,7 +111,7 @@ def main():
     measure(asked.program, "city, by chance", parts, parts[2], asked)
     measure(asked.program, "city, by cells", parts, msoc.in_cells(parts[2], asked.side), asked)
     parts = large_boxes(frames.Numbers(1))
-    measure(asked.program, "large boxes behind a wall", parts, parts[2], asked)
+    measure(asked.program, "large boxes on shelves behind a wall", parts, parts[2], asked)
 
 
 if __name__ == "__main__":

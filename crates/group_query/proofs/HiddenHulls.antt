@@ -21,13 +21,13 @@ use Rattle.rect_query.proofs.Hiding.{flat_tested}
 use Rattle.scene_reader.specs.Layout.{Parts}
 use Rattle.cull_report.specs.Scene.{object_shape, object_verdict, size_of}
 use Rattle.cull_report.specs.Text.{is_occluded}
-use Rattle.cull_report.specs.declared.form.Form.{Form}
+use Rattle.cull_report.specs.declared.form.Form.TheVariants as forms
 use Rattle.group_query.specs.Hidden.{HidesMembers, IsTested, group_verdict, hull_verdict, is_hidden_group}
-use Rattle.group_query.specs.Hulls.{IsFormOf, counted, counts, hull_of, is_counted, member_shapes}
+use Rattle.group_query.specs.Hulls.{IsFormOf, counted, counts, hull_of, member_shapes}
 use Rattle.group_query.specs.declared.grouping.Group.{Group}
 use Rattle.group_query.specs.declared.hulls.Hull.{Hull}
 use Rattle.group_query.specs.declared.tested.Tested.{Tested}
-use Rattle.group_query.proofs.FormHulls.{counted_at, shape_at, shape_below, shape_of_flat}
+use Rattle.group_query.proofs.FormHulls.{shape_at, shape_below, shape_of_flat}
 use Rattle.group_query.proofs.HullMembers.{IsWithin, holds_member, members_are, one_member, own}
 
 -- ---- pixels of the screen
@@ -159,21 +159,19 @@ hides_members s frame f g o d hidden from below lt c = hidden_flat s frame f g o
 
 -- ---- by a group that was tested
 
-pub tested_occluded : (s : Parts) (frame : ℕ) (f : Sub → State) (g : Group) (t : Tested) (o : ℕ) (d : Object) (form : Form) → IsTested s frame f g t → is_occluded t.verdict ≡ true
-    → g.first ≤ o → o < g.first + g.count → o < length s.objects → IsFormOf s frame o form → is_counted (size_of s) form ≡ true → t.verdict ≡ object_verdict s frame f (get_or s.objects o d)
-tested_occluded s frame f g t o d form tested e from below lt own counted_is =
-    let at = counted_at (size_of s) form counted_is in
-    let is = shape_of_flat s frame o d form at.rect at.q own at.form_is at.met in
+pub tested_occluded : (s : Parts) (frame : ℕ) (f : Sub → State) (g : Group) (t : Tested) (o : ℕ) (d : Object) (r : Rect) (q : ℕ) → IsTested s frame f g t → is_occluded t.verdict ≡ true
+    → g.first ≤ o → o < g.first + g.count → o < length s.objects → IsFormOf s frame o (forms.Flat r q) → t.verdict ≡ object_verdict s frame f (get_or s.objects o d)
+tested_occluded s frame f g t o d r q tested e from below lt own =
+    let is = shape_of_flat s frame o d r q own in
     let v = occluded_is t.verdict e in
-    v ∙ sym (by_hull s frame f g o d at.rect at.q (hull_of s frame g) refl (sym tested.verdict ∙ v) from below lt is at.met)
+    v ∙ sym (by_hull s frame f g o d r q (hull_of s frame g) refl (sym tested.verdict ∙ v) from below lt is own.seen)
 
-pub tested_alone : (s : Parts) (frame : ℕ) (f : Sub → State) (g : Group) (t : Tested) (o : ℕ) (d : Object) (form : Form) → IsTested s frame f g t → t.members ≡ 1
-    → g.first ≤ o → o < g.first + g.count → o < length s.objects → IsFormOf s frame o form → is_counted (size_of s) form ≡ true → t.verdict ≡ object_verdict s frame f (get_or s.objects o d)
-tested_alone s frame f g t o d form tested one from below lt own counted_is =
+pub tested_alone : (s : Parts) (frame : ℕ) (f : Sub → State) (g : Group) (t : Tested) (o : ℕ) (d : Object) (r : Rect) (q : ℕ) → IsTested s frame f g t → t.members ≡ 1
+    → g.first ≤ o → o < g.first + g.count → o < length s.objects → IsFormOf s frame o (forms.Flat r q) → t.verdict ≡ object_verdict s frame f (get_or s.objects o d)
+tested_alone s frame f g t o d r q tested one from below lt own =
     let size = size_of s in
-    let at = counted_at size form counted_is in
-    let is = shape_of_flat s frame o d form at.rect at.q own at.form_is at.met in
+    let is = shape_of_flat s frame o d r q own in
     let shapes = member_shapes s frame g in
     let all : counted size shapes ≡ 1 = omega (arith, members_are size None shapes, tested.members, one) in
-    let hull = one_member size shapes (o - g.first) at.rect at.q (shape_below s frame g o from below lt) (shape_at s frame g o d AlwaysOutside from below lt ∙ is) at.met all in
-    tested.verdict ∙ ap (hull_verdict size f) hull ∙ cut_verdict size f at.rect at.q at.met ∙ ap (verdict_of size f) (flat_there size at.rect at.q at.met ∙ sym is)
+    let hull = one_member size shapes (o - g.first) r q (shape_below s frame g o from below lt) (shape_at s frame g o d AlwaysOutside from below lt ∙ is) own.seen all in
+    tested.verdict ∙ ap (hull_verdict size f) hull ∙ cut_verdict size f r q own.seen ∙ ap (verdict_of size f) (flat_there size r q own.seen ∙ sym is)

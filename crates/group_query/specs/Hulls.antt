@@ -1,5 +1,5 @@
 -- Hulls of groups: around the areas of the members that count.
-use Rattle.std.specs.Prelude.{ℕ, ℤ, ◌≡◌, ◌+◌, ◌<◌, ◌≤◌, max, Bool, true, false, cond, List, [], ◌∷◌, map, take, drop, length, Option, Some, None, slice_index_or}
+use Rattle.std.specs.Prelude.{ℕ, ℤ, pos, ◌≡◌, ◌+◌, ◌<◌, ◌≤◌, max, Bool, true, false, cond, nat_lt, List, [], ◌∷◌, map, take, drop, length, Option, Some, None, slice_index_or}
 use Rattle.std.specs.Int.{int_min, int_max}
 use Rattle.cull_base.specs.declared.rect.Rect.{Rect}
 use Rattle.cull_base.specs.declared.scene_types.Object.{Object}
@@ -95,16 +95,41 @@ HullsAreTight = (s : Parts) (frame : ℕ) (g : Group) (h : Hull) → hull_of s f
 
 -- ---- by forms
 
-abbrev pub is_counted : Dimensions → Form → Bool
-is_counted size forms.Outside = false
-is_counted size forms.Visible = false
-is_counted size (forms.Flat rect q) = meets rect (screen_of size)
-is_counted size (forms.Mesh first count) = false
+-- the sides of the screen the other way round: those of any area in the screen replace them
+abbrev pub turned : Dimensions → Rect
+turned size = record { x0 = pos size.width; y0 = pos size.height; x1 = pos 0; y1 = pos 0 }
 
--- the form of an object of a frame
+-- what is kept of members: their hull; before one counts, a hull of none
+abbrev pub no_members : Dimensions → Hull
+no_members size = record { rect = turned size; q = 0; members = 0 }
+
+abbrev pub kept_hull : Dimensions → Option Hull → Hull
+kept_hull size None = no_members size
+kept_hull size (Some h) = h
+
+-- the hull that is kept, where it has a member
+abbrev pub told_hull : Hull → Option Hull
+told_hull h = cond (nat_lt 0 h.members) (Some h) None
+
+-- a hull that is kept and a member by its form
+abbrev pub grown_hull : Dimensions → Hull → Form → Hull
+grown_hull size h forms.Outside = h
+grown_hull size h forms.Visible = h
+grown_hull size h (forms.Flat rect q) = with_member (Some h) (cut_of rect (screen_of size)) q
+grown_hull size h (forms.Mesh first count) = h
+
+-- a form that is a rectangle has a pixel in the screen
+abbrev pub is_seen : Dimensions → Form → Bool
+is_seen size forms.Outside = true
+is_seen size forms.Visible = true
+is_seen size (forms.Flat rect q) = meets rect (screen_of size)
+is_seen size (forms.Mesh first count) = true
+
+-- the form of an object of a frame; where it is a rectangle, the object counts
 pub record IsFormOf (s : Parts) (frame o : ℕ) (form : Form) : Type 0 where
   pub own : (d : Object) → shape_of_form s frame form ≡ object_shape s frame (slice_index_or s.objects o d)
   pub triangles : HasTriangles (length s.object_tris) form
+  pub seen : is_seen (size_of s) form ≡ true
 
 -- the forms of so many objects from a first on
 abbrev pub AreFormsFrom : Parts → ℕ → ℕ → ℕ → List Form → Type 0

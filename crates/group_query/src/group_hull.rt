@@ -4,7 +4,7 @@ ghost use Rattle.cull_report.specs.Scene.{size_of};
 ghost use Rattle.group_query.specs.Hulls.{HoldsMembers, counted, hull_of, member_shapes, members_of};
 
 use crate::grouping::Group;
-use crate::hulls::{Hull, grown_by};
+use crate::hulls::{Hull, grown_by, no_members, told};
 use scene_reader::Scene;
 
 /// The hull of a group in a frame. None exactly where no member counts. Conditions: there is such a frame, and the
@@ -18,5 +18,14 @@ pub fn hull(scene: &Scene, frame: u32, group: Group) -> Option<Hull>
     ensures some { IfSome result (λ h. 0 < h.members) }
     ensures holds { IfSome result (HoldsMembers (size_of scene.now) (member_shapes scene.now frame group)) }
 {
-    grown_by(scene, frame, None, group.first, group.count)
+    let size = scene.size();
+    let hull = grown_by(
+        scene,
+        frame,
+        size,
+        no_members(size),
+        group.first,
+        group.count,
+    );
+    told(hull)
 }

@@ -1,19 +1,20 @@
 //! The objects of a frame, those of groups by their hulls first.
 ghost use Rattle.std.specs.Prelude.{◌≡◌, ◌+◌, ◌-◌, ◌++◌, ◌<◌, ◌≤◌, min, length, take, drop, vec_capacity};
 ghost use Rattle.std.specs.Prelude.{slice_index_or};
-ghost use Rattle.cull_report.specs.Scene.{size_of, verdicts_in};
+ghost use Rattle.cull_base.specs.declared.scene_types.Object.{Object};
+ghost use Rattle.cull_report.specs.Scene.{size_of, verdict_in, verdicts_in};
 ghost use Rattle.group_query.specs.Grouping.{AreApart, AreBegun};
 ghost use Rattle.group_query.specs.Hidden.{IsTested, group_tally};
-ghost use Rattle.group_query.specs.Hulls.{AreFormsFrom, IsFormOf};
+ghost use Rattle.group_query.specs.Hulls.{AreFormsFrom};
 ghost use Rattle.group_query.specs.declared.grouping.Group.{Group};
 ghost use Rattle.masked_update.specs.Views.{state_in};
 
 use crate::begun::begun_before;
 use crate::grouping::Group;
-use crate::hulls::{grown_by, hull_keeping};
-use crate::tested::{Tested, member_verdict, tally_of, test_of};
-use cull_base::Verdict;
-use cull_report::{Answering, Asked, Form, Tally, object_form};
+use crate::hulls::{grown_by, hull_keeping, seen_form, told};
+use crate::tested::{Tested, tally_of, test_of, verdict_by_form};
+use cull_base::{Size, Verdict};
+use cull_report::{Answering, Asked, Form, Tally};
 use masked_update::TileView;
 
 /// So many members' forms are kept from the hull to their verdicts; those of others are made twice.
@@ -48,10 +49,12 @@ impl<'a, V: TileView> Grouped<'a, V> {
         self.groups[number]
     }
 
-    // Tests the hull of a group, and keeps the forms of its first members.
-    fn tested(&self, group: Group, forms: &mut [Form]) -> Tested
+    // Tests the hull of a group, and keeps the forms of its first members. Condition: the size is the scene's.
+    #[inline(always)]
+    fn tested(&self, size: Size, group: Group, forms: &mut [Form]) -> Tested
         requires places { 64 ≤ length forms.old }
         requires group { group.first + group.count ≤ length self.now.asked.now.scene.now.objects }
+        requires size { size ≡ size_of self.now.asked.now.scene.now }
         ensures tested { let a = self.now.asked.now in
             IsTested a.scene.now a.frame (state_in (size_of a.scene.now) (V.tile_of a.view.now)) group result }
         ensures kept { let a = self.now.asked.now in
@@ -62,32 +65,73 @@ impl<'a, V: TileView> Grouped<'a, V> {
         let _objects = self.object_count();
         let asked = self.asked;
         let kept = group.count.min(KEPT as u32);
-        let front = hull_keeping(asked.scene, asked.frame, group.first, kept, forms);
+        let front = hull_keeping(asked.scene, asked.frame, size, group.first, kept, forms);
         let hull = grown_by(
             asked.scene,
             asked.frame,
+            size,
             front,
             group.first + kept,
             group.count - kept,
         );
-        test_of(asked.view, asked.scene.size(), hull)
+        test_of(asked.view, size, told(hull))
     }
 
-    // The form of a member of a group: it is kept, or made anew.
-    fn member_form(&self, group: Group, member: u32, forms: &[Form]) -> Form
-        requires places { 64 ≤ length forms.now }
+    // The verdict of a member of a group whose form isn't kept. Not inlined, since few groups are so large.
+    #[inline(never)]
+    fn late_verdict(&self, size: Size, group: Group, tested: Tested, member: u32) -> Verdict
         requires member { member < group.count }
         requires group { group.first + group.count ≤ length self.now.asked.now.scene.now.objects }
-        requires kept { let a = self.now.asked.now in
-            AreFormsFrom a.scene.now a.frame group.first (min group.count 64) forms.now }
-        ensures { let a = self.now.asked.now in IsFormOf a.scene.now a.frame (group.first + member) result }
+        requires size { size ≡ size_of self.now.asked.now.scene.now }
+        requires tested { let a = self.now.asked.now in
+            IsTested a.scene.now a.frame (state_in (size_of a.scene.now) (V.tile_of a.view.now)) group tested }
+        ensures { (o : Object) → let a = self.now.asked.now in
+            result ≡ verdict_in a.scene.now a.frame (V.tile_of a.view.now)
+            (slice_index_or a.scene.now.objects (group.first + member) o) }
     {
         // it tells that the objects' numbers fit
         let _objects = self.object_count();
-        if (member as usize) < KEPT {
-            return forms[member as usize];
+        let object = group.first + member;
+        let form = seen_form(self.asked.scene, self.asked.frame, size, object);
+        verdict_by_form(self.asked, size, group, tested, object, &form)
+    }
+
+    // The verdict of a member of a group that was tested, by its form: it is kept, or made anew.
+    #[inline(always)]
+    fn member_verdict(
+        &self,
+        size: Size,
+        group: Group,
+        tested: Tested,
+        member: u32,
+        forms: &[Form],
+    ) -> Verdict
+        requires places { 64 ≤ length forms.now }
+        requires member { member < group.count }
+        requires group { group.first + group.count ≤ length self.now.asked.now.scene.now.objects }
+        requires size { size ≡ size_of self.now.asked.now.scene.now }
+        requires tested { let a = self.now.asked.now in
+            IsTested a.scene.now a.frame (state_in (size_of a.scene.now) (V.tile_of a.view.now)) group tested }
+        requires kept { let a = self.now.asked.now in
+            AreFormsFrom a.scene.now a.frame group.first (min group.count 64) forms.now }
+        ensures { (o : Object) → let a = self.now.asked.now in
+            result ≡ verdict_in a.scene.now a.frame (V.tile_of a.view.now)
+            (slice_index_or a.scene.now.objects (group.first + member) o) }
+    {
+        // it tells that the objects' numbers fit
+        let _objects = self.object_count();
+        if KEPT <= member as usize {
+            return self.late_verdict(size, group, tested, member);
         }
-        object_form(self.asked.scene, self.asked.frame, group.first + member)
+        let object = group.first + member;
+        verdict_by_form(
+            self.asked,
+            size,
+            group,
+            tested,
+            object,
+            &forms[member as usize],
+        )
     }
 
     // Appends the verdicts of so many members of a group from a first on, and tells what is counted of the group.
@@ -113,11 +157,10 @@ impl<'a, V: TileView> Grouped<'a, V> {
     {
         // it tells that the objects' numbers fit
         let _objects = self.object_count();
-        let tested = self.tested(group, forms);
+        let size = self.asked.scene.size();
+        let tested = self.tested(size, group, forms);
         for k in 0..count {
-            let form = self.member_form(group, first + k, forms);
-            let object = group.first + (first + k);
-            let verdict = member_verdict(self.asked, group, tested, object, form);
+            let verdict = self.member_verdict(size, group, tested, first + k, forms);
             verdicts.push_reserved(verdict);
         }
         tally_of(self.asked, group, tested)

@@ -4,13 +4,14 @@ ghost use Rattle.cull_base.specs.declared.scene_types.Object.{Object};
 ghost use Rattle.cull_base.specs.Screen.{tile_count_of};
 ghost use Rattle.cull_report.specs.Scene.{size_of, verdict_in};
 ghost use Rattle.cull_report.specs.Text.{is_occluded};
+ghost use Rattle.cull_report.specs.declared.form.Form.TheVariants.{Flat};
 ghost use Rattle.group_query.specs.Hidden.{IsTested, group_tally, hull_verdict};
 ghost use Rattle.group_query.specs.Hulls.{IsFormOf, members_of};
 ghost use Rattle.masked_update.specs.Views.{state_in};
 
 use crate::grouping::Group;
-use crate::hulls::{Hull, is_counted};
-use cull_base::{Size, Verdict};
+use crate::hulls::Hull;
+use cull_base::{Rect, Size, Verdict};
 use cull_report::{Asked, Form, Tally};
 use masked_update::TileView;
 use rect_query::rect_test;
@@ -23,6 +24,7 @@ pub(crate) struct Tested {
     pub(crate) verdict: Verdict,
 }
 
+#[inline(always)]
 fn is_occluded(verdict: Verdict) -> bool
     ensures { result ≡ is_occluded verdict }
 {
@@ -35,6 +37,7 @@ fn is_occluded(verdict: Verdict) -> bool
 
 /// The verdict of a hull; outside where there is none. The test ends at the first sample that doesn't hide. Condition:
 /// the view holds every tile.
+#[inline(always)]
 pub(crate) fn test_of<V: TileView>(view: &V, size: Size, hull: Option<Hull>) -> Tested
     requires { (t : ℕ) → t < tile_count_of size → V.held view.now t ≡ true }
     ensures members { result.members ≡ members_of hull }
@@ -53,6 +56,7 @@ pub(crate) fn test_of<V: TileView>(view: &V, size: Size, hull: Option<Hull>) -> 
 }
 
 /// What is counted of a group that was tested. Its clauses alone ask for the group.
+#[inline(always)]
 pub(crate) fn tally_of<V: TileView>(asked: &Asked<V>, _group: Group, tested: Tested) -> Tally
     requires { let a = asked.now in
         IsTested a.scene.now a.frame (state_in (size_of a.scene.now) (V.tile_of a.view.now)) _group tested }
@@ -72,34 +76,66 @@ pub(crate) fn tally_of<V: TileView>(asked: &Asked<V>, _group: Group, tested: Tes
     }
 }
 
-/// The verdict of a member of a group that was tested, by the member's form. Of a member that counts it is the hull's
-/// where that is occluded, since the member's samples are among the hull's and it is no nearer; and where no other
-/// member counts, since it is the hull then. Conditions: there is such an object, it is one of the group, and the form
-/// is its own.
-pub(crate) fn member_verdict<V: TileView>(
+// The verdict of a member that counts, of a group that was tested. It is the hull's where that is occluded, since the
+// member's samples are among the hull's and it is no nearer; and where no other member counts, since it is the hull
+// then. Conditions as below.
+#[inline(always)]
+fn counted_verdict<V: TileView>(
     asked: &Asked<V>,
+    size: Size,
     _group: Group,
     tested: Tested,
     object: u32,
-    form: Form,
+    rect: Rect,
+    q: u32,
 ) -> Verdict
     requires tested { let a = asked.now in
         IsTested a.scene.now a.frame (state_in (size_of a.scene.now) (V.tile_of a.view.now)) _group tested }
     requires behind { _group.first ≤ object }
     requires before { object < _group.first + _group.count }
     requires object { object < length asked.now.scene.now.objects }
-    requires form { IsFormOf asked.now.scene.now asked.now.frame object form }
+    requires size { size ≡ size_of asked.now.scene.now }
+    requires form { IsFormOf asked.now.scene.now asked.now.frame object (Flat rect q) }
     ensures { (o : Object) → result ≡ verdict_in asked.now.scene.now asked.now.frame (V.tile_of asked.now.view.now)
         (slice_index_or asked.now.scene.now.objects object o) }
 {
-    if !is_counted(asked.scene.size(), form) {
-        return asked.verdict_by(object, form);
-    }
     if is_occluded(tested.verdict) {
         return tested.verdict;
     }
     if tested.members == 1 {
         return tested.verdict;
     }
-    asked.verdict_by(object, form)
+    if asked.settled[object as usize] {
+        return Verdict::Occluded;
+    }
+    rect_test(asked.view, size, rect, q)
+}
+
+/// The verdict of a member of a group that was tested, by the member's form: of one that counts it may be the hull's.
+/// Conditions: there is such an object, it is one of the group, the size is the scene's, and the form is the object's.
+#[inline(always)]
+pub(crate) fn verdict_by_form<V: TileView>(
+    asked: &Asked<V>,
+    size: Size,
+    _group: Group,
+    tested: Tested,
+    object: u32,
+    form: &Form,
+) -> Verdict
+    requires tested { let a = asked.now in
+        IsTested a.scene.now a.frame (state_in (size_of a.scene.now) (V.tile_of a.view.now)) _group tested }
+    requires behind { _group.first ≤ object }
+    requires before { object < _group.first + _group.count }
+    requires object { object < length asked.now.scene.now.objects }
+    requires size { size ≡ size_of asked.now.scene.now }
+    requires form { IsFormOf asked.now.scene.now asked.now.frame object form.now }
+    ensures { (o : Object) → result ≡ verdict_in asked.now.scene.now asked.now.frame (V.tile_of asked.now.view.now)
+        (slice_index_or asked.now.scene.now.objects object o) }
+{
+    match form {
+        Form::Outside => Verdict::Outside,
+        Form::Visible => Verdict::Visible,
+        Form::Flat { rect, q } => counted_verdict(asked, size, _group, tested, object, *rect, *q),
+        Form::Mesh { .. } => asked.verdict_by(object, *form),
+    }
 }
