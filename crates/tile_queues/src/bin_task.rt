@@ -1,14 +1,14 @@
 //! A bin's task over the cells of its tiles.
-ghost use Rattle.std.specs.Prelude.{◌≡◌, ◌≤◌, ◌<◌};
+ghost use Rattle.std.specs.Prelude.{◌≡◌, ◌≤◌, ◌<◌, max};
 ghost use Rattle.binning.specs.Cut.{bin_count_of};
 ghost use Rattle.bin_queues.specs.QueueParts.{IsBatched, batches_in, taken_before};
-ghost use Rattle.bin_queues.specs.Tasks.{IsSubmitterOf};
+ghost use Rattle.bin_queues.specs.Tasks.{IsSubmitterOf, IsTaskOf};
 ghost use Rattle.tile_queues.specs.CellBins.{HoldsBin, StandsInCells};
 ghost use Rattle.tile_queues.specs.Shares.{MayDraw, frame_over};
 ghost use Rattle.bin_tasks.specs.Drains.{HasDrained, IsAnswer, IsTaskIn, WasTold};
 
 use crate::cell_bin::{CellBin, InCells};
-use bin_queues::{Intake, Sender};
+use bin_queues::{Intake, PartQueues, Sender};
 use bin_tasks::{Drained, Drawing, Task};
 use bin_tiles::Gate;
 use binning::Cut;
@@ -66,6 +66,18 @@ fn tell_in<R: Wait, G: Gate>(
     drawing.tell(sender, task);
 }
 
+// The same, whatever frame it is of.
+fn hear_in(task: &mut Task<CellBin>, queues: &PartQueues, sender: &mut Sender)
+    requires sender { IsSubmitterOf queues.now sender.old }
+    requires task { IsTaskOf queues.now task.old.intake }
+    requires holds { HoldsBin task.old.intake task.old.keeper }
+    ensures same { sender.new ≡ sender.old }
+    ensures holds { HoldsBin task.new.intake task.new.keeper }
+    ensures told { task.new.intake ≡ record task.old.intake { told = max task.old.intake.told sender.old.batches } }
+{
+    queues.tell(sender, &mut task.intake);
+}
+
 impl BinTask {
     pub(crate) fn of(intake: Intake, keeper: CellBin) -> BinTask
         requires { HoldsBin intake keeper }
@@ -85,14 +97,14 @@ impl BinTask {
     }
 
     /// How the screen is cut.
-    pub(crate) fn cut(&self) -> &Cut
+    pub fn cut(&self) -> &Cut
         ensures { result.now ≡ self.now.of.frame.cut }
     {
         self.task.intake.cut()
     }
 
     /// How many pieces a batch has.
-    pub(crate) fn size(&self) -> u32
+    pub fn size(&self) -> u32
         ensures value { result ≡ self.now.of.frame.size }
         ensures batched { IsBatched self.now.of.frame }
     {
@@ -142,6 +154,16 @@ impl BinTask {
         ensures told { WasTold sender.old.batches self.old self.new }
     {
         tell_in(&mut self.task, drawing, sender);
+    }
+
+    /// Tells the task how many batches were submitted. Condition: the sender and the task are of these queues.
+    pub(crate) fn hear(&mut self, queues: &PartQueues, sender: &mut Sender)
+        requires sender { IsSubmitterOf queues.now sender.old }
+        requires task { IsTaskOf queues.now self.old }
+        ensures same { sender.new ≡ sender.old }
+        ensures told { self.new ≡ record self.old { told = max self.old.told sender.old.batches } }
+    {
+        hear_in(&mut self.task, queues, sender);
     }
 
     /// What it takes in, and the writers of the bin's tiles.

@@ -1,5 +1,5 @@
 //! The queues of all bins over cells, through which batches go from the submitter to the bins' tasks.
-ghost use Rattle.std.specs.Prelude.{◌≡◌, ◌≤◌, ◌<◌, ◌+◌, length, IfOk};
+ghost use Rattle.std.specs.Prelude.{◌≡◌, ◌≤◌, ◌<◌, ◌+◌, max, length, IfOk};
 ghost use Rattle.binning.specs.Parts.{batch_count_of, parts_of};
 ghost use Rattle.bin_queues.specs.QueueParts.{batched, batches_in, taken_before};
 ghost use Rattle.bin_queues.specs.Tasks.{AreFirstTasks, GoesOn, IsSubmitterOf, IsTaskOf};
@@ -102,6 +102,17 @@ impl BinQueues {
         ensures { submitter.new ≡ record submitter.old { batches = submitter.old.batches + 1 } }
     {
         submitter.submit(rt, &self.queues, parts);
+    }
+
+    /// Tells a task how many batches were submitted: told is the greater of that and what it was. All else stays.
+    /// Condition: the submitter and the task are of these queues.
+    pub fn tell<R: Wait>(&self, _rt: &R, submitter: &mut Submitter, task: &mut BinTask)
+        requires submitter { IsSubmitterOf self.now submitter.old }
+        requires task { IsTaskOf self.now task.old }
+        ensures same { submitter.new ≡ submitter.old }
+        ensures told { task.new ≡ record task.old { told = max task.old.told submitter.old.batches } }
+    {
+        submitter.tell(&self.queues, task);
     }
 
     /// Draws the parts of a task's bin in order, each once. Whole where all batches are drawn then. Empty where fewer
