@@ -1,0 +1,14 @@
+pub mod Weights
+pub mod DequeKeeps
+pub mod Counting
+pub mod Drawing
+pub mod Seating
+pub mod Gathering
+pub mod Rows
+pub mod Finishing
+pub mod Whole
+pub mod Opening
+pub mod Lending
+pub mod Dealing
+pub mod Joining
+pub mod Standing
