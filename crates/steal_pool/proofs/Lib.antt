@@ -8,7 +8,11 @@ pub mod Rows
 pub mod Finishing
 pub mod Whole
 pub mod Opening
-pub mod Lending
 pub mod Dealing
+pub mod Lending
+pub mod Filling
 pub mod Joining
+pub mod Pooling
+pub mod Told
+pub mod Starting
 pub mod Standing

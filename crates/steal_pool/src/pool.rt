@@ -6,7 +6,7 @@ use tile_queues::BinQueues;
 
 /// What every worker shares: the queues and the cells of the tasks, the list, and the gate that is asked. The cut, the
 /// size of batches and the room of a deque are those that its views name.
-#[derive(Drop)]
+#[derive(Clone, Copy)]
 pub struct Pool<'a, R, G> {
     pub rt: &'a R,
     pub queues: &'a BinQueues,

@@ -19,8 +19,8 @@ fn draw_into<R: Wait, G: Gate>(pool: &Pool<R, G>, list: &mut Vec<BinTask>, mut t
     ensures len { vec_len list.new ≡ vec_len list.old + 1 }
     ensures capacity { vec_capacity list.new ≡ vec_capacity list.old }
 {
-    pool.queues
-        .drain(pool.rt, &mut task, pool.cells, pool.list, pool.gate);
+    let (rt, cells) = (pool.rt, pool.cells);
+    pool.queues.drain(rt, &mut task, cells, pool.list, pool.gate);
     list.push_reserved(task);
 }
 
@@ -75,7 +75,7 @@ pub(crate) fn steal_all<R: Wait, G: Gate>(
 {
     for _ in pool.rt.forever() {
         match steal(pool.rt, thief, pass) {
-            Some(task) => draw_into(pool, list, task),
+            Some(stolen) => draw_into(pool, list, stolen),
             None => return,
         }
     }

@@ -2,6 +2,7 @@ use Rattle.std.proofs.Common.{◌≡◌, ◌<◌, ◌≤◌, All, List, length, 
 use Rattle.std.proofs.lemmas.List.{with_items_is}
 use Rattle.steal_pool.specs.declared.seats.Seat.{Seat}
 use Rattle.steal_pool.specs.Finish.{AreFinishedTo, lists_weigh}
+use Rattle.steal_pool.specs.Lists.{joined}
 use Rattle.steal_pool.specs.Making.{HaveRoom, IsEmptySeat}
 use Rattle.steal_pool.specs.Pools.{call_of}
 use Rattle.steal_pool.proofs.Joining.{all_told, are_whole, joined_weigh, joined_whole}
@@ -55,6 +56,6 @@ returns-clause-whole g c =
     let same : length new ≡ c.in_ok-seats.seats.len = search rules in
     let is = with_items_is c.in_ok-seats.seats new same in
     let lists = c.lists_of.result.items in
-    are_whole call c.args.tasks.items _ c.requires.tasks.tasks_are
+    are_whole call c.args.tasks.items (joined vec_items lists) c.requires.tasks.tasks_are
     (λ k. joined_weigh vec_items k lists ∙ c.lists_of.ensures.once k ∙ ap (lists_weigh k) is ∙ c.in_ok-run.ensures.once k)
     (joined_whole vec_items call lists c.lists_of.ensures.whole)
