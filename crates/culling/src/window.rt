@@ -62,13 +62,15 @@ fn frame_size(scene: &Scene) -> u64 {
 }
 
 /// How many frames each worker has of a scene's windows. None where a worker is alone, where a frame is looked at or
-/// objects are settled while it is drawn, and where a frame for each worker would take too much memory.
+/// objects are settled while it is drawn, where workers take bins from each other, and where a frame for each worker
+/// would take too much memory.
 pub fn round_count(plan: &Plan, scene: &Scene) -> u32
     ensures within { result * plan.now.settings.now.workers ≤ length scene.now.cameras }
     ensures quiet { (plan.now.beside ≡ Nothing → ⊥) → result ≡ 0 }
 {
     let workers = plan.settings.workers;
-    if workers < 2 || plan.settings.early || matches!(plan.beside, Beside::Looks { .. }) {
+    let shared = plan.settings.early || plan.settings.steal;
+    if workers < 2 || shared || matches!(plan.beside, Beside::Looks { .. }) {
         return 0;
     }
     if frame_size(scene).saturating_mul(u64::from(workers)) > MOST {
@@ -380,6 +382,7 @@ fn alone(settings: &Settings) -> Settings
         cut,
         batch: settings.batch,
         early: false,
+        steal: false,
     }
 }
 
