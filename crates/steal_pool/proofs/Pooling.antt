@@ -1,12 +1,12 @@
 -- The frame of a pool is that of its tasks.
-use Rattle.std.proofs.Common.{◌≡◌, ℕ, ◌≤◌, ◌<◌, List, length, get_or, arith, ap, sym, ◌∙◌}
+use Rattle.std.proofs.Common.{◌≡◌, ℕ, ◌≤◌, ◌<◌, List, [], ◌∷◌, length, get_or, arith, ap, sym, ◌∙◌}
 use Rattle.atomic_table.specs.Seated.{TableId}
 use Rattle.binning.specs.Cut.{CutOf, bin_count_of}
 use Rattle.cull_base.specs.Tiles.{PieceList}
 use Rattle.bin_queues.specs.QueueParts.{BatchedFrame, batched, bin_of_frame}
 use Rattle.bin_queues.specs.Tasks.{QueuesOf, Tasking, first_task}
 use Rattle.steal_pool.specs.DequeRule.{no_table}
-use Rattle.steal_pool.specs.Lists.{AreTold}
+use Rattle.steal_pool.specs.Lists.{AreTold, frame_at}
 
 module _ (frame : BatchedFrame) (queues : QueuesOf) (tasks given : List Tasking) where
   any : Tasking
@@ -36,3 +36,8 @@ module _ (frame : BatchedFrame) (queues : QueuesOf) (tasks given : List Tasking)
       let c = cut_is frame queues tasks given cut told is of_cut in
       let s = size_is frame queues tasks given size told is of_size in
       λ i. batched (of_list i) (sym c i) (sym s i) (of_cells i)
+
+-- the frame that is read off the tasks
+pub frame_at_is : (frame : BatchedFrame) (queues : QueuesOf) (tasks : List Tasking) → AreTold queues frame tasks → frame_at tasks ≡ frame
+frame_at_is frame queues [] told = absurd (let some = told.some in omega (arith, some))
+frame_at_is frame queues (t ∷ ts) told = told.tasks_are.frame_is 0 t (omega arith)

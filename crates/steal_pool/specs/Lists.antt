@@ -5,9 +5,14 @@ use Rattle.bin_queues.specs.Tasks.{QueuesOf, Tasking}
 use Rattle.tile_queues.specs.Owners.{AreTasksOf}
 use Rattle.steal_pool.specs.declared.deque_rule.Call.{Call}
 use Rattle.steal_pool.specs.declared.seats.Seat.{Seat}
-use Rattle.steal_pool.specs.DequeRule.{weigh}
+use Rattle.steal_pool.specs.DequeRule.{weigh, nobody}
 use Rattle.steal_pool.specs.Finish.{lists_weigh}
 use Rattle.steal_pool.specs.Pools.{tasks_weigh, IsWholeIn}
+
+-- the frame of tasks that are all of one
+abbrev pub frame_at : List Tasking → BatchedFrame
+frame_at [] = nobody.frame
+frame_at (t ∷ ts) = t.of.frame
 
 -- the tasks of a frame and of these queues, one of each bin, of which there is one, each told of all batches
 pub record AreTold (queues : QueuesOf) (frame : BatchedFrame) (tasks : List Tasking) : Type 0 where

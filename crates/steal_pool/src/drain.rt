@@ -1,12 +1,11 @@
 //! A pool of deques that draws all tasks of a frame.
 ghost use Rattle.std.specs.Prelude.{◌≡◌, ◌*◌, ◌≤◌, ◌<◌, ℕ, All, length, slice_index_or, vec_items, IfOk, OnOk};
 ghost use Rattle.crossbeam_deque.specs.Handles.{stealer_deque};
-ghost use Rattle.bin_queues.specs.QueueParts.{BatchedFrame};
 ghost use Rattle.bin_queues.specs.Tasks.{Tasking};
 ghost use Rattle.tile_queues.specs.Shares.{AreWhole};
 ghost use Rattle.steal_pool.specs.DequeRule.{IsToldIn};
 ghost use Rattle.steal_pool.specs.Finish.{AreAt, AreFinishedTo, lists_weigh, pushed_weigh};
-ghost use Rattle.steal_pool.specs.Lists.{joined, AreTold};
+ghost use Rattle.steal_pool.specs.Lists.{frame_at, joined, AreTold};
 ghost use Rattle.steal_pool.specs.Making.{HaveRoom, IsEmptySeat};
 ghost use Rattle.steal_pool.specs.Pools.{call_of, frame_of, tasks_weigh};
 ghost use Rattle.steal_pool.specs.Seats.{IsOpen};
@@ -129,14 +128,13 @@ pub fn drain_pool<R: Threads + Wait + Sync, G: Gate>(
     workers: u32,
     gate: &G,
 ) -> Result<Vec<Vec<BinTask>>, Memory>
-    ghost frame: { BatchedFrame }
-    requires tasks { AreTold queues.now frame tasks.items }
-    requires cells { frame.cells ≡ cells.now }
-    requires list { frame.list ≡ list.now.list }
+    requires tasks { AreTold queues.now (frame_at tasks.items) tasks.items }
+    requires cells { (frame_at tasks.items).cells ≡ cells.now }
+    requires list { (frame_at tasks.items).list ≡ list.now.list }
     requires some { 1 ≤ workers }
     requires most { workers ≤ 64 }
     ensures count { IfOk result (λ v. length v.items ≡ workers) }
-    ensures whole { IfOk result (λ v. AreWhole queues.now frame (joined vec_items v.items)) }
+    ensures whole { IfOk result (λ v. AreWhole queues.now (frame_at tasks.items) (joined vec_items v.items)) }
 {
     let workers = workers as usize;
     let given = tasks.as_slice();

@@ -35,9 +35,9 @@ use std::thread::{Threads, join_mut};
 use tile_cells::{TileCells, TileReader, TileWriter};
 use tile_queues::{BinQueues, BinTask, Caller, Gate, Submitter};
 
-// The queues of a frame with their submitter, which submitted all batches, and the task of each bin, told of them. Err
-// where memory gave out.
-fn open_frame<R: Wait, G: Gate>(
+/// The queues of a frame with their submitter, which submitted all batches, and the task of each bin, told of them. Err
+/// where memory gave out. Conditions: the cells are of the list, and the writers are those that were made with them.
+pub(crate) fn open_frame<R: Wait, G: Gate>(
     rt: &R,
     alloc: Global,
     frame: &Batched,

@@ -5,30 +5,30 @@ use Rattle.bin_queues.specs.QueueParts.{BatchedFrame, batched, bin_of_frame}
 use Rattle.bin_queues.specs.Tasks.{Tasking, first_task}
 use Rattle.tile_queues.specs.Shares.{AreWhole}
 use Rattle.steal_pool.specs.DequeRule.{no_table}
-use Rattle.steal_pool.specs.Lists.{AreTold, joined}
+use Rattle.steal_pool.specs.Lists.{AreTold, frame_at, joined}
 use Rattle.steal_pool.specs.Making.{HaveRoom}
 use Rattle.steal_pool.proofs.Pooling.{bins_few, same_frame}
 use Rattle.steal_pool.proofs.drain.drain_pool.Goals as goal
 
 pub cut_at-cut-requires : goal.cut_at-cut-requires
-cut_at-cut-requires g c = omega (arith, ap length c.as_slice-given.ensures.value, c.requires.0.some)
+cut_at-cut-requires g c = omega (arith, ap length c.as_slice-given.ensures.value, c.requires.tasks.some)
 
 pub size_at-size-requires : goal.size_at-size-requires
-size_at-size-requires g c = omega (arith, ap length c.as_slice-given.ensures.value, c.requires.0.some)
+size_at-size-requires g c = omega (arith, ap length c.as_slice-given.ensures.value, c.requires.tasks.some)
 
 pub drain_tasks-lists-requires-clause-few : goal.drain_tasks-lists-requires-clause-few
 drain_tasks-lists-requires-clause-few g c κs within =
-    let few = bins_few g.frame c.args.queues.now c.args.tasks.items c.as_slice-given.result.now c.cut_at-cut.result c.bins-bins.result c.requires.0 c.as_slice-given.ensures.value c.cut_at-cut.ensures c.bins-bins.ensures.value c.bins-bins.ensures.few in
+    let few = bins_few (frame_at c.args.tasks.items) c.args.queues.now c.args.tasks.items c.as_slice-given.result.now c.cut_at-cut.result c.bins-bins.result c.requires.tasks c.as_slice-given.ensures.value c.cut_at-cut.ensures c.bins-bins.ensures.value c.bins-bins.ensures.few in
     let most = c.most_owned-room.ensures.few in
     let n = ap length c.as_slice-given.ensures.value in
     omega (arith, few, most, n)
 
 pub drain_tasks-lists-requires-clause-small : goal.drain_tasks-lists-requires-clause-small
 drain_tasks-lists-requires-clause-small g c κs within =
-    let few = bins_few g.frame c.args.queues.now c.args.tasks.items c.as_slice-given.result.now c.cut_at-cut.result c.bins-bins.result c.requires.0 c.as_slice-given.ensures.value c.cut_at-cut.ensures c.bins-bins.ensures.value c.bins-bins.ensures.few in
+    let few = bins_few (frame_at c.args.tasks.items) c.args.queues.now c.args.tasks.items c.as_slice-given.result.now c.cut_at-cut.result c.bins-bins.result c.requires.tasks c.as_slice-given.ensures.value c.cut_at-cut.ensures c.bins-bins.ensures.value c.bins-bins.ensures.few in
     let most = c.most_owned-room.ensures.few in
     let n = ap length c.as_slice-given.ensures.value in
-    let product : c.args.workers * c.most_owned-room.result ≤ 64 * c.most_owned-room.result = mul-le-mul_right c.requires.1.1.1.1 in
+    let product : c.args.workers * c.most_owned-room.result ≤ 64 * c.most_owned-room.result = mul-le-mul_right c.requires.most in
     omega (arith, few, most, n, product)
 
 pub drain_tasks-lists-requires-clause-room : goal.drain_tasks-lists-requires-clause-room
@@ -37,10 +37,10 @@ drain_tasks-lists-requires-clause-room g c κs within =
 
 pub drain_tasks-lists-requires-clause-tasks : goal.drain_tasks-lists-requires-clause-tasks
 drain_tasks-lists-requires-clause-tasks g c κs within =
-    let e = same_frame g.frame c.args.queues.now c.args.tasks.items c.as_slice-given.result.now c.args.list.now.list c.args.cells.now c.cut_at-cut.result c.size_at-size.result c.requires.0 c.as_slice-given.ensures.value c.requires.1.1.0 c.requires.1.0 c.cut_at-cut.ensures c.size_at-size.ensures in
-    subst (λ (f : BatchedFrame). AreTold c.args.queues.now f c.args.tasks.items) e c.requires.0
+    let e = same_frame (frame_at c.args.tasks.items) c.args.queues.now c.args.tasks.items c.as_slice-given.result.now c.args.list.now.list c.args.cells.now c.cut_at-cut.result c.size_at-size.result c.requires.tasks c.as_slice-given.ensures.value c.requires.list c.requires.cells c.cut_at-cut.ensures c.size_at-size.ensures in
+    subst (λ (f : BatchedFrame). AreTold c.args.queues.now f c.args.tasks.items) e c.requires.tasks
 
 pub returns-clause-whole : goal.returns-clause-whole
 returns-clause-whole g c =
-    let e = same_frame g.frame c.args.queues.now c.args.tasks.items c.as_slice-given.result.now c.args.list.now.list c.args.cells.now c.cut_at-cut.result c.size_at-size.result c.requires.0 c.as_slice-given.ensures.value c.requires.1.1.0 c.requires.1.0 c.cut_at-cut.ensures c.size_at-size.ensures in
+    let e = same_frame (frame_at c.args.tasks.items) c.args.queues.now c.args.tasks.items c.as_slice-given.result.now c.args.list.now.list c.args.cells.now c.cut_at-cut.result c.size_at-size.result c.requires.tasks c.as_slice-given.ensures.value c.requires.list c.requires.cells c.cut_at-cut.ensures c.size_at-size.ensures in
     subst (λ (f : BatchedFrame). AreWhole c.args.queues.now f (joined vec_items c.in_ok-lists.lists.items)) (sym e) c.in_ok-lists.ensures.whole
