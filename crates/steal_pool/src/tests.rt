@@ -44,7 +44,7 @@ fn drawn_by<R: Threads + Wait + Sync>(
     Ok(drawn)
 }
 
-// The bin of each task, how many pieces it drew, and how many lists there are.
+// How many tasks of so many bins are in the lists, and how many pieces and batches these drew.
 fn counted(lists: &[Vec<BinTask>], bins: u32) -> (usize, u32, u32) {
     let (mut tasks, mut pieces, mut batches) = (0usize, 0u32, 0u32);
     for list in lists {
