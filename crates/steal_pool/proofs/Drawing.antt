@@ -1,7 +1,7 @@
 -- What workers drew.
 use Rattle.std.proofs.Common.{◌≡◌, ℕ, ◌+◌, ◌-◌, ◌≤◌, ◌<◌, All, List, [], ◌∷◌, ◌++◌, length, sym, ap, ◌∙◌, subst, length-append, arith}
 use Rattle.std.proofs.lemmas.List.Elements.{All-push}
-use Rattle.bin_queues.specs.QueueParts.{BatchedFrame, batches_in}
+use Rattle.bin_queues.specs.QueueParts.{BinOfFrame, batches_in}
 use Rattle.bin_queues.specs.Tasks.{GoesOn, Tasking}
 use Rattle.bin_queues.proofs.GoingOn.{still_of}
 use Rattle.bin_tasks.specs.Drains.{IsAnswer}
@@ -9,7 +9,7 @@ use Rattle.bin_tasks.specs.declared.task.Drained.{Drained}
 use Rattle.bin_tasks.specs.declared.task.Drained.TheVariants.{Whole}
 use Rattle.steal_pool.specs.declared.deque_rule.Call.{Call}
 use Rattle.steal_pool.specs.declared.deque_rule.View.{View}
-use Rattle.steal_pool.specs.DequeRule.{weigh, with_taken, IsToldIn, TookOne}
+use Rattle.steal_pool.specs.DequeRule.{with_taken, IsToldIn, TookOne}
 use Rattle.steal_pool.specs.Pools.{tasks_weigh, bins_weigh, IsWholeIn, Drew, Joined}
 use Rattle.steal_pool.proofs.Weights.{weigh_one}
 
@@ -18,7 +18,7 @@ pub is_whole : (c : Call) (d : Drained) (t t' : Tasking) → IsToldIn c t → Go
 is_whole c d t t' told on answer whole =
     let frame = told.over.frame_is in
     let all : d ≡ Whole = whole (told.told ∙ ap batches_in (sym frame)) in
-    let same : t'.of.frame ≡ c.frame = ap (λ b. b.frame) on.of ∙ frame in
+    let same : t'.of.frame ≡ c.frame = ap (λ (b : BinOfFrame). b.frame) on.of ∙ frame in
     record {
       over = record { of = still_of c.queues t t' on told.over.of; frame_is = same };
       drawn = subst (λ (a : Drained). IsAnswer a t t') all answer ∙ ap batches_in same;

@@ -1,5 +1,5 @@
 -- New seats that get their tasks and passes.
-use Rattle.std.proofs.Common.{◌≡◌, ℕ, ◌<◌, List, length, get_or, ap, ◌∙◌, arith}
+use Rattle.std.proofs.Common.{◌≡◌, ℕ, ◌<◌, List, length, ap, ◌∙◌, arith}
 use Rattle.std.specs.Global.{Global}
 use Rattle.atomic_blocks.specs.Lent.{RowsId}
 use Rattle.crossbeam_deque.specs.Handles.{worker_view}

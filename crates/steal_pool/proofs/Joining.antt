@@ -4,11 +4,9 @@ use Rattle.std.proofs.lemmas.Bool.{cases_eq}
 use Rattle.std.proofs.lemmas.List.{get_or_default, drop_all}
 use Rattle.std.proofs.lemmas.List.Elements.{All-push, All-nil}
 use Rattle.atomic_table.proofs.Lists.{at_index}
-use Rattle.binning.specs.Cut.{bin_count_of}
-use Rattle.bin_queues.specs.QueueParts.{BatchedFrame, batches_in}
-use Rattle.bin_queues.specs.Tasks.{QueuesOf, Tasking}
+use Rattle.bin_queues.specs.Tasks.{Tasking}
 use Rattle.tile_queues.specs.Owners.{AreTasksOf}
-use Rattle.tile_queues.specs.Shares.{AreWhole, IsTaskOver}
+use Rattle.tile_queues.specs.Shares.{AreWhole}
 use Rattle.tile_queues.proofs.Changing.{all_parts}
 use Rattle.steal_pool.specs.declared.deque_rule.Call.{Call}
 use Rattle.steal_pool.specs.declared.seats.Seat.{Seat}

@@ -10,9 +10,7 @@ use Rattle.steal_pool.specs.declared.deque_rule.Call.{Call}
 use Rattle.steal_pool.specs.declared.deque_rule.View.{View}
 use Rattle.steal_pool.specs.declared.seats.Seat.{Seat}
 use Rattle.steal_pool.specs.DequeRule.{weigh, owning, IsToldIn}
-use Rattle.steal_pool.specs.Finish.{pushed_weigh}
 use Rattle.steal_pool.specs.Making.{AreAtTo, AreFilling, IsEmptySeat, IsFilling, owned}
-use Rattle.steal_pool.specs.Pools.{tasks_weigh}
 use Rattle.steal_pool.proofs.Weights.{weigh_zero}
 
 pub none_at : {S : Type 0} (f : S → RowsId × Global) (ts : List S) (ss : List Seat) → AreAtTo f 0 ts ss

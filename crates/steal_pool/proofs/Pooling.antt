@@ -1,5 +1,5 @@
 -- The frame of a pool is that of its tasks.
-use Rattle.std.proofs.Common.{◌≡◌, ℕ, ◌≤◌, ◌<◌, List, [], ◌∷◌, length, get_or, arith, ap, sym, ◌∙◌}
+use Rattle.std.proofs.Common.{◌≡◌, ℕ, ◌≤◌, List, [], ◌∷◌, length, get_or, arith, ap, sym, ◌∙◌}
 use Rattle.atomic_table.specs.Seated.{TableId}
 use Rattle.binning.specs.Cut.{CutOf, bin_count_of}
 use Rattle.cull_base.specs.Tiles.{PieceList}

@@ -1,10 +1,10 @@
 -- Writers that come back from tasks which drew all batches.
-use Rattle.std.proofs.Common.{◌≡◌, ℕ, ◌≤◌, ◌<◌, List, length, arith, ap, sym, ◌∙◌, subst}
+use Rattle.std.proofs.Common.{◌≡◌, ℕ, ◌≤◌, List, length, arith, ap, sym, ◌∙◌, subst}
 use Rattle.std.specs.Prelude.{slice_index_or}
 use Rattle.cull_base.specs.Screen.{tile_count_of}
 use Rattle.tile_cells.specs.Cells.{Writing}
 use Rattle.tile_cells.specs.Standing.{AreStanding, StandsAt}
-use Rattle.bin_queues.specs.QueueParts.{BatchedFrame, batches_in, places_before}
+use Rattle.bin_queues.specs.QueueParts.{BatchedFrame, places_before}
 use Rattle.bin_queues.specs.Tasks.{QueuesOf, Tasking}
 use Rattle.bin_queues.proofs.Intaking.{places_end}
 use Rattle.tile_queues.specs.Owners.{AreHandedBack, IsHandedBack}

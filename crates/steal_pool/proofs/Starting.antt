@@ -1,5 +1,5 @@
 -- Frames whose batches are to be submitted.
-use Rattle.std.proofs.Common.{◌≡◌, ℕ, All, List, length, ap, sym, ◌∙◌, subst}
+use Rattle.std.proofs.Common.{◌≡◌, All, List, length, ap, sym, ◌∙◌, subst}
 use Rattle.atomic_table.specs.Seated.{TableId}
 use Rattle.tile_cells.specs.Cells.{AreFresh, Writing}
 use Rattle.bin_queues.specs.Frames.{over}

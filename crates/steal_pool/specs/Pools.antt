@@ -1,5 +1,5 @@
 -- What a pool's workers share, and what they drew.
-use Rattle.std.specs.Prelude.{◌≡◌, ℕ, ◌+◌, ◌++◌, List, [], ◌∷◌, All, length}
+use Rattle.std.specs.Prelude.{◌≡◌, ℕ, ◌+◌, ◌++◌, List, [], ◌∷◌, length}
 use Rattle.bin_queues.specs.QueueParts.{BatchedFrame, batched, batches_in}
 use Rattle.bin_queues.specs.Tasks.{Tasking}
 use Rattle.tile_queues.specs.Shares.{IsTaskOver}

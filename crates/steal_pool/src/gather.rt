@@ -1,5 +1,5 @@
 //! The passes of all workers end in the owners' views.
-ghost use Rattle.std.specs.Prelude.{◌≡◌, ◌+◌, ◌<◌, ◌≤◌, ℕ, length, vec_len};
+ghost use Rattle.std.specs.Prelude.{◌≡◌, ◌+◌, ◌<◌, ℕ, length};
 ghost use Rattle.crossbeam_deque.specs.Handles.{view, IsPassOf, stealer_deque, worker_view};
 ghost use Rattle.steal_pool.specs.DequeRule.{stealing};
 ghost use Rattle.steal_pool.specs.Pools.{call_of, bins_weigh};

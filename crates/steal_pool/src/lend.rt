@@ -1,6 +1,6 @@
 //! How each worker is lent a pass on each deque.
-ghost use Rattle.std.specs.Prelude.{◌≡◌, ◌+◌, ◌<◌, ◌≤◌, ℕ, [], All, length, IfOk, OnOk};
-ghost use Rattle.crossbeam_deque.specs.Handles.{view, IsPassOf, stealer_deque, worker_deque, worker_view};
+ghost use Rattle.std.specs.Prelude.{◌≡◌, ◌+◌, ◌<◌, [], All, length, IfOk, OnOk};
+ghost use Rattle.crossbeam_deque.specs.Handles.{view, IsPassOf, stealer_deque, worker_deque};
 ghost use Rattle.steal_pool.specs.DequeRule.{stealing};
 ghost use Rattle.steal_pool.specs.Finish.{AreAt};
 ghost use Rattle.steal_pool.specs.Making.{AreLent, AreLentOn, AreSeatsOn, IsDealt, IsLentOn};

@@ -165,10 +165,11 @@ fn counting_run_through_cells(rt: HostRuntime) -> Result<(), Fail> {
 
 #[test]
 fn counting_run_with_stolen_tasks(rt: HostRuntime) -> Result<(), Fail> {
+    let alloc = rt.alloc();
     let rest = "--steal --seed 1 --triangles 20000 --workers 8 --bins-x 4 --bins-y 4";
     for command in ["maskcull demo", "maskcull demo --early"] {
-        let line = format!(in rt.alloc(); "{command} {rest}")?;
-        assert_counted(&rt, rt.alloc(), line.as_str())?;
+        let line = format!(in alloc; "{command} {rest}")?;
+        assert_counted(&rt, alloc, line.as_str())?;
     }
     Ok(())
 }

@@ -1,6 +1,4 @@
 //! Bins that are drawn while their worker is held up in another: other workers take them.
-ghost use Rattle.std.specs.Prelude.{◌≡◌, ◌≤◌};
-
 use crate::tests::runs::{assert_ended, run_gated, run_with};
 use crate::tests::scenes::{OCCLUDED, changed, first_scene, scene};
 use crate::tests::waiting::wait_for;
@@ -136,21 +134,28 @@ fn stolen_task(rt: HostRuntime) -> Result<(), Fail> {
     Ok(())
 }
 
-// The corners of the three pieces as vertices at distance 768, and these triangles so many times over.
+// The corners of the three pieces, as vertices at distance 768.
+const CORNERS: [[i32; 3]; 9] = [
+    [-768, 768, 768],
+    [-609, 768, 768],
+    [-609, -756, 768],
+    [-224, 768, 768],
+    [31, 768, 768],
+    [31, -756, 768],
+    [288, 768, 768],
+    [543, 768, 768],
+    [543, -756, 768],
+];
+
+const TRIANGLES: [[u32; 3]; 3] = [[0, 1, 2], [3, 4, 5], [6, 7, 8]];
+
+// A scene with the three pieces so many times over, on a screen of three tiles.
 fn wide_scene(alloc: Global, times: u32) -> Result<Vec<u8>, AllocError> {
-    let mut vertices = Vec::new(alloc);
-    for (left, right) in [(0i32, 159i32), (544, 799), (1056, 1311)] {
-        for (x, y) in [(left, 0i32), (right, 0), (right, 127)] {
-            vertices.push([x - 768, 768 - 12 * y, 768])?;
-        }
-    }
     let mut triangles = Vec::new(alloc);
     for _ in 0..times {
-        for first in [0u32, 3, 6] {
-            triangles.push([first, first + 1, first + 2])?;
-        }
+        triangles.extend_from_slice(&TRIANGLES)?;
     }
-    let bytes = scene(alloc, &vertices, &triangles, &[])?;
+    let bytes = scene(alloc, &CORNERS, &triangles, &[])?;
     Ok(changed(bytes, &[(6, 96)]))
 }
 

@@ -1,9 +1,8 @@
-use Rattle.std.proofs.Common.{◌≡◌, ◌+◌, ◌∷◌, [], ℕ, ◌<◌, drop, length, get_or, arith, rules, refl, ap, sym, ◌∙◌, subst}
-use Rattle.std.proofs.lemmas.List.{length-set, drop_all}
+use Rattle.std.proofs.Common.{◌≡◌, ◌∷◌, ℕ, ◌<◌, length, get_or, arith, rules, refl, ap, sym, ◌∙◌}
+use Rattle.std.proofs.lemmas.List.{length-set}
 use Rattle.cull_base.proofs.Lists.{turn}
-use Rattle.crossbeam_deque.specs.Handles.{worker_view}
 use Rattle.steal_pool.specs.declared.seats.Seat.{Seat}
-use Rattle.steal_pool.specs.Pools.{call_of, tasks_weigh}
+use Rattle.steal_pool.specs.Pools.{call_of}
 use Rattle.steal_pool.proofs.Opening.{none_dealt}
 use Rattle.steal_pool.proofs.Dealing.{dealt_more, may_push, none_left}
 use Rattle.steal_pool.proofs.deal.deal.Goals as goal

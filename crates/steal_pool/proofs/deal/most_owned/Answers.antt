@@ -1,4 +1,4 @@
-use Rattle.std.proofs.Common.{ℕ, ◌+◌, ◌≤◌, ◌<◌, below_more, arith}
+use Rattle.std.proofs.Common.{ℕ, ◌≤◌, below_more, arith}
 use Rattle.steal_pool.specs.Making.{owned}
 use Rattle.steal_pool.proofs.deal.most_owned.Goals as goal
 

@@ -1,6 +1,6 @@
-use Rattle.std.proofs.Common.{◌≡◌, ◌+◌, ◌<◌, length, arith, ap, ◌∙◌, take, subst}
+use Rattle.std.proofs.Common.{arith, ap, ◌∙◌}
 use Rattle.std.proofs.lemmas.List.{take_all}
-use Rattle.steal_pool.specs.Making.{belongs, owned}
+use Rattle.steal_pool.specs.Making.{owned}
 use Rattle.steal_pool.proofs.Dealing.{owned_more}
 use Rattle.steal_pool.proofs.deal.owned_by.Goals as goal
 

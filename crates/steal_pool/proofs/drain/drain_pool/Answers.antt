@@ -1,10 +1,7 @@
-use Rattle.std.proofs.Common.{◌≡◌, ◌*◌, ◌≤◌, ◌<◌, length, vec_items, arith, ap, sym, ◌∙◌, subst}
+use Rattle.std.proofs.Common.{◌*◌, ◌≤◌, length, vec_items, arith, ap, sym, subst}
 use Rattle.std.proofs.Math.Nat.{mul-le-mul_right}
-use Rattle.binning.specs.Cut.{bin_count_of}
-use Rattle.bin_queues.specs.QueueParts.{BatchedFrame, batched, bin_of_frame}
-use Rattle.bin_queues.specs.Tasks.{Tasking, first_task}
+use Rattle.bin_queues.specs.QueueParts.{BatchedFrame}
 use Rattle.tile_queues.specs.Shares.{AreWhole}
-use Rattle.steal_pool.specs.DequeRule.{no_table}
 use Rattle.steal_pool.specs.Lists.{AreTold, frame_at, joined}
 use Rattle.steal_pool.specs.Making.{HaveRoom}
 use Rattle.steal_pool.proofs.Pooling.{bins_few, same_frame}

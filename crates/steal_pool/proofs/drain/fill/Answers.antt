@@ -1,5 +1,5 @@
-use Rattle.std.proofs.Common.{ap, ◌∙◌}
-use Rattle.crossbeam_deque.specs.Handles.{stealer_deque, worker_view}
+use Rattle.std.proofs.Common.{◌∙◌}
+use Rattle.crossbeam_deque.specs.Handles.{stealer_deque}
 use Rattle.steal_pool.proofs.Filling.{at_same, pushed_on}
 use Rattle.steal_pool.proofs.Lending.{at_on}
 use Rattle.steal_pool.proofs.drain.fill.Goals as goal

@@ -1,9 +1,7 @@
-use Rattle.std.proofs.Common.{◌≡◌, ◌*◌, ◌≤◌, length, arith, ap, sym, ◌∙◌, subst}
+use Rattle.std.proofs.Common.{◌*◌, ◌≤◌, length, arith, ap, sym, subst}
 use Rattle.std.proofs.Math.Nat.{mul-le-mul_right}
-use Rattle.tile_cells.specs.Standing.{AreStanding}
 use Rattle.bin_queues.specs.QueueParts.{BatchedFrame, batched}
 use Rattle.tile_queues.specs.Owners.{AreHandedBack, AreTasksOf}
-use Rattle.tile_queues.specs.Shares.{AreWhole}
 use Rattle.steal_pool.specs.Making.{HaveRoom}
 use Rattle.steal_pool.proofs.Standing.{stand_at_end}
 use Rattle.steal_pool.proofs.frame.draw_stolen.Goals as goal

@@ -1,4 +1,4 @@
-use Rattle.std.proofs.Common.{◌≡◌, ◌<◌, ◌≤◌, ℕ, All, List, length, vec_items, vec_len, vec_capacity, arith, rules, ap, sym, ◌∙◌, subst}
+use Rattle.std.proofs.Common.{◌≡◌, All, List, length, vec_items, vec_len, vec_capacity, arith, rules, ap, sym, ◌∙◌, subst}
 use Rattle.std.proofs.lemmas.List.{with_items_is}
 use Rattle.bin_queues.specs.Tasks.{Tasking}
 use Rattle.tile_queues.specs.Shares.{AreWhole}
@@ -6,7 +6,7 @@ use Rattle.steal_pool.specs.declared.seats.Seat.{Seat}
 use Rattle.steal_pool.specs.Finish.{AreFinishedTo, lists_weigh}
 use Rattle.steal_pool.specs.Lists.{joined}
 use Rattle.steal_pool.specs.Making.{HaveRoom, IsEmptySeat}
-use Rattle.steal_pool.specs.Pools.{call_of, frame_of, tasks_weigh}
+use Rattle.steal_pool.specs.Pools.{call_of, frame_of}
 use Rattle.steal_pool.proofs.Joining.{all_told, are_whole, joined_weigh, joined_whole}
 use Rattle.steal_pool.proofs.frame.draw_tasks.Goals as goal
 

@@ -1,4 +1,4 @@
-use Rattle.std.proofs.Common.{◌≡◌, ◌+◌, ◌<◌, length, get_or, arith, refl, ap, sym, subst}
+use Rattle.std.proofs.Common.{◌<◌, length, get_or, arith, refl, ap, sym, subst}
 use Rattle.crossbeam_deque.specs.Handles.{stealer_deque}
 use Rattle.steal_pool.specs.declared.seats.Seat.{Seat}
 use Rattle.steal_pool.specs.Pools.{call_of}

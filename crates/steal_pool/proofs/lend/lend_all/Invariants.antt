@@ -1,4 +1,4 @@
-use Rattle.std.proofs.Common.{◌≡◌, length}
+use Rattle.std.proofs.Common.{length}
 use Rattle.crossbeam_deque.specs.Handles.{stealer_deque}
 use Rattle.steal_pool.specs.Making.{AreLent, AreSeatsOn, HaveRowsTo}
 use Rattle.steal_pool.specs.Pools.{call_of}

@@ -1,4 +1,4 @@
-use Rattle.std.proofs.Common.{ap, sym, ◌∙◌, subst}
+use Rattle.std.proofs.Common.{ap, sym, subst}
 use Rattle.bin_queues.specs.Frames.{over}
 use Rattle.bin_queues.specs.QueueParts.{BatchedFrame}
 use Rattle.steal_pool.specs.Lists.{AreTold}
