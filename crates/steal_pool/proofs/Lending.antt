@@ -79,6 +79,9 @@ ends_none f c ds ps is =
     let n : length ps ≡ 0 = ap length is in
     record { many = omega arith; of = λ i s p lt. absurd (omega arith); steals = λ i p lt. absurd (omega arith) }
 
+pub fresh_none : (ps : List (Pass Tasking View Global)) → ps ≡ [] → AreFresh ps
+fresh_none ps is i p lt = absurd (omega (arith, lt, ap length is))
+
 pub ends_more : {S : Type 0} (f : S → RowsId × Global) (c : Call) (ds : List S) (ps : List (Pass Tasking View Global)) (p : Pass Tasking View Global) (d : ℕ) → AreEnds f c ds ps → length ps ≡ d → d < length ds
     → ((t : S) → IsPassOf (f (get_or ds d t)) p) → view p ≡ stealing c [] → AreEnds f c ds (ps ++ p ∷ [])
 ends_more {S} f c ds ps p d ends len lt own fresh =

@@ -32,6 +32,9 @@ pub draw_tasks-drawn-requires-clause-room : goal.draw_tasks-drawn-requires-claus
 draw_tasks-drawn-requires-clause-room g c κs within =
     subst (λ ts. HaveRoom c.min-workers.result c.most_owned-room.result ts) c.as_slice-given.ensures.value c.most_owned-room.ensures.each
 
+pub draw_tasks-drawn-requires-clause-tasks : goal.draw_tasks-drawn-requires-clause-tasks
+draw_tasks-drawn-requires-clause-tasks g c κs within = c.in_ok-queues.ensures.tasks
+
 pub close-requires-clause-tasks : goal.close-requires-clause-tasks
 close-requires-clause-tasks g c =
     let made = c.in_ok-queues in

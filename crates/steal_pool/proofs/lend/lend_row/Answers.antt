@@ -5,11 +5,11 @@ use Rattle.steal_pool.specs.Gather.{AreEnds}
 use Rattle.steal_pool.specs.Making.{AreLent}
 use Rattle.steal_pool.specs.Pools.{call_of}
 use Rattle.steal_pool.specs.Seats.{AreFresh}
-use Rattle.steal_pool.proofs.Lending.{ends_none, ends_more, fresh_more, lent_is, lent_on_none, lent_on_put, lent_put, own_pass, row_whole}
+use Rattle.steal_pool.proofs.Lending.{ends_none, ends_more, fresh_more, fresh_none, lent_is, lent_on_none, lent_on_put, lent_put, own_pass, row_whole}
 use Rattle.steal_pool.proofs.lend.lend_row.Goals as goal
 
 pub loop-d-init : goal.loop-d-init
-loop-d-init g c = (lent_on_none c.args.seats.now, c.requires.lent, ends_none stealer_deque (call_of c.args.pool.now) c.args._thieves.now _ (search rules), (λ i p lt. absurd (let e : length c.in_ok-passes.passes.items ≡ 0 = search rules in omega (arith, lt, e))), search rules, search rules)
+loop-d-init g c = (lent_on_none c.args.seats.now, c.requires.lent, ends_none stealer_deque (call_of c.args.pool.now) c.args._thieves.now _ (search rules), fresh_none _ (search rules), search rules, search rules)
 
 pub lend_at-requires : goal.lend_at-requires
 lend_at-requires g c κs within =
