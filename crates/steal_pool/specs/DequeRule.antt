@@ -85,8 +85,8 @@ pub record IsToldIn (c : Call) (t : Tasking) : Type 0 where
   pub over : IsTaskOver c.queues c.frame t
   pub told : t.told ≡ batches_in c.frame
 
--- `gone` are the bins of the places below front, in order. Each of these places stands in one view's list, once, with its
--- bin: however places and bins are weighed, the lists of all views weigh what the places below front weigh.
+-- `gone` are the bins of the places below front, in order. Each of these places stands in one view's list, once, with
+-- its bin: however places and bins are weighed, the lists of all views weigh what the places below front weigh.
 pub record Running (items : List Tasking) (views : List View) (c : Call) (gone : List ℕ) : Type 0 where
   pub within : length gone + length items ≤ c.room
   pub told : All (IsToldIn c) items

@@ -32,4 +32,6 @@ pub record AreFinishedTo (c : Call) (w : ℕ) (seats : List Seat) : Type 0 where
 
 -- each seat owns the deque at its place
 abbrev pub AreAt : {S : Type 0} → (S → RowsId × Global) → List S → List Seat → Type 0
-AreAt {S} deque deques seats = (i : ℕ) (t : S) (s : Seat) → i < length seats → worker_deque (slice_index_or seats i s).owner ≡ deque (slice_index_or deques i t)
+AreAt {S} deque deques seats =
+    (i : ℕ) (t : S) (s : Seat) → i < length seats
+    → worker_deque (slice_index_or seats i s).owner ≡ deque (slice_index_or deques i t)

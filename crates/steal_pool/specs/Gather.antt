@@ -22,9 +22,12 @@ pub record IsOut (deque : RowsId × Global) (c : Call) (out : ℕ) (s : Seat) : 
   pub owns : worker_view s.owner ≡ owning c (worker_view s.owner).pushed (worker_view s.owner).taken out
 
 -- one more is out of the first `from` deques than of the others
-pub record AreOut {S : Type 0} (deque : S → RowsId × Global) (c : Call) (deques : List S) (from out : ℕ) (seats : List Seat) : Type 0 where
-  pub before : (i : ℕ) (t : S) (s : Seat) → i < from → i < length seats → IsOut (deque (slice_index_or deques i t)) c (out + 1) (slice_index_or seats i s)
-  pub after : (i : ℕ) (t : S) (s : Seat) → from ≤ i → i < length seats → IsOut (deque (slice_index_or deques i t)) c out (slice_index_or seats i s)
+pub record AreOut {S : Type 0} (deque : S → RowsId × Global) (c : Call) (deques : List S)
+    (from out : ℕ) (seats : List Seat) : Type 0 where
+  pub before : (i : ℕ) (t : S) (s : Seat) → i < from → i < length seats
+      → IsOut (deque (slice_index_or deques i t)) c (out + 1) (slice_index_or seats i s)
+  pub after : (i : ℕ) (t : S) (s : Seat) → from ≤ i → i < length seats
+      → IsOut (deque (slice_index_or deques i t)) c out (slice_index_or seats i s)
 
 -- all but what the owner's view took, which only grows
 pub record IsKept (s t : Seat) : Type 0 where
@@ -37,19 +40,25 @@ pub record AreKept (seats seats' : List Seat) : Type 0 where
   pub each : (i : ℕ) (s : Seat) → i < length seats → IsKept (slice_index_or seats i s) (slice_index_or seats' i s)
 
 -- the passes that are left to end: those on the first deques
-pub record AreEnds {S A : Type 0} (deque : S → RowsId × A) (c : Call) (deques : List S) (passes : List (Pass Tasking View A)) : Type 0 where
+pub record AreEnds {S A : Type 0} (deque : S → RowsId × A) (c : Call) (deques : List S)
+    (passes : List (Pass Tasking View A)) : Type 0 where
   pub many : length passes ≤ length deques
-  pub of : (i : ℕ) (s : S) (p : Pass Tasking View A) → i < length passes → IsPassOf (deque (slice_index_or deques i s)) (slice_index_or passes i p)
-  pub steals : (i : ℕ) (p : Pass Tasking View A) → i < length passes → view (slice_index_or passes i p) ≡ stealing c (view (slice_index_or passes i p)).taken
+  pub of : (i : ℕ) (s : S) (p : Pass Tasking View A) → i < length passes
+      → IsPassOf (deque (slice_index_or deques i s)) (slice_index_or passes i p)
+  pub steals : (i : ℕ) (p : Pass Tasking View A) → i < length passes
+      → view (slice_index_or passes i p) ≡ stealing c (view (slice_index_or passes i p)).taken
 
 -- what the passes of all seats took, by the weights of the bins
 abbrev pub all_passes_weigh : (ℕ → ℕ) → List Seat → ℕ
 all_passes_weigh k seats = weigh (λ (s : Seat). passes_weigh k s.passes.items) seats
 
 -- from the `from`-th on, each seat has its passes; those before have none
-pub record HavePassesFrom {S : Type 0} (deque : S → RowsId × Global) (c : Call) (deques : List S) (from : ℕ) (seats : List Seat) : Type 0 where
-  pub none : (i : ℕ) (s : Seat) → i < from → i < length seats → (slice_index_or seats i s).passes.items ≡ []
-  pub each : (i : ℕ) (s : Seat) → from ≤ i → i < length seats → ArePassesOf deque c deques (slice_index_or seats i s).passes.items
+pub record HavePassesFrom {S : Type 0} (deque : S → RowsId × Global) (c : Call) (deques : List S)
+    (from : ℕ) (seats : List Seat) : Type 0 where
+  pub none : (i : ℕ) (s : Seat) → i < from → i < length seats
+      → (slice_index_or seats i s).passes.items ≡ []
+  pub each : (i : ℕ) (s : Seat) → from ≤ i → i < length seats
+      → ArePassesOf deque c deques (slice_index_or seats i s).passes.items
 
 -- all but passes, and what the owner's view took, which only grows
 pub record IsKeptAside (s t : Seat) : Type 0 where
@@ -58,4 +67,5 @@ pub record IsKeptAside (s t : Seat) : Type 0 where
   pub longer : length (worker_view s.owner).taken ≤ length (worker_view t.owner).taken
 
 pub record AreKeptAside (seats seats' : List Seat) : Type 0 where
-  pub each : (i : ℕ) (s : Seat) → i < length seats → IsKeptAside (slice_index_or seats i s) (slice_index_or seats' i s)
+  pub each : (i : ℕ) (s : Seat) → i < length seats
+      → IsKeptAside (slice_index_or seats i s) (slice_index_or seats' i s)

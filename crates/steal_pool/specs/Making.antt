@@ -1,6 +1,6 @@
 -- How the seats of workers are made, dealt tasks and lent passes.
-use Rattle.std.specs.Prelude.{◌≡◌, ◌==◌, ℕ, ◌+◌, ◌*◌, ◌%◌, ◌≤◌, ◌<◌, cond, List, [], All, length, slice_index_or, vec_len}
-use Rattle.std.specs.Prelude.{vec_capacity}
+use Rattle.std.specs.Prelude.{◌≡◌, ◌==◌, ℕ, ◌+◌, ◌*◌, ◌%◌, ◌≤◌, ◌<◌, cond, List, [], All, length, slice_index_or}
+use Rattle.std.specs.Prelude.{vec_len, vec_capacity}
 use Rattle.std.specs.Global.{Global}
 use Rattle.atomic_blocks.specs.Lent.{RowsId}
 use Rattle.crossbeam_deque.specs.Handles.{worker_view, worker_flavor, worker_deque, worker_index, worker_capacity}
@@ -50,8 +50,8 @@ HaveSameDeques was seats =
     (i : ℕ) (s : Seat) → i < length seats
     → worker_deque (slice_index_or seats i s).owner ≡ worker_deque (slice_index_or was i s).owner
 
--- Of all tasks these are left: the others were pushed, each to the deque of the worker to which its bin belongs. There is
--- room for those that are left.
+-- Of all tasks these are left: the others were pushed, each to the deque of the worker to which its bin belongs. There
+-- is room for those that are left.
 pub record AreFilling (c : Call) (was seats : List Seat) (all left : List Tasking) : Type 0 where
   pub many : length seats ≡ length was
   pub filling : (i : ℕ) (s : Seat) → i < length seats → IsFilling c (length was) (slice_index_or seats i s)
@@ -64,7 +64,8 @@ pub record AreFilling (c : Call) (was seats : List Seat) (all left : List Taskin
 -- each of the first n seats owns the deque at its place
 abbrev pub AreAtTo : {S : Type 0} → (S → RowsId × Global) → ℕ → List S → List Seat → Type 0
 AreAtTo {S} deque n deques seats =
-    (i : ℕ) (t : S) (s : Seat) → i < n → worker_deque (slice_index_or seats i s).owner ≡ deque (slice_index_or deques i t)
+    (i : ℕ) (t : S) (s : Seat) → i < n
+    → worker_deque (slice_index_or seats i s).owner ≡ deque (slice_index_or deques i t)
 
 -- one stealer's view more is out of the first `upto` deques than of the others
 pub record AreLent (c : Call) (workers upto out : ℕ) (seats : List Seat) : Type 0 where
@@ -94,7 +95,8 @@ pub record AreSeatsOn (seats seats' : List Seat) : Type 0 where
 abbrev pub HaveRowsTo : {S : Type 0} → (S → RowsId × Global) → Call → List S → ℕ → List Seat → Type 0
 HaveRowsTo {S} deque c deques n seats =
     (i : ℕ) (s : Seat) → i < n → i < length seats
-    → ArePassesOf deque c deques (slice_index_or seats i s).passes.items × AreFresh (slice_index_or seats i s).passes.items
+    → ArePassesOf deque c deques (slice_index_or seats i s).passes.items
+    × AreFresh (slice_index_or seats i s).passes.items
 
 -- no worker gets more of the tasks than a deque is for
 abbrev pub HaveRoom : ℕ → ℕ → List Tasking → Type 0

@@ -2,7 +2,8 @@
 ghost use Rattle.std.specs.Prelude.{◌≡◌, ◌+◌, ◌<◌, ◌≤◌, [], ◌∷◌, ◌++◌, length, IfOk, MatchOption};
 ghost use Rattle.crossbeam_deque.specs.Handles.{view, IsPassOf, SameWorker, worker_deque, stealer_deque, worker_view};
 ghost use Rattle.crossbeam_deque.specs.Handles.{worker_flavor, worker_index, worker_port, worker_capacity};
-ghost use Rattle.steal_pool.specs.DequeRule.{nameless, owning, lending, lent, returned, IsToldIn, TookOne, IsShort, LooksEmpty};
+ghost use Rattle.steal_pool.specs.DequeRule.{nameless, owning, lending, lent, returned};
+ghost use Rattle.steal_pool.specs.DequeRule.{IsToldIn, TookOne, IsShort, LooksEmpty};
 ghost use Rattle.steal_pool.specs.Pools.{call_of};
 ghost use Rattle.steal_pool.specs.declared.deque_rule.Role.TheVariants.{Owns, Steals};
 

@@ -74,8 +74,8 @@ fn run<R: Threads + Wait + Sync, G: Gate>(
     Ok(())
 }
 
-/// Draws all tasks by so many workers, each in a thread of its own, and gives what each drew. Err where memory gave out,
-/// and then none is drawn. Conditions: 1 to 64 workers, and the tasks are those of the pool's frame, told of all
+/// Draws all tasks by so many workers, each in a thread of its own, and gives what each drew. Err where memory gave
+/// out, and then none is drawn. Conditions: 1 to 64 workers, and the tasks are those of the pool's frame, told of all
 /// batches.
 pub(crate) fn drain_tasks<R: Threads + Wait + Sync, G: Gate>(
     pool: &Pool<R, G>,
@@ -89,7 +89,8 @@ pub(crate) fn drain_tasks<R: Threads + Wait + Sync, G: Gate>(
     requires room { HaveRoom workers pool.now.room tasks.items }
     requires tasks { AreTold pool.now.queues.now (frame_of pool.now) tasks.items }
     ensures count { IfOk result (λ v. length v.items ≡ workers) }
-    ensures whole { IfOk result (λ v. AreWhole pool.now.queues.now (frame_of pool.now) (joined vec_items v.items)) }
+    ensures whole { IfOk result (λ v.
+        AreWhole pool.now.queues.now (frame_of pool.now) (joined vec_items v.items)) }
 {
     let mut seats = empty_seats(alloc, pool, workers)?;
     let room = Vec::with_capacity(alloc, workers).map_err(|_| Memory)?;
@@ -113,8 +114,8 @@ fn size_at(tasks: &[BinTask], place: usize) -> u32
     tasks[place].size()
 }
 
-/// Draws all tasks of a frame by so many workers: a worker takes those of its own deque, in their order, and where that
-/// is empty those that are left to others. Gives each worker's list of the tasks that it drew: together they have one
+/// Draws all tasks of a frame by so many workers: a worker takes those of its own deque, in their order, and where
+/// that is empty those that are left to others. Gives each worker's list of the tasks that it drew: together they have one
 /// task of each bin, with all batches drawn, of these queues and of this frame. All memory is taken before the first
 /// task is drawn. Err where memory gave out: the tasks are given up then. Conditions: the tasks are those of all bins of
 /// the frame, in any order, each told of all batches; the cells and the list are the frame's; 1 to 64 workers.

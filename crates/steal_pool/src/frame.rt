@@ -114,14 +114,15 @@ fn drain_beside<R: Threads + Wait + Sync, G: Gate, C: Caller>(
             requires open { All (IsOpen stealer_deque (call_of pool.now) thieves.now) seats.now }
             requires deques { AreAt stealer_deque thieves.now seats.now }
             ensures many { length seats.exit.now ≡ length seats.entry.now }
-            ensures finished { AreFinishedTo (call_of pool.entry.now) (length seats.entry.now) seats.exit.now }
+            ensures finished {
+                AreFinishedTo (call_of pool.entry.now) (length seats.entry.now) seats.exit.now }
             ensures once { (k : ℕ → ℕ) → lists_weigh k seats.exit.now ≡ pushed_weigh k seats.entry.now }
         { drain_seats(pool, alloc, thieves, seats) },
     );
 }
 
-// The tasks are dealt to new seats and drawn, while the caller reads the cells. Err where memory gave out, and then none
-// is drawn.
+// The tasks are dealt to new seats and drawn, while the caller reads the cells. Err where memory gave out, and then
+// none is drawn.
 fn run_beside<R: Threads + Wait + Sync, G: Gate, C: Caller>(
     pool: &Pool<R, G>,
     alloc: Global,
@@ -187,8 +188,8 @@ fn draw_tasks<R: Threads + Wait + Sync, G: Gate, C: Caller>(
 /// these cells and this reader, in a thread of its own, and is done afterwards. The gate is asked before a batch is
 /// binned, and before a bin draws a member, with the number that it has drawn. Err where memory gave out: the writers
 /// are given up then. Conditions: the cells are of this list, the writers and the reader are those that were made with
-/// them, and no member is drawn; the caller is ready; 1 to 64 workers, and a batch has at least one piece, so that there
-/// are at most 2048.
+/// them, and no member is drawn; the caller is ready; 1 to 64 workers, and a batch has at least one piece, so that
+/// there are at most 2048.
 pub fn draw_stolen<R: Threads + Wait + Sync, G: Gate, C: Caller>(
     rt: &R,
     alloc: Global,

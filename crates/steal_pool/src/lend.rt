@@ -38,7 +38,8 @@ fn lend_row<R, G>(
     requires deques { AreAt stealer_deque _thieves.now seats.old }
     requires lent { AreLent (call_of pool.now) (length seats.old) 0 out seats.old }
     ensures on { OnOk result (AreLentOn seats.old seats.new) }
-    ensures lent { OnOk result (AreLent (call_of pool.now) (length seats.old) (length seats.old) out seats.new) }
+    ensures lent { OnOk result
+        (AreLent (call_of pool.now) (length seats.old) (length seats.old) out seats.new) }
     ensures passes { IfOk result (λ v. ArePassesOf stealer_deque (call_of pool.now) _thieves.now v.items) }
     ensures fresh { IfOk result (λ v. AreFresh v.items) }
 {

@@ -33,7 +33,8 @@ pub(crate) fn pop_all<R: Wait, G: Gate>(
 )
     requires owns { ((worker_view owner.old).role ≡ Owns) × (worker_flavor owner.old ≡ 0) }
     requires of { (worker_view owner.old).of ≡ call_of pool.now }
-    requires room { vec_len list.old + pool.now.room ≤ vec_capacity list.old + length (worker_view owner.old).taken }
+    requires room { vec_len list.old + pool.now.room
+        ≤ vec_capacity list.old + length (worker_view owner.old).taken }
     requires whole { All (IsWholeIn (call_of pool.now)) list.old.items }
     ensures same { SameWorker owner.old owner.new }
     ensures drew { Drew list.old.items list.new.items (worker_view owner.old) (worker_view owner.new) }
@@ -52,8 +53,8 @@ pub(crate) fn pop_all<R: Wait, G: Gate>(
     unreachable!()
 }
 
-/// Steals and draws until that deque is found empty. Conditions: the deque is named after the pool, and the list has room
-/// for what the pass didn't take yet.
+/// Steals and draws until that deque is found empty. Conditions: the deque is named after the pool, and the list has
+/// room for what the pass didn't take yet.
 pub(crate) fn steal_all<R: Wait, G: Gate>(
     pool: &Pool<R, G>,
     thief: &Thief,
