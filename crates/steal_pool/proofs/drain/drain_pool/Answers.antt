@@ -13,27 +13,27 @@ cut_at-cut-requires g c = omega (arith, ap length c.as_slice-given.ensures.value
 pub size_at-size-requires : goal.size_at-size-requires
 size_at-size-requires g c = omega (arith, ap length c.as_slice-given.ensures.value, c.requires.tasks.some)
 
-pub drain_tasks-lists-requires-clause-few : goal.drain_tasks-lists-requires-clause-few
-drain_tasks-lists-requires-clause-few g c κs within =
+pub drain_tasks-requires-clause-few : goal.drain_tasks-requires-clause-few
+drain_tasks-requires-clause-few g c κs within =
     let few = bins_few (frame_at c.args.tasks.items) c.args.queues.now c.args.tasks.items c.as_slice-given.result.now c.cut_at-cut.result c.bins-bins.result c.requires.tasks c.as_slice-given.ensures.value c.cut_at-cut.ensures c.bins-bins.ensures.value c.bins-bins.ensures.few in
     let most = c.most_owned-room.ensures.few in
     let n = ap length c.as_slice-given.ensures.value in
     omega (arith, few, most, n)
 
-pub drain_tasks-lists-requires-clause-small : goal.drain_tasks-lists-requires-clause-small
-drain_tasks-lists-requires-clause-small g c κs within =
+pub drain_tasks-requires-clause-small : goal.drain_tasks-requires-clause-small
+drain_tasks-requires-clause-small g c κs within =
     let few = bins_few (frame_at c.args.tasks.items) c.args.queues.now c.args.tasks.items c.as_slice-given.result.now c.cut_at-cut.result c.bins-bins.result c.requires.tasks c.as_slice-given.ensures.value c.cut_at-cut.ensures c.bins-bins.ensures.value c.bins-bins.ensures.few in
     let most = c.most_owned-room.ensures.few in
     let n = ap length c.as_slice-given.ensures.value in
     let product : c.args.workers * c.most_owned-room.result ≤ 64 * c.most_owned-room.result = mul-le-mul_right c.requires.most in
     omega (arith, few, most, n, product)
 
-pub drain_tasks-lists-requires-clause-room : goal.drain_tasks-lists-requires-clause-room
-drain_tasks-lists-requires-clause-room g c κs within =
+pub drain_tasks-requires-clause-room : goal.drain_tasks-requires-clause-room
+drain_tasks-requires-clause-room g c κs within =
     subst (λ ts. HaveRoom c.args.workers c.most_owned-room.result ts) c.as_slice-given.ensures.value c.most_owned-room.ensures.each
 
-pub drain_tasks-lists-requires-clause-tasks : goal.drain_tasks-lists-requires-clause-tasks
-drain_tasks-lists-requires-clause-tasks g c κs within =
+pub drain_tasks-requires-clause-tasks : goal.drain_tasks-requires-clause-tasks
+drain_tasks-requires-clause-tasks g c κs within =
     let e = same_frame (frame_at c.args.tasks.items) c.args.queues.now c.args.tasks.items c.as_slice-given.result.now c.args.list.now.list c.args.cells.now c.cut_at-cut.result c.size_at-size.result c.requires.tasks c.as_slice-given.ensures.value c.requires.list c.requires.cells c.cut_at-cut.ensures c.size_at-size.ensures in
     subst (λ (f : BatchedFrame). AreTold c.args.queues.now f c.args.tasks.items) e c.requires.tasks
 

@@ -5,7 +5,7 @@ use Rattle.steal_pool.proofs.Lending.{at_on}
 use Rattle.steal_pool.proofs.drain.fill.Goals as goal
 
 pub lend_all-requires-clause-deques : goal.lend_all-requires-clause-deques
-lend_all-requires-clause-deques g c κs within = at_same stealer_deque c.args.thieves.now c.args.seats.now c.deal.new.seats c.deal.ensures.many c.deal.ensures.deques c.requires.deques
+lend_all-requires-clause-deques g c = at_same stealer_deque c.args.thieves.now c.args.seats.now c.deal.new.seats c.deal.ensures.many c.deal.ensures.deques c.requires.deques
 
 pub returns-clause-many : goal.returns-clause-many
 returns-clause-many g c = c.in_ok-lend_all.ensures.on.many ∙ c.deal.ensures.many

@@ -9,18 +9,18 @@ use Rattle.steal_pool.proofs.frame.draw_stolen.Goals as goal
 pub most_owned-room-requires : goal.most_owned-room-requires
 most_owned-room-requires g c = omega (arith, c.min-workers.ensures, c.requires.some, c.bins-bins.ensures.some)
 
-pub draw_tasks-drawn-requires-clause-some : goal.draw_tasks-drawn-requires-clause-some
-draw_tasks-drawn-requires-clause-some g c κs within = omega (arith, c.min-workers.ensures, c.requires.some, c.bins-bins.ensures.some)
+pub draw_tasks-requires-clause-some : goal.draw_tasks-requires-clause-some
+draw_tasks-requires-clause-some g c κs within = omega (arith, c.min-workers.ensures, c.requires.some, c.bins-bins.ensures.some)
 
-pub draw_tasks-drawn-requires-clause-few : goal.draw_tasks-drawn-requires-clause-few
-draw_tasks-drawn-requires-clause-few g c κs within =
+pub draw_tasks-requires-clause-few : goal.draw_tasks-requires-clause-few
+draw_tasks-requires-clause-few g c κs within =
     let bins = c.bins-bins.ensures in
     let count = c.in_ok-queues.ensures.tasks.tasks_are.count in
     let n = ap length c.as_slice-given.ensures.value in
     omega (arith, bins.value, bins.few, count, n, c.most_owned-room.ensures.few)
 
-pub draw_tasks-drawn-requires-clause-small : goal.draw_tasks-drawn-requires-clause-small
-draw_tasks-drawn-requires-clause-small g c κs within =
+pub draw_tasks-requires-clause-small : goal.draw_tasks-requires-clause-small
+draw_tasks-requires-clause-small g c κs within =
     let bins = c.bins-bins.ensures in
     let count = c.in_ok-queues.ensures.tasks.tasks_are.count in
     let n = ap length c.as_slice-given.ensures.value in
@@ -28,12 +28,12 @@ draw_tasks-drawn-requires-clause-small g c κs within =
     let product : c.min-workers.result * c.most_owned-room.result ≤ 64 * c.most_owned-room.result = mul-le-mul_right most in
     omega (arith, bins.value, bins.few, count, n, c.most_owned-room.ensures.few, product)
 
-pub draw_tasks-drawn-requires-clause-room : goal.draw_tasks-drawn-requires-clause-room
-draw_tasks-drawn-requires-clause-room g c κs within =
+pub draw_tasks-requires-clause-room : goal.draw_tasks-requires-clause-room
+draw_tasks-requires-clause-room g c κs within =
     subst (λ ts. HaveRoom c.min-workers.result c.most_owned-room.result ts) c.as_slice-given.ensures.value c.most_owned-room.ensures.each
 
-pub draw_tasks-drawn-requires-clause-tasks : goal.draw_tasks-drawn-requires-clause-tasks
-draw_tasks-drawn-requires-clause-tasks g c κs within = c.in_ok-queues.ensures.tasks
+pub draw_tasks-requires-clause-tasks : goal.draw_tasks-requires-clause-tasks
+draw_tasks-requires-clause-tasks g c κs within = c.in_ok-queues.ensures.tasks
 
 pub close-requires-clause-tasks : goal.close-requires-clause-tasks
 close-requires-clause-tasks g c =

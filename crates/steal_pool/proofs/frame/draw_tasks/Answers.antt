@@ -29,14 +29,14 @@ run_beside-requires-clause-room g c κs within =
     subst (λ n. HaveRoom n c.args.pool.now.room c.args.tasks.items) (sym (ap length c.as_mut_slice.ensures.value ∙ c.in_ok-seats.ensures.count)) c.requires.room
 
 pub lists_of-requires-clause-finished : goal.lists_of-requires-clause-finished
-lists_of-requires-clause-finished g c κs within =
+lists_of-requires-clause-finished g c =
     let new = c.run_beside.new.seats in
     let same : length new ≡ c.in_ok-seats.seats.len = search rules in
     let is = with_items_is c.in_ok-seats.seats new same in
     subst (λ (ss : List Seat). AreFinishedTo (call_of c.args.pool.now) (length ss) ss) (sym is) c.in_ok-run_beside.ensures.finished
 
 pub lists_of-requires-clause-room : goal.lists_of-requires-clause-room
-lists_of-requires-clause-room g c κs within =
+lists_of-requires-clause-room g c =
     let new = c.run_beside.new.seats in
     let same : length new ≡ c.in_ok-seats.seats.len = search rules in
     let is = with_items_is c.in_ok-seats.seats new same in

@@ -5,10 +5,10 @@ use Rattle.steal_pool.specs.Pools.{call_of}
 use Rattle.steal_pool.proofs.frame.run_beside.Goals as goal
 
 pub fill-requires-clause-many : goal.fill-requires-clause-many
-fill-requires-clause-many g c κs within = sym (ap length c.as_slice-lent.ensures.value ∙ c.in_ok-thieves.ensures.count)
+fill-requires-clause-many g c = sym (ap length c.as_slice-lent.ensures.value ∙ c.in_ok-thieves.ensures.count)
 
 pub fill-requires-clause-deques : goal.fill-requires-clause-deques
-fill-requires-clause-deques g c κs within = subst (λ ts. AreAt stealer_deque ts c.args.seats.now) (sym c.as_slice-lent.ensures.value) c.in_ok-thieves.ensures.deques
+fill-requires-clause-deques g c = subst (λ ts. AreAt stealer_deque ts c.args.seats.now) (sym c.as_slice-lent.ensures.value) c.in_ok-thieves.ensures.deques
 
 pub drain_beside-requires-clause-many : goal.drain_beside-requires-clause-many
 drain_beside-requires-clause-many g c κs within = c.in_ok-fill.ensures.many ∙ sym (ap length c.as_slice-lent.ensures.value ∙ c.in_ok-thieves.ensures.count)

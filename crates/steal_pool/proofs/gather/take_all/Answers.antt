@@ -9,7 +9,7 @@ use Rattle.steal_pool.proofs.Rows.{out_row, have_next, aside_next, weighs_next, 
 use Rattle.steal_pool.proofs.gather.take_all.Goals as goal
 
 pub take_row-requires-clause-out : goal.take_row-requires-clause-out
-take_row-requires-clause-out g c κs within =
+take_row-requires-clause-out g c =
     let inv = c.loop-w.invariant in
     let ss = c.loop-w.seats in
     let w = c.loop-w.w in

@@ -11,8 +11,8 @@ use Rattle.steal_pool.proofs.lend.lend_row.Goals as goal
 pub loop-d-init : goal.loop-d-init
 loop-d-init g c = (lent_on_none c.args.seats.now, c.requires.lent, ends_none stealer_deque (call_of c.args.pool.now) c.args._thieves.now _ (search rules), fresh_none _ (search rules), search rules, search rules)
 
-pub lend_at-requires : goal.lend_at-requires
-lend_at-requires g c κs within =
+pub lend_at-pass-requires : goal.lend_at-pass-requires
+lend_at-pass-requires g c =
     let inv = c.loop-d.invariant in
     lent_is (call_of c.args.pool.now) (length c.args.seats.now) c.loop-d.d c.args.out c.loop-d.seats c.index-seats-d.result inv.1 (let m = inv.0.many in let t = c.loop-d-test.true in omega (arith, m, t))
 

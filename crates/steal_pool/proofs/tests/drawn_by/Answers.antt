@@ -5,18 +5,18 @@ use Rattle.steal_pool.specs.Lists.{AreTold}
 use Rattle.steal_pool.proofs.Pooling.{frame_at_is}
 use Rattle.steal_pool.proofs.tests.drawn_by.Goals as goal
 
-pub drain_pool-drawn-requires-clause-tasks : goal.drain_pool-drawn-requires-clause-tasks
-drain_pool-drawn-requires-clause-tasks g c =
+pub drain_pool-requires-clause-tasks : goal.drain_pool-requires-clause-tasks
+drain_pool-requires-clause-tasks g c κs within =
     let made = c.in_ok-queues in
     let told = made.ensures.tasks in
     subst (λ (f : BatchedFrame). AreTold made.queues f made.tasks.items) (sym (frame_at_is (over c.args.frame.now c.in_ok-cells.cells) made.queues made.tasks.items told)) told
 
-pub drain_pool-drawn-requires-clause-cells : goal.drain_pool-drawn-requires-clause-cells
-drain_pool-drawn-requires-clause-cells g c =
+pub drain_pool-requires-clause-cells : goal.drain_pool-requires-clause-cells
+drain_pool-requires-clause-cells g c κs within =
     let made = c.in_ok-queues in
     ap (λ (f : BatchedFrame). f.cells) (frame_at_is (over c.args.frame.now c.in_ok-cells.cells) made.queues made.tasks.items made.ensures.tasks)
 
-pub drain_pool-drawn-requires-clause-list : goal.drain_pool-drawn-requires-clause-list
-drain_pool-drawn-requires-clause-list g c =
+pub drain_pool-requires-clause-list : goal.drain_pool-requires-clause-list
+drain_pool-requires-clause-list g c κs within =
     let made = c.in_ok-queues in
     ap (λ (f : BatchedFrame). f.list) (frame_at_is (over c.args.frame.now c.in_ok-cells.cells) made.queues made.tasks.items made.ensures.tasks)

@@ -5,10 +5,10 @@ use Rattle.steal_pool.proofs.Drawing.{is_whole}
 use Rattle.steal_pool.proofs.worker.draw_into.Goals as goal
 
 pub drain-requires-clause-cells : goal.drain-requires-clause-cells
-drain-requires-clause-cells g c = ap (λ (f : BatchedFrame). f.cells) c.requires.told.over.frame_is
+drain-requires-clause-cells g c κs within = ap (λ (f : BatchedFrame). f.cells) c.requires.told.over.frame_is
 
 pub drain-requires-clause-list : goal.drain-requires-clause-list
-drain-requires-clause-list g c = ap (λ (f : BatchedFrame). f.list) c.requires.told.over.frame_is
+drain-requires-clause-list g c κs within = ap (λ (f : BatchedFrame). f.list) c.requires.told.over.frame_is
 
 pub returns-clause-joined : goal.returns-clause-joined
 returns-clause-joined g c = record {
