@@ -25,7 +25,7 @@ drain_tasks-requires-clause-small g c κs within =
     let few = bins_few (frame_at c.args.tasks.items) c.args.queues.now c.args.tasks.items c.as_slice-given.result.now c.cut_at-cut.result c.bins-bins.result c.requires.tasks c.as_slice-given.ensures.value c.cut_at-cut.ensures c.bins-bins.ensures.value c.bins-bins.ensures.few in
     let most = c.most_owned-room.ensures.few in
     let n = ap length c.as_slice-given.ensures.value in
-    let product : c.args.workers * c.most_owned-room.result ≤ 64 * c.most_owned-room.result = mul-le-mul_right c.requires.most in
+    let product : c.args.workers * c.most_owned-room.result ≤ 64 * c.most_owned-room.result = mul-le-mul_right c.most_owned-room.result c.requires.most in
     omega (arith, few, most, n, product)
 
 pub drain_tasks-requires-clause-room : goal.drain_tasks-requires-clause-room

@@ -25,7 +25,7 @@ draw_tasks-requires-clause-small g c κs within =
     let count = c.in_ok-queues.ensures.tasks.tasks_are.count in
     let n = ap length c.as_slice-given.ensures.value in
     let most : c.min-workers.result ≤ 64 = omega (arith, c.min-workers.ensures, c.requires.most) in
-    let product : c.min-workers.result * c.most_owned-room.result ≤ 64 * c.most_owned-room.result = mul-le-mul_right most in
+    let product : c.min-workers.result * c.most_owned-room.result ≤ 64 * c.most_owned-room.result = mul-le-mul_right c.most_owned-room.result most in
     omega (arith, bins.value, bins.few, count, n, c.most_owned-room.ensures.few, product)
 
 pub draw_tasks-requires-clause-room : goal.draw_tasks-requires-clause-room
