@@ -1,5 +1,5 @@
 -- The lists of all workers as one list: one task of each bin.
-use Rattle.std.proofs.Common.{◌≡◌, ◌⊎◌, ⊎_elim, ℕ, suc, ◌+◌, ◌≤◌, ◌<◌, cond, eqb, eq-eqb, ne_eqb, All, List, [], ◌∷◌, ◌++◌, drop, length, get_or, refl, sym, ap, ◌∙◌, subst, append_assoc, arith}
+use Rattle.std.proofs.Common.{◌≡◌, ℕ, suc, ◌+◌, ◌≤◌, ◌<◌, cond, eqb, eq-eqb, ne_eqb, All, List, [], ◌∷◌, ◌++◌, drop, length, get_or, refl, sym, ap, ◌∙◌, subst, append_assoc, arith, inl, inr}
 use Rattle.std.proofs.lemmas.Bool.{cases_eq}
 use Rattle.std.proofs.lemmas.List.{get_or_default, drop_all}
 use Rattle.std.proofs.lemmas.List.Elements.{All-push, All-nil}
@@ -77,14 +77,13 @@ there ts b i t lt is e =
 -- and the place of one
 found : (ts : List Tasking) (b : ℕ) → 1 ≤ tasks_weigh (is_bin b) ts → (i : ℕ) × (i < length ts) × ((d : Tasking) → (get_or ts i d).of.bin ≡ b)
 found [] b h = absurd (omega (arith, h))
-found (x ∷ xs) b h =
-    ⊎_elim
-    (λ (e : x.of.bin ≡ b). (0, omega arith, λ d. e))
-    (λ (ne : x.of.bin ≡ b → ⊥).
-    let none : is_bin b x.of.bin ≡ 0 = ap (λ z. cond z 1 0) (ne_eqb x.of.bin b ne) in
-    let r = found xs b (omega (arith, none, h)) in
-    (suc r.0, (let lt = r.1 in omega (arith, lt)), r.2))
-    (cases_eq x.of.bin b)
+found (x ∷ xs) b h = elim (cases_eq x.of.bin b) [
+  | inl e ↦ (0, omega arith, λ d. e)
+  | inr ne ↦
+      let none : is_bin b x.of.bin ≡ 0 = ap (λ z. cond z 1 0) (ne_eqb x.of.bin b ne) in
+      let r = found xs b (omega (arith, none, h)) in
+      (suc r.0, (let lt = r.1 in omega (arith, lt)), r.2)
+]
 
 some_of : (ts : List Tasking) → 0 < length ts → Tasking
 some_of [] lt = absurd (omega arith)
@@ -93,11 +92,10 @@ some_of (t ∷ ts) lt = t
 -- tasks that weigh what those of a frame weigh, all drawn to the end
 pub are_whole : (c : Call) (ts ts' : List Tasking) → AreTasksOf c.queues c.frame ts → ((k : ℕ → ℕ) → tasks_weigh k ts' ≡ tasks_weigh k ts) → All (IsWholeIn c) ts' → AreWhole c.queues c.frame ts'
 are_whole c ts ts' at once whole =
-    let one : ℕ → ℕ = λ n. 1 in
     record {
       tasks_are = record {
         count =
-            let a = once one in
+            let a : weigh (λ (t : Tasking). 1) ts' ≡ weigh (λ (t : Tasking). 1) ts = once (λ n. 1) in
             let b = weigh_length ts in
             let d = weigh_length ts' in
             let n = at.count in
