@@ -48,7 +48,7 @@ fn drawn_by<R: Threads + Wait + Sync>(
 fn counted(lists: &[Vec<BinTask>], bins: u32) -> (usize, u32, u32) {
     let (mut tasks, mut pieces, mut batches) = (0usize, 0u32, 0u32);
     for list in lists {
-        for task in list {
+        for task in list.iter() {
             if task.bin() < bins {
                 tasks = tasks.saturating_add(1);
                 pieces = pieces.saturating_add(task.taken());
