@@ -14,20 +14,20 @@ use Rattle.bin_queues.specs.Tasks.{QueuesOf, Tasking}
 use Rattle.bin_queues.proofs.Intaking.{places_end}
 use Rattle.tile_queues.specs.CellBins.{HoldsTiles}
 use Rattle.tile_queues.specs.Owners.{AreTasksOf}
-use Rattle.tile_queues.specs.PlainBins.{AreSlotsDrawn, AreSlotsDrawnTo, IsBinDrawn, IsPutDrawn, IsSlotDrawn}
+use Rattle.tile_queues.specs.PlainBins.{HeldPlain, AreSlotsDrawn, AreSlotsDrawnTo, IsBinDrawn, IsPutDrawn, IsSlotDrawn}
 
 -- empty tiles of a bin are those of a task that drew no batch
-pub first_plain : (frame : BatchedFrame) (t : Tasking) (c : CanvasOf) → t.of.frame ≡ frame → t.batches ≡ 0 → IsBinAt StandsPlain (tt {0}) frame.list frame.cut 0 t.of.bin c → HoldsTiles StandsPlain t c
-first_plain frame t c is first at =
+pub first_plain : (frame : BatchedFrame) (t : Tasking) (c : CanvasOf) → frame.cells ≡ [] → t.of.frame ≡ frame → t.batches ≡ 0 → IsBinAt StandsPlain (tt {0}) frame.list frame.cut 0 t.of.bin c → HoldsTiles HeldPlain t c
+first_plain frame t c no_cells is first at =
     let none : places_before frame 0 ≡ 0 = (let e : min (0 * frame.size) (length frame.list.members) ≡ 0 = omega arith in e) in
     let placed : IsPlainAt frame.list (bin_span_of frame.list.size frame.cut t.of.bin) (places_before frame t.batches) c = subst (λ n. IsPlainAt frame.list (bin_span_of frame.list.size frame.cut t.of.bin) n c) (sym (ap (places_before frame) first ∙ none)) at in
-    subst (λ (f : BatchedFrame). IsPlainAt f.list (bin_span_of f.list.size f.cut t.of.bin) (places_before f t.batches) c) (sym is) placed
+    (ap (λ (f : BatchedFrame). f.cells) is ∙ no_cells, subst (λ (f : BatchedFrame). IsPlainAt f.list (bin_span_of f.list.size f.cut t.of.bin) (places_before f t.batches) c) (sym is) placed)
 
 -- the tiles of a task that drew all batches are at the whole list
-pub whole_plain : (frame : BatchedFrame) (t : Tasking) (c : CanvasOf) → 1 ≤ frame.size → t.of.frame ≡ frame → t.batches ≡ batches_in t.of.frame → HoldsTiles StandsPlain t c → IsBinDrawn frame.list frame.cut t.of.bin c
+pub whole_plain : (frame : BatchedFrame) (t : Tasking) (c : CanvasOf) → 1 ≤ frame.size → t.of.frame ≡ frame → t.batches ≡ batches_in t.of.frame → HoldsTiles HeldPlain t c → IsBinDrawn frame.list frame.cut t.of.bin c
 whole_plain frame t c some is whole holds =
     let all : t.batches ≡ batches_in frame = whole ∙ ap batches_in is in
-    let placed : IsPlainAt frame.list (bin_span_of frame.list.size frame.cut t.of.bin) (places_before frame t.batches) c = subst (λ (f : BatchedFrame). IsPlainAt f.list (bin_span_of f.list.size f.cut t.of.bin) (places_before f t.batches) c) is holds in
+    let placed : IsPlainAt frame.list (bin_span_of frame.list.size frame.cut t.of.bin) (places_before frame t.batches) c = subst (λ (f : BatchedFrame). IsPlainAt f.list (bin_span_of f.list.size f.cut t.of.bin) (places_before f t.batches) c) is holds.1 in
     subst (λ n. IsPlainAt frame.list (bin_span_of frame.list.size frame.cut t.of.bin) n c) (ap (places_before frame) all ∙ places_end frame some) placed
 
 module _ (list : PieceList) (cut : CutOf) (tasks : List Tasking) where

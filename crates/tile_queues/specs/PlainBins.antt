@@ -1,12 +1,18 @@
 -- The plain tiles of bins, and the slots into which they are put in the order of bins.
-use Rattle.std.specs.Prelude.{◌≡◌, ℕ, ◌<◌, List, Some, length, slice_set, slice_index_or, MatchOption}
+use Rattle.std.specs.Prelude.{◌≡◌, ℕ, ◌<◌, List, [], Some, length, slice_set, slice_index_or, MatchOption}
 use Rattle.std.specs.declared.option.Option.{Option}
+use Rattle.atomic_table.specs.Seated.{TableId}
 use Rattle.binning.specs.Cut.{CutOf}
 use Rattle.cull_base.specs.Tiles.{PieceList}
+use Rattle.cull_base.specs.declared.tile_span.TileSpan.{TileSpan}
 use Rattle.masked_update.specs.Canvas.{CanvasOf}
 use Rattle.bin_tiles.specs.Bins.{IsBinAt}
 use Rattle.bin_tiles.specs.Plain.{StandsPlain}
 use Rattle.bin_queues.specs.Tasks.{Tasking}
+
+-- what a canvas says of its tiles: they lie in no cells
+abbrev pub HeldPlain : CanvasOf → List TableId → PieceList → TileSpan → ℕ → Type 0
+HeldPlain c cells list window k = (cells ≡ []) × StandsPlain c cells list window k
 
 -- the tiles of a bin, at the whole list
 abbrev pub IsBinDrawn : PieceList → CutOf → ℕ → CanvasOf → Type 0

@@ -1,9 +1,11 @@
 //! A bin's task, over the cells of its tiles or over plain tiles.
 ghost use Rattle.std.specs.Prelude.{◌≡◌, ◌≤◌, ◌<◌, max};
 ghost use Rattle.binning.specs.Cut.{bin_count_of};
+ghost use Rattle.bin_queues.specs.Frames.{over};
 ghost use Rattle.bin_queues.specs.QueueParts.{IsBatched, batches_in, taken_before};
 ghost use Rattle.bin_queues.specs.Tasks.{IsSubmitterOf, IsTaskOf};
 ghost use Rattle.tile_queues.specs.CellBins.{HoldsBin, HoldsTiles, StandsInCells};
+ghost use Rattle.tile_queues.specs.PlainBins.{HeldPlain};
 ghost use Rattle.tile_queues.specs.Shares.{MayDraw, frame_over};
 ghost use Rattle.bin_tasks.specs.Drains.{HasDrained, IsAnswer, IsTaskIn, WasTold};
 
@@ -13,6 +15,7 @@ use bin_queues::{Intake, PartQueues, Sender};
 use bin_tasks::{Drained, Drawing, Task};
 use bin_tiles::Gate;
 use binning::Cut;
+use masked_update::Canvas;
 use std::marker::Model;
 use std::sync::Wait;
 
@@ -43,6 +46,21 @@ fn drain_in<R: Wait, G: Gate>(
     requires holds { HoldsBin task.old.intake task.old.keeper }
     ensures may { MayDraw drawing.now task.new.intake }
     ensures holds { HoldsBin task.new.intake task.new.keeper }
+    ensures answer { IsAnswer result task.old.intake task.new.intake }
+    ensures drained { HasDrained task.old.intake task.new.intake }
+{
+    drawing.drain(task)
+}
+
+// Draws it into plain tiles.
+fn drain_plain_in<R: Wait, G: Gate>(
+    task: &mut Task<Canvas>,
+    drawing: &Drawing<R, (), G>,
+) -> Drained
+    requires queues { IsTaskOf drawing.now.queues.now task.old.intake }
+    requires frame { task.old.intake.of.frame ≡ over drawing.now.frame task.old.intake.of.frame.cells }
+    requires holds { HoldsTiles HeldPlain task.old.intake task.old.keeper }
+    ensures holds { HoldsTiles HeldPlain task.new.intake task.new.keeper }
     ensures answer { IsAnswer result task.old.intake task.new.intake }
     ensures drained { HasDrained task.old.intake task.new.intake }
 {
@@ -177,5 +195,17 @@ impl BinTask<CellBin> {
         ensures told { WasTold sender.old.batches self.old self.new }
     {
         tell_in(&mut self.task, drawing, sender);
+    }
+}
+
+impl BinTask<Canvas> {
+    /// Draws what is in the bin's queue. Condition: the task is of these queues and of this frame.
+    pub(crate) fn drain_plain<R: Wait, G: Gate>(&mut self, drawing: &Drawing<R, (), G>) -> Drained
+        requires queues { IsTaskOf drawing.now.queues.now self.old }
+        requires frame { self.old.of.frame ≡ over drawing.now.frame self.old.of.frame.cells }
+        ensures answer { IsAnswer result self.old self.new }
+        ensures drained { HasDrained self.old self.new }
+    {
+        drain_plain_in(&mut self.task, drawing)
     }
 }

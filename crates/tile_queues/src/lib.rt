@@ -19,6 +19,7 @@ pub use bin_task::BinTask;
 pub use bin_tasks::Drained;
 pub use bin_tiles::{BinTable, BinView, Gate, OpenGate};
 pub use caller::Caller;
+pub use cell_bin::CellBin;
 pub use frame::draw_frame;
 pub use held::Held;
 pub use plain_tasks::PlainTask;

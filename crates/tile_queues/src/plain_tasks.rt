@@ -21,9 +21,9 @@ use std::alloc::Global;
 pub type PlainTask = BinTask<Canvas>;
 
 impl Held for Canvas {
-    ghost use Rattle.bin_tiles.specs.Plain.{StandsPlain};
+    ghost use Rattle.tile_queues.specs.PlainBins.{HeldPlain};
 
-    ghost held = { StandsPlain };
+    ghost held = { HeldPlain };
 }
 
 // The task of a bin before the first batch, with the bin's tiles, all empty.

@@ -1,4 +1,4 @@
-use Rattle.std.proofs.Common.{◌≡◌, ◌<◌, [], ap, ◌∙◌, subst}
+use Rattle.std.proofs.Common.{◌<◌, [], refl, ap, ◌∙◌, subst}
 use Rattle.binning.specs.Bins.{bin_span_of}
 use Rattle.binning.specs.Cut.{bin_count_of}
 use Rattle.cull_base.specs.Screen.{Dimensions}
@@ -18,4 +18,4 @@ of-requires c =
     let is = c.in_ok-canvas.ensures in
     let window = ap (λ (d : CanvasOf). d.window) is.value ∙ c.bin_span-window.ensures.value ∙ ap (λ (s : Dimensions). bin_span_of s cut c.bin.result) c.size.ensures
         ∙ ap (bin_span_of list.size cut) c.bin.ensures.value in
-    first_plain (over c.args.frame.now []) c.args.intake c.in_ok-canvas.canvas c.requires.frame c.requires.first (record { window_is = window; stands = is.stands list })
+    first_plain (over c.args.frame.now []) c.args.intake c.in_ok-canvas.canvas refl c.requires.frame c.requires.first (record { window_is = window; stands = is.stands list })
