@@ -12,6 +12,7 @@ ghost use Rattle.steal_pool.specs.Seats.{IsOpen};
 
 use crate::deal::{deal, most_owned};
 use crate::deque_rule::Thief;
+use crate::draws::Draws;
 use crate::lend::lend_all;
 use crate::lists::lists_of;
 use crate::making::{empty_seats, thieves_of};
@@ -24,16 +25,16 @@ use std::alloc::Global;
 use std::sync::Wait;
 use std::thread::Threads;
 use tile_cells::TileCells;
-use tile_queues::{BinQueues, BinTask, Gate};
+use tile_queues::{BinQueues, BinTask, Gate, Held};
 
 /// Deals tasks to new seats and lends each worker its passes. Err where memory gave out. Conditions: each seat owns the
 /// deque at its place, the tasks are told of all batches, and no worker gets more than a deque is for.
-pub(crate) fn fill<R, G>(
+pub(crate) fn fill<R, G, K: Held + Drop>(
     pool: &Pool<R, G>,
     alloc: Global,
-    thieves: &[Thief],
-    seats: &mut [Seat],
-    tasks: Vec<BinTask>,
+    thieves: &[Thief<K>],
+    seats: &mut [Seat<K>],
+    tasks: Vec<BinTask<K>>,
 ) -> Result<(), Memory>
     requires some { 0 < length seats.old }
     requires many { length seats.old ≡ length thieves.now }
@@ -53,11 +54,11 @@ pub(crate) fn fill<R, G>(
 }
 
 // The tasks are dealt to new seats and drawn. Err where memory gave out, and then none is drawn.
-fn run<R: Threads + Wait + Sync, G: Gate>(
+fn run<R: Threads + Wait + Sync, G: Gate, K: Draws>(
     pool: &Pool<R, G>,
     alloc: Global,
-    seats: &mut [Seat],
-    tasks: Vec<BinTask>,
+    seats: &mut [Seat<K>],
+    tasks: Vec<BinTask<K>>,
 ) -> Result<(), Memory>
     requires some { 0 < length seats.old }
     requires empty { All (IsEmptySeat (call_of pool.now) (length seats.old)) seats.old }
@@ -77,12 +78,12 @@ fn run<R: Threads + Wait + Sync, G: Gate>(
 /// Draws all tasks by so many workers, each in a thread of its own, and gives what each drew. Err where memory gave
 /// out, and then none is drawn. Conditions: 1 to 64 workers, and the tasks are those of the pool's frame, told of all
 /// batches.
-pub(crate) fn drain_tasks<R: Threads + Wait + Sync, G: Gate>(
+pub(crate) fn drain_tasks<R: Threads + Wait + Sync, G: Gate, K: Draws>(
     pool: &Pool<R, G>,
     alloc: Global,
-    tasks: Vec<BinTask>,
+    tasks: Vec<BinTask<K>>,
     workers: usize,
-) -> Result<Vec<Vec<BinTask>>, Memory>
+) -> Result<Vec<Vec<BinTask<K>>>, Memory>
     requires some { 1 ≤ workers }
     requires few { pool.now.room ≤ 64 }
     requires small { workers * pool.now.room ≤ 4096 }
@@ -99,7 +100,7 @@ pub(crate) fn drain_tasks<R: Threads + Wait + Sync, G: Gate>(
 }
 
 // How the screen is cut for a task.
-fn cut_at(tasks: &[BinTask], place: usize) -> Cut
+fn cut_at<K: Held + Drop>(tasks: &[BinTask<K>], place: usize) -> Cut
     requires { place < length tasks.now }
     ensures { (t : Tasking) → result ≡ (slice_index_or tasks.now place t).of.frame.cut }
 {
@@ -107,7 +108,7 @@ fn cut_at(tasks: &[BinTask], place: usize) -> Cut
 }
 
 // How many pieces a batch has for a task.
-fn size_at(tasks: &[BinTask], place: usize) -> u32
+fn size_at<K: Held + Drop>(tasks: &[BinTask<K>], place: usize) -> u32
     requires { place < length tasks.now }
     ensures { (t : Tasking) → result ≡ (slice_index_or tasks.now place t).of.frame.size }
 {
@@ -119,16 +120,16 @@ fn size_at(tasks: &[BinTask], place: usize) -> u32
 /// task of each bin, with all batches drawn, of these queues and of this frame. All memory is taken before the first
 /// task is drawn. Err where memory gave out: the tasks are given up then. Conditions: the tasks are those of all bins of
 /// the frame, in any order, each told of all batches; the cells and the list are the frame's; 1 to 64 workers.
-pub fn drain_pool<R: Threads + Wait + Sync, G: Gate>(
+pub fn drain_pool<R: Threads + Wait + Sync, G: Gate, K: Draws>(
     rt: &R,
     alloc: Global,
     queues: &BinQueues,
-    tasks: Vec<BinTask>,
+    tasks: Vec<BinTask<K>>,
     cells: &TileCells,
     list: &FrameList,
     workers: u32,
     gate: &G,
-) -> Result<Vec<Vec<BinTask>>, Memory>
+) -> Result<Vec<Vec<BinTask<K>>>, Memory>
     requires tasks { AreTold queues.now (frame_at tasks.items) tasks.items }
     requires cells { (frame_at tasks.items).cells ≡ cells.now }
     requires list { (frame_at tasks.items).list ≡ list.now.list }

@@ -20,6 +20,7 @@ ghost use Rattle.steal_pool.specs.Seats.{IsOpen};
 use crate::deal::most_owned;
 use crate::deque_rule::Thief;
 use crate::drain::fill;
+use crate::draws::Draws;
 use crate::lists::{join_lists, lists_of};
 use crate::making::{empty_seats, thieves_of};
 use crate::pool::Pool;
@@ -79,11 +80,11 @@ fn read_cells<R: Threads + Wait + Sync, C: Caller>(
 }
 
 // All tasks of all deques are drawn, while the caller reads the cells. The caller has a thread of its own.
-fn drain_beside<R: Threads + Wait + Sync, G: Gate, C: Caller>(
+fn drain_beside<R: Threads + Wait + Sync, G: Gate, C: Caller, K: Draws>(
     pool: &Pool<R, G>,
     alloc: Global,
-    thieves: &[Thief],
-    seats: &mut [Seat],
+    thieves: &[Thief<K>],
+    seats: &mut [Seat<K>],
     reader: &mut TileReader,
     caller: &mut C,
 )
@@ -123,11 +124,11 @@ fn drain_beside<R: Threads + Wait + Sync, G: Gate, C: Caller>(
 
 // The tasks are dealt to new seats and drawn, while the caller reads the cells. Err where memory gave out, and then
 // none is drawn.
-fn run_beside<R: Threads + Wait + Sync, G: Gate, C: Caller>(
+fn run_beside<R: Threads + Wait + Sync, G: Gate, C: Caller, K: Draws>(
     pool: &Pool<R, G>,
     alloc: Global,
-    seats: &mut [Seat],
-    tasks: Vec<BinTask>,
+    seats: &mut [Seat<K>],
+    tasks: Vec<BinTask<K>>,
     reader: &mut TileReader,
     caller: &mut C,
 ) -> Result<(), Memory>
@@ -153,14 +154,14 @@ fn run_beside<R: Threads + Wait + Sync, G: Gate, C: Caller>(
 
 // All tasks, drawn by so many workers while the caller reads the cells. Err where memory gave out. Conditions: those of
 // `drain_tasks`.
-fn draw_tasks<R: Threads + Wait + Sync, G: Gate, C: Caller>(
+fn draw_tasks<R: Threads + Wait + Sync, G: Gate, C: Caller, K: Draws>(
     pool: &Pool<R, G>,
     alloc: Global,
-    tasks: Vec<BinTask>,
+    tasks: Vec<BinTask<K>>,
     workers: usize,
     reader: &mut TileReader,
     caller: &mut C,
-) -> Result<Vec<BinTask>, Memory>
+) -> Result<Vec<BinTask<K>>, Memory>
     requires some { 1 ≤ workers }
     requires few { pool.now.room ≤ 64 }
     requires small { workers * pool.now.room ≤ 4096 }

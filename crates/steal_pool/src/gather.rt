@@ -13,13 +13,14 @@ use crate::pool::Pool;
 use crate::seats::Seat;
 use std::alloc::Global;
 use std::mem;
+use tile_queues::Held;
 
 // A pass ends in the view of its deque's owner.
-fn take_at<R, G>(
-    seat: &mut Seat,
-    pass: DequePass,
+fn take_at<R, G, K: Held + Drop>(
+    seat: &mut Seat<K>,
+    pass: DequePass<K>,
     _pool: &Pool<R, G>,
-    _thief: &Thief,
+    _thief: &Thief<K>,
     _left: usize,
 )
     requires pass { IsPassOf (stealer_deque _thief.now) pass
@@ -34,11 +35,11 @@ fn take_at<R, G>(
 }
 
 // The passes of one worker end, each in the view of its deque's owner.
-fn take_row<R, G>(
-    seats: &mut [Seat],
-    mut passes: Vec<DequePass>,
+fn take_row<R, G, K: Held + Drop>(
+    seats: &mut [Seat<K>],
+    mut passes: Vec<DequePass<K>>,
     pool: &Pool<R, G>,
-    thieves: &[Thief],
+    thieves: &[Thief<K>],
     left: usize,
 )
     requires many { length seats.old ≡ length thieves.now }
@@ -57,11 +58,11 @@ fn take_row<R, G>(
 }
 
 /// The passes of all workers end. Condition: as many are out of each deque as there are seats.
-pub(crate) fn take_all<R, G>(
+pub(crate) fn take_all<R, G, K: Held + Drop>(
     alloc: Global,
-    seats: &mut [Seat],
+    seats: &mut [Seat<K>],
     pool: &Pool<R, G>,
-    thieves: &[Thief],
+    thieves: &[Thief<K>],
 )
     requires many { length seats.old ≡ length thieves.now }
     requires passes { HavePassesFrom stealer_deque (call_of pool.now) thieves.now 0 seats.old }

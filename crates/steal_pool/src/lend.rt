@@ -14,9 +14,10 @@ use crate::seats::Seat;
 use cull_base::Memory;
 use std::alloc::Global;
 use std::mem;
+use tile_queues::Held;
 
 // A pass on the deque of a seat.
-fn lend_at<R, G>(seat: &mut Seat, _pool: &Pool<R, G>, _workers: usize, _out: usize) -> DequePass
+fn lend_at<R, G, K: Held + Drop>(seat: &mut Seat<K>, _pool: &Pool<R, G>, _workers: usize, _out: usize) -> DequePass<K>
     requires { IsDealt (call_of _pool.now) _workers _out seat.old }
     ensures dealt { IsDealt (call_of _pool.now) _workers (_out + 1) seat.new }
     ensures on { IsLentOn seat.old seat.new }
@@ -27,13 +28,13 @@ fn lend_at<R, G>(seat: &mut Seat, _pool: &Pool<R, G>, _workers: usize, _out: usi
 }
 
 // A pass on the deque of each seat, in order. Err where memory gave out.
-fn lend_row<R, G>(
+fn lend_row<R, G, K: Held + Drop>(
     alloc: Global,
-    seats: &mut [Seat],
+    seats: &mut [Seat<K>],
     pool: &Pool<R, G>,
-    _thieves: &[Thief],
+    _thieves: &[Thief<K>],
     out: usize,
-) -> Result<Vec<DequePass>, Memory>
+) -> Result<Vec<DequePass<K>>, Memory>
     requires many { length seats.old ≡ length _thieves.now }
     requires deques { AreAt stealer_deque _thieves.now seats.old }
     requires lent { AreLent (call_of pool.now) (length seats.old) 0 out seats.old }
@@ -54,11 +55,11 @@ fn lend_row<R, G>(
 
 /// Lends a pass on each deque to each worker. Err where memory gave out. Conditions: tasks are dealt, no pass is lent,
 /// and each seat owns the deque at its place.
-pub(crate) fn lend_all<R, G>(
+pub(crate) fn lend_all<R, G, K: Held + Drop>(
     alloc: Global,
-    seats: &mut [Seat],
+    seats: &mut [Seat<K>],
     pool: &Pool<R, G>,
-    thieves: &[Thief],
+    thieves: &[Thief<K>],
 ) -> Result<(), Memory>
     requires many { length seats.old ≡ length thieves.now }
     requires deques { AreAt stealer_deque thieves.now seats.old }

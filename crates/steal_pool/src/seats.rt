@@ -5,19 +5,20 @@ ghost use Rattle.steal_pool.specs.Pools.{call_of, tasks_weigh, IsWholeIn};
 ghost use Rattle.steal_pool.specs.Seats.{passes_weigh, ArePassesOf, IsOpen, IsWorked, AreWorked};
 
 use crate::deque_rule::{DequePass, Owner, Thief};
+use crate::draws::Draws;
 use crate::pool::Pool;
 use crate::worker::{pop_all, steal_all};
 use side_by_side::for_each_share;
 use std::sync::Wait;
 use std::thread::Threads;
-use tile_queues::{BinTask, Gate};
+use tile_queues::{BinTask, Gate, Held};
 
 /// A worker's deque, its passes on all deques, and what it drew.
 #[derive(Drop)]
-pub struct Seat {
-    pub owner: Owner,
-    pub passes: Vec<DequePass>,
-    pub list: Vec<BinTask>,
+pub struct Seat<K: Held> {
+    pub owner: Owner<K>,
+    pub passes: Vec<DequePass<K>>,
+    pub list: Vec<BinTask<K>>,
 }
 
 // The place behind another, in a round of so many.
@@ -30,12 +31,12 @@ fn next_place(place: usize, count: usize) -> usize
 
 // Steals from each deque until that one is found empty. The round begins behind the worker's own place, so that those
 // that are done at once begin at different ones.
-fn steal_round<R: Wait, G: Gate>(
+fn steal_round<R: Wait, G: Gate, K: Draws>(
     pool: &Pool<R, G>,
-    thieves: &[Thief],
+    thieves: &[Thief<K>],
     own: usize,
-    passes: &mut Vec<DequePass>,
-    list: &mut Vec<BinTask>,
+    passes: &mut Vec<DequePass<K>>,
+    list: &mut Vec<BinTask<K>>,
 )
     requires passes { ArePassesOf stealer_deque (call_of pool.now) thieves.now passes.old.items }
     requires room { vec_len list.old + length thieves.now * pool.now.room ≤ vec_capacity list.old }
@@ -56,7 +57,7 @@ fn steal_round<R: Wait, G: Gate>(
 }
 
 // Draws the own tasks, and then those that are left to others.
-fn work_at<R: Wait, G: Gate>(pool: &Pool<R, G>, thieves: &[Thief], own: usize, seat: &mut Seat)
+fn work_at<R: Wait, G: Gate, K: Draws>(pool: &Pool<R, G>, thieves: &[Thief<K>], own: usize, seat: &mut Seat<K>)
     requires { IsOpen stealer_deque (call_of pool.now) thieves.now seat.old }
     ensures { IsWorked stealer_deque (call_of pool.now) thieves.now seat.old seat.new }
 {
@@ -65,10 +66,10 @@ fn work_at<R: Wait, G: Gate>(pool: &Pool<R, G>, thieves: &[Thief], own: usize, s
 }
 
 /// All workers at once, each in a thread of its own.
-pub(crate) fn work_all<R: Threads + Wait + Sync, G: Gate>(
+pub(crate) fn work_all<R: Threads + Wait + Sync, G: Gate, K: Draws>(
     pool: &Pool<R, G>,
-    thieves: &[Thief],
-    seats: &mut [Seat],
+    thieves: &[Thief<K>],
+    seats: &mut [Seat<K>],
 )
     requires { All (IsOpen stealer_deque (call_of pool.now) thieves.now) seats.old }
     ensures { AreWorked stealer_deque (call_of pool.now) thieves.now seats.old seats.new }
@@ -78,7 +79,7 @@ pub(crate) fn work_all<R: Threads + Wait + Sync, G: Gate>(
         pool.rt,
         seats,
         workers,
-        &|w: usize, seat: &mut Seat|
+        &|w: usize, seat: &mut Seat<K>|
             requires { IsOpen stealer_deque (call_of pool.now) thieves.now seat.old }
             ensures { IsWorked stealer_deque (call_of pool.entry.now) thieves.entry.now seat.old seat.new }
         { work_at(pool, thieves, w, seat) },

@@ -11,7 +11,7 @@ use binning::bin_batch;
 use cull_base::Memory;
 use std::alloc::Global;
 use std::sync::Wait;
-use tile_queues::{BinQueues, BinTask, Gate, Submitter};
+use tile_queues::{BinQueues, BinTask, Gate, Held, Submitter};
 
 // Bins the next batch, once the gate has returned, and submits it.
 fn submit_next<R: Wait, G: Gate>(
@@ -61,11 +61,11 @@ pub(crate) fn submit_all<R: Wait, G: Gate>(
 }
 
 /// Tells each task how many batches were submitted. Condition: the submitter and the tasks are of these queues.
-pub(crate) fn tell_all<R: Wait>(
+pub(crate) fn tell_all<R: Wait, K: Held + Drop>(
     rt: &R,
     queues: &BinQueues,
     submitter: &mut Submitter,
-    tasks: &mut [BinTask],
+    tasks: &mut [BinTask<K>],
 )
     requires submitter { IsSubmitterOf queues.now submitter.old }
     requires tasks { All (IsTaskOf queues.now) tasks.old }

@@ -7,12 +7,13 @@ ghost use Rattle.steal_pool.specs.declared.deque_rule.Role.TheVariants.{Owns, St
 
 use crate::deque_rule::{DequePass, Owner, Thief};
 use crate::deque_steps::{pop, steal};
+use crate::draws::Draws;
 use crate::pool::Pool;
 use std::sync::Wait;
 use tile_queues::{BinTask, Gate};
 
 // Draws a task to its end, and appends it. Condition: there is room.
-fn draw_into<R: Wait, G: Gate>(pool: &Pool<R, G>, list: &mut Vec<BinTask>, mut task: BinTask)
+fn draw_into<R: Wait, G: Gate, K: Draws>(pool: &Pool<R, G>, list: &mut Vec<BinTask<K>>, mut task: BinTask<K>)
     requires told { IsToldIn (call_of pool.now) task }
     requires room { vec_len list.old < vec_capacity list.old }
     ensures joined { Joined (call_of pool.now) list.old.items list.new.items task }
@@ -20,16 +21,16 @@ fn draw_into<R: Wait, G: Gate>(pool: &Pool<R, G>, list: &mut Vec<BinTask>, mut t
     ensures capacity { vec_capacity list.new ≡ vec_capacity list.old }
 {
     let (rt, cells) = (pool.rt, pool.cells);
-    pool.queues.drain(rt, &mut task, cells, pool.list, pool.gate);
+    K::draw_queue(&mut task, rt, pool.queues, cells, pool.list, pool.gate);
     list.push_reserved(task);
 }
 
 /// Draws all tasks of an own deque until it is found empty. Conditions: the deque is named after the pool, and the list
 /// has room for what is left of it.
-pub(crate) fn pop_all<R: Wait, G: Gate>(
+pub(crate) fn pop_all<R: Wait, G: Gate, K: Draws>(
     pool: &Pool<R, G>,
-    owner: &mut Owner,
-    list: &mut Vec<BinTask>,
+    owner: &mut Owner<K>,
+    list: &mut Vec<BinTask<K>>,
 )
     requires owns { ((worker_view owner.old).role ≡ Owns) × (worker_flavor owner.old ≡ 0) }
     requires of { (worker_view owner.old).of ≡ call_of pool.now }
@@ -55,11 +56,11 @@ pub(crate) fn pop_all<R: Wait, G: Gate>(
 
 /// Steals and draws until that deque is found empty. Conditions: the deque is named after the pool, and the list has
 /// room for what the pass didn't take yet.
-pub(crate) fn steal_all<R: Wait, G: Gate>(
+pub(crate) fn steal_all<R: Wait, G: Gate, K: Draws>(
     pool: &Pool<R, G>,
-    thief: &Thief,
-    pass: &mut DequePass,
-    list: &mut Vec<BinTask>,
+    thief: &Thief<K>,
+    pass: &mut DequePass<K>,
+    list: &mut Vec<BinTask<K>>,
 )
     requires own { IsPassOf (stealer_deque thief.now) pass.old }
     requires steals { (view pass.old).role ≡ Steals }

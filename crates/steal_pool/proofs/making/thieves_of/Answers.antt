@@ -6,10 +6,10 @@ use Rattle.steal_pool.proofs.Opening.{at_more, none_at}
 use Rattle.steal_pool.proofs.making.thieves_of.Goals as goal
 
 pub loop-w-init : goal.loop-w-init
-loop-w-init c = record { made = search rules; at = none_at stealer_deque _ c.args.seats.now; room = search rules }
+loop-w-init g c = record { made = search rules; at = none_at stealer_deque _ c.args.seats.now; room = search rules }
 
 pub loop-w-preserved : goal.loop-w-preserved
-loop-w-preserved c =
+loop-w-preserved g c =
     let old = c.loop-w.invariant in
     let w = c.loop-w.w in
     let items = c.push_reserved.ensures.items in
@@ -22,4 +22,4 @@ loop-w-preserved c =
     }
 
 pub returns-clause-deques : goal.returns-clause-deques
-returns-clause-deques c i t s lt = c.loop-w.invariant.at i t s (omega (arith, lt, c.loop-w-test.false))
+returns-clause-deques g c i t s lt = c.loop-w.invariant.at i t s (omega (arith, lt, c.loop-w-test.false))
