@@ -3,18 +3,22 @@ ghost use Rattle.std.specs.Prelude.{◌≡◌, ◌<◌, ◌≤◌, length, IfOk,
 ghost use Rattle.cull_base.specs.Tiles.{ArePieces};
 ghost use Rattle.cull_report.specs.Scene.{size_of, frame_clips, frame_pieces, frame_verdicts};
 ghost use Rattle.bin_tiles.specs.BinViews.{table_of};
+ghost use Rattle.bin_tiles.specs.Bins.{AreBinsAt};
+ghost use Rattle.bin_tiles.specs.Plain.{StandsPlain};
 ghost use Rattle.command_words.specs.Words.{AreInRange};
 ghost use Rattle.culling.specs.Frames.{rounds_of, watch_of};
 
 use crate::frames::{Asking, Beside, Frame, FrameLines, drawn_pieces, unset_marks, verdicts_by};
 use binning::batch_size;
 use command_words::Settings;
-use cull_base::{ClipVertex, Memory};
+use cull_base::{ClipVertex, FrameList, Memory};
 use cull_report::Asked;
+use masked_update::Canvas;
 use scene_reader::Scene;
 use std::alloc::Global;
 use std::sync::Wait;
 use std::thread::Threads;
+use steal_pool::draw_stolen_plain;
 use tile_queues::{BinTable, BinView, Gate, draw_plain_frame};
 
 /// How frames are drawn, what is written of each, and what is noted beside. Conditions: the settings are in range, and
@@ -42,6 +46,27 @@ pub struct Drawing<'a, R, G> {
     ghost is_table: { table.now ≡ table_of (size_of scene.now) plan.now.settings.now.cut },
 }
 
+// Draws a list into the plain tiles of bins, by workers as the settings ask: whoever comes takes a bin that waits, or
+// each draws the bins of its own, and then takes bins from the others.
+fn draw_into_bins<R: Threads + Wait + Sync, G: Gate>(
+    drawing: &Drawing<R, G>,
+    list: &FrameList,
+) -> Result<Vec<Canvas>, Memory>
+    ensures drawn { let drawn = length list.now.list.members in IfOk result (λ v.
+        AreBinsAt StandsPlain (tt {0}) list.now.list drawing.now.plan.now.settings.now.cut drawn v.items) }
+    ensures pieces { OnOk result (ArePieces list.now.list.members) }
+{
+    let (rt, alloc, settings) = (drawing.rt, drawing.alloc, drawing.plan.settings);
+    // an accessor tells what is held of a list
+    let _len = list.len();
+    let batch = batch_size(list.len(), settings.batch);
+    let (cut, workers, gate) = (&settings.cut, settings.workers, drawing.gate);
+    if settings.steal {
+        return draw_stolen_plain(rt, alloc, list, cut, workers, batch, gate);
+    }
+    draw_plain_frame(rt, alloc, list, cut, workers, batch, gate)
+}
+
 /// Draws a frame and then tests the objects, by workers as the settings ask: what each tile takes, and in which order,
 /// is as by one thread that merges all pieces in order. Conditions: there is such a frame, and these are its clip
 /// vertices.
@@ -61,16 +86,7 @@ pub fn draw_plainly<R: Threads + Wait + Sync, G: Gate>(
     let settings = drawing.plan.settings;
     let drawn = drawn_pieces(rt, alloc, scene, frame, clips, settings)?;
     let list = &drawn.list;
-    let batch = batch_size(list.len(), settings.batch);
-    let bins = draw_plain_frame(
-        rt,
-        alloc,
-        list,
-        &settings.cut,
-        settings.workers,
-        batch,
-        drawing.gate,
-    )?;
+    let bins = draw_into_bins(drawing, list)?;
     let view = BinView::of(drawing.table, &bins, list);
     let settled = unset_marks(alloc, scene.objects().len())?;
     let asked = Asked {

@@ -22,8 +22,7 @@ use tile_queues::{BinTable, Gate};
 const LARGE: usize = 0x100_0000;
 
 // Draws a frame and tests the objects, by workers as the settings ask. Where there are looks the frame is drawn through
-// cells, which the caller reads meanwhile. So it is where objects are settled meanwhile, and where workers take bins
-// from each other, and then nothing is looked at.
+// cells, which the caller reads meanwhile. So it is where objects are settled meanwhile, and then nothing is looked at.
 fn draw<R: Threads + Wait + Sync, G: Gate>(
     drawing: &Drawing<R, G>,
     frame: u32,
@@ -39,7 +38,7 @@ fn draw<R: Threads + Wait + Sync, G: Gate>(
     match drawing.plan.beside {
         Beside::Looks { rounds, watch } => draw_live(drawing, rounds, watch, frame, clips),
         Beside::Nothing => {
-            if settings.early || settings.steal {
+            if settings.early {
                 return draw_live(drawing, 0, 0, frame, clips);
             }
             let frame = draw_plainly(drawing, Asking::Workers(settings.workers), frame, clips)?;
