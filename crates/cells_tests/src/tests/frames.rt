@@ -15,7 +15,7 @@ use std::sync::Wait;
 use std::sync::atomic::{AtomicU32, Ordering};
 use std::test::Fail;
 use std::thread::{Threads, yield_now};
-use steal_pool::draw_stolen;
+use steal_pool::{draw_stolen, draw_stolen_plain};
 use tile_cells::{Snapshot, TileCells, TileReader};
 use tile_queues::{BinTable, BinView, Caller, Gate, OpenGate, draw_frame, draw_plain_frame};
 
@@ -247,7 +247,7 @@ fn met_by(list: &FrameList, cut: &Cut, bin: u32) -> u32
     met
 }
 
-// Whether so many workers that take bins from each other draw these states through cells, and ask once for each member
+// Whether so many workers that take bins from each other draw these states in both forms, and ask once for each member
 // of each bin and for each batch.
 fn stolen_are_alike<R: Threads + Wait + Sync>(
     rt: &R,
@@ -259,11 +259,16 @@ fn stolen_are_alike<R: Threads + Wait + Sync>(
     requires some { 1 ≤ workers }
     requires most { workers ≤ 64 }
 {
-    let (list, cut) = (frame.list, frame.cut);
-    let asked = Questions::with_room(alloc, cut.bins(), list.len())?;
-    let (held, seen) = stolen_in_cells(rt, alloc, frame, workers, &asked)?;
-    Ok(are_alike(held.as_slice(), states)
-        && asked.are_those_of(list, cut, frame.batches())
+    let (list, cut, batch) = (frame.list, frame.cut, frame.size);
+    let plain = Questions::with_room(alloc, cut.bins(), list.len())?;
+    let bins = draw_stolen_plain(rt, alloc, list, cut, workers, batch, &plain)?;
+    let shown = bins_show(alloc, bins.as_slice(), list, cut, states)?;
+    let in_cells = Questions::with_room(alloc, cut.bins(), list.len())?;
+    let (held, seen) = stolen_in_cells(rt, alloc, frame, workers, &in_cells)?;
+    Ok(shown
+        && are_alike(held.as_slice(), states)
+        && plain.are_those_of(list, cut, frame.batches())
+        && in_cells.are_those_of(list, cut, frame.batches())
         && seen.is_some())
 }
 
@@ -329,6 +334,9 @@ fn two_workers_draw_what_one_draws(rt: HostRuntime) -> Result<(), Fail> {
     assert_eq!(rt; held[1].count(), 2);
     assert!(rt; seen.is_some_and(|count| count <= 2));
     for workers in [1, 2] {
+        let bins = draw_stolen_plain(&rt, rt.alloc(), &list, &cut, workers, batch, &OpenGate)?;
+        assert_eq!(rt; bins.len(), 2);
+        assert!(rt; bins_show(rt.alloc(), bins.as_slice(), &list, &cut, states.as_slice())?);
         let (held, seen) = stolen_in_cells(&rt, rt.alloc(), &frame, workers, &OpenGate)?;
         assert_eq!(rt; held.len(), 2);
         assert!(rt; are_alike(held.as_slice(), states.as_slice()));
