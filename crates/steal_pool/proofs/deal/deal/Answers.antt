@@ -15,7 +15,6 @@ push-requires-clause-owns g c =
     let i = c.loop-task.invariant in
     let x = c.in-Some.task in
     let e = sym i.2 ∙ c.in-Some.ensures.steps.0 in
-    let t = turn c.args.tasks.items c.loop-task.done x _ e in
     (may_push (call_of c.args._pool.now) c.args.seats.now c.loop-task.seats c.args.tasks.items _ _ x c.worker_of-worker.result c.index-seats-worker.result i.5 e (omega (arith, c.worker_of-worker.ensures.within, i.4, c.requires.many)) (c.worker_of-worker.ensures.value ∙ ap (λ (n : ℕ). x.of.bin % n) (sym c.requires.many))).owns
 
 pub push-requires-clause-told : goal.push-requires-clause-told
