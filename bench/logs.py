@@ -19,6 +19,7 @@ import time
 
 sys.path.append(str(pathlib.Path(__file__).resolve().parent.parent / "scenes"))
 from msoc import box, rectangle, scene  # noqa: E402
+from starter import make_starter, started  # noqa: E402
 
 LOOKS = ["--rounds", "8", "--watch", "8"]
 # x and y as they stand, and w from z.
@@ -36,19 +37,26 @@ def triangles(count, half_width, half_height):
     return vertices, [(3 * k, 3 * k + 1, 3 * k + 2) for k in range(count)]
 
 
-def run(program, words, given):
-    """Seconds and resident bytes of a run, and what it wrote."""
-    with tempfile.TemporaryFile() as source, tempfile.TemporaryFile() as sink:
-        for part in given:
-            source.write(part)
-        source.seek(0)
+def measured(words, files):
+    """Seconds, resident bytes and status of a run over three files."""
+    with open(files[0], "rb") as source, open(files[1], "wb") as report, open(files[2], "wb") as notes:
         begin = time.perf_counter()
-        child = subprocess.Popen([program, *words], stdin=source, stdout=sink)
+        child = subprocess.Popen(words, stdin=source, stdout=report, stderr=notes)
         _, status, used = os.wait4(child.pid, 0)
         seconds = time.perf_counter() - begin
-        child.returncode = os.waitstatus_to_exitcode(status)
-        sink.seek(0)
-        return seconds, 1024 * used.ru_maxrss, child.returncode, sink.read()
+    child.returncode = os.waitstatus_to_exitcode(status)
+    return seconds, 1024 * used.ru_maxrss, child.returncode
+
+
+def run(program, words, given):
+    """Seconds, resident bytes and status of a run, and what it wrote: of `live` its notes, else its report."""
+    with tempfile.TemporaryDirectory() as room:
+        files = [pathlib.Path(room) / name for name in ("source", "report", "notes")]
+        with open(files[0], "wb") as source:
+            for part in given:
+                source.write(part)
+        told = started(measured, [program, *words], files)
+        return *told, files[2 if words[0] == "live" else 1].read_bytes()
 
 
 def least(program, words, given, rounds, status=0):
@@ -74,6 +82,7 @@ def main():
     parser.add_argument("program")
     parser.add_argument("--rounds", type=int, default=5)
     args = parser.parse_args()
+    make_starter()
 
     small = [rectangle(40 * k, 40, 40 * k + 8, 48, 9000) for k in range(8)]
     data = scene((640, 480), 16, *triangles(8, 300, 300), small, 256 * [CAMERA])

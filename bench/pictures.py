@@ -14,6 +14,7 @@ import tempfile
 import time
 
 import frames
+from starter import make_starter, started
 
 SIZES = ((2048, 2048), (1280, 720))
 
@@ -42,7 +43,7 @@ def run(words, file, output):
 
 
 def least(words, file, rounds, output):
-    runs = [run(words, file, output) for _ in range(rounds)]
+    runs = [started(run, words, file, output) for _ in range(rounds)]
     return min(taken for taken, _ in runs), max(memory for _, memory in runs)
 
 
@@ -51,6 +52,7 @@ def main():
     parser.add_argument("program")
     parser.add_argument("--rounds", type=int, default=15)
     args = parser.parse_args()
+    make_starter()
     with tempfile.NamedTemporaryFile(suffix=".msoc") as file:
         for size in SIZES:
             for triangles in (0, 65536):

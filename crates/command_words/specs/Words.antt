@@ -122,8 +122,8 @@ value_in rows o = value_by o.takes (one_of o.name rows)
 abbrev pub number_of : (AnOption → Option ℕ) → AnOption → ℕ
 number_of values o = unwrap_or (values o) 0
 
--- how frames are cut and shared, where the options have these values, and whether objects are settled early and bins are
--- taken from others
+-- how frames are cut and shared, where the options have these values, and whether objects are settled early and bins
+-- are taken from others
 abbrev pub cut_by : (AnOption → Option ℕ) → Bool → Bool → Settings
 cut_by values settled stolen = record {
   workers = number_of values workers;

@@ -9,9 +9,7 @@ mod values;
 mod words;
 
 pub use settings::Settings;
-pub use table::{
-    BareCommand, CheckWords, Command, CullWords, DemoWords, LiveWords, PictureWords,
-};
+pub use table::{BareCommand, CheckWords, Command, CullWords, DemoWords, LiveWords, PictureWords};
 pub use words::{Refusal, command_of};
 
 /// The version of the program and of the library for C.

@@ -170,7 +170,7 @@ pub const CHECK: ACommand = CommandRow {
     name: "check",
     about: "Reads a scene and a log of live from standard input, and says whether live may have noted the log",
     more: "Reads from standard input four bytes with the length of a scene, lowest byte first, then so many bytes of the
-scene, then the log, to its end.
+scene, then the log, to its end where it is accepted.
 Writes to standard output log accepted where the log is what live may note of the scene with these numbers of rounds and
 of objects: each line has the verdict after the pieces that it states, and within a frame no tile's count falls. Else
 writes log refused L, where L says how many lines in front are good.

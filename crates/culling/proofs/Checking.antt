@@ -1,10 +1,12 @@
 -- The input of `check`: a number of four bytes, a scene, and a log.
-use Rattle.std.proofs.Common.{◌≡◌, ℕ, ◌+◌, ◌<◌, ◌≤◌, ◌++◌, List, [], length, take, drop, nat_lt, arith, sym, ap, ◌∙◌, subst, Option, Some, None}
+use Rattle.std.proofs.Common.{◌≡◌, ℕ, ◌<◌, ◌++◌, List, [], length, take, drop, nat_lt, arith, sym, ap, ◌∙◌, subst, Option, Some, None, w32}
 use Rattle.std.specs.Prelude.{IfSome}
+use Rattle.std.specs.Int.{from_le_bytes}
 use Rattle.std.specs.Option.{option_map}
 use Rattle.std.proofs.lemmas.Bool.{cond-false, cond-true, le-ltb, lt-ltb}
 use Rattle.std.proofs.lemmas.List.{append-nil, drop_at, length-append}
 use Rattle.std.proofs.lemmas.Option.{same_Some}
+use Rattle.byteorder.specs.Endian.{little_number}
 use Rattle.cull_base.specs.Stream.{IsAtEnd, SourceSays, Takes}
 use Rattle.scene_reader.specs.Fault.{first_fault, word_at}
 use Rattle.scene_reader.specs.Layout.{IsScene, Parts, layout}
@@ -19,6 +21,11 @@ use Rattle.command_words.specs.declared.table.Command.TheVariants.{Check}
 use Rattle.command_words.specs.declared.table.CheckWords.{CheckWords}
 use Rattle.culling.specs.Checking.{TakesNumber}
 use Rattle.culling.specs.Outcomes.{HasFault, HasScene, IfBytes, input_fault, log_bytes, scene_bytes}
+
+-- ---- four bytes as a number
+
+pub lowest_first : (bytes : List ℕ) → little_number 4 bytes ≡ from_le_bytes w32 bytes
+lowest_first bytes = omega arith
 
 -- ---- fewer than four bytes
 

@@ -44,7 +44,7 @@ use Rattle.culling.specs.Checking.{IsNoNumber}
 use Rattle.culling.specs.NotedLines.{CountsStay}
 use Rattle.culling.specs.Notes.{IsNotedBehind, IsNotedFirst, missing_text, note_by, note_text, refusal_text, status_text, usage_text}
 use Rattle.culling.specs.Outcome.{failure_of, refusal_status, sink_failure, status_by, status_of, log_failure}
-use Rattle.culling.specs.Outcomes.{Ends, EndsBy, EndsByScene, IsAbout, Makes, Work, work_of, HasFault, HasScene, IfAsked, IfBytes, IsTrue, ReadsScene, OutcomeOf, joined, live_frames, note_alone, notes_at, notes_before, pictured, report_and, report_before, report_of, text_alone, MakesBy, Making, answer_alone, answer_text, scene_bytes, scene_bytes_by}
+use Rattle.culling.specs.Outcomes.{Ends, EndsBy, EndsByScene, IsAbout, Makes, work_of, HasFault, HasScene, IfAsked, IfBytes, IsTrue, ReadsScene, OutcomeOf, joined, live_frames, note_alone, notes_at, notes_before, pictured, report_and, report_before, report_of, text_alone, MakesBy, Making, answer_alone, answer_text, scene_bytes, scene_bytes_by}
 use Rattle.culling.specs.Picture.{frame_picture}
 use Rattle.culling.specs.Runs.{AwaitsNote, Comes, HasCause, IsComplete, IsUnasked, Leaves, Streams, WithoutFault, streams, LeavesFront}
 use Rattle.culling.specs.Summary.{demo_line, frames_summary, summary_text}

@@ -31,12 +31,12 @@ status_of failures.ReportFault = statuses.ReportFault
 status_of failures.NotesFault = statuses.NotesFault
 status_of failures.Memory = statuses.Memory
 status_of failures.Log = statuses.Log
+status_of (failures.Frame frame frames) = statuses.Frame
 
 -- what becomes of a log that couldn't be checked
 abbrev pub log_failure : LogError → Failure
 log_failure logs.Read = failures.ReadFault
 log_failure logs.Memory = failures.Memory
-status_of (failures.Frame frame frames) = statuses.Frame
 
 -- the status of a command's result
 abbrev pub status_by : Result (Unit {0}) Failure → Status

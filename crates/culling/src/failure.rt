@@ -40,10 +40,7 @@ pub enum Failure {
     Memory,
     Log,
     /// The scene has no such frame: its number, and how many there are.
-    Frame {
-        frame: u32,
-        frames: u32,
-    },
+    Frame { frame: u32, frames: u32 },
 }
 
 impl From<SceneError> for Failure {

@@ -380,9 +380,9 @@ fn alone(settings: &Settings) -> Settings
     Settings {
         workers: 1,
         cut,
-        batch: settings.batch,
         early: false,
         steal: false,
+        ..*settings
     }
 }
 

@@ -1,5 +1,5 @@
 -- Tiles of a span that move forward along a frame's list, member after member.
-use Rattle.std.proofs.Common.{◌≡◌, ◌⊎◌, ℕ, ◌+◌, ◌<◌, ◌≤◌, Bool, true, false, ◌&&◌, cond, List, [], ◌∷◌, ◌++◌, length, take, drop, filter, get_or, append_assoc, arith, refl, sym, ap, ◌∙◌, subst, inl, inr}
+use Rattle.std.proofs.Common.{◌≡◌, ◌⊎◌, ℕ, ◌+◌, ◌<◌, ◌≤◌, nat_le, nat_lt, Bool, true, false, ◌&&◌, cond, List, [], ◌∷◌, ◌++◌, length, take, drop, filter, get_or, append_assoc, arith, refl, sym, ap, ◌∙◌, subst, inl, inr}
 use Rattle.std.specs.Prelude.{slice_index}
 use Rattle.std.proofs.lemmas.Bool.{and_parts, cases_lt}
 use Rattle.std.proofs.lemmas.Bool.Decides.{nat_tests}
@@ -29,7 +29,7 @@ met_few : (list : PieceList) (t place : ℕ) → met_before list t place ≤ pla
 met_few list t place = omega (arith, own_within t (record { size = list.size; members = take place list.members }), length-take place list.members)
 
 short_parts : (tiles : TilesOf) (t place : ℕ) → is_short_at tiles t place ≡ true → (count_at tiles t < slice_index tiles.stated t) × (slice_index tiles.behind t ≤ place)
-short_parts tiles t place short = let parts = and_parts _ _ short in (grind (arith, nat_tests), grind (arith, nat_tests))
+short_parts tiles t place short = let parts = and_parts (nat_lt (count_at tiles t) (slice_index tiles.stated t)) (nat_le (slice_index tiles.behind t) place) short in (grind (arith, nat_tests), grind (arith, nat_tests))
 
 is_short : (tiles : TilesOf) (t place : ℕ) → count_at tiles t < slice_index tiles.stated t → slice_index tiles.behind t ≤ place → is_short_at tiles t place ≡ true
 is_short tiles t place lt le = grind (arith, nat_tests)
@@ -43,7 +43,7 @@ short_few list tiles t place standing lt within few short =
 -- a member that meets a tile is the next one of its list
 next_member_of : (list : PieceList) (t place : ℕ) (x : Piece) → place < length list.members → get_or list.members place x ≡ x → meets (box_of x) (tile_rect_of list.size t) ≡ true → IsMember t (met_before list t place) list x
 unfolding tile_list
-next_member_of list t place x lt is met = record { within = omega (arith, met_within list t (place + 1), met_more list t place x lt is, ap (λ (b : Bool). cond b 1 0) met); is = at }
+next_member_of list t place x lt is met = record { within = omega (arith, met_within list t (place + 1), met_more list t place x lt is, ap {B = ℕ} (λ (b : Bool). cond b 1 0) met); is = at }
   where
     p : Piece → Bool
     p y = meets (box_of y) (tile_rect_of list.size t)
@@ -118,8 +118,8 @@ module _ (list : PieceList) (span : TileSpan) (place : ℕ) (old new now : Tiles
   took_it t inside e =
       let on = on_list t inside.0 in
       let d = did t inside.0 true e in
-      let parts = and_parts _ _ e in
-      let met : meets (box_of x) (tile_rect_of list.size t) ≡ true = ap (λ (s : Dimensions). meets (box_of x) (tile_rect_of s t)) (sym m.standing.size) ∙ (and_parts _ _ parts.0).1 in
+      let parts = and_parts (is_met_in new.size span x t) (is_short_at new t place) e in
+      let met : meets (box_of x) (tile_rect_of list.size t) ≡ true = ap (λ (s : Dimensions). meets (box_of x) (tile_rect_of s t)) (sym m.standing.size) ∙ (and_parts (has_tile span (tile_place new.size t)) (meets (box_of x) (tile_rect_of new.size t)) parts.0).1 in
       let was = (m.standing.each t on).state in
       let k = met_before list t place in
       let here = short_here t inside parts.1 in
@@ -129,18 +129,18 @@ module _ (list : PieceList) (span : TileSpan) (place : ℕ) (old new now : Tiles
       ∙ next_taken t k list x (next_member_of list t place x lt is met) ∙ ap (λ (n : ℕ). standing_at t n list) (sym next) in (
         record { within = omega (arith, d.behind, lt); state = state ∙ ap (λ (n : ℕ). standing_at t (met_before list t n) list) (sym d.behind) },
         ap (λ (s : TileOf). s.count) d.state,
-        d.behind
+        d.behind,
       )
 
   -- a tile that isn't of the span takes none
   outside_off : (t : ℕ) → (h : Bool) → has_tile span (tile_place new.size t) ≡ h → (h ≡ true → ⊥) → (is_met_in new.size span x t && is_short_at new t place) ≡ false
-  outside_off t true e no = absurd (no refl)
-  outside_off t false e no = rw e refl
+  outside_off t true e never = absurd (never refl)
+  outside_off t false e never = rw e refl
 
   -- what each tile of the screen does is told by whether it is short and met
   each_stands : (t : ℕ) → t < tile_count_of old.size → (b : Bool) → (is_met_in new.size span x t && is_short_at new t place) ≡ b → StandsBehind list t (slice_index now.behind t) (tile_at now.states t)
   each_stands t on true e =
-      let has = (and_parts _ _ (and_parts _ _ e).0).0 in
+      let has = (and_parts (has_tile span (tile_place new.size t)) (meets (box_of x) (tile_rect_of new.size t)) (and_parts (is_met_in new.size span x t) (is_short_at new t place) e).0).0 in
       (took_it t (on, ap (λ (d : Dimensions). has_tile span (tile_place d t)) (sym m.size) ∙ has) e).0
   each_stands t on false e =
       let d = did t on false e in
@@ -149,8 +149,8 @@ module _ (list : PieceList) (span : TileSpan) (place : ℕ) (old new now : Tiles
 
   rises_on : (t : ℕ) → IsIn old span t → (b : Bool) → (is_met_in new.size span x t && is_short_at new t place) ≡ b → count_at now t ≤ slice_index old.stated t
   rises_on t inside true e =
-      let more = (took_it t inside e).1.0 in
-      let short = (short_parts new t place (and_parts _ _ e).1).0 in
+      let more = (took_it t inside e).1 in
+      let short = (short_parts new t place (and_parts (is_met_in new.size span x t) (is_short_at new t place) e).1).0 in
       omega (arith, more, short, ap (λ (xs : List ℕ). slice_index xs t) m.stated)
   rises_on t inside false e = let d = did t inside.0 false e in omega (arith, ap (λ (s : TileOf). s.count) d.state, m.rise t inside)
 
@@ -165,11 +165,11 @@ module _ (list : PieceList) (span : TileSpan) (place : ℕ) (old new now : Tiles
       three : (a b c : Bool) → a ≡ true → c ≡ true → ((a && b) && c) ≡ false → b ≡ false
       three true false true pa pc e = refl
       three true true true pa pc e = e
-      three false b c pa pc e = absurd pa
-      three true b false pa pc e = absurd pc
+      three false b c pa pc e = absurd cc
+      three true b false pa pc e = absurd cc
 
   abreast_on : (t : ℕ) → IsIn old span t → (b : Bool) → (is_met_in new.size span x t && is_short_at new t place) ≡ b → count_at now t < slice_index old.stated t → IsAbreast list t (slice_index now.behind t) (place + 1)
-  abreast_on t inside true e short = inl (omega (arith, (took_it t inside e).1.1))
+  abreast_on t inside true e short = inl (omega (arith, (took_it t inside e).2))
   abreast_on t inside false e short =
       let d = did t inside.0 false e in
       let lower : count_at new t < slice_index old.stated t = omega (arith, short, ap (λ (s : TileOf). s.count) d.state) in
@@ -206,7 +206,7 @@ moved_there list span place len old new whole m none = record {
       elim (cases_lt (count_at new t) (slice_index old.stated t)) [
         | inl short ↦
             let here = is_short new t len (omega (arith, short, ap (λ (xs : List ℕ). slice_index xs t) m.stated)) (omega (arith, whole, (m.standing.each t on).within)) in
-            let no : true ≡ false = sym here ∙ none t within in absurd no
+            let no : true ≡ false = sym here ∙ none t within in absurd cc
         | inr le ↦ omega (arith, le, m.rise t inside)
       ];
   others = m.others;

@@ -1,5 +1,5 @@
 -- Counts that fit so far go on: with whole lists behind them.
-use Rattle.std.proofs.Common.{◌≡◌, ℕ, ◌+◌, ◌<◌, ◌≤◌, ◌⊎◌, Bool, true, false, cond, ◌&&◌, ◌||◌, nat_lt, nat_eq, List, ◌++◌, length, arith, refl, sym, ap, ◌∙◌, subst, inl, inr}
+use Rattle.std.proofs.Common.{◌≡◌, ℕ, ◌<◌, ◌≤◌, ◌⊎◌, Bool, true, false, cond, ◌&&◌, ◌||◌, nat_lt, nat_eq, List, ◌++◌, length, arith, refl, sym, ap, ◌∙◌, subst, inl, inr}
 use Rattle.std.specs.List.{flat_map, range_with_len}
 use Rattle.std.proofs.lemmas.Bool.{cases_eq, cases_lt, eq-eqb, le-ltb, lt-ltb, ne_eqb}
 use Rattle.cull_base.specs.Tiles.{tile_list}
@@ -29,7 +29,7 @@ before_false r o p q never = elim (cases_lt r p) [
   | inl less ↦ absurd (never (inl less))
   | inr from ↦ elim (cases_eq r p) [
     | inl same ↦
-        let late : q ≤ o = elim (cases_lt o q) [ | inl lo ↦ absurd (never (inr (same, lo))) | inr le ↦ le ] in
+        let late : q ≤ o = elim (cases_lt o q) [ inl lo ↦ absurd (never (inr (same, lo))) | inr le ↦ le ] in
         ap (λ (b : Bool). b || (nat_eq r p && nat_lt o q)) (le-ltb r p from) ∙ ap (λ (b : Bool). b && nat_lt o q) (eq-eqb r p same) ∙ le-ltb o q late
     | inr other ↦ ap (λ (b : Bool). b || (nat_eq r p && nat_lt o q)) (le-ltb r p from) ∙ ap (λ (b : Bool). b && nat_lt o q) (ne_eqb r p other)
   ]
@@ -42,9 +42,9 @@ before_or r o p q = elim (cases_lt r p) [
   | inr from ↦ elim (cases_eq r p) [
     | inl same ↦ elim (cases_lt o q) [
       | inl lo ↦ inl (inr (same, lo))
-      | inr le ↦ inr (λ before. elim before [ | inl less ↦ omega (arith, less, from) | inr both ↦ omega (arith, both.1, le) ])
+      | inr le ↦ inr (λ before. elim before [ inl less ↦ omega (arith, less, from) | inr both ↦ omega (arith, both.1, le) ])
     ]
-    | inr other ↦ inr (λ before. elim before [ | inl less ↦ omega (arith, less, from) | inr both ↦ other both.0 ])
+    | inr other ↦ inr (λ before. elim before [ inl less ↦ omega (arith, less, from) | inr both ↦ other both.0 ])
   ]
 ]
 
@@ -61,8 +61,8 @@ gone_behind s frame counts round object r o t never = ap (λ (b : Bool). cond b 
 -- a line before one that is before a place is before it too
 before_then : (r o p q round object : ℕ) → IsBefore r o p q → IsBefore p q round object → IsBefore r o round object
 before_then r o p q round object first second = elim first [
-  | inl less ↦ elim second [ | inl more ↦ inl (omega (arith, less, more)) | inr same ↦ inl (omega (arith, less, same.0)) ]
-  | inr same ↦ elim second [ | inl more ↦ inl (omega (arith, same.0, more)) | inr both ↦ inr (omega (arith, same.0, both.0), omega (arith, same.1, both.1)) ]
+  | inl less ↦ elim second [ inl more ↦ inl (omega (arith, less, more)) | inr same ↦ inl (omega (arith, less, same.0)) ]
+  | inr same ↦ elim second [ inl more ↦ inl (omega (arith, same.0, more)) | inr both ↦ inr (omega (arith, same.0, both.0), omega (arith, same.1, both.1)) ]
 ]
 
 -- they rise in the frame
@@ -121,7 +121,7 @@ none_before s watch frame counts = record {
 }
   where
     never : (r o : ℕ) → IsBefore r o 0 0 → ⊥
-    never r o before = elim before [ | inl less ↦ omega (arith, less) | inr same ↦ omega (arith, same.1) ]
+    never r o before = elim before [ inl less ↦ omega (arith, less) | inr same ↦ omega (arith, same.1) ]
 
 -- they rise
 pub all_gone_rises : (s : Parts) (rounds watch : ℕ) (before : Counts) (frame : ℕ) (counts : ℕ → ℕ → ℕ → ℕ) (round object : ℕ) → ((f : ℕ) → f < frame → IsRisingIn s rounds watch f (before f))
@@ -157,4 +157,4 @@ next_of s rounds watch frame c d round object lr lo rising same = record {
 }
   where
     is_line : (r o : ℕ) → IsBefore r o round object → r < rounds
-    is_line r o before = elim before [ | inl less ↦ omega (arith, less, lr) | inr both ↦ omega (arith, both.0, lr) ]
+    is_line r o before = elim before [ inl less ↦ omega (arith, less, lr) | inr both ↦ omega (arith, both.0, lr) ]

@@ -27,7 +27,7 @@ decimal_text n small = decimal_by_steps IsText one more n small
 
     more : (n : ℕ) (ds : List ℕ) → 10 ≤ n → IsText (n / 10) ds → IsText n (ds ++ ((48 + n % 10) ∷ []))
     more n ds le text =
-        let lt : n % 10 < 10 = mod-lt n 10 (omega arith) in
+        let lt : n % 10 < 10 = mod-lt n (omega arith) in
         (digits_append ds ((48 + n % 10) ∷ []) text.0 ((omega arith, omega (arith, lt)), tt), omega (arith, length-append ds ((48 + n % 10) ∷ []), text.1))
 
 pub decimal_digits : (n : ℕ) → n < 2 ^ 64 → AreDigits (decimal n)

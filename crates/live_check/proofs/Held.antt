@@ -15,7 +15,7 @@ HeldBefore P size span n = (t : ℕ) → IsBefore size span n t → P t
 module _ (P : ℕ → Type 0) (size : Dimensions) (span : TileSpan) where
   -- a tile that isn't of the span
   apart : (t : ℕ) → has_tile span (tile_place size t) ≡ true → has_tile span (tile_place size t) ≡ false → P t
-  apart t has off = let no : true ≡ false = sym has ∙ off in absurd no
+  apart t has off = let no : true ≡ false = sym has ∙ off in absurd cc
 
   pub held_more : (n : ℕ) → HeldBefore P size span n → P n → HeldBefore P size span (n + 1)
   held_more n held here t before = elim (cases_lt t n) [

@@ -179,6 +179,14 @@ module _ (s : Parts) (rounds watch : ℕ) (scene : IsScene s) (few : AreFew roun
   answer_stops None after n l = tt
   answer_stops (Some log) after n l = by l.middle l.came l.stops.left l.stops.came refl
     where
+      products : (frame round object n good : ℕ) → n ≡ (rounds * watched s watch) * frame + good → good ≡ round * watched s watch + object
+          → (watched s watch * rounds) * frame + (watched s watch * round + object) ≡ n
+      products frame round object n good place good_is =
+          let w = watched s watch in
+          let first : (w * rounds) * frame ≡ (rounds * w) * frame = ap (λ (k : ℕ). k * frame) (mul_comm w rounds) in
+          let second : w * round ≡ round * w = mul_comm w round in
+          omega (arith, first, second, place, good_is)
+
       by : (middle : Option (List ℕ)) → Some log ≡ option_map (λ (rest : List ℕ). frames_live s rounds watch l.counts l.frame ++ rest) middle → (left : Option (List ℕ))
           → middle ≡ option_map (λ (rest : List ℕ). lines_to s watch l.frame l.stops.counts l.stops.round l.stops.object ++ rest) left → l.stops.left ≡ left
           → IsJudged s rounds watch log (Refused n) × (Refused n ≡ Accepted → after ≡ Some [])
@@ -190,14 +198,6 @@ module _ (s : Parts) (rounds watch : ℕ) (scene : IsScene s) (few : AreFew roun
           ∙ sym (append_assoc (frames_live s rounds watch l.counts l.frame) (lines_to s watch l.frame l.stops.counts l.stops.round l.stops.object) left) in
           let count : (watched s watch * rounds) * l.frame + (watched s watch * l.stops.round + l.stops.object) ≡ n = products l.frame l.stops.round l.stops.object n l.good l.place l.stops.place in
           (subst (λ (k : ℕ). IsJudged s rounds watch log (Refused k)) count (judged_stop log left l.counts l.frame l.is_frame l.rising l.middle l.good l.stops is told), λ no. absurd cc)
-
-      products : (frame round object n good : ℕ) → n ≡ (rounds * watched s watch) * frame + good → good ≡ round * watched s watch + object
-          → (watched s watch * rounds) * frame + (watched s watch * round + object) ≡ n
-      products frame round object n good place good_is =
-          let w = watched s watch in
-          let first : (w * rounds) * frame ≡ (rounds * w) * frame = ap (λ (k : ℕ). k * frame) (mul_comm w rounds) in
-          let second : w * round ≡ round * w = mul_comm w round in
-          omega (arith, first, second, place, good_is)
 
 -- ---- where nothing waits in the buffer
 
@@ -238,5 +238,6 @@ pub answer_end : (s : Parts) (rounds watch : ℕ) → IsScene s → AreFew round
 answer_end s rounds watch scene few before after held lines Accepted count l ends =
     answer_comes s rounds watch scene few before after (subst (λ (h : List ℕ). LogComes s rounds watch before (waiting h after)) ends.0 l) ends.1
 answer_end s rounds watch scene few before after held lines (Refused n) count l ends =
-    let (is, b, rest, held_is) = ends in
+    let (is, found) = ends in
+    let (b, rest, held_is) = found in
     answer_longer s rounds watch scene few before after b rest n (is ∙ count) (subst (λ (h : List ℕ). LogComes s rounds watch before (waiting h after)) held_is l)

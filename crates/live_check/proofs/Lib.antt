@@ -9,7 +9,7 @@ pub mod Judging
 pub mod Frames
 pub mod Rounds
 pub mod LineParts
-pub mod Words
+pub mod ByBytes
 pub mod Stating
 pub mod Held
 pub mod Taking

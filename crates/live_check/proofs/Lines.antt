@@ -46,35 +46,35 @@ opened : (a t r : List ℕ) → (ended a ++ t) ++ r ≡ a ++ (10 ∷ (t ++ r))
 opened a t r = ap (λ (x : List ℕ). x ++ r) (append_assoc a (10 ∷ []) t) ∙ append_assoc a (10 ∷ t) r
 
 -- the first lines of the longer ones are the others, and what follows these begins with the rest of them
-lists_same : (as bs : List (List ℕ)) (r q : List ℕ) → AllByRecursion IsBare as → AllByRecursion IsBare bs → length as ≤ length bs → joined as ++ r ≡ joined bs ++ q
-    → (cs : List (List ℕ)) × (bs ≡ as ++ cs) × AllByRecursion IsBare cs × (r ≡ joined cs ++ q)
-lists_same [] bs r q p s le e = (bs, refl, s, e)
-lists_same (a ∷ as) [] r q p s le e = absurd (omega (arith, le))
-lists_same (a ∷ as) (b ∷ bs) r q p s le e =
-    let one = line_same a b (joined as ++ r) (joined bs ++ q) p.0 s.0 (sym (opened a (joined as) r) ∙ e ∙ opened b (joined bs) q) in
-    let (cs, is, bare, left) = lists_same as bs r q p.1 s.1 (omega (arith, le)) one.1 in
-    (cs, cons_same b a bs (as ++ cs) (sym one.0) is, bare, left)
+lists_same : (xs ys : List (List ℕ)) (r q : List ℕ) → AllByRecursion IsBare xs → AllByRecursion IsBare ys → length xs ≤ length ys → joined xs ++ r ≡ joined ys ++ q
+    → (zs : List (List ℕ)) × (ys ≡ xs ++ zs) × AllByRecursion IsBare zs × (r ≡ joined zs ++ q)
+lists_same [] ys r q p s le e = (ys, refl, s, e)
+lists_same (a ∷ xs) [] r q p s le e = absurd (omega (arith, le))
+lists_same (a ∷ xs) (b ∷ ys) r q p s le e =
+    let one = line_same a b (joined xs ++ r) (joined ys ++ q) p.0 s.0 (sym (opened a (joined xs) r) ∙ e ∙ opened b (joined ys) q) in
+    let (zs, is, bare, left) = lists_same xs ys r q p.1 s.1 (omega (arith, le)) one.1 in
+    (zs, cons_same b a ys (xs ++ zs) (sym one.0) is, bare, left)
 
-bare_lists : (as bs : List (List ℕ)) → AllByRecursion IsBare as → AllByRecursion IsBare bs → AllByRecursion IsBare (as ++ bs)
-bare_lists [] bs p q = q
-bare_lists (a ∷ as) bs p q = (p.0, bare_lists as bs p.1 q)
+bare_lists : (xs ys : List (List ℕ)) → AllByRecursion IsBare xs → AllByRecursion IsBare ys → AllByRecursion IsBare (xs ++ ys)
+bare_lists [] ys p q = q
+bare_lists (a ∷ xs) ys p q = (p.0, bare_lists xs ys p.1 q)
 
 -- of two fronts of a text the one with more lines begins with the other
 pub fronts : (n m : ℕ) (a b r q : List ℕ) → AreLines n a → AreLines m b → n ≤ m → a ++ r ≡ b ++ q → (mid : List ℕ) × AreLines (m - n) mid × (b ≡ a ++ mid) × (r ≡ mid ++ q)
 fronts n m a b r q la lb le e =
     let same : joined la.lines ++ r ≡ joined lb.lines ++ q = ap (λ (t : List ℕ). t ++ r) (sym la.spelled) ∙ e ∙ ap (λ (t : List ℕ). t ++ q) lb.spelled in
-    let (cs, is, bare, left) = lists_same la.lines lb.lines r q la.bare lb.bare (omega (arith, la.count, lb.count, le)) same in
-    let count : length cs ≡ m - n = omega (arith, ap length is, length-append la.lines cs, la.count, lb.count) in (
-      joined cs,
-      record { lines = cs; count = count; bare = bare; spelled = refl },
-      lb.spelled ∙ ap joined is ∙ flat_map-append (λ (l : List ℕ). l ++ 10 ∷ []) la.lines cs ∙ ap (λ (t : List ℕ). t ++ joined cs) (sym la.spelled),
+    let (zs, is, bare, left) = lists_same la.lines lb.lines r q la.bare lb.bare (omega (arith, la.count, lb.count, le)) same in
+    let count : length zs ≡ m - n = omega (arith, ap length is, length-append la.lines zs, la.count, lb.count) in (
+      joined zs,
+      record { lines = zs; count = count; bare = bare; spelled = refl },
+      lb.spelled ∙ ap joined is ∙ flat_map-append (λ (l : List ℕ). l ++ 10 ∷ []) la.lines zs ∙ ap (λ (t : List ℕ). t ++ joined zs) (sym la.spelled),
       left,
     )
 
 -- no lines are no bytes
 none_joined : (lines : List (List ℕ)) → length lines ≡ 0 → joined lines ≡ []
 none_joined [] none = refl
-none_joined (a ∷ as) none = absurd (omega (arith, none))
+none_joined (a ∷ xs) none = absurd (omega (arith, none))
 
 -- two fronts of so many lines are one
 pub equal_fronts : (n : ℕ) (a b r q : List ℕ) → AreLines n a → AreLines n b → a ++ r ≡ b ++ q → (a ≡ b) × (r ≡ q)
@@ -114,7 +114,7 @@ each_lines f k (suc n) each =
 -- some lines have a byte
 some_bytes : (k : ℕ) (x : List ℕ) (lines : List (List ℕ)) → length lines ≡ k → x ≡ joined lines → 0 < k → length x ≡ 0 → ⊥
 some_bytes k x [] count is some none = absurd (omega (arith, count, some))
-some_bytes k x (a ∷ as) count is some none = absurd (omega (arith, none, ap length is, length-append (a ++ 10 ∷ []) (joined as), length-append a (10 ∷ [])))
+some_bytes k x (a ∷ xs) count is some none = absurd (omega (arith, none, ap length is, length-append (a ++ 10 ∷ []) (joined xs), length-append a (10 ∷ [])))
 
 -- a text has no more lines than one that begins with it
 pub count_same : (n m : ℕ) (a r : List ℕ) → AreLines n a → AreLines m (a ++ r) → n ≤ m

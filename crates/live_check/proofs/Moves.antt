@@ -1,5 +1,5 @@
 -- Tiles that move forward along a frame's list.
-use Rattle.std.proofs.Common.{◌≡◌, ℕ, ◌+◌, ◌<◌, ◌≤◌, Bool, true, false, cond, List, [], ◌∷◌, ◌++◌, length, take, get_or, filter, arith, refl, sym, ap, ◌∙◌}
+use Rattle.std.proofs.Common.{◌≡◌, ℕ, suc, ◌+◌, ◌<◌, ◌≤◌, Bool, true, false, cond, List, [], ◌∷◌, ◌++◌, length, take, get_or, filter, arith, refl, sym, ap, ◌∙◌}
 use Rattle.std.proofs.Math.Seq.{take-length}
 use Rattle.std.proofs.lemmas.List.{length-append, take_more}
 use Rattle.std.proofs.lemmas.List.Elements.{filter-append}
@@ -15,11 +15,11 @@ use Rattle.live_check.specs.Standing.{StandsBehind, met_before}
 -- some members fewer are kept
 kept_within : (p : Piece → Bool) (xs : List Piece) → length (filter p xs) ≤ length xs
 kept_within p [] = omega arith
-kept_within p (x ∷ xs) = by (p x) refl
+kept_within p (x ∷ xs) = by (kept_within p xs) (p x) refl
   where
-    by : (b : Bool) → p x ≡ b → length (cond (p x) (x ∷ filter p xs) (filter p xs)) ≤ length xs + 1
-    by true e = let rest = kept_within p xs in rw e (omega (arith, rest))
-    by false e = let rest = kept_within p xs in rw e (omega (arith, rest))
+    by : length (filter p xs) ≤ length xs → (b : Bool) → p x ≡ b → length (cond (p x) (x ∷ filter p xs) (filter p xs)) ≤ suc (length xs)
+    by rest true e = rw e (omega (arith, rest))
+    by rest false e = rw e (omega (arith, rest))
 
 pub own_within : (t : ℕ) (list : PieceList) → length (tile_list t list) ≤ length list.members
 unfolding tile_list

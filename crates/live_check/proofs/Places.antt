@@ -82,7 +82,7 @@ watched_few s rounds watch few = omega (arith, few.watch_few)
 abbrev pub AreWithin : Parts → ℕ → (ℕ → ℕ → ℕ → ℕ) → ℕ → ℕ → ℕ → Type 0
 AreWithin s watch counts frame r o = (t : ℕ) → IsStated s frame o t → counts r o t ≤ length (tile_list t (frame_list s frame))
 
-one_of : (s : Parts) (watch frame : ℕ) (counts : ℕ → ℕ → ℕ → ℕ) (r o : ℕ) → IsScene s → frame < 256 → r < 8 → o < 8 → AreWithin s watch counts frame r o → AreLines 1 (object_line s frame r o (counts r o))
+pub one_of : (s : Parts) (watch frame : ℕ) (counts : ℕ → ℕ → ℕ → ℕ) (r o : ℕ) → IsScene s → frame < 256 → r < 8 → o < 8 → AreWithin s watch counts frame r o → AreLines 1 (object_line s frame r o (counts r o))
 one_of s watch frame counts r o scene lf lr lo within = line_of_object s frame r o (counts r o) (small_line s frame r o (counts r o) scene (omega (arith, lf)) (omega (arith, lr)) (omega (arith, lo)) within)
 
 objects_lines : (s : Parts) (watch frame : ℕ) (counts : ℕ → ℕ → ℕ → ℕ) (r n : ℕ) → IsScene s → frame < 256 → r < 8 → n ≤ 8 → ((o : ℕ) → o < n → AreWithin s watch counts frame r o)
@@ -122,10 +122,10 @@ rising_to s rounds watch frame counts round object lr lo rising = record {
 }
   where
     is_line : (r o : ℕ) → IsBefore r o round object → r < rounds
-    is_line r o before = elim before [ | inl less ↦ omega (arith, less, lr) | inr same ↦ omega (arith, same.0, lr) ]
+    is_line r o before = elim before [ inl less ↦ omega (arith, less, lr) | inr same ↦ omega (arith, same.0, lr) ]
 
     is_first : (r o p q : ℕ) → IsBefore p q round object → IsBefore r o p q → r < rounds
-    is_first r o p q before between = let below = is_line p q before in elim between [ | inl less ↦ omega (arith, less, below) | inr same ↦ omega (arith, same.0, below) ]
+    is_first r o p q before between = let below = is_line p q before in elim between [ inl less ↦ omega (arith, less, below) | inr same ↦ omega (arith, same.0, below) ]
 
 -- ---- two texts before a place that are one tell the same counts
 

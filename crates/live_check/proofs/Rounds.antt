@@ -33,7 +33,7 @@ line_other counts round n k r o t before = elim before [
 before_next : (r o round n : ℕ) → IsBefore r o round (n + 1) → IsBefore r o round n ⊎ ((r ≡ round) × (o ≡ n))
 before_next r o round n before = elim before [
   | inl less ↦ inl (inl less)
-  | inr same ↦ elim (cases_lt o n) [ | inl lo ↦ inl (inr (same.0, lo)) | inr le ↦ inr (same.0, omega (arith, le, same.1)) ]
+  | inr same ↦ elim (cases_lt o n) [ inl lo ↦ inl (inr (same.0, lo)) | inr le ↦ inr (same.0, omega (arith, le, same.1)) ]
 ]
 
 -- whether a line states a tile
@@ -97,15 +97,15 @@ round_next s watch frame counts round n at now a b c in_round so line = record {
   where
     earlier : (r o p q : ℕ) → IsBefore p q round n → IsBefore r o p q → IsBefore r o round n
     earlier r o p q second first = elim first [
-      | inl less ↦ elim second [ | inl x ↦ inl (omega (arith, less, x)) | inr y ↦ inl (omega (arith, less, y.0)) ]
-      | inr same ↦ elim second [ | inl x ↦ inl (omega (arith, same.0, x)) | inr y ↦ inr (omega (arith, same.0, y.0), omega (arith, same.1, y.1)) ]
+      | inl less ↦ elim second [ inl x ↦ inl (omega (arith, less, x)) | inr y ↦ inl (omega (arith, less, y.0)) ]
+      | inr same ↦ elim second [ inl x ↦ inl (omega (arith, same.0, x)) | inr y ↦ inr (omega (arith, same.0, y.0), omega (arith, same.1, y.1)) ]
     ]
 
     later : (r o : ℕ) → IsBefore r o round n → IsBefore r o round (n + 1)
-    later r o before = elim before [ | inl less ↦ inl less | inr same ↦ inr (same.0, omega (arith, same.1)) ]
+    later r o before = elim before [ inl less ↦ inl less | inr same ↦ inr (same.0, omega (arith, same.1)) ]
 
     at_most : (t : ℕ) → t < tile_count_of (size_of s) → at t ≤ now t
-    at_most t lt = elim (stated_or s frame n t lt) [ | inl stated ↦ line.fits.rises t stated | inr not ↦ omega (arith, line.others t lt not) ]
+    at_most t lt = elim (stated_or s frame n t lt) [ inl stated ↦ line.fits.rises t stated | inr not ↦ omega (arith, line.others t lt not) ]
 
     text : flat_map (λ o. object_line s frame round o (so.more round o)) (range_with_len 0 n) ++ object_line s frame round n now
         ≡ flat_map (λ o. object_line s frame round o (with_line so.more round n now round o)) (range_with_len 0 (n + 1))
@@ -119,7 +119,7 @@ round_next s watch frame counts round n at now a b c in_round so line = record {
 -- a line before the next round stands before the end of this one
 before_round : (s : Parts) (watch r o round : ℕ) → o < watched s watch → IsBefore r o (round + 1) 0 → IsBefore r o round (watched s watch)
 before_round s watch r o round lo before = elim before [
-  | inl less ↦ elim (cases_lt r round) [ | inl early ↦ inl early | inr from ↦ inr (omega (arith, from, less), lo) ]
+  | inl less ↦ elim (cases_lt r round) [ inl early ↦ inl early | inr from ↦ inr (omega (arith, from, less), lo) ]
   | inr same ↦ absurd (omega (arith, same.1))
 ]
 
@@ -145,7 +145,7 @@ round_end s watch frame counts round n at a b all so = record {
     in_round r o lo before = subst (λ (k : ℕ). IsBefore r o round k) (sym all) (before_round s watch r o round lo before)
 
     below : (r o : ℕ) → IsBefore r o round n → r < round + 1
-    below r o before = elim before [ | inl less ↦ omega (arith, less) | inr same ↦ omega (arith, same.0) ]
+    below r o before = elim before [ inl less ↦ omega (arith, less) | inr same ↦ omega (arith, same.0) ]
 
 -- a line that doesn't come, whatever counts it states that fit where the tiles stand
 pub round_stop : (s : Parts) (watch frame : ℕ) (counts : ℕ → ℕ → ℕ → ℕ) (round n : ℕ) (at : ℕ → ℕ) (a b : Option (List ℕ)) → n < watched s watch → RoundSoFar s watch frame counts round n at a b

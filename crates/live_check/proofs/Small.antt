@@ -21,8 +21,14 @@ batches_most clips tris top near size [] = omega arith
 batches_most clips tris top near size (b ∷ batches) =
     let first = list_most clips (take b.count tris) top near size b.winding in
     let others = batches_most clips (drop b.count tris) top near size batches in
-    omega (arith, first, others, length-take b.count tris, length-drop b.count tris,
-    length-append (list_of_clips clips (take b.count tris) top near size b.winding) (list_of_batches clips (drop b.count tris) top near size batches))
+    omega (
+      arith,
+      first,
+      others,
+      length-take b.count tris,
+      length-drop b.count tris,
+      length-append (list_of_clips clips (take b.count tris) top near size b.winding) (list_of_batches clips (drop b.count tris) top near size batches),
+    )
 
 -- a frame's list has at most two pieces a triangle
 pub few_pieces : (s : Parts) (frame : ℕ) → IsScene s → length (frame_pieces s frame) ≤ 131072

@@ -1,5 +1,5 @@
 -- The fields of a span's tiles, tile after tile.
-use Rattle.std.proofs.Common.{◌≡◌, ◌⊎◌, ℕ, zero, suc, ◌+◌, ◌-◌, ◌*◌, ◌/◌, ◌^◌, ◌<◌, ◌≤◌, Bool, true, false, List, [], ◌∷◌, ◌++◌, length, map, set, get_or-set_other, get_or-set_same, Option, Some, None, option_map, append_assoc, arith, refl, sym, ap, ◌∙◌, subst, inl, inr}
+use Rattle.std.proofs.Common.{◌≡◌, ◌⊎◌, ℕ, zero, suc, ◌+◌, ◌-◌, ◌*◌, ◌/◌, ◌^◌, ◌<◌, ◌≤◌, Bool, true, false, List, [], ◌∷◌, ◌++◌, length, map, set, get_or, get_or-set_other, get_or-set_same, Option, Some, None, option_map, append_assoc, arith, refl, sym, ap, ◌∙◌, subst, inl, inr}
 use Rattle.std.specs.Prelude.{IfSome, slice_index}
 use Rattle.std.specs.Fmt.{decimal}
 use Rattle.std.specs.List.{filter, range_with_len}
@@ -7,7 +7,7 @@ use Rattle.std.proofs.Math.Nat.{mul-le-mul_right}
 use Rattle.std.proofs.lemmas.Bool.{cases_lt}
 use Rattle.std.proofs.lemmas.Bool.Decides.{nat_tests}
 use Rattle.std.proofs.lemmas.Grind.{flat_map-append}
-use Rattle.std.proofs.lemmas.List.{append-nil, append_cancel_left}
+use Rattle.std.proofs.lemmas.List.{append-nil, append_cancel_left, get_or_read}
 use Rattle.std.proofs.lemmas.Nat.{le-div}
 use Rattle.std.proofs.lemmas.Option.{same_Some}
 use Rattle.cull_base.specs.declared.tile_span.TileSpan.{TileSpan}
@@ -17,7 +17,7 @@ use Rattle.cull_base.specs.Span.{IsSpan, has_tile}
 use Rattle.cull_base.proofs.Places.{row_below}
 use Rattle.masked_update.proofs.Grid.{number_below}
 use Rattle.masked_update.proofs.Tiles.{place_of_number}
-use Rattle.masked_update.specs.TileOf.{TileOf, tile_at}
+use Rattle.masked_update.specs.TileOf.{TileOf, no_tile, tile_at}
 use Rattle.cull_report.specs.Live.{count_text, tile_count}
 use Rattle.cull_report.specs.LivePieces.{counts_text}
 use Rattle.cull_report.proofs.HeldTiles.{kept_more}
@@ -26,7 +26,7 @@ use Rattle.live_check.specs.Moving.{AreNotStated, AreStated, IsBefore, IsNotStat
 use Rattle.live_check.specs.Standing.{AreWhole, StaysStanding, TilesOf, count_at}
 use Rattle.live_check.specs.Waiting.{Came, IsBehindNumber, NeverComes}
 use Rattle.live_check.proofs.Frames.{came_as, came_none, came_then}
-use Rattle.live_check.proofs.Words.{OnlyNumber}
+use Rattle.live_check.proofs.ByBytes.{OnlyNumber}
 
 -- ---- the text of one tile more
 
@@ -73,7 +73,7 @@ earlier size span n t off before = elim (cases_lt t n) [
   | inl lt ↦ (lt, before.1)
   | inr le ↦
       let here : t ≡ n = omega (arith, le, before.0) in
-      let no : true ≡ false = sym before.1 ∙ ap (λ (m : ℕ). has_tile span (tile_place size m)) here ∙ off in absurd no
+      let no : true ≡ false = sym before.1 ∙ ap (λ (m : ℕ). has_tile span (tile_place size m)) here ∙ off in absurd cc
 ]
 
 later : (size : Dimensions) (span : TileSpan) (n t : ℕ) → IsBefore size span n t → IsBefore size span (n + 1) t
@@ -122,9 +122,11 @@ module _ (span : TileSpan) (n : ℕ) (old new : TilesOf) (a b : Option (List ℕ
       → (t : ℕ) → IsBefore old.size span n t → k t ≡ slice_index new.stated t)) is_a s.only in
       let same = only k (field n (k n) ++ more) may behind e in
       let text = fields_agree old.size span n k (λ t. slice_index new.stated t) same in
-      let came : Came (Some log) (Some rest) (fields_before old.size span n (λ t. slice_index new.stated t)) = rw (← is_a, ← is_b) s.came in
-      (same, append_cancel_left (fields_before old.size span n (λ t. slice_index new.stated t)) rest (field n (k n) ++ more)
-      (sym (same_Some log _ came) ∙ e ∙ ap (λ (t : List ℕ). t ++ (field n (k n) ++ more)) text))
+      let came : Came (Some log) (Some rest) (fields_before old.size span n (λ t. slice_index new.stated t)) = sym is_a ∙ s.came ∙ ap (option_map (λ (r : List ℕ). fields_before old.size span n (λ t. slice_index new.stated t) ++ r)) is_b in (
+        same,
+        append_cancel_left (fields_before old.size span n (λ t. slice_index new.stated t)) rest (field n (k n) ++ more)
+            (sym (same_Some log _ came) ∙ e ∙ ap (λ (t : List ℕ). t ++ (field n (k n) ++ more)) text),
+      )
 
   -- the next field doesn't come
   pub stated_stops : n < tile_count_of old.size → (on : (k : ℕ → ℕ) → (more : List ℕ) × (fields_of old.size span k ≡ fields_before old.size span n k ++ (field n (k n) ++ more)) × ((r : List ℕ) → IsBehindNumber r → IsBehindNumber (more ++ r)))
@@ -132,15 +134,15 @@ module _ (span : TileSpan) (n : ℕ) (old new : TilesOf) (a b : Option (List ℕ
   stated_stops lt on never = by a b refl refl never
     where
       by : (o p : Option (List ℕ)) → a ≡ o → b ≡ p → IsNotStatedOf n new p → AreNotStated span old o
-      by None p is_a is_b no = tt
-      by (Some log) None is_a is_b no = let none : ◌≡◌ {A = Option (List ℕ)} (Some log) None = sym is_a ∙ s.came ∙ ap (option_map (λ (r : List ℕ). fields_before old.size span n (λ t. slice_index new.stated t) ++ r)) is_b in absurd cc
-      by (Some log) (Some rest) is_a is_b no = λ k more may behind e.
+      by None p is_a is_b off = tt
+      by (Some log) None is_a is_b off = let none : ◌≡◌ {A = Option (List ℕ)} (Some log) None = sym is_a ∙ s.came ∙ ap (option_map (λ (r : List ℕ). fields_before old.size span n (λ t. slice_index new.stated t) ++ r)) is_b in absurd cc
+      by (Some log) (Some rest) is_a is_b off = λ k more may behind e.
           let (others, split, ends) = on k in
           let parts : log ≡ fields_before old.size span n k ++ (field n (k n) ++ (others ++ more)) =
           e ∙ ap (λ (text : List ℕ). text ++ more) split ∙ append_assoc (fields_before old.size span n k) (field n (k n) ++ others) more ∙ ap (λ (text : List ℕ). fields_before old.size span n k ++ text) (append_assoc (field n (k n)) others more) in
           let there = behind_them log rest k (others ++ more) is_a is_b (λ t before. may t (omega (arith, before.0, lt), before.1)) parts in
           let own = may n (lt, has) in
-          no (k n) (others ++ more) (rw (← s.stays.states) own.0) own.1 (ends more behind) there.1
+          off (k n) (others ++ more) (rw s.stays.states own.0) own.1 (ends more behind) there.1
 
   -- the next field came
   pub stated_more : (now : TilesOf) (c : Option (List ℕ)) → n < tile_count_of old.size → StaysStanding new now → AreWhole now → IsStatedOf n new now b c → StatedTo span (n + 1) old now a c
@@ -175,7 +177,7 @@ module _ (span : TileSpan) (n : ℕ) (old new : TilesOf) (a b : Option (List ℕ
           let found = behind_them log rest k more is_a is_b (λ u early. may u (later old.size span n u early)) (next_field old.size span n k log more has e) in
           let own = may n (omega arith, has) in
           let room : n < length new.stated = omega (arith, lt, s.whole.stated, ap tile_count_of s.stays.size) in
-          let last = h (k n) more (rw (← s.stays.states) own.0) own.1 behind found.1 in
+          let last = h (k n) more (rw s.stays.states own.0) own.1 behind found.1 in
           elim (cases_lt t n) [
             | inl early ↦ found.0 t (early, before.1) ∙ sym (ap (λ (xs : List ℕ). slice_index xs t) one.kept ∙ get_or-set_other new.stated n t one.count 0 (λ same. omega (arith, same, early)))
             | inr le ↦
@@ -203,7 +205,7 @@ rest_of_fields size span n (suc j) k =
         let one = field ((n + 1) + j) (k ((n + 1) + j)) in (
           more ++ one,
           ap (λ (m : ℕ). fields_before size span m k) next ∙ fields_more size span ((n + 1) + j) k has ∙ ap (λ (text : List ℕ). text ++ one) is ∙ append_assoc (fields_before size span (n + 1) k) more one,
-          λ r behind. subst IsBehindNumber (sym (append_assoc more one r)) (ends (one ++ r) (λ digit. omega (arith, digit.0)))
+          λ r behind. subst IsBehindNumber (sym (append_assoc more one r)) (ends (one ++ r) (λ digit. omega (arith, digit.0))),
         )
 
 pub fields_split : (size : Dimensions) (span : TileSpan) (n : ℕ) → n < tile_count_of size → has_tile span (tile_place size n) ≡ true → (k : ℕ → ℕ)
@@ -214,8 +216,16 @@ fields_split size span n lt has k =
     let (more, is, ends) = rest_of_fields size span n j k in (
       more,
       ap (λ (m : ℕ). fields_before size span m k) (sym whole) ∙ is ∙ ap (λ (text : List ℕ). text ++ more) (fields_more size span n k has) ∙ append_assoc (fields_before size span n k) (field n (k n)) more,
-      ends
+      ends,
     )
+
+-- ---- a tile's state, as it is read
+
+pub state_read : (states : List TileOf) (k n : ℕ) (x : TileOf) (size : Dimensions) (tiles : TilesOf) {behind stated : List ℕ} → ◌≡◌ {A = TilesOf} (record { size = size; states = states; behind = behind; stated = stated }) tiles → length states ≡ tile_count_of size
+    → k ≡ n → n < tile_count_of tiles.size → x ≡ get_or states k x → x ≡ tile_at tiles.states n
+state_read states k n x size tiles view whole number lt is =
+    let few : k < length states = omega (arith, number, lt, whole, ap (λ (y : TilesOf). tile_count_of y.size) view) in
+    get_or_read states k x few is no_tile ∙ ap (tile_at states) number ∙ ap (λ (y : TilesOf). tile_at y.states n) view
 
 -- ---- one tile's field, in its parts
 
@@ -343,7 +353,7 @@ pub rows_ended : (span : TileSpan) (row : ℕ) (old new : TilesOf) (a b : Option
     → StatedTo span (row * tile_columns_of old.size) old new a b → AreStated span old new a b
 rows_ended span row old new a b is some end within s =
     let n = row * tile_columns_of old.size in
-    let few : n ≤ tile_count_of old.size = mul-le-mul_right (tile_columns_of old.size) within in
+    let few : n ≤ tile_count_of old.size = omega (arith, mul-le-mul_right (tile_columns_of old.size) within) in
     let j = tile_count_of old.size - n in
     let all : n + j ≡ tile_count_of old.size = omega (arith, few) in
     stated_all span old new a b (subst (λ (m : ℕ). StatedTo span m old new a b) all

@@ -1,7 +1,7 @@
 -- A piece that the short tiles of a span take, tile after tile.
 use Rattle.std.proofs.Common.{◌≡◌, ℕ, ◌+◌, ◌*◌, ◌<◌, ◌≤◌, Bool, true, false, ◌&&◌, cond, nat_eq, nat_le, nat_lt, List, set, get_or-set_other, get_or-set_same, arith, refl, sym, ap, ◌∙◌, subst, inl, inr}
 use Rattle.std.specs.Prelude.{slice_index}
-use Rattle.std.proofs.lemmas.Bool.{cases_lt, eqb-true, lt-ltb}
+use Rattle.std.proofs.lemmas.Bool.{cases_lt, eqb-true, le-ltb, lt-ltb}
 use Rattle.std.proofs.lemmas.Bool.Decides.{nat_tests}
 use Rattle.cull_base.specs.declared.tile_span.TileSpan.{TileSpan}
 use Rattle.cull_base.specs.Piece.{Piece}
@@ -9,7 +9,7 @@ use Rattle.cull_base.specs.Screen.{Dimensions, tile_columns_of, tile_count_of, t
 use Rattle.cull_base.specs.Span.{IsSpan, has_tile}
 use Rattle.cull_base.proofs.Places.{row_below}
 use Rattle.masked_update.specs.Taken.{taken_by}
-use Rattle.masked_update.specs.TileOf.{TileOf, empty_tile, tile_at}
+use Rattle.masked_update.specs.TileOf.{TileOf, no_tile, tile_at}
 use Rattle.live_check.specs.Moving.{TookIf, TookWhere, is_short_at}
 use Rattle.live_check.specs.Standing.{AreWhole, TilesOf, count_at}
 use Rattle.live_check.proofs.Stating.{no_column, no_row, past_rows, row_from}
@@ -85,14 +85,14 @@ took_one n x place old new lt whole on size stated states behind = record { size
         let all : (nat_eq t n && is_short_at old t place) ≡ true = ap (λ (b : Bool). b && is_short_at old t place) same ∙ ap (λ (m : ℕ). is_short_at old m place) (sym e) ∙ on in
         subst (λ (b : Bool). TookIf b t x place old new) (sym all)
         (subst (λ (m : ℕ). TookIf true m x place old new) e (record {
-          state = ap (λ (xs : List TileOf). tile_at xs n) states ∙ get_or-set_same old.states n (taken_by old.size n x (tile_at old.states n)) empty_tile (omega (arith, lt, whole.states));
+          state = ap (λ (xs : List TileOf). tile_at xs n) states ∙ get_or-set_same old.states n (taken_by old.size n x (tile_at old.states n)) no_tile (omega (arith, lt, whole.states));
           behind = ap (λ (xs : List ℕ). slice_index xs n) behind ∙ get_or-set_same old.behind n (place + 1) 0 (omega (arith, lt, whole.behind));
         }))
     by t false other =
         let ne : t ≡ n → ⊥ = λ e. grind (arith, nat_tests) in
         subst (λ (b : Bool). TookIf (b && is_short_at old t place) t x place old new) (sym other)
         (record {
-          state = ap (λ (xs : List TileOf). tile_at xs t) states ∙ get_or-set_other old.states n t (taken_by old.size n x (tile_at old.states n)) empty_tile ne;
+          state = ap (λ (xs : List TileOf). tile_at xs t) states ∙ get_or-set_other old.states n t (taken_by old.size n x (tile_at old.states n)) no_tile ne;
           behind = ap (λ (xs : List ℕ). slice_index xs t) behind ∙ get_or-set_other old.behind n t (place + 1) 0 ne;
         })
 
@@ -124,7 +124,7 @@ module _ (span : TileSpan) (x : Piece) (place : ℕ) (old : TilesOf) where
   pub took_rows_begun : 0 < tile_columns_of old.size → TookBefore span (span.first_row * tile_columns_of old.size) x place old old
   took_rows_begun some = took_none (is_before old.size span (span.first_row * tile_columns_of old.size)) x place old (λ t lt.
       let n = span.first_row * tile_columns_of old.size in
-      let off : is_before old.size span n t ≡ false = sym (before_same old.size span 0 n (omega arith) (λ u from below. no_row span (tile_place old.size u) (row_below u (tile_columns_of old.size) span.first_row some (omega (arith, below)))) t) in
+      let off : is_before old.size span n t ≡ false = sym (before_same old.size span 0 n (omega arith) (λ u from below. no_row span (tile_place old.size u) (row_below u (tile_columns_of old.size) span.first_row some (omega (arith, below)))) t) ∙ ap (λ (b : Bool). b && has_tile span (tile_place old.size t)) (le-ltb t 0 (omega arith)) in
       ap (λ (b : Bool). b && is_short_at old t place) off)
 
   pub took_row_begun : (row : ℕ) (new : TilesOf) → IsSpan old.size span → TookBefore span (row * tile_columns_of old.size) x place old new → TookBefore span (row * tile_columns_of old.size + span.first_column) x place old new

@@ -128,9 +128,11 @@ front_bare : (frame round object : ℕ) → frame < 2 ^ 64 → round < 2 ^ 64 �
 front_bare frame round object sf sr so =
     bare_append (join_with_byte 32 (codes "live" ∷ decimal frame ∷ decimal round ∷ decimal object ∷ [])) (32 ∷ [])
     (bare_append (codes "live") (32 ∷ (decimal frame ++ (32 ∷ (decimal round ++ (32 ∷ decimal object)))))
-    (other 108 (omega arith), (other 105 (omega arith), (other 118 (omega arith), (other 101 (omega arith), tt))))
-    (other 32 (omega arith), bare_append (decimal frame) (32 ∷ (decimal round ++ (32 ∷ decimal object))) (decimal_bare frame sf)
-    (other 32 (omega arith), bare_append (decimal round) (32 ∷ decimal object) (decimal_bare round sr) (other 32 (omega arith), decimal_bare object so))))
+    (other 108 (omega arith), (other 105 (omega arith), (other 118 (omega arith), (other 101 (omega arith), tt)))) (
+      other 32 (omega arith),
+      bare_append (decimal frame) (32 ∷ (decimal round ++ (32 ∷ decimal object))) (decimal_bare frame sf)
+          (other 32 (omega arith), bare_append (decimal round) (32 ∷ decimal object) (decimal_bare round sr) (other 32 (omega arith), decimal_bare object so)),
+    ))
     (other 32 (omega arith), tt)
 
 -- ---- an object's line is one line, and tells its counts
@@ -173,27 +175,25 @@ line_tells s frame round object k m sk sm e =
 -- what holds of some numbers below an end for which a test holds
 each_kept : (p : ℕ → Bool) (P : ℕ → Type 0) (from n : ℕ) → ((t : ℕ) → t < from + n → p t ≡ true → P t) → AllByRecursion P (filter p (range_with_len from n))
 each_kept p P from zero h = tt
-each_kept p P from (suc n) h = by (p from) refl
+each_kept p P from (suc n) h = by (p from) refl (each_kept p P (from + 1) n (λ t lt is. h t (omega (arith, lt)) is))
   where
-    rest : AllByRecursion P (filter p (range_with_len (from + 1) n))
-    rest = each_kept p P (from + 1) n (λ t lt is. h t (omega (arith, lt)) is)
-
-    by : (b : Bool) → p from ≡ b → AllByRecursion P (cond b (from ∷ filter p (range_with_len (from + 1) n)) (filter p (range_with_len (from + 1) n)))
-    by true is = (h from (omega arith) is, rest)
-    by false is = rest
+    by : (b : Bool) → p from ≡ b → AllByRecursion P (filter p (range_with_len (from + 1) n)) → AllByRecursion P (cond b (from ∷ filter p (range_with_len (from + 1) n)) (filter p (range_with_len (from + 1) n)))
+    by true is rest = (h from (omega arith) is, rest)
+    by false is rest = rest
 
 kept_each : (p : ℕ → Bool) (P : ℕ → Type 0) (from n : ℕ) → AllByRecursion P (filter p (range_with_len from n)) → (t : ℕ) → from ≤ t → t < from + n → p t ≡ true → P t
 kept_each p P from zero all t le lt is = absurd (omega (arith, le, lt))
-kept_each p P from (suc n) all t le lt is = by (p from) refl all (cases_eq t from)
+kept_each p P from (suc n) all t le lt is = by (p from) refl all (cases_eq t from) (λ more ne. kept_each p P (from + 1) n more t (omega (arith, le, ne)) (omega (arith, lt)) is)
   where
-    by : (b : Bool) → p from ≡ b → AllByRecursion P (cond b (from ∷ filter p (range_with_len (from + 1) n)) (filter p (range_with_len (from + 1) n))) → (t ≡ from) ⊎ (t ≡ from → ⊥) → P t
-    by true at all which = elim which [
+    by : (b : Bool) → p from ≡ b → AllByRecursion P (cond b (from ∷ filter p (range_with_len (from + 1) n)) (filter p (range_with_len (from + 1) n))) → (t ≡ from) ⊎ (t ≡ from → ⊥)
+        → (AllByRecursion P (filter p (range_with_len (from + 1) n)) → (t ≡ from → ⊥) → P t) → P t
+    by true at all which later = elim which [
       | inl e ↦ subst P (sym e) all.0
-      | inr ne ↦ kept_each p P (from + 1) n all.1 t (omega (arith, le, ne)) (omega (arith, lt)) is
+      | inr ne ↦ later all.1 ne
     ]
-    by false at all which = elim which [
+    by false at all which later = elim which [
       | inl e ↦ let no : true ≡ false = sym is ∙ ap p e ∙ at in absurd cc
-      | inr ne ↦ kept_each p P (from + 1) n all t (omega (arith, le, ne)) (omega (arith, lt)) is
+      | inr ne ↦ later all ne
     ]
 
 -- of each tile that is stated, and back

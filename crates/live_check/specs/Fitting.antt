@@ -1,11 +1,14 @@
 -- Lines that fit those before them.
 use Rattle.std.specs.Prelude.{ℕ, ◌≡◌, ◌+◌, ◌*◌, ◌<◌, ◌≤◌, ◌⊎◌, List, [], ◌∷◌, ◌++◌, length, Option}
 use Rattle.std.specs.List.{flat_map, range_with_len}
+use Rattle.std.proofs.Props.{props}
 use Rattle.cull_base.specs.Screen.{tile_count_of}
 use Rattle.cull_base.specs.Stream.{IsAtEnd}
 use Rattle.cull_base.specs.Tiles.{PieceList, tile_list}
 use Rattle.cull_base.specs.declared.clip.ClipVertex.{ClipVertex}
-use Rattle.scene_reader.specs.Layout.{Parts, IsScene}
+use Rattle.cull_base.specs.declared.scene_types.Object.{Object}
+use Rattle.cull_base.specs.declared.scene_types.Object.TheVariants.{Area, Block, Mesh}
+use Rattle.scene_reader.specs.Layout.{Parts, IsObject, IsScene}
 use Rattle.cull_report.specs.Live.{Counts, IsBefore, IsLine, IsRising, IsRisingIn, IsStated, frame_live, frames_live, live_text, object_line, round_lines, watched}
 use Rattle.cull_report.specs.Scene.{frame_clips, frame_list, size_of}
 use Rattle.live_check.specs.declared.answer.LogAnswer.{LogAnswer}
@@ -35,6 +38,12 @@ pub record IsLaidOut (s : Parts) (frame : ℕ) (clips : List ClipVertex) (list :
   pub clips_are : clips ≡ frame_clips s frame
   pub list_is : list ≡ frame_list s frame
 
+-- what is said of an object has one proof at most
+pub object_prop : (object_tris : ℕ) (object : Object) → IsProp (IsObject object_tris object)
+object_prop object_tris (Area rect w) = hlevel props
+object_prop object_tris (Block low high) = hlevel props
+object_prop object_tris (Mesh first count) = hlevel props
+
 -- An object's line came, whose counts fit those that the tiles had. They are the tiles' then; a tile that it doesn't state has as many as before.
 pub record LineComes (s : Parts) (frame round object : ℕ) (at now : ℕ → ℕ) (before after : Option (List ℕ)) : Type 0 where
   pub fits : FitsAt s frame object at now
@@ -54,7 +63,7 @@ lines_to s watch frame counts round object =
 
 -- ---- a round, behind lines of these counts
 
--- counts that are these but in a round, where each object has the last ones
+-- counts that are these before a round
 abbrev pub AreBefore : (ℕ → ℕ → ℕ → ℕ) → (ℕ → ℕ → ℕ → ℕ) → ℕ → Type 0
 AreBefore counts more round = (r o t : ℕ) → r < round → more r o t ≡ counts r o t
 

@@ -26,7 +26,11 @@ fn watched_of(scene: &Scene, watch: u8) -> u32
 }
 
 // Sees whether the log ends, behind so many lines that came.
-fn answer_at_end<S: Source>(unread: &mut Unread, log: &mut S, lines: u64) -> Result<LogAnswer, Failed>
+fn answer_at_end<S: Source>(
+    unread: &mut Unread,
+    log: &mut S,
+    lines: u64,
+) -> Result<LogAnswer, Failed>
     ensures same { IfOk result (λ _. waiting unread.new (S.says log.new).left
         ≡ waiting unread.old (S.says log.old).left) }
     ensures answer { IfOk result (λ a. AnswersEnd lines unread.new (S.says log.new).left a) }

@@ -126,9 +126,7 @@ fn takes_rounds<S: Source>(
     ensures fails { Fails (S.says log.old) (S.says log.new) result }
 {
     for round in 0..plan.rounds {
-        if let Some(object) =
-            takes_round(frame, plan.objects, round, spans, tiles, unread, log)?
-        {
+        if let Some(object) = takes_round(frame, plan.objects, round, spans, tiles, unread, log)? {
             return Ok(Some(round * plan.objects + object));
         }
     }

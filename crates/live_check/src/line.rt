@@ -2,10 +2,11 @@
 ghost use Rattle.std.specs.Prelude.{◌≡◌, ℕ, [], ◌∷◌, ◌++◌, ◌<◌, true, false, length, codes, IfOk};
 ghost use Rattle.std.specs.Fmt.{decimal};
 ghost use Rattle.std.specs.List.{join_with_byte};
+ghost use Rattle.std.proofs.Props.{props};
 ghost use Rattle.cull_base.specs.Span.{HasTilesOf, IsSpan};
 ghost use Rattle.cull_report.specs.Live.{object_line, object_at};
 ghost use Rattle.cull_report.specs.Scene.{object_area, size_of};
-ghost use Rattle.live_check.specs.Fitting.{FitsAt, IsLaidOut, LineComes};
+ghost use Rattle.live_check.specs.Fitting.{FitsAt, IsLaidOut, LineComes, object_prop};
 ghost use Rattle.live_check.specs.Standing.{AreStanding, count_at};
 ghost use Rattle.live_check.specs.Waiting.{Fails, NeverComes, waiting};
 
@@ -25,7 +26,7 @@ pub struct Laid<'a> {
     pub number: u32,
     pub clips: &'a [ClipVertex],
     pub list: &'a FrameList,
-    ghost laid: { IsLaidOut scene.now number clips.now list.now.list },
+    ghost laid: { IsLaidOut scene.now number clips.now list.now.list } by { Prim.hlevel (props, object_prop) },
 }
 
 // What a line begins with: `live`, its frame, its round and its object, each with a space behind it.

@@ -128,13 +128,13 @@ impl Tiles {
         ensures whole { AreWhole self.new }
         ensures fails { Fails (S.says log.old) (S.says log.new) result }
     {
+        let own = self.states[tile as usize].count();
         if !takes_text(unread, log, field_of(tile).as_slice())? {
             return Ok(false);
         }
         let Some(count) = take_number(unread, log)? else {
             return Ok(false);
         };
-        let own = self.states[tile as usize].count();
         if count < own {
             return Ok(false);
         }
@@ -234,7 +234,8 @@ impl Tiles {
         ensures least { (t : ℕ) → IsIn self.now span.now t → count_at self.now t < slice_index self.now.stated t
             → slice_index self.now.behind t < len → result ≤ slice_index self.now.behind t }
     {
-        let columns = self.size.tile_columns();
+        // accessors tell how few tiles there are
+        let (columns, _rows) = (self.size.tile_columns(), self.size.tile_rows());
         let mut least = len;
         for row in span.first_row..span.end_row {
             for column in span.first_column..span.end_column {

@@ -1,5 +1,5 @@
 //! Bytes of a log that were taken from its source and not yet looked at, in a buffer of a fixed size.
-ghost use Rattle.std.specs.Prelude.{◌≡◌, ℕ, List, [], ◌∷◌, ◌<◌, length, drop, None, Some, IfOk, IfSome, OnErr};
+ghost use Rattle.std.specs.Prelude.{◌≡◌, ℕ, List, [], ◌∷◌, ◌<◌, ◌≤◌, length, drop, None, Some, IfOk, IfSome, OnErr};
 ghost use Rattle.cull_base.specs.Stream.{IsAtEnd, Rose};
 ghost use Rattle.live_check.specs.Waiting.{waiting};
 

@@ -13,8 +13,8 @@ pub trait Draws: Held + Drop + Send {
     ghost use Rattle.bin_tasks.specs.Drains.{IsAnswer};
     ghost use Rattle.bin_tasks.specs.declared.task.Drained.TheVariants.{Whole};
 
-    /// Draws what is in the queue of a task's bin, and all of it where the task was told of all batches. Conditions: the
-    /// task is of these queues, of these cells and of this list.
+    /// Draws what is in the queue of a task's bin, and all of it where the task was told of all batches. Conditions:
+    /// the task is of these queues, of these cells and of this list.
     fn draw_queue<R: Wait, G: Gate>(
         task: &mut BinTask<Self>,
         rt: &R,

@@ -97,10 +97,10 @@ fn draw_by_pool<R: Threads + Wait + Sync, G: Gate>(
 /// The bins of a frame over plain tiles, as `draw_plain_frame` draws them: in order, each tile of the screen with the
 /// states after the whole list, whatever the cut, the number of workers and the size of batches. Two or more workers of
 /// two or more bins draw when all batches are binned and submitted: each draws the bins of its own, bin b belonging to
-/// worker b mod workers, and when it is done with them those that are left to others; each bin is drawn whole, by one of
-/// them. The gate is asked before a batch is binned, and before a bin draws a member, with the number that it has drawn.
-/// Err where memory gave out. Conditions: 1 to 64 workers, and a batch has at least one piece, so that there are at most
-/// 2048.
+/// worker b mod workers, and when it is done with them those that are left to others; each bin is drawn whole, by one
+/// of them. The gate is asked before a batch is binned, and before a bin draws a member, with the number that it has
+/// drawn. Err where memory gave out. Conditions: 1 to 64 workers, and a batch has at least one piece, so that there are
+/// at most 2048.
 pub fn draw_stolen_plain<R: Threads + Wait + Sync, G: Gate>(
     rt: &R,
     alloc: Global,

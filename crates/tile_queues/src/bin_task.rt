@@ -19,8 +19,8 @@ use masked_update::Canvas;
 use std::marker::Model;
 use std::sync::Wait;
 
-/// Draws the parts of a bin's queue into the bin's tiles, whose keeper it owns: the writers of their cells, or a canvas.
-/// They stand at the members of the parts that are drawn.
+/// Draws the parts of a bin's queue into the bin's tiles, whose keeper it owns: the writers of their cells, or a
+/// canvas. They stand at the members of the parts that are drawn.
 #[derive(Drop)]
 pub struct BinTask<K: Held = CellBin> {
     task: Task<K>,

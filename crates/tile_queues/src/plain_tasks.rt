@@ -37,7 +37,8 @@ fn first_task(alloc: Global, frame: &Batched, intake: Intake) -> Result<PlainTas
     Ok(BinTask::of(intake, canvas))
 }
 
-/// The tasks of all bins, each with the bin's tiles, all empty. Err where memory gave out. Condition: no batch is drawn.
+/// The tasks of all bins, each with the bin's tiles, all empty. Err where memory gave out. Condition: no batch is
+/// drawn.
 pub(crate) fn plain_tasks(
     alloc: Global,
     _queues: &PartQueues,

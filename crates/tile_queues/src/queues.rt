@@ -1,4 +1,5 @@
-//! The queues of all bins, over cells or over plain tiles, through which batches go from the submitter to the bins' tasks.
+//! The queues of all bins, over cells or over plain tiles, through which batches go from the submitter to the bins'
+//! tasks.
 ghost use Rattle.std.specs.Prelude.{◌≡◌, ◌≤◌, ◌<◌, ◌+◌, [], max, length, vec_capacity, IfOk};
 ghost use Rattle.binning.specs.Cut.{bin_count_of};
 ghost use Rattle.binning.specs.Parts.{batch_count_of, parts_of};
@@ -92,10 +93,10 @@ fn drain_plain_in<'a, R: Wait, G: Gate>(
 }
 
 impl BinQueues {
-    /// The queues of all bins of a cut, all empty, with their submitter and a task for each bin, in order, which owns the
-    /// writers of the bin's tiles. Err where memory gave out; then the writers are given up. All memory is taken here,
-    /// also that which `close` needs. Conditions: a batch has at least one piece, there are at most 2048 batches, and the
-    /// writers are those of a new frame of this list, in tile order.
+    /// The queues of all bins of a cut, all empty, with their submitter and a task for each bin, in order, which owns
+    /// the writers of the bin's tiles. Err where memory gave out; then the writers are given up. All memory is taken
+    /// here, also that which `close` needs. Conditions: a batch has at least one piece, there are at most 2048 batches,
+    /// and the writers are those of a new frame of this list, in tile order.
     pub fn make<R: Wait>(
         _rt: &R,
         alloc: Global,
@@ -193,9 +194,9 @@ impl BinQueues {
         hand_back(&self.queues, submitter, tasks)
     }
 
-    /// The queues of all bins of a cut, all empty, with their submitter and a task for each bin, in order, which owns the
-    /// bin's plain tiles, all empty. Err where memory gave out. All memory is taken here. Conditions: a batch has at least
-    /// one piece, and there are at most 2048 batches.
+    /// The queues of all bins of a cut, all empty, with their submitter and a task for each bin, in order, which owns
+    /// the bin's plain tiles, all empty. Err where memory gave out. All memory is taken here. Conditions: a batch has
+    /// at least one piece, and there are at most 2048 batches.
     pub fn make_plain(
         alloc: Global,
         list: &FrameList,
@@ -247,9 +248,9 @@ impl BinQueues {
         drained
     }
 
-    /// The plain tiles of all bins, in the order of bins, at the whole list. Nothing takes memory. Conditions: the tasks
-    /// are of these queues and of this frame, one of each bin, in any order, and drew all batches; there is a slot for
-    /// each bin, and room for the tiles of all.
+    /// The plain tiles of all bins, in the order of bins, at the whole list. Nothing takes memory. Conditions: the
+    /// tasks are of these queues and of this frame, one of each bin, in any order, and drew all batches; there is a
+    /// slot for each bin, and room for the tiles of all.
     pub fn close_plain(
         self,
         frame: &Batched,

@@ -58,9 +58,9 @@ fn write_answer<W: Sink>(report: &mut W, answer: LogAnswer) -> Result<(), SinkEr
     line_of(answer).write_to(report)
 }
 
-/// Reads the length of a scene, the scene, and a log to its end, and writes whether `live` may have noted the log with
-/// so many rounds of looks at the first objects, of so many; nothing is noted. Err: Log where the log is refused, which
-/// stands on the report then.
+/// Reads the length of a scene, the scene, and a log, to its end where it is accepted, and writes whether `live` may
+/// have noted the log with so many rounds of looks at the first objects, of so many; nothing is noted. Err: Log where
+/// the log is refused, which stands on the report then.
 pub fn check<R: Threads + Wait + Sync, S: Source, W: Sink, E: Sink>(
     rt: &R,
     alloc: Global,
@@ -77,7 +77,14 @@ pub fn check<R: Threads + Wait + Sync, S: Source, W: Sink, E: Sink>(
 {
     let most = take_number(input)?;
     let scene = read_part(alloc, input, most)?;
-    let answer = check_log(rt, alloc, &scene, words.rounds as u8, words.watch as u8, input)?;
+    let answer = check_log(
+        rt,
+        alloc,
+        &scene,
+        words.rounds as u8,
+        words.watch as u8,
+        input,
+    )?;
     write_answer(report, answer)?;
     match answer {
         LogAnswer::Accepted => Ok(()),

@@ -39,9 +39,7 @@ fn show_frame<R: Threads + Wait + Sync, W: Sink, G: Gate>(
         (W.says report.old) (W.says report.new) notes notes }
 {
     let nowhere = ClipVertex { x: 0, y: 0, w: 0 };
-    let mut room = vec![in alloc; nowhere; scene.vertices().len()].map_err(
-        |_| Failure::Memory,
-    )?;
+    let mut room = vec![in alloc; nowhere; scene.vertices().len()].map_err(|_| Failure::Memory)?;
     let clips = room.as_mut_slice();
     clip_frame(rt, scene, frame, clips);
     let drawn = drawn_pieces(rt, alloc, scene, frame, clips, settings)?;

@@ -92,7 +92,10 @@ fn the_first_scene_has_one_number(rt: HostRuntime) -> Result<(), Fail> {
     let alloc = rt.alloc();
     let text = shown(&rt, alloc, PICTURE, first_scene(alloc)?)?;
     assert_eq!(rt; text.len(), 1550);
-    assert_eq!(rt; text.as_slice(), picture(alloc, "32 8", &[(256, HALF)])?.as_slice());
+    assert_eq!(rt;
+        text.as_slice(),
+        picture(alloc, "32 8", &[(256, HALF)])?.as_slice()
+    );
     Ok(())
 }
 
@@ -102,7 +105,10 @@ fn its_wide_form_has_the_same_picture(rt: HostRuntime) -> Result<(), Fail> {
     let alloc = rt.alloc();
     let wide = changed(in_batches(alloc, &[(2, 0)])?, &[(13, 1)]);
     let text = shown(&rt, alloc, PICTURE, wide)?;
-    assert_eq!(rt; text.as_slice(), picture(alloc, "32 8", &[(256, HALF)])?.as_slice());
+    assert_eq!(rt;
+        text.as_slice(),
+        picture(alloc, "32 8", &[(256, HALF)])?.as_slice()
+    );
     Ok(())
 }
 
@@ -111,7 +117,10 @@ fn nothing_is_known_where_nothing_is_drawn(rt: HostRuntime) -> Result<(), Fail> 
     let alloc = rt.alloc();
     let text = shown(&rt, alloc, PICTURE, scene(alloc, &[], &[], &[])?)?;
     assert_eq!(rt; text.len(), 526);
-    assert_eq!(rt; text.as_slice(), picture(alloc, "32 8", &[(256, NONE)])?.as_slice());
+    assert_eq!(rt;
+        text.as_slice(),
+        picture(alloc, "32 8", &[(256, NONE)])?.as_slice()
+    );
     Ok(())
 }
 
@@ -123,7 +132,11 @@ fn a_frame_that_is_not_there_is_told(rt: HostRuntime) -> Result<(), Fail> {
         ("maskcull picture --frame=255", 1, "no such frame 255 1\n"),
         ("maskcull picture --frame 2", 2, "no such frame 2 2\n"),
     ] {
-        let bytes = if frames == 1 { first_scene(alloc)? } else { two_frames(alloc)? };
+        let bytes = if frames == 1 {
+            first_scene(alloc)?
+        } else {
+            two_frames(alloc)?
+        };
         let (status, text, notes) = written(&rt, alloc, line, bytes, LARGE, NEVER)?;
         assert_eq!(rt; (status, status.code(), text.len()), (Status::Frame, 10, 0));
         assert_eq!(rt; notes.as_slice(), note.as_bytes());
@@ -157,8 +170,14 @@ fn a_frame_that_is_not_there_and_a_note_that_fails(rt: HostRuntime) -> Result<()
 fn a_refused_scene_is_told_before_a_missing_frame(rt: HostRuntime) -> Result<(), Fail> {
     let alloc = rt.alloc();
     let bytes = changed(first_scene(alloc)?, &[(100, 4)]);
-    let (status, text, notes) =
-        written(&rt, alloc, "maskcull picture --frame 9", bytes, LARGE, NEVER)?;
+    let (status, text, notes) = written(
+        &rt,
+        alloc,
+        "maskcull picture --frame 9",
+        bytes,
+        LARGE,
+        NEVER,
+    )?;
     assert_eq!(rt; (status, text.len()), (Status::Scene, 0));
     assert_eq!(rt; notes.as_slice(), b"scene refused 11 0 1\n".as_slice());
     Ok(())
@@ -170,7 +189,10 @@ fn a_frame_is_seen_through_its_camera(rt: HostRuntime) -> Result<(), Fail> {
     let alloc = rt.alloc();
     let (near, far) = (HALF, "16383\n");
     let first = shown(&rt, alloc, "maskcull picture --frame 0", two_frames(alloc)?)?;
-    assert_eq!(rt; first.as_slice(), picture(alloc, "32 8", &[(256, near)])?.as_slice());
+    assert_eq!(rt;
+        first.as_slice(),
+        picture(alloc, "32 8", &[(256, near)])?.as_slice()
+    );
     let second = shown(&rt, alloc, "maskcull picture --frame 1", two_frames(alloc)?)?;
     let runs = [
         (72, NONE),
@@ -183,7 +205,10 @@ fn a_frame_is_seen_through_its_camera(rt: HostRuntime) -> Result<(), Fail> {
         (16, far),
         (72, NONE),
     ];
-    assert_eq!(rt; second.as_slice(), picture(alloc, "32 8", &runs)?.as_slice());
+    assert_eq!(rt;
+        second.as_slice(),
+        picture(alloc, "32 8", &runs)?.as_slice()
+    );
     Ok(())
 }
 
@@ -195,7 +220,10 @@ fn a_working_layer_shows_at_its_own_samples(rt: HostRuntime) -> Result<(), Fail>
     let bytes = scene(alloc, &QUAD, &TWO[..1], &[])?;
     let text = shown(&rt, alloc, PICTURE, bytes)?;
     let zeros = [2, 6, 10, 14, 18, 22, 26, 30];
-    assert_eq!(rt; text.as_slice(), below_a_diagonal(alloc, "32 8", 32, &zeros)?.as_slice());
+    assert_eq!(rt;
+        text.as_slice(),
+        below_a_diagonal(alloc, "32 8", 32, &zeros)?.as_slice()
+    );
     assert_eq!(rt; text.get(14..20), Some(b"0\n0\n32".as_slice()));
     Ok(())
 }
@@ -207,7 +235,10 @@ fn a_screen_whose_last_tiles_are_cut(rt: HostRuntime) -> Result<(), Fail> {
     let bytes = changed(scene(alloc, &QUAD, &TWO[..1], &[])?, &[(6, 40), (8, 12)]);
     let text = shown(&rt, alloc, PICTURE, bytes)?;
     let zeros = [2, 5, 8, 12, 15, 18, 22, 25, 28, 32, 35, 38];
-    assert_eq!(rt; text.as_slice(), below_a_diagonal(alloc, "40 12", 40, &zeros)?.as_slice());
+    assert_eq!(rt;
+        text.as_slice(),
+        below_a_diagonal(alloc, "40 12", 40, &zeros)?.as_slice()
+    );
     Ok(())
 }
 
@@ -219,7 +250,10 @@ fn each_write_of_a_picture_that_fails_leaves_a_front(rt: HostRuntime) -> Result<
     for call in 1..206 {
         let bytes = changed(first_scene(alloc)?, &[(6, 8), (8, 4)]);
         let (status, front, _) = written(&rt, alloc, PICTURE, bytes, 1, call)?;
-        assert_eq!(rt; (status, front.len() as u64), (Status::ReportFault, call - 1));
+        assert_eq!(rt;
+            (status, front.len() as u64),
+            (Status::ReportFault, call - 1)
+        );
         assert!(rt; whole.as_slice().starts_with(&front));
     }
     let bytes = changed(first_scene(alloc)?, &[(6, 8), (8, 4)]);
@@ -246,7 +280,12 @@ fn demo_bytes(alloc: Global, triangles: u32) -> Result<Vec<u8>, Fail>
 #[test]
 fn workers_bins_and_batches_change_no_picture(rt: HostRuntime) -> Result<(), Fail> {
     let alloc = rt.alloc();
-    let first = shown(&rt, alloc, "maskcull picture --frame 3", demo_bytes(alloc, 300)?)?;
+    let first = shown(
+        &rt,
+        alloc,
+        "maskcull picture --frame 3",
+        demo_bytes(alloc, 300)?,
+    )?;
     for line in [
         "maskcull picture --frame 3 --workers 8",
         "maskcull picture --workers 8 --bins-x 8 --bins-y 8 --batch 1 --frame 3",
@@ -267,8 +306,7 @@ fn a_picture_has_no_flag(rt: HostRuntime) -> Result<(), Fail> {
         "maskcull picture --frame -1",
         "maskcull cull --frame 0",
     ] {
-        let (status, text, notes) =
-            written(&rt, alloc, line, first_scene(alloc)?, LARGE, NEVER)?;
+        let (status, text, notes) = written(&rt, alloc, line, first_scene(alloc)?, LARGE, NEVER)?;
         assert_eq!(rt; (status, text.len()), (Status::Usage, 0));
         assert!(rt; notes.as_slice().starts_with(b"usage refused\n"));
     }

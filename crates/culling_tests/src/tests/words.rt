@@ -66,10 +66,20 @@ fn words_that_are_no_command_are_refused(rt: HostRuntime) -> Result<(), Fail> {
     Ok(())
 }
 
-// What is refused of a command line, and what help tells.
+// The notes of a refused command line contain a text.
+fn assert_told<R: Threads + Wait + Sync + Abort>(
+    rt: &R,
+    alloc: Global,
+    line: &str,
+    wanted: &str,
+) -> Result<(), Fail> {
+    let notes = refused(rt, alloc, line)?;
+    assert!(rt; notes.contains(wanted), "no {wanted}");
+    Ok(())
+}
+
 #[test]
-fn a_refusal_tells_why_and_help_tells_all(rt: HostRuntime) -> Result<(), Fail> {
-    let alloc = rt.alloc();
+fn a_refusal_tells_why(rt: HostRuntime) -> Result<(), Fail> {
     for (line, wanted) in [
         (
             "maskcull cull --early --early",
@@ -83,6 +93,15 @@ fn a_refusal_tells_why_and_help_tells_all(rt: HostRuntime) -> Result<(), Fail> {
             "maskcull live --early=1 --rounds=2",
             "unexpected value '1' for '--early' found; no more were expected",
         ),
+    ] {
+        assert_told(&rt, rt.alloc(), line, wanted)?;
+    }
+    Ok(())
+}
+
+#[test]
+fn help_tells_all(rt: HostRuntime) -> Result<(), Fail> {
+    for (line, wanted) in [
         ("maskcull --help", "cull"),
         ("maskcull --help", "live"),
         ("maskcull --help", "demo"),
@@ -114,8 +133,7 @@ fn a_refusal_tells_why_and_help_tells_all(rt: HostRuntime) -> Result<(), Fail> {
             "2  the command line was refused, or help was printed",
         ),
     ] {
-        let notes = refused(&rt, alloc, line)?;
-        assert!(rt; notes.contains(wanted), "no {wanted}");
+        assert_told(&rt, rt.alloc(), line, wanted)?;
     }
     Ok(())
 }

@@ -201,7 +201,10 @@ fn check_has_two_options(rt: HostRuntime) -> Result<(), Fail> {
     for (given, own) in [
         (["maskcull", "check"].as_slice(), (1, 1)),
         (&["maskcull", "check", "--rounds=8"], (8, 1)),
-        (&["maskcull", "check", "--watch", "3", "--rounds", "2"], (2, 3)),
+        (
+            &["maskcull", "check", "--watch", "3", "--rounds", "2"],
+            (2, 3),
+        ),
     ] {
         let (settings, command, asked) = parts(command_for(&rt, alloc, given)?);
         assert!(rt; settings.is_none());
@@ -231,7 +234,10 @@ fn picture_asks_for_a_frame(rt: HostRuntime) -> Result<(), Fail> {
     ] {
         let [first, second, third] = given;
         let given = ["maskcull", "picture", first, second, third];
-        assert_eq!(rt; asked(&rt, alloc, &given)?, (sharing, "picture", Some((frame, 0))));
+        assert_eq!(rt;
+            asked(&rt, alloc, &given)?,
+            (sharing, "picture", Some((frame, 0)))
+        );
     }
     let (settings, _, _) = parts(command_for(&rt, alloc, &["maskcull", "picture"])?);
     let settings = settings.ok_or("a command with settings")?;

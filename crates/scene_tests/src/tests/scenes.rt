@@ -1,6 +1,7 @@
 //! Scenes that are read, refused and written, byte by byte.
 use cull_base::{
-    Batch, BytesSink, BytesSource, Grade, Object, SinkError, SureSink, SureSource, Tri, Winding, fill,
+    Batch, BytesSink, BytesSource, Grade, Object, SinkError, SureSink, SureSource, Tri, Winding,
+    fill,
 };
 use scene_reader::{
     Scene, SceneError, SceneParts, one_layout, read_part, read_scene, upgrade, upgrades_scenes,
@@ -553,10 +554,19 @@ fn failing_at_its_end(alloc: Global) -> Result<BytesSource, AllocError> {
 #[test]
 fn a_whole_part_is_not_read_further(rt: HostRuntime) -> Result<(), Fail> {
     let alloc = rt.alloc();
-    assert_eq!(rt; read_part(alloc, &mut failing_at_its_end(alloc)?, 177).err(), None);
+    assert_eq!(rt;
+        read_part(alloc, &mut failing_at_its_end(alloc)?, 177).err(),
+        None
+    );
     let read = Some(SceneError::Read);
-    assert_eq!(rt; read_part(alloc, &mut failing_at_its_end(alloc)?, 178).err(), read);
-    assert_eq!(rt; read_scene(alloc, &mut failing_at_its_end(alloc)?).err(), read);
+    assert_eq!(rt;
+        read_part(alloc, &mut failing_at_its_end(alloc)?, 178).err(),
+        read
+    );
+    assert_eq!(rt;
+        read_scene(alloc, &mut failing_at_its_end(alloc)?).err(),
+        read
+    );
     Ok(())
 }
 
@@ -564,14 +574,23 @@ fn a_whole_part_is_not_read_further(rt: HostRuntime) -> Result<(), Fail> {
 fn a_refused_header_of_a_part_is_all_that_is_taken(rt: HostRuntime) -> Result<(), Fail> {
     let alloc = rt.alloc();
     // without batches: version 2 counts too many of them, behind 32 bytes
-    let table = [(4, 3, 177, 145), (12, 3, 177, 145), (4, 2, 177, 141), (4, 2, 33, 144)];
+    let table = [
+        (4, 3, 177, 145),
+        (12, 3, 177, 145),
+        (4, 2, 177, 141),
+        (4, 2, 33, 144),
+    ];
     for (place, value, most, left) in table {
         let mut bytes = Vec::from_slice(alloc, &FIRST_SCENE)?;
         edit(&mut bytes, &[(place, value)]);
         let mut source = BytesSource::new(bytes, 7, Vec::new(alloc));
         assert!(rt; read_part(alloc, &mut source, most).is_err());
         let behind = fill(&mut source, &mut [0; 200]).ok();
-        assert_eq!(rt; behind, Some(left), "byte {place} as {value}, of at most {most} bytes");
+        assert_eq!(rt;
+            behind,
+            Some(left),
+            "byte {place} as {value}, of at most {most} bytes"
+        );
     }
     Ok(())
 }

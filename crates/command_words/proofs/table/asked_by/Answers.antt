@@ -48,6 +48,7 @@ returns-in-Check-clause-limits c =
       read_within _ _ _ _ _ c.number-rounds.ensures (one_of_row c.args.kind kinds.Check rounds rows (search rules) refl c.requires),
       read_within _ _ _ _ _ c.number-watch.ensures (one_of_row c.args.kind kinds.Check watch rows (search rules) refl c.requires),
     )
+
 pub cut_of-requires : goal.cut_of-requires
 cut_of-requires c =
     let rows = rows_of (found_of c.args.matches.now) in

@@ -1,4 +1,6 @@
 use Rattle.std.proofs.Common.{◌≡◌, ℕ, ◌*◌, ◌≤◌, List, length, Option, arith, sym, ap, ◌∙◌, subst}
+use Rattle.std.proofs.Math.Nat.{mul_comm}
+use Rattle.cull_report.specs.Live.{watched}
 use Rattle.live_check.specs.Fitting.{LogComes, LogStops}
 use Rattle.live_check.specs.Waiting.{waiting}
 use Rattle.live_check.proofs.Judging.{answer_end, answer_stops, nothing_watched, waiting_none}
@@ -20,25 +22,32 @@ returns-then-objects-eq0-clause-answered g c =
     (sym (ap (λ (n : ℕ). (n * c.args.rounds) * length s.cameras) none ∙ (let zero_lines : (0 * c.args.rounds) * length s.cameras ≡ 0 = omega arith in zero_lines)))
     (subst (λ (o : Option (List ℕ)). LogComes s c.args.rounds c.args.watch before o) same nothing) c.in_ok-answer_at_end.ensures.answer
 
+-- all lines, as they were reckoned
+lines_are : (lines rounds objects cameras r w n : ℕ) → lines ≡ rounds * objects → rounds ≡ r → objects ≡ w → cameras ≡ n → lines * cameras ≡ (w * r) * n
+lines_are lines rounds objects cameras r w n is re we ne =
+    ap (λ (k : ℕ). k * cameras) is ∙ ap (λ (k : ℕ). (k * objects) * cameras) re ∙ ap (λ (k : ℕ). (r * k) * cameras) we ∙ ap (λ (k : ℕ). (r * w) * k) ne ∙ ap (λ (k : ℕ). k * n) (mul_comm r w)
+
 -- a line doesn't come
 pub returns-in-Some-clause-answered : goal.returns-in-Some-clause-answered
 returns-in-Some-clause-answered g c =
     let s = c.args.scene.now in
     let before = (g.S.Source.says c.args.log.now).left in
-    let stops = c.in_ok-takes_frames.ensures.stops c.args.watch c.watched_of-objects.ensures.value in
+    let stops = c.in_ok-good.ensures.stops c.args.watch c.watched_of-objects.ensures.value in
     let there = rw c.in-Some.is at stops in
+    let from = subst (λ (r : ℕ). LogStops s r c.args.watch (waiting c.new-unread.result before) c.in-Some.good) c.from.ensures there in
     answer_stops s c.args.rounds c.args.watch c.near-near.ensures.valid (few_of c.args.rounds c.args.watch c.requires.rounds.1 c.requires.watch.1) before _ c.in-Some.good
-    (subst (λ (o : Option (List ℕ)). LogStops s c.args.rounds c.args.watch o c.in-Some.good) (ap (λ (h : List ℕ). waiting h before) c.new-unread.ensures ∙ waiting_none before) there)
+    (subst (λ (o : Option (List ℕ)). LogStops s c.args.rounds c.args.watch o c.in-Some.good) (ap (λ (h : List ℕ). waiting h before) c.new-unread.ensures ∙ waiting_none before) from)
 
 -- all lines came
 pub returns-clause-answered : goal.returns-clause-answered
 returns-clause-answered g c =
     let s = c.args.scene.now in
     let before = (g.S.Source.says c.args.log.now).left in let after = (g.S.Source.says c.answer_at_end-2.new.log).left in
-    let comes = c.in_ok-takes_frames.ensures.comes c.args.watch c.watched_of-objects.ensures.value in
-    let all = rw c.in-None.is at comes in
-    let from = subst (λ (o : Option (List ℕ)). LogComes s c.args.rounds c.args.watch o (waiting c.takes_frames.new.unread (g.S.Source.says c.takes_frames.new.log).left))
-    (ap (λ (h : List ℕ). waiting h before) c.new-unread.ensures ∙ waiting_none before) all in
+    let behind = waiting c.takes_frames.new.unread (g.S.Source.says c.takes_frames.new.log).left in
+    let comes = c.in_ok-good.ensures.comes c.args.watch c.watched_of-objects.ensures.value c.in_default.is in
+    let all = subst (λ (r : ℕ). LogComes s r c.args.watch (waiting c.new-unread.result before) behind) c.from.ensures comes in
+    let from = subst (λ (o : Option (List ℕ)). LogComes s c.args.rounds c.args.watch o behind) (ap (λ (h : List ℕ). waiting h before) c.new-unread.ensures ∙ waiting_none before) all in
     answer_end s c.args.rounds c.args.watch c.near-near.ensures.valid (few_of c.args.rounds c.args.watch c.requires.rounds.1 c.requires.watch.1) before after c.answer_at_end-2.new.unread _ _
-    (ap (λ (n : ℕ). (n * c.args.rounds) * length s.cameras) c.watched_of-objects.ensures.value)
+    (lines_are c.from-2.result c.from.result c.watched_of-objects.result (length c.cameras.result.now) c.args.rounds (watched s c.args.watch) (length s.cameras) c.from-2.ensures c.from.ensures c.watched_of-objects.ensures.value
+    (ap length c.cameras.ensures.value))
     (subst (λ (o : Option (List ℕ)). LogComes s c.args.rounds c.args.watch before o) (sym c.in_ok-answer_at_end-2.ensures.same) from) c.in_ok-answer_at_end-2.ensures.answer

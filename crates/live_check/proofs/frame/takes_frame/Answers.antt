@@ -10,14 +10,14 @@ list_size : (s : Parts) (frame : ℕ) → (frame_list s frame).size ≡ size_of 
 unfolding frame_list
 list_size s frame = refl
 
-pub spans_of-requires : goal.spans_of-requires
-spans_of-requires g c = record { frame = c.requires.frame; clips = c.clip_frame.ensures.clips; within = c.args.plan.now.within; few = c.args.plan.now.few_objects }
+pub spans_of-spans-requires : goal.spans_of-spans-requires
+spans_of-spans-requires g c = record { frame = c.requires.frame; clips = c.clip_frame.ensures.clips; within = c.args.plan.now.within; few = c.args.plan.now.few_objects }
 
 pub empty-requires : goal.empty-requires
 empty-requires g c = c.requires.size ∙ sym (ap (λ (l : PieceList). l.size) c.in_ok-list.ensures.list ∙ list_size c.args.plan.now.scene.now c.args.number)
 
 pub invariant_of-frame : goal.invariant_of-frame
-invariant_of-frame g c = record { scene = c.in_ok-list.ensures.scene; is_frame = c.requires.frame; clips_are = c.clip_frame.ensures.clips; list_is = c.in_ok-list.ensures.list }
+invariant_of-frame g c = record { laid = record { scene = c.in_ok-list.ensures.scene; is_frame = c.requires.frame; clips_are = c.clip_frame.ensures.clips; list_is = c.in_ok-list.ensures.list } }
 
 pub takes_rounds-requires : goal.takes_rounds-requires
 takes_rounds-requires g c = record {

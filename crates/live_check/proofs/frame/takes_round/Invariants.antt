@@ -8,9 +8,9 @@ use Rattle.live_check.proofs.frame.takes_round.Given as goal
 
 abbrev pub invariant-loop-object : goal.invariant-loop-object
 invariant-loop-object g l =
-    let s = l.frame.now.scene.now in let frame = l.frame.now.number in
+    let s = l.frame.scene.now in let frame = l.frame.number in
     record {
-      standing : AreStanding l.frame.now.list.now.list l.tiles;
+      standing : AreStanding l.frame.list.now.list l.tiles;
       came : (counts : ℕ → ℕ → ℕ → ℕ) (watch : ℕ) → l.objects ≡ watched s watch → IsRisingTo s watch frame counts l.round 0 → AreLast s watch frame counts l.round 0 (count_at l.fn.tiles)
           → RoundSoFar s watch frame counts l.round l.object (count_at l.tiles) (waiting l.fn.unread (g.S.Source.says l.fn.log).left) (waiting l.unread (g.S.Source.says l.log).left);
       faults : (g.S.Source.says l.fn.log).faults ≤ (g.S.Source.says l.log).faults;

@@ -1,7 +1,7 @@
 use Rattle.std.proofs.Common.{◌≡◌, length, arith}
 use Rattle.std.proofs.Math.Seq.{take-length}
 use Rattle.live_check.proofs.Frames.{came_as, came_none}
-use Rattle.live_check.proofs.Words.{text_next, text_stops}
+use Rattle.live_check.proofs.ByBytes.{text_next, text_stops}
 use Rattle.live_check.proofs.words.takes_text.Goals as goal
 
 pub loop-place-init : goal.loop-place-init
@@ -11,13 +11,13 @@ pub loop-place-preserved : goal.loop-place-preserved
 loop-place-preserved g c =
     let i = c.loop-place.invariant in
     record {
-      came = text_next _ _ _ c.args.text.now c.loop-place.place c.loop-place-test.true i.came (c.in_ok-takes_byte.ensures.came c.if-not-takes_byte.false);
+      came = text_next _ _ _ c.args.text.now c.loop-place.place c.loop-place-test.true i.came (c.in_ok-takes_byte.ensures.came c.if-not-branch.false);
       faults = omega (arith, i.faults, c.in_ok-takes_byte.ensures.fails.faults_stay);
     }
 
-pub returns-then-not-takes_byte-clause-other : goal.returns-then-not-takes_byte-clause-other
-returns-then-not-takes_byte-clause-other g c _ =
-    text_stops _ _ c.args.text.now c.loop-place.place c.loop-place-test.true c.loop-place.invariant.came (c.in_ok-takes_byte.ensures.other c.if-not-takes_byte.true)
+pub returns-then-not-branch-clause-other : goal.returns-then-not-branch-clause-other
+returns-then-not-branch-clause-other g c _ =
+    text_stops _ _ c.args.text.now c.loop-place.place c.loop-place-test.true c.loop-place.invariant.came (c.in_ok-takes_byte.ensures.other c.if-not-branch.true)
 
 pub returns-clause-came : goal.returns-clause-came
 returns-clause-came g c _ =

@@ -77,8 +77,8 @@ returns-in-Accepted g c =
           (λ is. part_ended c.args.words.now i0 i1 i2 i3 n s Accepted number takes answered refl);
     }
 
-pub returns-in-Refused : goal.returns-in-Refused
-returns-in-Refused g c =
+pub returns : goal.returns
+returns g c =
     let i0 = g.S.Source.says c.args.input.now in let i1 = g.S.Source.says c.take_number.new.input in
     let i2 = g.S.Source.says c.read_part.new.source in let i3 = g.S.Source.says c.check_log.new.log in
     let n = c.in_ok-most.most in let s = c.in_ok-scene.scene in let good = c.in-Refused.field-0 in

@@ -12,19 +12,19 @@ pub loop-index-init : goal.loop-index-init
 loop-index-init c =
     let list = c.args.list.now.list in
     let len : c.len-len.result ≡ length list.members = c.len-len.ensures.value in
-    moved_none list c.args.span.now c.from.result c.args.self.now c.requires.standing c.requires.rise (omega (arith, c.from.ensures.most, len))
-    (λ t inside short before. c.from.ensures.least t inside short (omega (arith, before, len)))
+    moved_none list c.args.span.now c.first_place-from.result c.args.self.now c.requires.standing c.requires.rise (omega (arith, c.first_place-from.ensures.most, len))
+    (λ t inside short before. c.first_place-from.ensures.least t inside short (omega (arith, before, len)))
 
-pub short_in-2-requires : goal.short_in-2-requires
-short_in-2-requires c = subst (λ (d : Dimensions). IsSpan d c.args.span.now) (sym c.loop-index.invariant.size) c.requires.span
+pub short_in-short-requires-then-short-eq0 : goal.short_in-short-requires-then-short-eq0
+short_in-short-requires-then-short-eq0 c = subst (λ (d : Dimensions). IsSpan d c.args.span.now) (sym c.loop-index.invariant.size) c.requires.span
 
 -- none is short before the list's end
-pub returns-then-short-eq0-then-short-eq0-clause-moved : goal.returns-then-short-eq0-then-short-eq0-clause-moved
-returns-then-short-eq0-then-short-eq0-clause-moved c _ =
-    moved_there c.args.list.now.list c.args.span.now c.loop-index.index c.len-len.result c.args.self.now c.loop-index.self c.len-len.ensures.value c.loop-index.invariant (c.short_in-2.ensures.none c.if-short-eq0-2.true)
+pub returns-then-short-eq0-2-clause-moved : goal.returns-then-short-eq0-2-clause-moved
+returns-then-short-eq0-2-clause-moved c _ =
+    moved_there c.args.list.now.list c.args.span.now c.loop-index.index c.len-len.result c.args.self.now c.loop-index.self c.len-len.ensures.value c.loop-index.invariant (c.short_in-short-then-short-eq0.ensures.none c.if-short-eq0-2.true)
 
-pub returns-then-short-eq0-then-short-eq0-clause-standing : goal.returns-then-short-eq0-then-short-eq0-clause-standing
-returns-then-short-eq0-then-short-eq0-clause-standing c = c.loop-index.invariant.standing
+pub returns-then-short-eq0-2-clause-standing : goal.returns-then-short-eq0-2-clause-standing
+returns-then-short-eq0-2-clause-standing c = c.loop-index.invariant.standing
 
 pub take_member-requires : goal.take_member-requires
 take_member-requires c = record {
@@ -44,21 +44,22 @@ loop-index-preserved c =
     let lt : c.loop-index.index < length list.members = omega (arith, c.loop-index-test.true, c.len-len.ensures.value) in
     let x = get_or list.members c.loop-index.index some_piece in
     let is : get_or list.members c.loop-index.index x ≡ x = get_or_default list.members c.loop-index.index x some_piece lt in
-    moved_more list c.args.span.now c.loop-index.index c.args.self.now c.loop-index.self c.take_member.new.self x c.loop-index.invariant lt is (c.take_member.ensures x is)
+    moved_more list c.args.span.now c.loop-index.index c.args.self.now c.loop-index.self c.take_member.new.self x c.loop-index.invariant lt is (c.take_member.ensures.took x is)
 
-pub short_in-3-requires : goal.short_in-3-requires
-short_in-3-requires c = subst (λ (d : Dimensions). IsSpan d c.args.span.now) (sym c.loop-index.invariant.size) c.requires.span
+pub short_in-requires : goal.short_in-requires
+short_in-requires c = subst (λ (d : Dimensions). IsSpan d c.args.span.now) (sym c.loop-index.invariant.size) c.requires.span
 
 pub returns-clause-moved : goal.returns-clause-moved
 returns-clause-moved c none =
-    moved_there c.args.list.now.list c.args.span.now c.loop-index.index c.len-len.result c.args.self.now c.loop-index.self c.len-len.ensures.value c.loop-index.invariant (c.short_in-3.ensures.none (eqb-true c.short_in-3.result 0 none))
+    moved_there c.args.list.now.list c.args.span.now c.loop-index.index c.len-len.result c.args.self.now c.loop-index.self c.len-len.ensures.value c.loop-index.invariant (c.short_in.ensures.none (eqb-true c.short_in.result 0 none))
 
 pub returns-clause-past : goal.returns-clause-past
 returns-clause-past c some =
-    let short : 0 < c.short_in-3.result = grind (arith, nat_tests) in
-    let (t, within, is) = c.short_in-3.ensures.some short in
-    let end : c.loop-index.index ≡ c.len-len.result = omega (arith, c.loop-index-test.false, c.loop-index.auto.index-end, c.from.ensures.most) in
-    (t, moved_past c.args.list.now.list c.args.span.now c.loop-index.index c.len-len.result t c.args.self.now c.loop-index.self c.len-len.ensures.value end c.loop-index.invariant within is)
+    let short : 0 < c.short_in.result = grind (arith, nat_tests) in
+    let (t, within, is) = c.short_in.ensures.some short in
+    let end : c.loop-index.index ≡ c.len-len.result = omega (arith, c.loop-index-test.false, c.loop-index.auto.index-end, c.first_place-from.ensures.most) in
+    let past = moved_past c.args.list.now.list c.args.span.now c.loop-index.index c.len-len.result t c.args.self.now c.loop-index.self c.len-len.ensures.value end c.loop-index.invariant within is in
+    (t, past.0, past.1)
 
 pub returns-clause-standing : goal.returns-clause-standing
 returns-clause-standing c = c.loop-index.invariant.standing

@@ -1,4 +1,4 @@
-use Rattle.std.proofs.Common.{◌≡◌, length-set, set, ap, ◌∙◌}
+use Rattle.std.proofs.Common.{length-set, set, ap, ◌∙◌}
 use Rattle.masked_update.specs.TileOf.{TileOf, empty_tile}
 use Rattle.live_check.specs.Standing.{TilesOf}
 use Rattle.live_check.proofs.tiles.Tiles.clear.Goals as goal

@@ -2,7 +2,7 @@ use Rattle.std.proofs.Common.{◌≡◌, ℕ, ◌<◌, List, get_or-set_other, g
 use Rattle.std.specs.Prelude.{slice_index}
 use Rattle.std.proofs.lemmas.Bool.{cases_lt}
 use Rattle.cull_base.specs.Screen.{tile_count_of}
-use Rattle.masked_update.specs.TileOf.{TileOf, empty_tile, tile_at}
+use Rattle.masked_update.specs.TileOf.{TileOf, empty_tile, no_tile, tile_at}
 use Rattle.live_check.specs.Standing.{AreWhole, StandsBehind, TilesOf}
 use Rattle.live_check.proofs.Moves.{stands_none}
 use Rattle.live_check.proofs.tiles.Tiles.empty.Goals as goal
@@ -21,11 +21,11 @@ loop-tile-preserved c =
       size = c.clear.ensures.size ∙ i.size;
       whole = c.clear.ensures.whole;
       states = λ t before. elim (cases_lt t c.loop-tile.tile) [
-        | inl early ↦ ap (λ (xs : List TileOf). tile_at xs t) c.clear.ensures.states ∙ get_or-set_other c.loop-tile.self.states c.loop-tile.tile t empty_tile empty_tile (λ e. omega (arith, e, early)) ∙ i.states t early
+        | inl early ↦ ap (λ (xs : List TileOf). tile_at xs t) c.clear.ensures.states ∙ get_or-set_other c.loop-tile.self.states c.loop-tile.tile t empty_tile no_tile (λ e. omega (arith, e, early)) ∙ i.states t early
         | inr le ↦
             let same : c.loop-tile.tile ≡ t = omega (arith, le, before) in
             subst (λ (n : ℕ). tile_at c.clear.new.self.states n ≡ empty_tile) same
-            (ap (λ (xs : List TileOf). tile_at xs c.loop-tile.tile) c.clear.ensures.states ∙ get_or-set_same c.loop-tile.self.states c.loop-tile.tile empty_tile empty_tile (omega (arith, lt, i.whole.states)))
+            (ap (λ (xs : List TileOf). tile_at xs c.loop-tile.tile) c.clear.ensures.states ∙ get_or-set_same c.loop-tile.self.states c.loop-tile.tile empty_tile no_tile (omega (arith, lt, i.whole.states)))
       ];
       behind = λ t before. elim (cases_lt t c.loop-tile.tile) [
         | inl early ↦ ap (λ (xs : List ℕ). slice_index xs t) c.clear.ensures.behind ∙ get_or-set_other c.loop-tile.self.behind c.loop-tile.tile t 0 0 (λ e. omega (arith, e, early)) ∙ i.behind t early

@@ -1,10 +1,11 @@
-use Rattle.std.proofs.Common.{◌≡◌, ℕ, ◌+◌, ◌*◌, true, false, arith, sym, ap, ◌∙◌}
+use Rattle.std.proofs.Common.{◌≡◌, ℕ, ◌+◌, ◌*◌, false, arith, sym, ap, ◌∙◌}
 use Rattle.cull_base.specs.Screen.{tile_columns_of, tile_rows_of}
 use Rattle.live_check.specs.Moving.{is_short_at}
 use Rattle.live_check.specs.Standing.{TilesOf}
 use Rattle.live_check.proofs.Held.{held_all, held_more, held_row_begun, held_row_ended, held_rows_begun}
 use Rattle.live_check.proofs.Stating.{on_row}
 use Rattle.live_check.proofs.tiles.Tiles.short_in.Goals as goal
+use Rattle.live_check.proofs.tiles.Tiles.short_in.Goals.{then-is_short, else-is_short}
 
 pub loop-row-init : goal.loop-row-init
 loop-row-init c =
@@ -31,33 +32,27 @@ is_short-requires c =
     let columns : c.tile_columns-columns.result ≡ tile_columns_of s.size = c.tile_columns-columns.ensures.value ∙ ap (λ (x : TilesOf). tile_columns_of x.size) c.self.view_is in
     rw columns (on_row s.size c.args.span.now c.loop-row.row c.loop-column.column c.requires (c.loop-row.auto.row, c.loop-row-test.true) c.loop-column.auto.column c.loop-column-test.true).0
 
--- a short tile
-pub loop-column-preserved-then-is_short : goal.loop-column-preserved-then-is_short
-loop-column-preserved-then-is_short c =
+-- what holds before a short tile and one that isn't
+pub loop-column-preserved : goal.loop-column-preserved
+loop-column-preserved c =
     let s = c.args.self.now in let i = c.loop-column.invariant in
     let columns : c.tile_columns-columns.result ≡ tile_columns_of s.size = c.tile_columns-columns.ensures.value ∙ ap (λ (x : TilesOf). tile_columns_of x.size) c.self.view_is in
     let n = c.loop-row.row * tile_columns_of s.size + c.loop-column.column in
     let on = on_row s.size c.args.span.now c.loop-row.row c.loop-column.column c.requires (c.loop-row.auto.row, c.loop-row-test.true) c.loop-column.auto.column c.loop-column-test.true in
-    let short : is_short_at s n c.args.place ≡ true = ap (λ (k : ℕ). is_short_at s (c.loop-row.row * k + c.loop-column.column) c.args.place) (sym columns) ∙ sym c.is_short.ensures ∙ c.if-is_short.true in
-    record {
-      none = λ zero. absurd (omega (arith, zero));
-      some = λ _. (n, on, short);
-      few = omega (arith, i.few);
-    }
-
--- one that isn't
-pub loop-column-preserved-else-is_short : goal.loop-column-preserved-else-is_short
-loop-column-preserved-else-is_short c =
-    let s = c.args.self.now in let i = c.loop-column.invariant in
-    let columns : c.tile_columns-columns.result ≡ tile_columns_of s.size = c.tile_columns-columns.ensures.value ∙ ap (λ (x : TilesOf). tile_columns_of x.size) c.self.view_is in
-    let n = c.loop-row.row * tile_columns_of s.size + c.loop-column.column in
-    let off : is_short_at s n c.args.place ≡ false = ap (λ (k : ℕ). is_short_at s (c.loop-row.row * k + c.loop-column.column) c.args.place) (sym columns) ∙ sym c.is_short.ensures ∙ c.if-is_short.false in
+    let is : is_short_at s n c.args.place ≡ c.is_short.result = ap (λ (k : ℕ). is_short_at s (c.loop-row.row * k + c.loop-column.column) c.args.place) (sym columns) ∙ sym c.is_short.ensures in
     let next : n + 1 ≡ c.loop-row.row * tile_columns_of s.size + (c.loop-column.column + 1) = omega arith in
-    record {
-      none = λ zero t before. held_more (λ t. is_short_at s t c.args.place ≡ false) s.size c.args.span.now n (i.none zero) off t (omega (arith, next, before.0), before.1);
-      some = i.some;
-      few = omega (arith, i.few);
-    }
+    elim c.if-is_short.branch [
+      | then-is_short w ↦ record {
+        none = λ none. absurd (omega (arith, none, w.short-is));
+        some = λ _. (n, on, is ∙ w.if-is_short.true);
+        few = omega (arith, i.few, w.short-is);
+      }
+      | else-is_short w ↦ record {
+        none = λ none t before. held_more (λ t. is_short_at s t c.args.place ≡ false) s.size c.args.span.now n (i.none (sym w.short-is ∙ none)) (is ∙ w.if-is_short.false) t (omega (arith, next, before.0), before.1);
+        some = λ some. i.some (omega (arith, some, w.short-is));
+        few = omega (arith, i.few, w.short-is);
+      }
+    ]
 
 pub loop-row-preserved : goal.loop-row-preserved
 loop-row-preserved c =

@@ -1,4 +1,4 @@
-use Rattle.std.proofs.Common.{◌≡◌, arith, refl, sym, ap, ◌∙◌, subst}
+use Rattle.std.proofs.Common.{arith, refl, sym, ap, ◌∙◌, subst}
 use Rattle.cull_base.specs.Screen.{Dimensions, tile_columns_of}
 use Rattle.cull_base.specs.Span.{IsSpan}
 use Rattle.live_check.specs.Standing.{AreWhole, TilesOf}
@@ -24,12 +24,12 @@ loop-row-preserved g c =
     let row = c.in_ok-state_row.ensures in
     record {
       stays = record { size = row.stays.size ∙ i.stays.size; states = row.stays.states ∙ i.stays.states; behind = row.stays.behind ∙ i.stays.behind };
-      stated = row.yes c.if-not-state_row.false c.args.self.now _ i.stated;
+      stated = row.yes c.if-not-branch.false c.args.self.now _ i.stated;
       faults = omega (arith, i.faults, row.fails.faults_stay);
     }
 
-pub returns-then-not-state_row-clause-no : goal.returns-then-not-state_row-clause-no
-returns-then-not-state_row-clause-no g c _ = c.in_ok-state_row.ensures.no c.if-not-state_row.true c.args.self.now _ c.loop-row.invariant.stated
+pub returns-then-not-branch-clause-no : goal.returns-then-not-branch-clause-no
+returns-then-not-branch-clause-no g c _ = c.in_ok-state_row.ensures.no c.if-not-branch.true c.args.self.now _ c.loop-row.invariant.stated
 
 pub returns-clause-yes : goal.returns-clause-yes
 returns-clause-yes g c _ =

@@ -1,8 +1,9 @@
-use Rattle.std.proofs.Common.{◌≡◌, ℕ, ◌+◌, ◌*◌, arith, refl, sym, ap, ◌∙◌, subst}
+use Rattle.std.proofs.Common.{◌≡◌, ℕ, ◌+◌, ◌*◌, ◌<◌, ◌≤◌, List, Option, arith, refl, sym, ap, ◌∙◌, subst}
 use Rattle.cull_base.specs.Screen.{Dimensions, tile_columns_of}
 use Rattle.cull_base.specs.Span.{IsSpan}
-use Rattle.live_check.specs.Moving.{IsNotStatedOf, IsStatedOf}
-use Rattle.live_check.specs.Standing.{TilesOf}
+use Rattle.cull_base.specs.declared.tile_span.TileSpan.{TileSpan}
+use Rattle.live_check.specs.Moving.{AreNotStated, IsNotStatedOf, IsStatedOf, StatedTo}
+use Rattle.live_check.specs.Standing.{AreWhole, StaysStanding, TilesOf}
 use Rattle.live_check.proofs.Stating.{column_more, column_stops, on_row, row_begun, row_ended}
 use Rattle.live_check.proofs.tiles.Tiles.state_row.Goals as goal
 
@@ -13,9 +14,15 @@ loop-column-init g c = record {
   faults = omega arith;
 }
 
--- the row's first tile, as it was reckoned
-start_is : (start row columns : ℕ) (d : Dimensions) → start ≡ row * columns → columns ≡ tile_columns_of d → start ≡ row * tile_columns_of d
-start_is start row columns d is e = is ∙ ap (λ (n : ℕ). row * n) e
+-- a tile of the row by its number, as it was reckoned
+column_at : (span : TileSpan) (row column m : ℕ) (old new now : TilesOf) (a b c : Option (List ℕ)) → m ≡ row * tile_columns_of old.size + column → IsSpan old.size span → (span.first_row ≤ row) × (row < span.end_row) → span.first_column ≤ column → column < span.end_column
+    → StaysStanding new now → AreWhole now → IsStatedOf m new now b c → StatedTo span (row * tile_columns_of old.size + column) old new a b → StatedTo span (row * tile_columns_of old.size + (column + 1)) old now a c
+column_at span row column m old new now a b c is whole rows left right stays there one s =
+    column_more span row column old new now a b c whole rows left right stays there (subst (λ (t : ℕ). IsStatedOf t new now b c) is one) s
+
+stops_at : (span : TileSpan) (row column m : ℕ) (old new : TilesOf) (a b : Option (List ℕ)) → m ≡ row * tile_columns_of old.size + column → IsSpan old.size span → (span.first_row ≤ row) × (row < span.end_row) → span.first_column ≤ column → column < span.end_column
+    → IsNotStatedOf m new b → StatedTo span (row * tile_columns_of old.size + column) old new a b → AreNotStated span old a
+stops_at span row column m old new a b is whole rows left right never s = column_stops span row column old new a b whole rows left right (subst (λ (t : ℕ). IsNotStatedOf t new b) is never) s
 
 pub state_tile-requires : goal.state_tile-requires
 state_tile-requires g c =
@@ -34,20 +41,20 @@ loop-column-preserved g c =
       stated = λ first before size s.
           let span = subst (λ (d : Dimensions). IsSpan d c.args.span.now) (sym size) c.requires.span in
           let n : c.args.row * c.tile_columns.result + c.loop-column.column ≡ c.args.row * tile_columns_of first.size + c.loop-column.column = ap (λ (k : ℕ). c.args.row * k + c.loop-column.column) (columns ∙ ap tile_columns_of (sym size)) in
-          column_more c.args.span.now c.args.row c.loop-column.column first c.loop-column.self c.state_tile.new.self before _ _ span c.requires.row c.loop-column.auto.column c.loop-column-test.true tile.stays tile.whole
-          (subst (λ (t : ℕ). IsStatedOf t c.loop-column.self c.state_tile.new.self _ _) n (tile.yes c.if-not-state_tile.false)) (i.stated first before size s);
+          column_at c.args.span.now c.args.row c.loop-column.column (c.args.row * c.tile_columns.result + c.loop-column.column) first c.loop-column.self c.state_tile.new.self before _ _ n span c.requires.row
+          c.loop-column.auto.column c.loop-column-test.true tile.stays tile.whole (tile.yes c.if-not-branch.false) (i.stated first before size s);
       faults = omega (arith, i.faults, tile.fails.faults_stay);
     }
 
-pub returns-then-not-state_tile-clause-no : goal.returns-then-not-state_tile-clause-no
-returns-then-not-state_tile-clause-no g c _ first before s =
+pub returns-then-not-branch-clause-no : goal.returns-then-not-branch-clause-no
+returns-then-not-branch-clause-no g c _ first before s =
     let i = c.loop-column.invariant in
     let size : first.size ≡ c.args.self.now.size = sym s.stays.size in
     let columns : c.tile_columns.result ≡ tile_columns_of c.args.self.now.size = c.tile_columns.ensures.value ∙ ap (λ (x : TilesOf). tile_columns_of x.size) c.self.view_is in
     let span = subst (λ (d : Dimensions). IsSpan d c.args.span.now) (sym size) c.requires.span in
     let n : c.args.row * c.tile_columns.result + c.loop-column.column ≡ c.args.row * tile_columns_of first.size + c.loop-column.column = ap (λ (k : ℕ). c.args.row * k + c.loop-column.column) (columns ∙ ap tile_columns_of (sym size)) in
-    column_stops c.args.span.now c.args.row c.loop-column.column first c.loop-column.self before _ span c.requires.row c.loop-column.auto.column c.loop-column-test.true
-    (subst (λ (t : ℕ). IsNotStatedOf t c.loop-column.self _) n (c.in_ok-state_tile.ensures.no c.if-not-state_tile.true)) (i.stated first before size s)
+    stops_at c.args.span.now c.args.row c.loop-column.column (c.args.row * c.tile_columns.result + c.loop-column.column) first c.loop-column.self before _ n span c.requires.row
+    c.loop-column.auto.column c.loop-column-test.true (c.in_ok-state_tile.ensures.no c.if-not-branch.true) (i.stated first before size s)
 
 pub returns-clause-yes : goal.returns-clause-yes
 returns-clause-yes g c _ first before s =

@@ -1,4 +1,4 @@
-use Rattle.std.proofs.Common.{◌≡◌, ◌+◌, ◌*◌, true, nat_eq, arith, ap, ◌∙◌, subst}
+use Rattle.std.proofs.Common.{◌≡◌, ◌⊎◌, ℕ, ◌+◌, ◌*◌, ◌≤◌, nat_eq, arith, ap, ◌∙◌, subst, inl, inr}
 use Rattle.cull_base.specs.Piece.{Piece}
 use Rattle.cull_base.specs.Screen.{Dimensions, tile_columns_of, tile_rows_of}
 use Rattle.live_check.specs.Moving.{TookWhere}
@@ -6,6 +6,11 @@ use Rattle.live_check.specs.Standing.{TilesOf}
 use Rattle.live_check.proofs.Stating.{on_row}
 use Rattle.live_check.proofs.Taking.{took_all, took_more, took_row_begun, took_row_ended, took_rows_begun, took_yet}
 use Rattle.live_check.proofs.tiles.Tiles.take_in.Goals as goal
+use Rattle.live_check.proofs.tiles.Tiles.take_in.Goals.{then-take_at, else-take_at}
+
+-- one more at most
+few_more : (row column done more : ℕ) → done ≤ row * 64 + column → (more ≡ done) ⊎ (more ≡ done + 1) → more ≤ row * 64 + (column + 1)
+few_more row column done more few by = elim by [ inl same ↦ omega (arith, few, same) | inr next ↦ omega (arith, few, next) ]
 
 pub loop-row-init : goal.loop-row-init
 loop-row-init c =
@@ -38,11 +43,11 @@ loop-column-preserved c =
     let s = c.args.self.now in let i = c.loop-column.invariant in
     let on = on_row s.size c.args.reached.now c.loop-row.row c.loop-column.column c.requires.span (c.loop-row.auto.row, c.loop-row-test.true) c.loop-column.auto.column c.loop-column-test.true in
     let n = c.loop-row.row * tile_columns_of s.size + c.loop-column.column in
-    let here = subst (λ (d : Dimensions). TookWhere (λ t. nat_eq t (c.loop-row.row * tile_columns_of d + c.loop-column.column)) c.piece.result.now c.args.index c.loop-column.self c.take_at.new.self) i.took.size c.take_at.ensures in
+    let here = subst (λ (d : Dimensions). TookWhere (λ t. nat_eq t (c.loop-row.row * tile_columns_of d + c.loop-column.column)) c.of-piece.result c.args.index c.loop-column.self c.take_at.new.self) i.took.size c.take_at.ensures.took in
     record {
       took = took_more c.args.reached.now c.args.tri.now c.args.index s n (c.loop-row.row * tile_columns_of s.size + (c.loop-column.column + 1)) c.loop-column.self c.take_at.new.self (omega arith) on.1 i.took
-          (subst (λ (x : Piece). TookWhere (λ t. nat_eq t n) x c.args.index c.loop-column.self c.take_at.new.self) c.piece.ensures.value here);
-      few = omega (arith, i.few);
+          (subst (λ (x : Piece). TookWhere (λ t. nat_eq t n) x c.args.index c.loop-column.self c.take_at.new.self) c.of-piece.ensures.value here);
+      few = few_more c.loop-row.row c.loop-column.column c.loop-column.done c.if-take_at.done i.few (elim c.if-take_at.branch [ then-take_at w ↦ inr w.done-is | else-take_at w ↦ inl w.done-is ]);
     }
 
 pub loop-row-preserved : goal.loop-row-preserved
@@ -59,4 +64,4 @@ pub returns : goal.returns
 returns c =
     let s = c.args.self.now in
     let columns : c.tile_columns-columns.result ≡ tile_columns_of s.size = c.tile_columns-columns.ensures.value ∙ ap (λ (x : TilesOf). tile_columns_of x.size) c.self.view_is in
-    took_all c.args.reached.now c.args.tri.now c.args.index s c.loop-row.row c.loop-row.self (omega (arith, columns, c.tile_columns-columns.ensures.some)) (omega (arith, c.loop-row-test.false)) c.loop-row.invariant.took
+    record { took = took_all c.args.reached.now c.args.tri.now c.args.index s c.loop-row.row c.loop-row.self (omega (arith, columns, c.tile_columns-columns.ensures.some)) (omega (arith, c.loop-row-test.false)) c.loop-row.invariant.took }

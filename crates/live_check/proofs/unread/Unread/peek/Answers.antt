@@ -4,7 +4,7 @@ pub returns-in-Some-clause-some : goal.returns-in-Some-clause-some
 returns-in-Some-clause-some g c = rw c.in-Some.is at c.first.ensures.some
 
 pub refill-requires : goal.refill-requires
-refill-requires g c = c.first.ensures.none c.in-None.is
+refill-requires g c = c.first.ensures.none c.in_default.is
 
 pub returns-clause-same : goal.returns-clause-same
 returns-clause-same g c = c.in_ok-refill.ensures.same

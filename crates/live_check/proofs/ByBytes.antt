@@ -1,10 +1,10 @@
 -- Bytes, words and numbers that come byte by byte.
-use Rattle.std.proofs.Common.{◌≡◌, ℕ, zero, suc, ◌+◌, ◌-◌, ◌*◌, ◌/◌, ◌%◌, ◌^◌, ◌<◌, ◌≤◌, ◌⊎◌, List, [], ◌∷◌, ◌++◌, codes, length, take, drop, get_or, Option, Some, None, option_map, append_assoc, arith, refl, sym, ap, ◌∙◌, subst, inl, inr}
-use Rattle.std.specs.Prelude.{IfSome}
+use Rattle.std.proofs.Common.{◌≡◌, ℕ, suc, ◌+◌, ◌-◌, ◌*◌, ◌/◌, ◌%◌, ◌^◌, ◌<◌, ◌≤◌, ◌⊎◌, List, [], ◌∷◌, ◌++◌, codes, length, take, drop, get_or, Option, Some, None, option_map, append_assoc, arith, refl, sym, ap, ◌∙◌, subst, inl, inr}
+use Rattle.std.specs.Prelude.{IfOk, IfSome, Result, Ok, Err}
 use Rattle.std.specs.Fmt.{decimal}
 use Rattle.std.proofs.lemmas.Bool.{cases_lt}
 use Rattle.std.proofs.lemmas.Fmt.{decimal_digit, decimal_step, first_decimal, length-decimal-le}
-use Rattle.std.proofs.lemmas.List.{length-append, length-take, take-append-drop, take_more}
+use Rattle.std.proofs.lemmas.List.{drop-drop, drop-take, drop_more, length-append, length-take, take-append-drop, take_more}
 use Rattle.std.proofs.lemmas.Option.{same_Some}
 use Rattle.cull_base.specs.declared.scene_types.Verdict.{Verdict}
 use Rattle.cull_base.specs.declared.scene_types.Verdict.TheVariants.{Occluded, Outside, Visible}
@@ -20,29 +20,22 @@ use Rattle.live_check.proofs.Lines.{cons_same, head_same, tail_same}
 
 -- bytes from a place to before an end, where there are some
 pub some_wait : (bytes : List ℕ) (next end : ℕ) → next < end → end ≤ length bytes → (rest : List ℕ) × (take (end - next) (drop next bytes) ≡ get_or bytes next 0 ∷ rest)
-some_wait [] next end lt le = absurd (omega (arith, lt, le))
-some_wait (b ∷ bytes) 0 0 lt le = absurd (omega (arith, lt))
-some_wait (b ∷ bytes) 0 (suc end) lt le = (take end bytes, refl)
-some_wait (b ∷ bytes) (suc next) 0 lt le = absurd (omega (arith, lt))
-some_wait (b ∷ bytes) (suc next) (suc end) lt le = some_wait bytes next end (omega (arith, lt)) (omega (arith, le))
+some_wait bytes next end lt le =
+    let more = end - (next + 1) in
+    let all : end - next ≡ suc more = omega arith in (
+      take more (drop (next + 1) bytes),
+      ap (λ (n : ℕ). take n (drop next bytes)) all ∙ ap (λ (l : List ℕ). take (suc more) l) (drop_more bytes next 0 (omega arith)),
+    )
 
 pub none_wait : (bytes : List ℕ) (next end : ℕ) → end ≤ next → take (end - next) (drop next bytes) ≡ []
 none_wait bytes next end le = let none : end - next ≡ 0 = omega (arith, le) in ap (λ (n : ℕ). take n (drop next bytes)) none
 
 -- one byte fewer
-pub skipped : (bytes : List ℕ) (next end : ℕ) → take (end - (next + 1)) (drop (next + 1) bytes) ≡ drop 1 (take (end - next) (drop next bytes))
-skipped [] 0 0 = refl
-skipped [] 0 (suc end) = take_none (end - 0)
-  where
-    take_none : (n : ℕ) → take n ([] {A = ℕ}) ≡ []
-    take_none zero = refl
-    take_none (suc n) = refl
-skipped [] (suc next) 0 = refl
-skipped [] (suc next) (suc end) = skipped [] next end
-skipped (b ∷ bytes) 0 0 = refl
-skipped (b ∷ bytes) 0 (suc end) = refl
-skipped (b ∷ bytes) (suc next) 0 = refl
-skipped (b ∷ bytes) (suc next) (suc end) = skipped bytes next end
+pub skipped : (bytes : List ℕ) (next end : ℕ) → next < end → take (end - (next + 1)) (drop (next + 1) bytes) ≡ drop 1 (take (end - next) (drop next bytes))
+skipped bytes next end lt =
+    let more = end - (next + 1) in
+    let all : end - next ≡ 1 + more = omega arith in
+    ap (λ (l : List ℕ). take more l) (sym (drop-drop 1 next bytes)) ∙ sym (drop-take 1 more (drop next bytes)) ∙ ap (λ (n : ℕ). drop 1 (take n (drop next bytes))) (sym all)
 
 -- bytes were taken into the buffer, in which none waited
 pub refilled : (held bytes : List ℕ) (n : ℕ) (a b : Option (List ℕ)) → held ≡ [] → a ≡ option_map (λ (rest : List ℕ). take n bytes ++ rest) b → waiting (take (n - 0) (drop 0 bytes)) b ≡ waiting held a
@@ -56,6 +49,12 @@ refilled held bytes n a b none front =
 
 pub none_taken : (bytes : List ℕ) (n : ℕ) → n ≤ length bytes → take (n - 0) (drop 0 bytes) ≡ [] → n ≡ 0
 none_taken bytes n le none = let same : n - 0 ≡ n = omega arith in omega (arith, length-take n bytes, le, ap length (ap (λ (m : ℕ). take m bytes) (sym same) ∙ none))
+
+-- ---- what a last call answers
+
+pub ok_both : {T E : Type 0} (r : Result T E) (P Q R : T → Type 0) → ((x : T) → P x → Q x → R x) → IfOk r P → IfOk r Q → IfOk r R
+ok_both (Ok x) P Q R to p q = to x p q
+ok_both (Err e) P Q R to p q = tt
 
 -- ---- one byte
 
@@ -233,7 +232,7 @@ word_without_o (Some log) o never found = λ v more e. by v more found e
     by Occluded more found e = absurd (never (codes "ccluded" ++ more) e)
     by Outside more found e = absurd (never (codes "utside" ++ more) e)
     by Visible more (inl is) e = is
-    by Visible more (inr no) e = absurd (no more e)
+    by Visible more (inr lacks) e = absurd (lacks more e)
 
 -- a text is found, or never comes
 pub found_or_never : (a b : Option (List ℕ)) (o : Option Verdict) (v : Verdict) (text : List ℕ) → IfSome o (λ w. (w ≡ v) × Came a b text) → (o ≡ None → NeverComes a text) → IsFound a o v text
