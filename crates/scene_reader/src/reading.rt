@@ -92,21 +92,14 @@ fn read_parts<S: Source>(
     let vertices_at = header_length(header.version);
     let occluders_at = vertices_at + VERTEX * counts.vertices;
     let batches_at = occluders_at + TRIANGLE * counts.occluders;
-    let object_tris_at = batches_at + BATCH * counts.batches;
-    let objects_at = object_tris_at + TRIANGLE * counts.object_tris;
+    let triangles_at = batches_at + BATCH * counts.batches;
+    let objects_at = triangles_at + TRIANGLE * counts.object_tris;
     let cameras_at = objects_at + OBJECT * counts.objects;
     let need = cameras_at + CAMERA * counts.frames;
     let vertices = read_table(alloc, source, counts.vertices, need, vertices_at, part)?;
     let occluders = read_table(alloc, source, counts.occluders, need, occluders_at, part)?;
     let batches = read_batches(alloc, source, &header, need, batches_at, part)?;
-    let object_tris = read_table(
-        alloc,
-        source,
-        counts.object_tris,
-        need,
-        object_tris_at,
-        part,
-    )?;
+    let object_tris = read_table(alloc, source, counts.object_tris, need, triangles_at, part)?;
     let objects = read_objects(
         alloc,
         source,
@@ -117,21 +110,20 @@ fn read_parts<S: Source>(
         part,
     )?;
     let cameras = read_table(alloc, source, counts.frames, need, cameras_at, part)?;
-    let parts = SceneParts {
-        version: header.version,
-        width: header.width,
-        height: header.height,
-        near: header.near,
-        grade: header.flags.grade,
-        vertices,
-        occluders,
-        batches: batches.items,
-        object_tris,
-        objects: objects.items,
-        cameras,
-    };
     Ok(Draft {
-        parts,
+        parts: SceneParts {
+            version: header.version,
+            width: header.width,
+            height: header.height,
+            near: header.near,
+            grade: header.flags.grade,
+            vertices,
+            occluders,
+            batches: batches.items,
+            object_tris,
+            objects: objects.items,
+            cameras,
+        },
         length: need,
         batches: batches.fault,
         objects: objects.fault,
