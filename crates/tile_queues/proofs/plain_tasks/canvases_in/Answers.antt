@@ -1,4 +1,4 @@
-use Rattle.std.proofs.Common.{◌≡◌, ◌∷◌, [], List, length, vec_len, get_or, arith, rules, ap, sym, subst, ◌∙◌}
+use Rattle.std.proofs.Common.{◌≡◌, ◌∷◌, [], List, length, get_or, arith, rules, ap, sym, subst, ◌∙◌}
 use Rattle.std.specs.declared.option.Option.{Option}
 use Rattle.std.proofs.lemmas.List.{length-append}
 use Rattle.cull_base.proofs.Lists.{pushed_at, turn}
@@ -20,8 +20,7 @@ pub push_reserved-requires : goal.push_reserved-requires
 push_reserved-requires c =
     let i = c.loop-slot.invariant in
     let t = turn c.args.slots.items c.loop-slot.bin c.in-Some.slot _ (sym i.2 ∙ c.in-Some.ensures.steps.0) in
-    let n : length c.loop-slot.bins.items ≡ vec_len c.loop-slot.bins = search rules in
-    omega (arith, t.2, i.4, i.5.1, n)
+    omega (arith, t.2, i.4, i.5.1, c.loop-slot.bins.ok.0)
 
 pub loop-slot-preserved : goal.loop-slot-preserved
 loop-slot-preserved c =
