@@ -5,13 +5,13 @@ use lib.ListN.{get_elem?}
 use Rattle.std.proofs.lemmas.List.{map-append}
 use Rattle.std.proofs.lemmas.List.Elements.{All-push, All-tail, All-head, All-nil}
 use Rattle.crossbeam_deque.specs.Tasks.{Pushes, Takes, Finds, FindsFew, Forks, Merges}
-use Rattle.atomic_table.proofs.Lists.{at_set, at_snoc}
+use Rattle.atomic_table.proofs.Lists.{at_longer, at_set, at_snoc}
 use Rattle.bin_queues.specs.Tasks.{Tasking}
 use Rattle.steal_pool.specs.declared.deque_rule.Call.{Call}
 use Rattle.steal_pool.specs.declared.deque_rule.Role.{Role}
 use Rattle.steal_pool.specs.declared.deque_rule.Role.TheVariants.{Unnamed, Owns, Steals, Ended}
 use Rattle.steal_pool.specs.declared.deque_rule.View.{View}
-use Rattle.steal_pool.specs.DequeRule.{weigh, places, nameless, owning, ended, with_taken, steals_as, out_of, taken_weighs, FitsAs, Fits, IsToldIn, Running, DequeRule, Pushed, TookOne, Took, IsShort, LooksEmpty, lending, lent, returned}
+use Rattle.steal_pool.specs.DequeRule.{weigh, places, nameless, owning, ended, with_taken, steals_as, out_of, taken_weighs, FitsAs, Fits, HasOwner, IsToldIn, Running, DequeRule, Pushed, TookOne, Took, IsShort, LooksEmpty, lending, lent, returned}
 use Rattle.steal_pool.proofs.Weights.{weigh_append, weigh_one, weigh_set, weigh_at, weigh_alone, weigh_length, weigh_places, places_length}
 
 abbrev IsUnnamed : Role → Type 0
@@ -52,6 +52,20 @@ fits_set c pushed out views by w others mine j u e =
     (λ (x : (j ≡ by) × (w ≡ u)). subst (λ (y : ℕ × View). Fits c pushed out y.0 y.1) (λ i. (sym x.0 i, x.1 i)) mine)
     (λ (x : (j ≢ by) × (get_elem? views j ≡ some u)). others j u x.0 x.1)
     (at_set views by j w u e)
+
+-- the owner's view stays where it is
+owner_set : (views : List View) (by : ℕ) (v w : View) → get_elem? views by ≡ some v → (v.role ≡ Owns → w.role ≡ Owns) → HasOwner views → HasOwner (set views by w)
+owner_set [] by v w at keeps has = has
+owner_set (x ∷ xs) zero v w at keeps has = (w, refl, keeps (ap (λ (u : View). u.role) (sym (some-injective x v at) ∙ some-injective x has.0 has.1) ∙ has.2))
+owner_set (x ∷ xs) (suc by) v w at keeps has = has
+
+owner_beside : (views : List View) (other : ℕ) (w : View) → other ≢ 0 → HasOwner views → HasOwner (set views other w)
+owner_beside [] other w ne has = has
+owner_beside (x ∷ xs) zero w ne has = absurd (ne refl)
+owner_beside (x ∷ xs) (suc other) w ne has = has
+
+owner_longer : (views more : List View) → HasOwner views → HasOwner (views ++ more)
+owner_longer views more has = (has.0, at_longer views more 0 has.0 has.1, has.2)
 
 -- a view that isn't the owner's says nothing of what was pushed, nor of how many are out
 other_as : (r : Role) (c : Call) (p p' : List ℕ) (o o' j : ℕ) (u : View) → j ≢ 0 → FitsAs r c p o j u → FitsAs r c p' o' j u
@@ -109,6 +123,7 @@ took by v x items views may kept at =
         record {
           within = let e = length-append gone (x.of.bin ∷ []) in omega arith;
           told = All-tail (IsToldIn c) x items run.told;
+          owner = owner_set views by v w at (λ r. r) run.owner;
           once = λ h.
               let s = weigh_set (λ (u : View). weigh h u.taken) views by v w at in
               let m = weigh_one h v.taken (length gone, x.of.bin) in
@@ -189,7 +204,7 @@ pub names : (by : ℕ) (v : View) (c : Call) → by ≡ 0 → v ≡ nameless →
 names by v c z is items views kept at =
     ⊎_elim
     (λ (n : (items ≡ []) × (views ≡ nameless ∷ [])). subst (λ (y : List Tasking × List View × ℕ). DequeRule y.0 (set y.1 y.2 (owning c [] [] 0) ++ ended ∷ [])) (λ i. (sym n.0 i, sym n.1 i, sym z i))
-    (inr (c, [], record { within = omega arith; told = All-nil (IsToldIn c); once = λ h. refl; fit = two })))
+    (inr (c, [], record { within = omega arith; told = All-nil (IsToldIn c); owner = (owning c [] [] 0, refl, refl); once = λ h. refl; fit = two })))
     (λ (r : (d : Call) × (gone : List ℕ) × Running items views d gone). absurd (subst (λ (u : View). Fits r.0 (r.1 ++ bins items) (out_of views) by u) is (r.2.fit by v at)))
     kept
   where
@@ -217,6 +232,7 @@ pushes by v x is told short items views kept at =
               let d = length-append items (x ∷ []) in
               omega arith;
           told = All-push (IsToldIn v.of) items x run.told told;
+          owner = owner_set views by v w at (λ r. refl) run.owner;
           once = λ h. let s = weigh_set (λ (u : View). weigh h u.taken) views by v w at in let r = run.once h in omega arith;
           fit = fits_set v.of _ _ views by w
               (λ j u ne e. other_as u.role v.of _ _ _ _ j u (λ q. ne (q ∙ sym z)) (run.fit j u e))
@@ -249,6 +265,7 @@ lends by v is items views kept at =
       record {
         within = run.within;
         told = run.told;
+        owner = owner_longer vs (lent v ∷ []) (owner_set views by v (lending v) at (λ r. refl) run.owner);
         once = λ h.
             let s = weigh_set (λ (u : View). weigh h u.taken) views by v (lending v) at in
             let t = weigh_one (λ (u : View). weigh h u.taken) vs (lent v) in
@@ -280,6 +297,7 @@ returns by v other u is steal items views kept at apart there =
       record {
         within = run.within;
         told = run.told;
+        owner = owner_beside vs other ended (λ e. apart (e ∙ sym z)) (owner_set views by v w at (λ r. refl) run.owner);
         once = λ h.
             let s = weigh_set (λ (y : View). weigh h y.taken) views by v w at in
             let t = weigh_set (λ (y : View). weigh h y.taken) vs other u ended there in

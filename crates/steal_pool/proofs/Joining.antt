@@ -21,7 +21,7 @@ use Rattle.steal_pool.proofs.Weights.{weigh_append, weigh_at, weigh_length, weig
 module _ {K : Type 0} {X : Type 0} (items : X → List Tasking) (c : Call) (all : List (Seat K)) where
   pub none_listed : (ls : List X) → ls ≡ [] → AreListed items c all all ls
   none_listed ls is = record {
-    once = λ k. ap (λ (l : List X). drawn_weigh items k l + lists_weigh k all) is;
+    once = λ k. let none : drawn_weigh items k ls ≡ 0 = ap (drawn_weigh items k) is in omega (arith, none);
     whole = subst (AreDrawnLists items c) (sym is) (All-nil (λ (x : X). All (IsWholeIn c) (items x)));
   }
 

@@ -10,6 +10,7 @@ use Rattle.atomic_table.proofs.Lists.{at_index}
 use Rattle.crossbeam_deque.specs.Handles.{Pass, view, IsPassOf, SameWorker, worker_view}
 use Rattle.bin_queues.specs.Tasks.{Tasking}
 use Rattle.steal_pool.specs.declared.deque_rule.Call.{Call}
+use Rattle.steal_pool.specs.declared.deque_rule.Role.TheVariants.{Steals}
 use Rattle.steal_pool.specs.declared.deque_rule.View.{View}
 use Rattle.steal_pool.specs.DequeRule.{stealing, with_taken, IsShort}
 use Rattle.steal_pool.specs.declared.seats.Seat.{Seat}
@@ -55,6 +56,13 @@ module _ {A : Type 0} where
             (subst (λ (u : _). IsPassOf (f u) q) (is ∙ get_or_default ds d t s lt) of) (λ j r ne l. are.of j s r l) i p long;
         steals = each_set (λ (j : ℕ) (r : Pass Tasking View A). view r ≡ stealing c (view r).taken) ps d q lt' steals (λ j r ne l. are.steals j r l);
       }
+
+-- the pass on a deque, and whose view it has
+pub pass_at : {S A : Type 0} (f : S → RowsId × A) (c : Call) (ds : List S) (ps : List (Pass Tasking View A)) (d : ℕ) (t : S) (p : Pass Tasking View A) → ArePassesOf f c ds ps → d < length ps → t ≡ get_or ds d t → p ≡ get_or ps d p → IsPassOf (f t) p
+pass_at {S} {A} f c ds ps d t p are lt is same = subst (λ (y : S × Pass Tasking View A). IsPassOf (f y.0) y.1) (λ i. (sym is i, sym same i)) (are.of d t p lt)
+
+pub steals_as_role : (c : Call) (v u : View) → v ≡ u → u ≡ stealing c u.taken → v.role ≡ Steals
+steals_as_role c v u same is = ap (λ (y : View). y.role) (same ∙ is)
 
 pub steals_on : (c : Call) (v u w : View) → v ≡ u → u ≡ stealing c u.taken → w ≡ with_taken v w.taken → w ≡ stealing c w.taken
 steals_on c v u w same is d = d ∙ ap (λ (y : View). with_taken y w.taken) (same ∙ is)

@@ -85,11 +85,16 @@ pub record IsToldIn (c : Call) (t : Tasking) : Type 0 where
   pub over : IsTaskOver c.queues c.frame t
   pub told : t.told ≡ batches_in c.frame
 
+-- view number 0 is an owner's
+abbrev pub HasOwner : List View → Type 0
+HasOwner views = (v : View) × (get_elem? views 0 ≡ some v) × (v.role ≡ Owns)
+
 -- `gone` are the bins of the places below front, in order. Each of these places stands in one view's list, once, with
 -- its bin: however places and bins are weighed, the lists of all views weigh what the places below front weigh.
 pub record Running (items : List Tasking) (views : List View) (c : Call) (gone : List ℕ) : Type 0 where
   pub within : length gone + length items ≤ c.room
   pub told : All (IsToldIn c) items
+  pub owner : HasOwner views
   pub once : (h : ℕ × ℕ → ℕ) → taken_weighs h views ≡ weigh h (places 0 gone)
   pub fit : (by : ℕ) (v : View) → get_elem? views by ≡ some v → Fits c (gone ++ bins_of items) (out_of views) by v
 

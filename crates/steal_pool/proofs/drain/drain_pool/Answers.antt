@@ -14,14 +14,14 @@ pub size_at-size-requires : goal.size_at-size-requires
 size_at-size-requires g c = omega (arith, ap length c.as_slice-given.ensures.value, c.requires.tasks.some)
 
 pub drain_tasks-requires-clause-few : goal.drain_tasks-requires-clause-few
-drain_tasks-requires-clause-few g c κs within =
+drain_tasks-requires-clause-few g c =
     let few = bins_few (frame_at c.args.tasks.items) c.args.queues.now c.args.tasks.items c.as_slice-given.result.now c.cut_at-cut.result c.bins-bins.result c.requires.tasks c.as_slice-given.ensures.value c.cut_at-cut.ensures c.bins-bins.ensures.value c.bins-bins.ensures.few in
     let most = c.most_owned-room.ensures.few in
     let n = ap length c.as_slice-given.ensures.value in
     omega (arith, few, most, n)
 
 pub drain_tasks-requires-clause-small : goal.drain_tasks-requires-clause-small
-drain_tasks-requires-clause-small g c κs within =
+drain_tasks-requires-clause-small g c =
     let few = bins_few (frame_at c.args.tasks.items) c.args.queues.now c.args.tasks.items c.as_slice-given.result.now c.cut_at-cut.result c.bins-bins.result c.requires.tasks c.as_slice-given.ensures.value c.cut_at-cut.ensures c.bins-bins.ensures.value c.bins-bins.ensures.few in
     let most = c.most_owned-room.ensures.few in
     let n = ap length c.as_slice-given.ensures.value in

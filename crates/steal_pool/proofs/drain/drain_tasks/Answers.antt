@@ -1,4 +1,5 @@
 use Rattle.std.proofs.Common.{◌≡◌, All, List, length, vec_items, vec_capacity, arith, rules, ap, sym, ◌∙◌, subst}
+use Rattle.std.proofs.lemmas.Grind.{common_steps}
 use Rattle.std.proofs.lemmas.List.{with_items_is}
 use Rattle.steal_pool.specs.declared.seats.Seat.{Seat}
 use Rattle.steal_pool.specs.Finish.{AreFinishedTo, lists_weigh}
@@ -9,7 +10,7 @@ use Rattle.steal_pool.proofs.Joining.{all_told, are_whole, joined_weigh, joined_
 use Rattle.steal_pool.proofs.drain.drain_tasks.Goals as goal
 
 pub run-requires-clause-some : goal.run-requires-clause-some
-run-requires-clause-some g c κs within =
+run-requires-clause-some g c =
     let n : length c.as_mut_slice.result.now ≡ c.args.workers = ap length c.as_mut_slice.ensures.value ∙ c.in_ok-seats.ensures.count in
     omega (arith, n, c.requires.some)
 
@@ -39,7 +40,7 @@ lists_of-requires-clause-room g c =
     let same : length new ≡ c.in_ok-seats.seats.len = search rules in
     let is = with_items_is c.in_ok-seats.seats new same in
     let n = ap length is ∙ c.in_ok-run.ensures.many ∙ ap length c.as_mut_slice.ensures.value ∙ c.in_ok-seats.ensures.count in
-    let room : vec_capacity c.in_ok-room.room ≡ c.args.workers = search rules in
+    let room : vec_capacity c.in_ok-room.room ≡ c.args.workers = first_of (search rules, grind (arith, common_steps)) in
     omega (arith, n, room)
 
 pub returns-clause-count : goal.returns-clause-count

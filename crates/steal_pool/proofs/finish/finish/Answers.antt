@@ -1,8 +1,14 @@
-use Rattle.std.proofs.Common.{ap}
-use Rattle.crossbeam_deque.specs.Handles.{worker_view}
+use Rattle.std.proofs.Common.{◌≡◌, ap, rules}
+use Rattle.crossbeam_deque.specs.Handles.{worker_flavor, worker_view}
+use Rattle.steal_pool.specs.declared.deque_rule.Role.TheVariants.{Owns}
 use Rattle.steal_pool.specs.declared.deque_rule.View.{View}
 use Rattle.steal_pool.proofs.Finishing.{has_all}
 use Rattle.steal_pool.proofs.finish.finish.Goals as goal
+
+pub pop_all-requires-clause-owns : goal.pop_all-requires-clause-owns
+pop_all-requires-clause-owns g c =
+    let owns : ((worker_view c.args.seat.now.owner).role ≡ Owns) × (worker_flavor c.args.seat.now.owner ≡ 0) = (ap (λ (v : View). v.role) c.requires.owns, c.requires.fifo) in
+    search (rules, owns)
 
 pub pop_all-requires-clause-of : goal.pop_all-requires-clause-of
 pop_all-requires-clause-of g c κs within = ap (λ (v : View). v.of) c.requires.owns

@@ -1,8 +1,16 @@
-use Rattle.std.proofs.Common.{◌<◌, length, ap, ◌∙◌, arith, get_or}
+use Rattle.std.proofs.Common.{◌<◌, length, ap, ◌∙◌, arith, get_or, rules}
 use Rattle.std.proofs.lemmas.List.{length-set}
 use Rattle.steal_pool.specs.Pools.{call_of}
 use Rattle.steal_pool.proofs.Finishing.{finished_next, sums_next, pushed_next, all_pushed}
 use Rattle.steal_pool.proofs.finish.finish_all.Goals as goal
+
+pub finish-requires : goal.finish-requires
+finish-requires g c =
+    let inv = c.loop-w.invariant in
+    let w = c.loop-w.w in
+    let lt : w < length c.loop-w.seats = let t = c.loop-w-test.true in let e = inv.0 in omega arith in
+    let left = inv.1.left w c.index-seats-w.result (omega arith) lt in
+    search (rules, left) parts 8
 
 pub loop-w-preserved : goal.loop-w-preserved
 loop-w-preserved g c =

@@ -10,17 +10,17 @@ pub most_owned-room-requires : goal.most_owned-room-requires
 most_owned-room-requires g c = omega (arith, c.min-workers.ensures, c.requires.some, c.bins-bins.ensures.some)
 
 pub draw_tasks-requires-clause-some : goal.draw_tasks-requires-clause-some
-draw_tasks-requires-clause-some g c κs within = omega (arith, c.min-workers.ensures, c.requires.some, c.bins-bins.ensures.some)
+draw_tasks-requires-clause-some g c = omega (arith, c.min-workers.ensures, c.requires.some, c.bins-bins.ensures.some)
 
 pub draw_tasks-requires-clause-few : goal.draw_tasks-requires-clause-few
-draw_tasks-requires-clause-few g c κs within =
+draw_tasks-requires-clause-few g c =
     let bins = c.bins-bins.ensures in
     let count = c.in_ok-queues.ensures.tasks.tasks_are.count in
     let n = ap length c.as_slice-given.ensures.value in
     omega (arith, bins.value, bins.few, count, n, c.most_owned-room.ensures.few)
 
 pub draw_tasks-requires-clause-small : goal.draw_tasks-requires-clause-small
-draw_tasks-requires-clause-small g c κs within =
+draw_tasks-requires-clause-small g c =
     let bins = c.bins-bins.ensures in
     let count = c.in_ok-queues.ensures.tasks.tasks_are.count in
     let n = ap length c.as_slice-given.ensures.value in

@@ -1,4 +1,5 @@
 use Rattle.std.proofs.Common.{◌≡◌, All, List, length, vec_items, vec_len, vec_capacity, arith, rules, ap, sym, ◌∙◌, subst}
+use Rattle.std.proofs.lemmas.Grind.{common_steps}
 use Rattle.std.proofs.lemmas.List.{with_items_is}
 use Rattle.bin_queues.specs.Tasks.{Tasking}
 use Rattle.tile_queues.specs.Shares.{AreWhole}
@@ -11,7 +12,7 @@ use Rattle.steal_pool.proofs.Joining.{all_told, are_whole, joined_weigh, joined_
 use Rattle.steal_pool.proofs.frame.draw_tasks.Goals as goal
 
 pub run_beside-requires-clause-some : goal.run_beside-requires-clause-some
-run_beside-requires-clause-some g c κs within =
+run_beside-requires-clause-some g c =
     let n : length c.as_mut_slice.result.now ≡ c.args.workers = ap length c.as_mut_slice.ensures.value ∙ c.in_ok-seats.ensures.count in
     omega (arith, n, c.requires.some)
 
@@ -41,7 +42,7 @@ lists_of-requires-clause-room g c =
     let same : length new ≡ c.in_ok-seats.seats.len = search rules in
     let is = with_items_is c.in_ok-seats.seats new same in
     let n = ap length is ∙ c.in_ok-run_beside.ensures.many ∙ ap length c.as_mut_slice.ensures.value ∙ c.in_ok-seats.ensures.count in
-    let room : vec_capacity c.in_ok-room.room ≡ c.args.workers = search rules in
+    let room : vec_capacity c.in_ok-room.room ≡ c.args.workers = first_of (search rules, grind (arith, common_steps)) in
     omega (arith, n, room)
 
 pub join_lists-requires-clause-room : goal.join_lists-requires-clause-room
@@ -56,9 +57,8 @@ join_lists-requires-clause-room g c =
     (joined_whole vec_items call lists c.lists_of.ensures.whole) in
     let n = whole.tasks_are.count in
     let m = c.requires.tasks.tasks_are.count in
-    let room : vec_capacity c.in_ok-all.all ≡ vec_len c.args.tasks = search rules in
-    let given : length c.args.tasks.items ≡ vec_len c.args.tasks = search rules in
-    omega (arith, n, m, room, given)
+    let room : vec_capacity c.in_ok-all.all ≡ vec_len c.args.tasks = first_of (search rules, grind (arith, common_steps)) in
+    omega (arith, n, m, room, c.args.tasks.ok.0)
 
 pub returns-clause-whole : goal.returns-clause-whole
 returns-clause-whole g c =

@@ -13,12 +13,13 @@ use Rattle.steal_pool.proofs.Told.{all_told_of}
 use Rattle.steal_pool.proofs.frame.open_frame.Goals as goal
 
 pub submit_all-requires-clause-frame : goal.submit_all-requires-clause-frame
-submit_all-requires-clause-frame g c κs within =
+submit_all-requires-clause-frame g c =
     let made = c.in_ok-queues in
-    framed_is c.args.frame.now c.args._cells.now c.args.writers.items made.submitter c.requires.writers made.ensures.frame.0
+    let framed = framed_is c.args.frame.now c.args._cells.now c.args.writers.items made.submitter c.requires.writers made.ensures.frame.0 in
+    search (rules, framed)
 
 pub submit_all-requires-clause-left : goal.submit_all-requires-clause-left
-submit_all-requires-clause-left g c κs within =
+submit_all-requires-clause-left g c =
     let made = c.in_ok-queues in
     let none = made.ensures.frame.1 in
     let all = ap batches_in (framed_is c.args.frame.now c.args._cells.now c.args.writers.items made.submitter c.requires.writers made.ensures.frame.0) in

@@ -1,4 +1,4 @@
-use Rattle.std.proofs.Common.{length, ap, sym, ◌∙◌, subst}
+use Rattle.std.proofs.Common.{length, arith, ap, sym, ◌∙◌, subst}
 use Rattle.crossbeam_deque.specs.Handles.{stealer_deque}
 use Rattle.steal_pool.specs.Finish.{AreAt, AreFinishedTo}
 use Rattle.steal_pool.specs.Pools.{call_of}
@@ -11,7 +11,7 @@ pub fill-requires-clause-deques : goal.fill-requires-clause-deques
 fill-requires-clause-deques g c = subst (λ ts. AreAt stealer_deque ts c.args.seats.now) (sym c.as_slice-lent.ensures.value) c.in_ok-thieves.ensures.deques
 
 pub drain_beside-requires-clause-many : goal.drain_beside-requires-clause-many
-drain_beside-requires-clause-many g c κs within = c.in_ok-fill.ensures.many ∙ sym (ap length c.as_slice-lent.ensures.value ∙ c.in_ok-thieves.ensures.count)
+drain_beside-requires-clause-many g c = omega (arith, c.in_ok-fill.ensures.many, ap length c.as_slice-lent.ensures.value, c.in_ok-thieves.ensures.count)
 
 pub returns-clause-many : goal.returns-clause-many
 returns-clause-many g c = c.drain_beside.ensures.many ∙ c.in_ok-fill.ensures.many

@@ -1,4 +1,5 @@
-use Rattle.std.proofs.Common.{◌<◌, ◌∷◌, [], length, get_or, arith, rules, ap, sym, subst}
+use Rattle.std.proofs.Common.{◌≡◌, ◌<◌, ◌≤◌, ◌∷◌, [], length, get_or, arith, rules, ap, sym, subst, vec_capacity}
+use Rattle.std.proofs.lemmas.Grind.{common_steps}
 use Rattle.std.proofs.lemmas.List.{length-append}
 use Rattle.crossbeam_deque.specs.Handles.{stealer_deque}
 use Rattle.steal_pool.specs.Gather.{AreEnds}
@@ -9,7 +10,11 @@ use Rattle.steal_pool.proofs.Lending.{ends_none, ends_more, fresh_more, fresh_no
 use Rattle.steal_pool.proofs.lend.lend_row.Goals as goal
 
 pub loop-d-init : goal.loop-d-init
-loop-d-init g c = (lent_on_none c.args.seats.now, c.requires.lent, ends_none stealer_deque (call_of c.args.pool.now) c.args._thieves.now _ (search rules), fresh_none _ (search rules), search rules, search rules)
+loop-d-init g c =
+    let passes = c.in_ok-passes.passes in
+    let none : passes.items ≡ [] = first_of (search rules, grind (arith, common_steps)) in
+    let room : length c.args.seats.now ≤ vec_capacity passes = first_of (search rules, grind (arith, common_steps)) in
+    (lent_on_none c.args.seats.now, c.requires.lent, ends_none stealer_deque (call_of c.args.pool.now) c.args._thieves.now passes.items none, fresh_none passes.items none, ap length none, room)
 
 pub lend_at-pass-requires : goal.lend_at-pass-requires
 lend_at-pass-requires g c =

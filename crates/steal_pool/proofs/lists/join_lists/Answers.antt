@@ -1,4 +1,5 @@
-use Rattle.std.proofs.Common.{◌≡◌, ◌+◌, ◌++◌, ◌∷◌, drop, length, vec_items, vec_len, arith, rules, ap, sym, ◌∙◌, append-nil}
+use Rattle.std.proofs.Common.{◌+◌, ◌++◌, ◌∷◌, drop, length, vec_items, arith, rules, ap, sym, ◌∙◌, append-nil}
+use Rattle.std.specs.Vec.Iter.{into_iter_items}
 use Rattle.std.proofs.lemmas.List.{drop_all, length-append}
 use Rattle.cull_base.proofs.Lists.{turn}
 use Rattle.steal_pool.specs.Lists.{joined}
@@ -13,12 +14,11 @@ append-requires g c =
     let i = c.loop-list.invariant in
     let x = c.in-Some.list in
     let e = sym i.2 ∙ c.in-Some.ensures.steps.0 in
-    let whole = ap length (joined_next vec_items c.loop-list.all.items (drop c.loop-list.done c.args.lists.items) _ x e ∙ i.4) in
-    let n : length c.loop-list.all.items ≡ vec_len c.loop-list.all = search rules in
-    let m : length x.items ≡ vec_len x = search rules in
-    let a = length-append (c.loop-list.all.items ++ x.items) (joined vec_items _) in
+    let others = into_iter_items c.next.new.self in
+    let whole = ap length (joined_next vec_items c.loop-list.all.items (drop c.loop-list.done c.args.lists.items) others x e ∙ i.4) in
+    let a = length-append (c.loop-list.all.items ++ x.items) (joined vec_items others) in
     let b = length-append c.loop-list.all.items x.items in
-    omega (arith, whole, n, m, a, b, i.5)
+    omega (arith, whole, c.loop-list.all.ok.0, x.ok.0, a, b, i.5)
 
 pub loop-list-preserved : goal.loop-list-preserved
 loop-list-preserved g c =

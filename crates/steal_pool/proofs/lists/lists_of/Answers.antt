@@ -1,4 +1,4 @@
-use Rattle.std.proofs.Common.{◌≡◌, ◌+◌, ◌∷◌, [], drop, length, vec_items, vec_len, arith, rules, refl, ap, sym, ◌∙◌, subst}
+use Rattle.std.proofs.Common.{◌+◌, ◌∷◌, [], drop, length, vec_items, arith, rules, refl, ap, sym, ◌∙◌, subst}
 use Rattle.std.proofs.lemmas.List.{length-append}
 use Rattle.cull_base.proofs.Lists.{turn}
 use Rattle.steal_pool.specs.Lists.{AreListed}
@@ -13,8 +13,7 @@ pub push_reserved-requires : goal.push_reserved-requires
 push_reserved-requires g c =
     let i = c.loop-seat.invariant in
     let t = turn c.args.seats.items c.loop-seat.done c.in-Some.seat _ (sym i.2 ∙ c.in-Some.ensures.steps.0) in
-    let n : length c.loop-seat.lists.items ≡ vec_len c.loop-seat.lists = search rules in
-    omega (arith, t.2, i.4, i.5.1, n)
+    omega (arith, t.2, i.4, i.5.1, c.loop-seat.lists.ok.0)
 
 pub loop-seat-preserved : goal.loop-seat-preserved
 loop-seat-preserved g c =

@@ -1,4 +1,5 @@
 use Rattle.std.proofs.Common.{◌+◌, ◌∷◌, [], length, arith, rules, ap, sym, subst}
+use Rattle.std.proofs.lemmas.Grind.{common_steps}
 use Rattle.std.proofs.lemmas.List.{length-append}
 use Rattle.crossbeam_deque.specs.Handles.{stealer_deque}
 use Rattle.steal_pool.specs.Making.{AreAtTo}
@@ -6,7 +7,11 @@ use Rattle.steal_pool.proofs.Opening.{at_more, none_at}
 use Rattle.steal_pool.proofs.making.thieves_of.Goals as goal
 
 pub loop-w-init : goal.loop-w-init
-loop-w-init g c = record { made = search rules; at = none_at stealer_deque _ c.args.seats.now; room = search rules }
+loop-w-init g c = record {
+  made = first_of (search rules, grind (arith, common_steps));
+  at = none_at stealer_deque _ c.args.seats.now;
+  room = first_of (search rules, grind (arith, common_steps));
+}
 
 pub loop-w-preserved : goal.loop-w-preserved
 loop-w-preserved g c =

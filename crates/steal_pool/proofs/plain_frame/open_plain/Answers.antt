@@ -11,12 +11,13 @@ use Rattle.steal_pool.proofs.Told.{all_told_of}
 use Rattle.steal_pool.proofs.plain_frame.open_plain.Goals as goal
 
 pub submit_all-requires-clause-frame : goal.submit_all-requires-clause-frame
-submit_all-requires-clause-frame g c κs within =
+submit_all-requires-clause-frame g c =
     let frame = over c.args.frame.now [] in
-    subst (λ (f : BatchedFrame). f ≡ over c.args.frame.now f.cells) (sym c.in_ok-queues.ensures.frame.0) (λ i. frame)
+    let framed = subst (λ (f : BatchedFrame). f ≡ over c.args.frame.now f.cells) (sym c.in_ok-queues.ensures.frame.0) (λ i. frame) in
+    search (rules, framed)
 
 pub submit_all-requires-clause-left : goal.submit_all-requires-clause-left
-submit_all-requires-clause-left g c κs within =
+submit_all-requires-clause-left g c =
     let made = c.in_ok-queues in
     let none = made.ensures.frame.1 in
     let all = ap batches_in made.ensures.frame.0 in

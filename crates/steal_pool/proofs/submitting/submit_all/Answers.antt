@@ -1,4 +1,4 @@
-use Rattle.std.proofs.Common.{◌≡◌, ◌+◌, arith, ap, sym, subst, ◌∙◌}
+use Rattle.std.proofs.Common.{◌≡◌, ◌+◌, arith, rules, ap, sym, subst, ◌∙◌}
 use Rattle.bin_queues.specs.Frames.{over}
 use Rattle.bin_queues.specs.QueueParts.{BatchedFrame, batches_in}
 use Rattle.bin_queues.specs.Tasks.{Submitting}
@@ -11,11 +11,14 @@ loop-init g c =
     λ i. record c.args.submitter.now { batches = none i }
 
 pub submit_next-requires-clause-queues : goal.submit_next-requires-clause-queues
-submit_next-requires-clause-queues g c κs within = submitter_on c.args.queues.now c.args.submitter.now c.loop.submitter (c.args.submitter.now.batches + c.loop.counter) c.loop.invariant c.requires.queues
+submit_next-requires-clause-queues g c =
+    let on = submitter_on c.args.queues.now c.args.submitter.now c.loop.submitter (c.args.submitter.now.batches + c.loop.counter) c.loop.invariant c.requires.queues in
+    search (rules, on)
 
 pub submit_next-requires-clause-frame : goal.submit_next-requires-clause-frame
-submit_next-requires-clause-frame g c κs within =
-    subst (λ (f : BatchedFrame). f ≡ over c.args.frame.now f.cells) (sym (ap (λ (s : Submitting). s.frame) c.loop.invariant)) c.requires.frame
+submit_next-requires-clause-frame g c =
+    let framed = subst (λ (f : BatchedFrame). f ≡ over c.args.frame.now f.cells) (sym (ap (λ (s : Submitting). s.frame) c.loop.invariant)) c.requires.frame in
+    search (rules, framed)
 
 pub submit_next-requires-clause-short : goal.submit_next-requires-clause-short
 submit_next-requires-clause-short g c =

@@ -1,14 +1,21 @@
-use Rattle.std.proofs.Common.{ap}
+use Rattle.std.proofs.Common.{ap, rules}
 use Rattle.bin_queues.specs.QueueParts.{BatchedFrame, BinOfFrame}
 use Rattle.steal_pool.specs.Pools.{call_of}
 use Rattle.steal_pool.proofs.Drawing.{is_whole}
 use Rattle.steal_pool.proofs.worker.draw_into.Goals as goal
 
+pub draw_queue-requires-clause-queues : goal.draw_queue-requires-clause-queues
+draw_queue-requires-clause-queues g c = search (rules, c.requires.told.over.of)
+
 pub draw_queue-requires-clause-cells : goal.draw_queue-requires-clause-cells
-draw_queue-requires-clause-cells g c κs within = ap (λ (f : BatchedFrame). f.cells) c.requires.told.over.frame_is
+draw_queue-requires-clause-cells g c =
+    let is = ap (λ (f : BatchedFrame). f.cells) c.requires.told.over.frame_is in
+    search (rules, is)
 
 pub draw_queue-requires-clause-list : goal.draw_queue-requires-clause-list
-draw_queue-requires-clause-list g c κs within = ap (λ (f : BatchedFrame). f.list) c.requires.told.over.frame_is
+draw_queue-requires-clause-list g c =
+    let is = ap (λ (f : BatchedFrame). f.list) c.requires.told.over.frame_is in
+    search (rules, is)
 
 pub returns-clause-joined : goal.returns-clause-joined
 returns-clause-joined g c = record {
