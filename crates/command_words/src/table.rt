@@ -141,7 +141,9 @@ Exit status:
   2  the command line was refused, or help was printed
   5  the summary couldn't be written
   7  out of memory",
-    options: &[WORKERS, BINS_X, BINS_Y, BATCH, SEED, TRIANGLES, EARLY, STEAL],
+    options: &[
+        WORKERS, BINS_X, BINS_Y, BATCH, SEED, TRIANGLES, EARLY, STEAL,
+    ],
 };
 
 /// Reads a scene and writes it in the newest version of its layout.

@@ -25,7 +25,10 @@ fn counted<K: Held + Drop>(task: &BinTask<K>, workers: usize, worker: usize) -> 
     ensures value { result ≡ belongs workers worker task.now.of.bin }
     ensures small { result ≤ 1 }
 {
-    if worker_of(task, workers) == worker { 1 } else { 0 }
+    if worker_of(task, workers) == worker {
+        return 1;
+    }
+    0
 }
 
 // How many tasks are dealt to a worker.

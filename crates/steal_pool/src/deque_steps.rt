@@ -80,7 +80,11 @@ pub(crate) fn lend<K: Held + Drop>(owner: &mut Owner<K>) -> DequePass<K>
 }
 
 /// Steals the task at the front. None where the deque was empty.
-pub(crate) fn steal<R: Wait, K: Held + Drop>(rt: &R, thief: &Thief<K>, pass: &mut DequePass<K>) -> Option<BinTask<K>>
+pub(crate) fn steal<R: Wait, K: Held + Drop>(
+    rt: &R,
+    thief: &Thief<K>,
+    pass: &mut DequePass<K>,
+) -> Option<BinTask<K>>
     requires own { IsPassOf (stealer_deque thief.now) pass.old }
     requires steals { (view pass.old).role ≡ Steals }
     ensures own { IsPassOf (stealer_deque thief.now) pass.new }

@@ -115,8 +115,7 @@ fn drain_beside<R: Threads + Wait + Sync, G: Gate, C: Caller, K: Draws>(
             requires open { All (IsOpen stealer_deque (call_of pool.now) thieves.now) seats.now }
             requires deques { AreAt stealer_deque thieves.now seats.now }
             ensures many { length seats.exit.now ≡ length seats.entry.now }
-            ensures finished {
-                AreFinishedTo (call_of pool.entry.now) (length seats.entry.now) seats.exit.now }
+            ensures finished { AreFinishedTo (call_of pool.entry.now) (length seats.entry.now) seats.exit.now }
             ensures once { (k : ℕ → ℕ) → lists_weigh k seats.exit.now ≡ pushed_weigh k seats.entry.now }
         { drain_seats(pool, alloc, thieves, seats) },
     );

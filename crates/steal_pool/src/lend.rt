@@ -17,7 +17,12 @@ use std::mem;
 use tile_queues::Held;
 
 // A pass on the deque of a seat.
-fn lend_at<R, G, K: Held + Drop>(seat: &mut Seat<K>, _pool: &Pool<R, G>, _workers: usize, _out: usize) -> DequePass<K>
+fn lend_at<R, G, K: Held + Drop>(
+    seat: &mut Seat<K>,
+    _pool: &Pool<R, G>,
+    _workers: usize,
+    _out: usize,
+) -> DequePass<K>
     requires { IsDealt (call_of _pool.now) _workers _out seat.old }
     ensures dealt { IsDealt (call_of _pool.now) _workers (_out + 1) seat.new }
     ensures on { IsLentOn seat.old seat.new }

@@ -43,7 +43,10 @@ fn append<K: Held + Drop>(all: &mut Vec<BinTask<K>>, mut list: Vec<BinTask<K>>)
 }
 
 /// The lists one behind the other. Condition: there is room for all.
-pub(crate) fn join_lists<K: Held + Drop>(room: Vec<BinTask<K>>, lists: Vec<Vec<BinTask<K>>>) -> Vec<BinTask<K>>
+pub(crate) fn join_lists<K: Held + Drop>(
+    room: Vec<BinTask<K>>,
+    lists: Vec<Vec<BinTask<K>>>,
+) -> Vec<BinTask<K>>
     requires empty { room.items ≡ [] }
     requires room { length (joined vec_items lists.items) ≤ vec_capacity room }
     ensures { result.items ≡ joined vec_items lists.items }

@@ -26,7 +26,11 @@ fn open_deque<R, G, K: Held + Drop>(alloc: Global, pool: &Pool<R, G>) -> Result<
 }
 
 // A seat of one of so many workers. It has no pass yet.
-fn empty_seat<R, G, K: Held + Drop>(alloc: Global, pool: &Pool<R, G>, workers: usize) -> Result<Seat<K>, Memory>
+fn empty_seat<R, G, K: Held + Drop>(
+    alloc: Global,
+    pool: &Pool<R, G>,
+    workers: usize,
+) -> Result<Seat<K>, Memory>
     requires few { pool.now.room ≤ 64 }
     requires small { workers * pool.now.room ≤ 4096 }
     ensures { IfOk result (λ s. IsEmptySeat (call_of pool.now) workers s) }
@@ -68,7 +72,10 @@ fn thief_of<K: Held + Drop>(seat: &Seat<K>) -> Result<Thief<K>, Memory>
 }
 
 /// A stealer of each seat's deque, in order. Err where memory gave out.
-pub(crate) fn thieves_of<K: Held + Drop>(alloc: Global, seats: &[Seat<K>]) -> Result<Vec<Thief<K>>, Memory>
+pub(crate) fn thieves_of<K: Held + Drop>(
+    alloc: Global,
+    seats: &[Seat<K>],
+) -> Result<Vec<Thief<K>>, Memory>
     ensures count { IfOk result (λ v. length v.items ≡ length seats.now) }
     ensures deques { IfOk result (λ v. AreAt stealer_deque v.items seats.now) }
 {

@@ -57,7 +57,12 @@ fn steal_round<R: Wait, G: Gate, K: Draws>(
 }
 
 // Draws the own tasks, and then those that are left to others.
-fn work_at<R: Wait, G: Gate, K: Draws>(pool: &Pool<R, G>, thieves: &[Thief<K>], own: usize, seat: &mut Seat<K>)
+fn work_at<R: Wait, G: Gate, K: Draws>(
+    pool: &Pool<R, G>,
+    thieves: &[Thief<K>],
+    own: usize,
+    seat: &mut Seat<K>,
+)
     requires { IsOpen stealer_deque (call_of pool.now) thieves.now seat.old }
     ensures { IsWorked stealer_deque (call_of pool.now) thieves.now seat.old seat.new }
 {

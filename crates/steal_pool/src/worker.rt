@@ -13,7 +13,11 @@ use std::sync::Wait;
 use tile_queues::{BinTask, Gate};
 
 // Draws a task to its end, and appends it. Condition: there is room.
-fn draw_into<R: Wait, G: Gate, K: Draws>(pool: &Pool<R, G>, list: &mut Vec<BinTask<K>>, mut task: BinTask<K>)
+fn draw_into<R: Wait, G: Gate, K: Draws>(
+    pool: &Pool<R, G>,
+    list: &mut Vec<BinTask<K>>,
+    mut task: BinTask<K>,
+)
     requires told { IsToldIn (call_of pool.now) task }
     requires room { vec_len list.old < vec_capacity list.old }
     ensures joined { Joined (call_of pool.now) list.old.items list.new.items task }

@@ -53,10 +53,7 @@ fn drain_in<R: Wait, G: Gate>(
 }
 
 // Draws it into plain tiles.
-fn drain_plain_in<R: Wait, G: Gate>(
-    task: &mut Task<Canvas>,
-    drawing: &Drawing<R, (), G>,
-) -> Drained
+fn drain_plain_in<R: Wait, G: Gate>(task: &mut Task<Canvas>, drawing: &Drawing<R, (), G>) -> Drained
     requires queues { IsTaskOf drawing.now.queues.now task.old.intake }
     requires frame { task.old.intake.of.frame ≡ over drawing.now.frame task.old.intake.of.frame.cells }
     requires holds { HoldsTiles HeldPlain task.old.intake task.old.keeper }

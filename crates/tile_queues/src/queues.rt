@@ -137,12 +137,7 @@ impl BinQueues {
 
     /// Tells a task how many batches were submitted: told is the greater of that and what it was. All else stays.
     /// Condition: the submitter and the task are of these queues.
-    pub fn tell<R: Wait, K: Held>(
-        &self,
-        _rt: &R,
-        submitter: &mut Submitter,
-        task: &mut BinTask<K>,
-    )
+    pub fn tell<R: Wait, K: Held>(&self, _rt: &R, submitter: &mut Submitter, task: &mut BinTask<K>)
         requires submitter { IsSubmitterOf self.now submitter.old }
         requires task { IsTaskOf self.now task.old }
         ensures same { submitter.new ≡ submitter.old }

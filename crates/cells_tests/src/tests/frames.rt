@@ -265,11 +265,13 @@ fn stolen_are_alike<R: Threads + Wait + Sync>(
     let shown = bins_show(alloc, bins.as_slice(), list, cut, states)?;
     let in_cells = Questions::with_room(alloc, cut.bins(), list.len())?;
     let (held, seen) = stolen_in_cells(rt, alloc, frame, workers, &in_cells)?;
-    Ok(shown
-        && are_alike(held.as_slice(), states)
-        && plain.are_those_of(list, cut, frame.batches())
-        && in_cells.are_those_of(list, cut, frame.batches())
-        && seen.is_some())
+    Ok(
+        shown
+            && are_alike(held.as_slice(), states)
+            && plain.are_those_of(list, cut, frame.batches())
+            && in_cells.are_those_of(list, cut, frame.batches())
+            && seen.is_some(),
+    )
 }
 
 // Whether so many workers, of a screen cut into so many columns and rows of bins, draw in each form the states that one

@@ -98,11 +98,26 @@ fn live_asks_for_rounds_and_watched_objects(rt: HostRuntime) -> Result<(), Fail>
 fn flags_stand_anywhere_among_the_options(rt: HostRuntime) -> Result<(), Fail> {
     let alloc = rt.alloc();
     for (given, workers, is_early, is_stealing) in [
-        (["maskcull", "cull", "--workers", "3"].as_slice(), 3, false, false),
+        (
+            ["maskcull", "cull", "--workers", "3"].as_slice(),
+            3,
+            false,
+            false,
+        ),
         (&["maskcull", "cull", "--early"], 1, true, false),
         (&["maskcull", "cull", "--steal"], 1, false, true),
-        (&["maskcull", "live", "--early", "--workers", "3"], 3, true, false),
-        (&["maskcull", "live", "--steal", "--workers", "3", "--early"], 3, true, true),
+        (
+            &["maskcull", "live", "--early", "--workers", "3"],
+            3,
+            true,
+            false,
+        ),
+        (
+            &["maskcull", "live", "--steal", "--workers", "3", "--early"],
+            3,
+            true,
+            true,
+        ),
         (
             &["maskcull", "demo", "--seed", "5", "--early", "--workers=3"],
             3,
@@ -115,7 +130,12 @@ fn flags_stand_anywhere_among_the_options(rt: HostRuntime) -> Result<(), Fail> {
             false,
             true,
         ),
-        (&["maskcull", "cull", "--workers", "3", "--early"], 3, true, false),
+        (
+            &["maskcull", "cull", "--workers", "3", "--early"],
+            3,
+            true,
+            false,
+        ),
     ] {
         let (settings, _, _) = parts(command_for(&rt, alloc, given)?);
         let settings = settings.ok_or("a command with settings")?;

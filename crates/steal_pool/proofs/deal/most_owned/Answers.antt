@@ -9,8 +9,7 @@ pub loop-worker-preserved : goal.loop-worker-preserved
 loop-worker-preserved g c =
     let inv = c.loop-worker.invariant in
     let count = c.owned_by-count.ensures in
-    let greater = c.max-greater.ensures in
-    (
+    let greater = c.max-greater.ensures in (
       (λ w lt. below_more (λ (v : ℕ). owned c.args.workers v c.args.tasks.now ≤ c.max-greater.result) c.loop-worker.worker
           (λ v less. let h = inv.0 v less in omega (arith, h, greater))
           (omega (arith, count.value, greater)) w lt),

@@ -32,8 +32,7 @@ loop-w-preserved g c =
     let lt : w < length ss' = let n = row.on.many in let t = c.loop-w-test.true in omega (arith, m, n, t) in
     let at = ap (λ v. v.items) c.replace.ensures.after in
     let passes : ArePassesOf stealer_deque call c.args.thieves.now q.passes.items = subst (λ ps. ArePassesOf stealer_deque call c.args.thieves.now ps) (sym at) row.passes in
-    let fresh : AreFresh q.passes.items = subst (λ ps. AreFresh ps) (sym at) row.fresh in
-    (
+    let fresh : AreFresh q.passes.items = subst (λ ps. AreFresh ps) (sym at) row.fresh in (
       seats_on_next was ss ss' w r q inv.0 row.on lt refl,
       lent_next call (length ss) (length was) w ss' r q m row.on.many row.lent lt refl refl,
       rows_next stealer_deque call c.args.thieves.now w ss ss' q inv.2 row.on lt passes fresh,

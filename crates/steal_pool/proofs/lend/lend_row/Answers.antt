@@ -38,8 +38,7 @@ loop-d-preserved g c =
     let in_ds : d < length c.args._thieves.now = let e = c.requires.many in omega (arith, m, e, lt) in
     let items = c.push_reserved.ensures.items in
     let lent = c.lend_at-pass.ensures in
-    let own = own_pass stealer_deque c.args._thieves.now was ss d p pass inv.0 c.requires.deques lt is lent.own in
-    (
+    let own = own_pass stealer_deque c.args._thieves.now was ss d p pass inv.0 c.requires.deques lt is lent.own in (
       lent_on_put was ss d p q inv.0 lt is lent.on,
       lent_put call (length was) d c.args.out ss q inv.1 lt lent.dealt,
       subst (λ ps. AreEnds stealer_deque call c.args._thieves.now ps) (sym items) (ends_more stealer_deque call c.args._thieves.now c.loop-d.passes.items pass d inv.2 inv.4 in_ds own lent.fresh),

@@ -21,8 +21,7 @@ loop-preserved g c =
     let inv = c.loop.invariant in
     let call = call_of c.args.pool.now in
     let took = c.in-Some-steal.ensures.took in
-    let joined = c.draw_into.ensures.joined in
-    (
+    let joined = c.draw_into.ensures.joined in (
       grind arith,
       drew_more call _ _ _ _ _ _ _ inv.1 took joined,
       whole_more call _ _ _ joined inv.2,

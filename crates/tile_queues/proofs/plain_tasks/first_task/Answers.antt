@@ -17,5 +17,5 @@ of-requires c =
     let cut = c.args.frame.now.cut.now in
     let is = c.in_ok-canvas.ensures in
     let window = ap (λ (d : CanvasOf). d.window) is.value ∙ c.bin_span-window.ensures.value ∙ ap (λ (s : Dimensions). bin_span_of s cut c.bin.result) c.size.ensures
-        ∙ ap (bin_span_of list.size cut) c.bin.ensures.value in
+    ∙ ap (bin_span_of list.size cut) c.bin.ensures.value in
     first_plain (over c.args.frame.now []) c.args.intake c.in_ok-canvas.canvas refl c.requires.frame c.requires.first (record { window_is = window; stands = is.stands list })
