@@ -1,4 +1,4 @@
-use Rattle.std.proofs.Common.{◌≡◌, ◌∷◌, ℕ, ◌<◌, length, get_or, arith, rules, refl, ap, sym, ◌∙◌}
+use Rattle.std.proofs.Common.{◌≡◌, ◌∷◌, ℕ, ◌%◌, ◌<◌, length, get_or, arith, rules, refl, ap, sym, ◌∙◌}
 use Rattle.std.proofs.lemmas.List.{length-set}
 use Rattle.cull_base.proofs.Lists.{turn}
 use Rattle.steal_pool.specs.declared.seats.Seat.{Seat}
