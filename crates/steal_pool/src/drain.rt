@@ -118,8 +118,9 @@ fn size_at<K: Held + Drop>(tasks: &[BinTask<K>], place: usize) -> u32
 /// Draws all tasks of a frame by so many workers: a worker takes those of its own deque, in their order, and where
 /// that is empty those that are left to others. Gives each worker's list of the tasks that it drew: together they have
 /// one task of each bin, with all batches drawn, of these queues and of this frame. All memory is taken before the
-/// first task is drawn. Err where memory gave out: the tasks are given up then. Conditions: the tasks are those of all
-/// bins of the frame, in any order, each told of all batches; the cells and the list are the frame's; 1 to 64 workers.
+/// first task is drawn. Err where memory gave out: none is drawn then, and the tasks are given up. Conditions: the tasks
+/// are those of all bins of the frame, in any order, each told of all batches; the cells and the list are the frame's;
+/// 1 to 64 workers.
 pub fn drain_pool<R: Threads + Wait + Sync, G: Gate, K: Draws>(
     rt: &R,
     alloc: Global,
