@@ -83,29 +83,29 @@ pub worked : {K : Type 0} → {S : Type 0} (f : S → RowsId × Global) (c : Cal
     → len + length (worker_view s.owner).taken ≡ vec_len s.list + length (worker_view t.owner).taken → vec_capacity s.list ≤ cap
     → ArePassesOf f c ds t.passes.items → ((k : ℕ → ℕ) → tasks_weigh k t.list.items + passes_weigh k s.passes.items ≡ tasks_weigh k mid + passes_weigh k t.passes.items) → All (IsWholeIn c) t.list.items
     → vec_len t.list ≤ len + length ds * c.room → cap ≤ vec_capacity t.list → IsWorked f c ds s t
-worked {K} f c ds s t mid len cap open same drew count grew passes round whole long more =
-    let none : length (worker_view s.owner).taken ≡ 0 = ap (λ (v : View). length v.taken) open.owns in
+worked {K} f c ds s t mid len cap opened same drew count grew passes round whole long more =
+    let none : length (worker_view s.owner).taken ≡ 0 = ap (λ (v : View). length v.taken) opened.owns in
     record {
       same = same;
-      owns = drew.view ∙ ap (λ (v : View). with_taken v (worker_view t.owner).taken) open.owns;
+      owns = drew.view ∙ ap (λ (v : View). with_taken v (worker_view t.owner).taken) opened.owns;
       passes = passes;
       weighs = λ k.
           let a = round k in
-          let b = nothing_taken k s.passes.items open.fresh in
+          let b = nothing_taken k s.passes.items opened.fresh in
           let d = drew.weighs k in
-          let e : bins_weigh k (worker_view s.owner).taken ≡ 0 = ap (λ (v : View). bins_weigh k v.taken) open.owns in
-          let h : tasks_weigh k s.list.items ≡ 0 = ap (tasks_weigh k) open.empty in
+          let e : bins_weigh k (worker_view s.owner).taken ≡ 0 = ap (λ (v : View). bins_weigh k v.taken) opened.owns in
+          let h : tasks_weigh k s.list.items ≡ 0 = ap (tasks_weigh k) opened.empty in
           omega arith;
       whole = whole;
-      room = let r = open.room in let z = open.none in omega (arith, none, count, grew, long, more, r, z);
+      room = let r = opened.room in let z = opened.none in omega (arith, none, count, grew, long, more, r, z);
     }
 
 -- what the round needs of a worker that popped its own tasks
 pub round_room : {K : Type 0} → {S : Type 0} (f : S → RowsId × Global) (c : Call) (ds : List S) (s : Seat K) (v : View) (len cap : ℕ) → IsOpen f c ds s → v.of ≡ c → IsShort v → len + length (worker_view s.owner).taken ≡ vec_len s.list + length v.taken → vec_capacity s.list ≤ cap
     → len + length ds * c.room ≤ cap
-round_room {K} f c ds s v len cap open is short count grew =
-    let none : length (worker_view s.owner).taken ≡ 0 = ap (λ (u : View). length u.taken) open.owns in
+round_room {K} f c ds s v len cap opened is short count grew =
+    let none : length (worker_view s.owner).taken ≡ 0 = ap (λ (u : View). length u.taken) opened.owns in
     let e : v.of.room ≡ c.room = ap (λ (z : Call). z.room) is in
-    let r = open.room in
-    let z = open.none in
+    let r = opened.room in
+    let z = opened.none in
     omega (arith, none, e, short, count, grew, r, z)

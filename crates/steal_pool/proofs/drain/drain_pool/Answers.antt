@@ -1,4 +1,4 @@
-use Rattle.std.proofs.Common.{◌*◌, ◌≤◌, length, vec_items, arith, ap, sym, subst}
+use Rattle.std.proofs.Common.{◌*◌, ◌≤◌, length, vec_items, arith, ap, sym, subst, rules}
 use Rattle.std.proofs.Math.Nat.{mul-le-mul_right}
 use Rattle.bin_queues.specs.QueueParts.{BatchedFrame}
 use Rattle.tile_queues.specs.Shares.{AreWhole}
@@ -29,13 +29,15 @@ drain_tasks-requires-clause-small g c =
     omega (arith, few, most, n, product)
 
 pub drain_tasks-requires-clause-room : goal.drain_tasks-requires-clause-room
-drain_tasks-requires-clause-room g c κs within =
-    subst (λ ts. HaveRoom c.args.workers c.most_owned-room.result ts) c.as_slice-given.ensures.value c.most_owned-room.ensures.each
+drain_tasks-requires-clause-room g c =
+    let here = subst (λ ts. HaveRoom c.args.workers c.most_owned-room.result ts) c.as_slice-given.ensures.value c.most_owned-room.ensures.each in
+    search (rules, here)
 
 pub drain_tasks-requires-clause-tasks : goal.drain_tasks-requires-clause-tasks
-drain_tasks-requires-clause-tasks g c κs within =
+drain_tasks-requires-clause-tasks g c =
     let e = same_frame (frame_at c.args.tasks.items) c.args.queues.now c.args.tasks.items c.as_slice-given.result.now c.args.list.now.list c.args.cells.now c.cut_at-cut.result c.size_at-size.result c.requires.tasks c.as_slice-given.ensures.value c.requires.list c.requires.cells c.cut_at-cut.ensures c.size_at-size.ensures in
-    subst (λ (f : BatchedFrame). AreTold c.args.queues.now f c.args.tasks.items) e c.requires.tasks
+    let here = subst (λ (f : BatchedFrame). AreTold c.args.queues.now f c.args.tasks.items) e c.requires.tasks in
+    search (rules, here)
 
 pub returns-clause-whole : goal.returns-clause-whole
 returns-clause-whole g c =

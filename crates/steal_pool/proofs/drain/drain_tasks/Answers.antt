@@ -15,17 +15,21 @@ run-requires-clause-some g c =
     omega (arith, n, c.requires.some)
 
 pub run-requires-clause-empty : goal.run-requires-clause-empty
-run-requires-clause-empty g c κs within =
+run-requires-clause-empty g c =
     let call = call_of c.args.pool.now in
     let seats = c.in_ok-seats.seats.items in
-    subst (λ (ss : List (Seat g.row.K.Denot)). All (IsEmptySeat call (length ss)) ss) (sym c.as_mut_slice.ensures.value) (subst (λ n. All (IsEmptySeat call n) seats) (sym c.in_ok-seats.ensures.count) c.in_ok-seats.ensures.empty)
+    let here = subst (λ (ss : List (Seat g.row.K.Denot)). All (IsEmptySeat call (length ss)) ss) (sym c.as_mut_slice.ensures.value) (subst (λ n. All (IsEmptySeat call n) seats) (sym c.in_ok-seats.ensures.count) c.in_ok-seats.ensures.empty) in
+    search (rules, here)
 
 pub run-requires-clause-told : goal.run-requires-clause-told
-run-requires-clause-told g c κs within = all_told (call_of c.args.pool.now) c.args.tasks.items c.requires.tasks
+run-requires-clause-told g c =
+    let here = all_told (call_of c.args.pool.now) c.args.tasks.items c.requires.tasks in
+    search (rules, here)
 
 pub run-requires-clause-room : goal.run-requires-clause-room
-run-requires-clause-room g c κs within =
-    subst (λ n. HaveRoom n c.args.pool.now.room c.args.tasks.items) (sym (ap length c.as_mut_slice.ensures.value ∙ c.in_ok-seats.ensures.count)) c.requires.room
+run-requires-clause-room g c =
+    let here = subst (λ n. HaveRoom n c.args.pool.now.room c.args.tasks.items) (sym (ap length c.as_mut_slice.ensures.value ∙ c.in_ok-seats.ensures.count)) c.requires.room in
+    search (rules, here)
 
 pub lists_of-requires-clause-finished : goal.lists_of-requires-clause-finished
 lists_of-requires-clause-finished g c =

@@ -11,7 +11,9 @@ pop_all-requires-clause-owns g c =
     search (rules, owns)
 
 pub pop_all-requires-clause-of : goal.pop_all-requires-clause-of
-pop_all-requires-clause-of g c κs within = ap (λ (v : View). v.of) c.requires.owns
+pop_all-requires-clause-of g c =
+    let here = ap (λ (v : View). v.of) c.requires.owns in
+    search (rules, here)
 
 pub returns-clause-finished : goal.returns-clause-finished
 returns-clause-finished g c = record {

@@ -1,4 +1,4 @@
-use Rattle.std.proofs.Common.{◌*◌, ◌≤◌, length, arith, ap, sym, subst}
+use Rattle.std.proofs.Common.{◌*◌, ◌≤◌, length, arith, ap, sym, subst, rules}
 use Rattle.std.proofs.Math.Nat.{mul-le-mul_right}
 use Rattle.bin_queues.specs.QueueParts.{BatchedFrame, batched}
 use Rattle.tile_queues.specs.Owners.{AreHandedBack, AreTasksOf}
@@ -29,11 +29,14 @@ draw_tasks-requires-clause-small g c =
     omega (arith, bins.value, bins.few, count, n, c.most_owned-room.ensures.few, product)
 
 pub draw_tasks-requires-clause-room : goal.draw_tasks-requires-clause-room
-draw_tasks-requires-clause-room g c κs within =
-    subst (λ ts. HaveRoom c.min-workers.result c.most_owned-room.result ts) c.as_slice-given.ensures.value c.most_owned-room.ensures.each
+draw_tasks-requires-clause-room g c =
+    let here = subst (λ ts. HaveRoom c.min-workers.result c.most_owned-room.result ts) c.as_slice-given.ensures.value c.most_owned-room.ensures.each in
+    search (rules, here)
 
 pub draw_tasks-requires-clause-tasks : goal.draw_tasks-requires-clause-tasks
-draw_tasks-requires-clause-tasks g c κs within = c.in_ok-queues.ensures.tasks
+draw_tasks-requires-clause-tasks g c =
+    let here = c.in_ok-queues.ensures.tasks in
+    search (rules, here)
 
 pub close-requires-clause-tasks : goal.close-requires-clause-tasks
 close-requires-clause-tasks g c =

@@ -28,12 +28,13 @@ steal_all-requires-clause-steals g c =
     search (rules, steals)
 
 pub steal_all-requires-clause-of : goal.steal_all-requires-clause-of
-steal_all-requires-clause-of g c κs within =
+steal_all-requires-clause-of g c =
     let inv = c.loop.invariant in
     let d = c.next_place-next.result in
     let p = c.index_mut.result.now in
     let lt : d < length c.loop.passes.items = let m = inv.0.many in let t = c.next_place-next.ensures in omega (arith, m, t) in
-    of_is _ (view p) _ (ap view c.index_mut.ensures.value) (inv.0.steals d p lt)
+    let here = of_is _ (view p) _ (ap view c.index_mut.ensures.value) (inv.0.steals d p lt) in
+    search (rules, here)
 
 pub steal_all-requires-clause-room : goal.steal_all-requires-clause-room
 steal_all-requires-clause-room g c =

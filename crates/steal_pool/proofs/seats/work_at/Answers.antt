@@ -25,7 +25,9 @@ pop_all-requires-clause-whole g c =
     search (rules, whole)
 
 pub pop_all-requires-clause-of : goal.pop_all-requires-clause-of
-pop_all-requires-clause-of g c κs within = ap (λ (v : View). v.of) c.requires.owns
+pop_all-requires-clause-of g c =
+    let here = ap (λ (v : View). v.of) c.requires.owns in
+    search (rules, here)
 
 pub steal_round-requires-clause-room : goal.steal_round-requires-clause-room
 steal_round-requires-clause-room g c =

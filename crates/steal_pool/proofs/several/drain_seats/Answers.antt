@@ -7,8 +7,9 @@ use Rattle.steal_pool.proofs.Whole.{are_left, worked_lists, lists_on, pushed_on}
 use Rattle.steal_pool.proofs.several.drain_seats.Goals as goal
 
 pub finish_all-requires-clause-left : goal.finish_all-requires-clause-left
-finish_all-requires-clause-left g c κs within =
-    are_left stealer_deque (call_of c.args.pool.now) c.args.thieves.now c.args.seats.now c.work_all.new.seats c.work_all.ensures c.take_all.new.seats c.take_all.ensures.many c.take_all.ensures.kept c.take_all.ensures.out c.requires.many
+finish_all-requires-clause-left g c =
+    let here = are_left stealer_deque (call_of c.args.pool.now) c.args.thieves.now c.args.seats.now c.work_all.new.seats c.work_all.ensures c.take_all.new.seats c.take_all.ensures.many c.take_all.ensures.kept c.take_all.ensures.out c.requires.many in
+    search (rules, here)
 
 pub finish_all-requires-clause-lists : goal.finish_all-requires-clause-lists
 finish_all-requires-clause-lists g c =

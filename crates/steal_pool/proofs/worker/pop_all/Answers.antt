@@ -1,4 +1,4 @@
-use Rattle.std.proofs.Common.{arith, refl, vec_len, vec_capacity}
+use Rattle.std.proofs.Common.{arith, refl, vec_len, vec_capacity, rules}
 use Rattle.crossbeam_deque.specs.Handles.{worker_view}
 use Rattle.steal_pool.specs.Pools.{call_of}
 use Rattle.steal_pool.proofs.Drawing.{drew_more, drew_none, of_next, room_next, taken_more, told_next, whole_more}
@@ -8,7 +8,9 @@ pub loop-init : goal.loop-init
 loop-init g c = ((refl, refl, refl, omega arith), drew_none c.args.list.now.items (worker_view c.args.owner.now), c.requires.whole, omega arith, omega arith, c.requires.of)
 
 pub draw_into-requires-clause-told : goal.draw_into-requires-clause-told
-draw_into-requires-clause-told g c κs within = told_next (call_of c.args.pool.now) (worker_view c.loop.owner) _ _ c.loop.invariant.5 c.in-Some-pop.ensures.took
+draw_into-requires-clause-told g c =
+    let here = told_next (call_of c.args.pool.now) (worker_view c.loop.owner) _ _ c.loop.invariant.5 c.in-Some-pop.ensures.took in
+    search (rules, here)
 
 pub draw_into-requires-clause-room : goal.draw_into-requires-clause-room
 draw_into-requires-clause-room g c =
