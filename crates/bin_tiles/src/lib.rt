@@ -4,6 +4,7 @@
 mod bin_view;
 mod gate;
 mod keeper;
+mod meeting;
 mod one_worker;
 mod part;
 mod plain;

@@ -6,6 +6,7 @@ ghost use Rattle.bin_tiles.specs.Bins.{IsBinAt, drawn_of};
 
 use crate::gate::Gate;
 use crate::keeper::Keeper;
+use crate::meeting::is_met;
 use crate::part::draw_next;
 use crate::screen::Screen;
 use binning::{batch_count, bin_rect};
@@ -34,7 +35,7 @@ fn draw_where_met<B, K: Keeper<B>, G: Gate>(
     let (list, cut) = (screen.list, screen.cut);
     // accessors tell what is held of a size, of a cut and of a list
     let (_width, _columns, _len) = (list.size().width(), cut.columns(), list.len());
-    if list.get(index).boxed().meets(rect) {
+    if is_met(list.get(index), rect) {
         draw_next(keeper, screen, bin, index, taken);
         taken + 1
     } else {

@@ -24,6 +24,14 @@ fn number(numbers: &[i32], k: usize) -> i64
     i64::from(numbers[k])
 }
 
+// Parts of 65536, rounded down. `div_euclid` would be six instructions.
+#[inline(always)]
+fn floored(parts: i64) -> i64
+    ensures { result ≡ floor_of parts (pos 65536) }
+{
+    parts >> 16
+}
+
 // The floor of a sum of terms over 65536.
 #[inline(always)]
 fn floor_of_sum(a: i64, b: i64, c: i64) -> i64
@@ -33,7 +41,7 @@ fn floor_of_sum(a: i64, b: i64, c: i64) -> i64
     ensures value { result ≡ floor_of ((a +ℤ b) +ℤ c) (pos 65536) }
     ensures bounded { Bounded (2 ^ 62) result }
 {
-    (a + b + c).div_euclid(65536)
+    floored(a + b + c)
 }
 
 /// What a row of a camera adds up for a vertex: a factor's product on each axis.

@@ -250,7 +250,12 @@ impl FloorLanes {
         ensures size { IfSome result (λ f. f.size ≡ size) }
     {
         let number = size.number();
-        if number < GREATEST && is_gentle(right, number) && is_gentle(below, number) {
+        if number >= GREATEST {
+            return None;
+        }
+        // one branch for both, which nearly all pieces take
+        let gentle = is_gentle(right, number) & is_gentle(below, number);
+        if gentle {
             Some(lanes_of(size, right, below))
         } else {
             None

@@ -7,7 +7,9 @@ pub mod Extremes
 pub mod Sharing
 pub mod Subtiles
 pub mod SubStarts
+pub mod SmallLanes
 pub mod Tiles
+pub mod EightColumns
 pub mod SpanLanes
 pub mod SpanBytes
 pub mod SpanEnds

@@ -1,5 +1,5 @@
 -- The bytes of a tile's masks, of the firsts and the ends of its rows.
-use Rattle.std.proofs.Common.{◌≡◌, ℕ, zero, suc, ◌+◌, ◌-◌, ◌*◌, ◌/◌, ◌%◌, ◌^◌, ◌<◌, ◌≤◌, Bool, true, ◌&&◌, T, nat_le, nat_lt, eqb, eqb→eq, min, List, [], ◌∷◌, map, length, get_or, refl, sym, ap, ap₂, ◌∙◌, subst, inl, inr, arith, w8, w32, Fits, bit_and, eq-zero-or-pos}
+use Rattle.std.proofs.Common.{◌≡◌, ℕ, zero, suc, ◌+◌, ◌-◌, ◌*◌, ◌/◌, ◌%◌, ◌^◌, ◌<◌, ◌≤◌, Bool, true, ◌&&◌, T, nat_le, nat_lt, eqb, eqb→eq, min, List, [], ◌∷◌, map, length, get_or, refl, sym, ap, ap₂, ◌∙◌, subst, inl, inr, arith, w8, w16, Fits, bit_and, eq-zero-or-pos}
 use Rattle.std.specs.Simd.Lanes.{zip2, mask_l, Each1, chunk, number_l, digits_l}
 use Rattle.std.proofs.lemmas.Bool.Decides.{nat_tests}
 use Rattle.std.proofs.lemmas.List.{get_or-map, length-map}
@@ -31,25 +31,25 @@ holds_at p (suc n) h i l =
 
 -- where the lowest byte of each row's number stands, by the bytes of the masks
 abbrev places : List ℕ
-places = 0 ∷ 4 ∷ 8 ∷ 12 ∷ 0 ∷ 4 ∷ 8 ∷ 12 ∷ 0 ∷ 4 ∷ 8 ∷ 12 ∷ 0 ∷ 4 ∷ 8 ∷ 12 ∷ 16 ∷ 20 ∷ 24 ∷ 28 ∷ 16 ∷ 20 ∷ 24 ∷ 28 ∷ 16 ∷ 20 ∷ 24 ∷ 28 ∷ 16 ∷ 20 ∷ 24 ∷ 28 ∷ []
+places = 0 ∷ 2 ∷ 4 ∷ 6 ∷ 0 ∷ 2 ∷ 4 ∷ 6 ∷ 0 ∷ 2 ∷ 4 ∷ 6 ∷ 0 ∷ 2 ∷ 4 ∷ 6 ∷ 8 ∷ 10 ∷ 12 ∷ 14 ∷ 8 ∷ 10 ∷ 12 ∷ 14 ∷ 8 ∷ 10 ∷ 12 ∷ 14 ∷ 8 ∷ 10 ∷ 12 ∷ 14 ∷ []
 
 -- as a number of lanes and bytes
-place_at : (i : ℕ) → i < 32 → get_or places i 0 ≡ 4 * (4 * (i / 16) + i % 4) + 0
-place_at i lt = eqb→eq _ _ (holds_at (λ i. eqb (get_or places i 0) (4 * (4 * (i / 16) + i % 4) + 0)) 32 tt i lt)
+place_at : (i : ℕ) → i < 32 → get_or places i 0 ≡ 2 * (4 * (i / 16) + i % 4) + 0
+place_at i lt = eqb→eq _ _ (holds_at (λ i. eqb (get_or places i 0) (2 * (4 * (i / 16) + i % 4) + 0)) 32 tt i lt)
 
 -- the bytes of eight numbers
 abbrev bytes_of : List ℕ → List ℕ
-bytes_of xs = digits_l 256 32 (number_l 4294967296 xs)
+bytes_of xs = digits_l 256 16 (number_l 65536 xs)
 
 -- a number that is at most 32 is its lowest byte
-pub row_byte : (xs : List ℕ) → length xs ≡ 8 → Each1 (Fits w32) xs → ((r : ℕ) → r < 8 → get_or xs r 0 ≤ 32) → (i : ℕ) → i < 32
+pub row_byte : (xs : List ℕ) → length xs ≡ 8 → Each1 (Fits w16) xs → ((r : ℕ) → r < 8 → get_or xs r 0 ≤ 32) → (i : ℕ) → i < 32
     → get_or (map (λ k. get_or (bytes_of xs) k 0) places) i 0 ≡ get_or xs (4 * (i / 16) + i % 4) 0
 row_byte xs long fits most i lt =
     let r : ℕ = 4 * (i / 16) + i % 4 in
     let small = most r (omega arith) in
     get_or-map (λ k. get_or (bytes_of xs) k 0) places i 0 0 lt
     ∙ ap (λ k. get_or (bytes_of xs) k 0) (place_at i lt)
-    ∙ get_or_narrower 4294967296 4 256 32 xs r 0 refl (below_from_Fits w32 xs fits) (omega arith) (omega arith)
+    ∙ get_or_narrower 65536 2 256 16 xs r 0 refl (below_from_Fits w16 xs fits) (omega arith) (omega arith)
     ∙ byte (get_or xs r 0) small
   where
     byte : (x : ℕ) → x ≤ 32 → x / 256 ^ 0 % 256 ≡ x

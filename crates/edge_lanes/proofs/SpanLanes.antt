@@ -1,5 +1,5 @@
 -- Lanes that are chosen by a comparison, and the bytes of lanes.
-use Rattle.std.proofs.Common.{◌≡◌, ℕ, ◌+◌, ◌-◌, ◌%◌, ◌^◌, ◌<◌, ◌≤◌, Bool, true, false, cond, nat_lt, min, List, map, length, get_or, replicate, refl, sym, ap, ap₂, ◌∙◌, arith, w8, w32, Fits}
+use Rattle.std.proofs.Common.{◌≡◌, ℕ, ◌+◌, ◌-◌, ◌%◌, ◌^◌, ◌<◌, ◌≤◌, Bool, true, false, cond, nat_lt, min, List, map, length, get_or, replicate, refl, sym, ap, ap₂, ◌∙◌, arith, w8, w16, Fits}
 use Rattle.std.specs.Simd.Lanes.{zip2, sel_l, top, Each1, Each2}
 use Rattle.std.proofs.lemmas.Bool.Decides.{nat_tests}
 use Rattle.std.proofs.lemmas.Simd.{tops_compared, get_or-sel_l, length-sel_l, get_or-zip2, length-zip2, get_or-replicate, Each1-get_or, Each1-from_get_or, Each2-splat, below_from_Fits}
@@ -33,14 +33,14 @@ lesser x y = grind (arith, nat_tests)
 
 -- each number, or c where that is greater
 abbrev pub raised : ℕ → List ℕ → List ℕ
-raised c xs = chosen w32 nat_lt xs (replicate 8 c) (replicate 8 c) xs
+raised c xs = chosen w16 nat_lt xs (replicate 8 c) (replicate 8 c) xs
 
 raised_long : (c : ℕ) (xs : List ℕ) → length xs ≡ 8 → length (raised c xs) ≡ 8
-raised_long c xs long = chosen_long w32 nat_lt 8 xs (replicate 8 c) (replicate 8 c) xs long refl refl long
+raised_long c xs long = chosen_long w16 nat_lt 8 xs (replicate 8 c) (replicate 8 c) xs long refl refl long
 
 raised_at : (c : ℕ) (xs : List ℕ) → length xs ≡ 8 → (i : ℕ) → i < 8 → get_or (raised c xs) i 0 ≡ cond (nat_lt (get_or xs i 0) c) c (get_or xs i 0)
 raised_at c xs long i lt =
-    chosen_at w32 nat_lt 8 xs (replicate 8 c) (replicate 8 c) xs long refl refl long i lt
+    chosen_at w16 nat_lt 8 xs (replicate 8 c) (replicate 8 c) xs long refl refl long i lt
     ∙ ap (λ n. cond (nat_lt (get_or xs i 0) n) n (get_or xs i 0)) (get_or-replicate 8 i c 0 lt)
 
 -- so that c can be taken from each
@@ -67,17 +67,17 @@ left_at c xs long i lt =
 
 -- at most 32 of that
 abbrev pub cut : ℕ → List ℕ → List ℕ
-cut c xs = chosen w32 nat_lt (left c xs) (replicate 8 32) (left c xs) (replicate 8 32)
+cut c xs = chosen w16 nat_lt (left c xs) (replicate 8 32) (left c xs) (replicate 8 32)
 
 -- eight of them
 pub cut_long : (c : ℕ) (xs : List ℕ) → length xs ≡ 8 → length (cut c xs) ≡ 8
-cut_long c xs long = let l = left_long c xs long in chosen_long w32 nat_lt 8 (left c xs) (replicate 8 32) (left c xs) (replicate 8 32) l refl l refl
+cut_long c xs long = let l = left_long c xs long in chosen_long w16 nat_lt 8 (left c xs) (replicate 8 32) (left c xs) (replicate 8 32) l refl l refl
 
 -- each of them
 pub cut_at : (c : ℕ) (xs : List ℕ) → length xs ≡ 8 → (i : ℕ) → i < 8 → get_or (cut c xs) i 0 ≡ min (get_or xs i 0 - c) 32
 cut_at c xs long i lt =
     let l = left_long c xs long in
-    chosen_at w32 nat_lt 8 (left c xs) (replicate 8 32) (left c xs) (replicate 8 32) l refl l refl i lt
+    chosen_at w16 nat_lt 8 (left c xs) (replicate 8 32) (left c xs) (replicate 8 32) l refl l refl i lt
     ∙ ap₂ (λ a b. cond (nat_lt a b) a b) (left_at c xs long i lt) (get_or-replicate 8 i 32 0 lt) ∙ lesser (get_or xs i 0 - c) 32
 
 -- ---- the same of bytes, past as many, and at most 8

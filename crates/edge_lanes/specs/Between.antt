@@ -15,3 +15,7 @@ is_between column limit x = int_le (int_min column (pos limit)) (pos x) && int_l
 -- a limit before or past all columns
 abbrev pub IsLimit : ℕ → Type 0
 IsLimit limit = IsTrue (nat_eq limit 0 || nat_eq limit (2 ^ 11))
+
+-- a column as 16 bits hold it: the first for one before it, and the last that they hold for one past that
+abbrev pub held_column : ℤ → ℤ
+held_column column = int_min (int_max column (pos 0)) (pos 65535)

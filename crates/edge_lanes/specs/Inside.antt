@@ -11,6 +11,7 @@ use Rattle.edge_lanes.specs.declared.wide_edges.WideEdges.{WideEdges}
 use Rattle.edge_lanes.specs.declared.edges.Kind.{Kind}
 use Rattle.edge_lanes.specs.declared.edges.Kind.TheVariants.{Narrow, Wide}
 use Rattle.edge_lanes.specs.declared.edges.Edges.{Edges}
+use Rattle.edge_lanes.specs.declared.small_edge.SmallEdge.{SmallEdge}
 use Rattle.edge_lanes.specs.declared.small_edges.SmallEdges.{SmallEdges}
 
 abbrev pub narrow_line : NarrowEdge → Line
@@ -25,6 +26,12 @@ narrow_lines e = record { first = narrow_line e.first; second = narrow_line e.se
 abbrev pub wide_lines : WideEdges → Lines
 wide_lines e = record { first = wide_line e.first; second = wide_line e.second; third = wide_line e.third }
 
+abbrev pub small_line : SmallEdge → Line
+small_line e = line e.start e.column e.row
+
+abbrev pub small_lines : SmallEdges → Lines
+small_lines e = record { first = small_line e.first; second = small_line e.second; third = small_line e.third }
+
 abbrev pub lines_of_kind : Kind → Lines
 lines_of_kind (Narrow e) = narrow_lines e
 lines_of_kind (Wide e) = wide_lines e
@@ -34,7 +41,7 @@ unfoldable pub inside_of : Edges → Sub → List Bool
 inside_of e u = inside_lines (lines_of_kind e.kind) u
 
 unfoldable pub inside_small : SmallEdges → Sub → List Bool
-inside_small e u = inside_lines (narrow_lines e.edges) u
+inside_small e u = inside_lines (small_lines e) u
 
 -- subtile j of a tile, of which it has four columns and two rows
 abbrev pub sub_of : Tile → ℕ → Sub

@@ -1,9 +1,9 @@
 //! Where an edge crosses the rows of samples: columns in fixed-point numbers, of 2^32 parts a pixel.
 ghost use Rattle.std.specs.Prelude.{◌≡◌, ℕ, ℤ, pos, ◌^◌, ◌+◌, ◌*◌, ◌<◌, ◌+ℤ◌, ◌*ℤ◌, slice_index, slice_index_or};
-ghost use Rattle.std.specs.Int.{int_div_euclid, int_max};
+ghost use Rattle.std.specs.Int.{int_div_euclid};
 ghost use Rattle.cull_base.specs.Bounds.{Bounded};
 ghost use Rattle.cull_base.specs.Depth.{floor_of};
-ghost use Rattle.edge_lanes.specs.Between.{IsLimit, column_at};
+ghost use Rattle.edge_lanes.specs.Between.{IsLimit, column_at, held_column};
 ghost use Rattle.edge_lanes.specs.Lanes.{offsets_of};
 
 use crate::reciprocal::Reciprocal;
@@ -27,7 +27,7 @@ pub struct Crossing {
     // what each of eight rows adds
     pub rows: i64x8,
     // 0 where the samples before the crossing are inside, 2048 where those from it on are
-    pub limit: u32,
+    pub limit: u16,
     ghost start_bounded: { Bounded (2 ^ 62 + 2 ^ 12) start },
     ghost step_bounded: { Bounded (2 ^ 50) step },
     ghost are_rows: { rows ≡ offsets_of step },
@@ -50,19 +50,23 @@ fn parts(pixels: i64, size: &Reciprocal) -> i64
     if numerator < 0 { -1 - whole } else { whole }
 }
 
-// The column that so many parts lie in, or the first where they lie before it.
+/// The last column that 16 bits hold, far beyond any screen.
+const LAST: i32 = 0xFFFF;
+
+// The column that so many parts lie in; the first where they lie before it, and the last that is held where they lie
+// past that.
 #[inline(always)]
-fn column_of(parts: i64) -> u32
-    ensures { pos result ≡ int_max (int_div_euclid parts (pos (2 ^ 32))) (pos 0) }
+fn column_of(parts: i64) -> u16
+    ensures { pos result ≡ held_column (int_div_euclid parts (pos (2 ^ 32))) }
 {
-    ((parts >> 32) as i32).max(0) as u32
+    ((parts >> 32) as i32).max(0).min(LAST) as u16
 }
 
 // Of eight.
 #[inline(always)]
-fn columns_of(parts: [i64; 8]) -> [u32; 8]
+fn columns_of(parts: [i64; 8]) -> [u16; 8]
     ensures { (r : ℕ) → r < 8 → pos (slice_index result r)
-        ≡ int_max (int_div_euclid (slice_index_or parts r (pos 0)) (pos (2 ^ 32))) (pos 0) }
+        ≡ held_column (int_div_euclid (slice_index_or parts r (pos 0)) (pos (2 ^ 32))) }
 {
     let [a, b, c, d, e, f, g, h] = parts;
     [
@@ -130,12 +134,12 @@ impl Crossing {
             .to_array()
     }
 
-    // The columns where the edge crosses the eight rows of a row of tiles, or the first where it crosses before it.
+    // The columns where the edge crosses the eight rows of a row of tiles, as 16 bits hold them.
     #[inline(always)]
-    fn columns(&self, row: u32) -> [u32; 8]
+    fn columns(&self, row: u32) -> [u16; 8]
         requires { row < 256 }
         ensures { (r : ℕ) → r < 8 → pos (slice_index result r)
-            ≡ int_max (crossed_at self.now (8 * row + r)) (pos 0) }
+            ≡ held_column (crossed_at self.now (8 * row + r)) }
     {
         columns_of(self.parts_by_row(row))
     }
@@ -144,10 +148,11 @@ impl Crossing {
     #[inline(always)]
     pub fn spans(&self, row: u32) -> Spans
         requires { row < 256 }
-        ensures { (r x : ℕ) → r < 8 → in_span result r x ≡ is_beside self.now x (8 * row + r) }
+        ensures { (r x : ℕ) → r < 8 → x < 2 ^ 11
+            → in_span result r x ≡ is_beside self.now x (8 * row + r) }
     {
-        let crossed = u32x8::from_array(self.columns(row));
-        let limit = u32x8::splat(self.limit);
+        let crossed = u16x8::from_array(self.columns(row));
+        let limit = u16x8::splat(self.limit);
         Spans {
             first: crossed.simd_min(limit),
             end: crossed.simd_max(limit),

@@ -6,12 +6,12 @@ ghost use Rattle.cull_base.specs.Piece.{IsCoordinate, point};
 ghost use Rattle.cull_base.specs.Bounds.{Bounded};
 ghost use Rattle.edge_lanes.specs.Lanes.{offsets_of, highest_of, lowest_of, subtile_step, subtile_steps, subtile_signs, row_of};
 ghost use Rattle.edge_lanes.specs.Lines.{IsEdge, IsShort, candidates_of, clamped, counts_at, inside_from};
-ghost use Rattle.edge_lanes.specs.Lines.{line, moved_to, sub_value, tile_value, whole_of};
+ghost use Rattle.edge_lanes.specs.Lines.{line, moved_to, tile_value, whole_of};
 
 use crate::arithmetic::{shift, steps};
 use crate::bias::first_value;
 use crate::slant::Slant;
-use cull_base::{Side, Sub, Tile};
+use cull_base::{Side, Tile};
 use std::simd::prelude::*;
 
 /// A tile's samples lie less than 2^26 from its first, so a value clamped to this size there keeps its sign at each.
@@ -51,7 +51,7 @@ pub struct Rows {
 }
 
 #[inline(always)]
-fn step(a: i32, b: i32) -> i32
+pub(crate) fn step(a: i32, b: i32) -> i32
     requires a { IsCoordinate a }
     requires b { IsCoordinate b }
     ensures { result ≡ a -ℤ b }
@@ -61,7 +61,7 @@ fn step(a: i32, b: i32) -> i32
 
 // A sixteenth of a value, rounded down.
 #[inline(always)]
-fn sixteenth(value: i64) -> i64
+pub(crate) fn sixteenth(value: i64) -> i64
     requires { Bounded (2 ^ 61 + 1) value }
     ensures value { result ≡ int_div_euclid value (pos 16) }
     ensures bounded { Bounded (2 ^ 58) result }
@@ -182,21 +182,6 @@ impl NarrowEdge {
             self.start,
             narrow_steps(self.column, 32 * u32::from(tile.column)),
             narrow_steps(self.row, 8 * u32::from(tile.row)),
-        ))
-    }
-
-    /// The value at the first sample of a subtile.
-    #[inline(always)]
-    pub fn sub_start(&self, sub: Sub) -> i32
-        requires column { sub.column < 256 }
-        requires row { sub.row < 512 }
-        ensures value { result ≡ clamped (sub_value (narrow_line self.now) sub) }
-        ensures bounded { Bounded (2 ^ 30) result }
-    {
-        near(shift(
-            self.start,
-            narrow_steps(self.column, 8 * u32::from(sub.column)),
-            narrow_steps(self.row, 4 * u32::from(sub.row)),
         ))
     }
 

@@ -32,7 +32,7 @@ fn edge_between(tri: &ScreenTri, from: usize, to: usize, side: Side) -> NarrowEd
 
 // The columns of a row that are inside each of three edges.
 #[inline(always)]
-fn in_each(first: u64, second: u64, third: u64) -> u64
+pub(crate) fn in_each(first: u64, second: u64, third: u64) -> u64
     requires { third < 2 ^ 8 }
     ensures value { result ≡ bit_and (bit_and first second) third }
     ensures byte { result < 2 ^ 8 }
@@ -41,7 +41,7 @@ fn in_each(first: u64, second: u64, third: u64) -> u64
 }
 
 #[inline(always)]
-fn mask_of_rows(first: u64, second: u64, third: u64, fourth: u64) -> u32
+pub(crate) fn mask_of_rows(first: u64, second: u64, third: u64, fourth: u64) -> u32
     requires first { first < 2 ^ 8 }
     requires second { second < 2 ^ 8 }
     requires third { third < 2 ^ 8 }

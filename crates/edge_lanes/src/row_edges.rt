@@ -24,6 +24,16 @@ pub(crate) enum RowKind {
     Plain(Edges),
 }
 
+// Edges without spans. Out of line, so that what these need alone isn't computed where there are spans.
+#[inline(never)]
+fn plain(tri: &ScreenTri) -> RowEdges
+    ensures { (u : Sub) → inside_rows result u ≡ covered tri.now u }
+{
+    RowEdges {
+        kind: RowKind::Plain(Edges::of(tri, Side::Occluder)),
+    }
+}
+
 // A narrow piece's edges.
 #[inline(always)]
 fn of_narrow(tri: &ScreenTri) -> RowEdges
@@ -36,9 +46,7 @@ fn of_narrow(tri: &ScreenTri) -> RowEdges
             kind: RowKind::Crossed(Crossings::of(&edges)),
         }
     } else {
-        RowEdges {
-            kind: RowKind::Plain(Edges::of(tri, Side::Occluder)),
-        }
+        plain(tri)
     }
 }
 
@@ -50,9 +58,7 @@ impl RowEdges {
         if is_narrow(tri) {
             of_narrow(tri)
         } else {
-            RowEdges {
-                kind: RowKind::Plain(Edges::of(tri, Side::Occluder)),
-            }
+            plain(tri)
         }
     }
 }

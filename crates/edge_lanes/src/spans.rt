@@ -1,17 +1,18 @@
-//! The columns of samples that are inside, row by row of a row of tiles, and the masks that they make.
+//! The columns of samples that are inside, row by row of a row of tiles, and the masks that they make. Columns take
+//! lanes of 16 bits, so that those of eight rows are one vector.
 ghost use Rattle.std.specs.Prelude.{◌≡◌, ℕ, ◌+◌, ◌-◌, ◌*◌, ◌/◌, ◌%◌, ◌<◌, ◌≤◌, ◌^◌, ◌&&◌};
 ghost use Rattle.std.specs.Prelude.{cond, length, min, nat_le, nat_lt, slice_index, slice_index_or};
 ghost use Rattle.std.specs.Int.{bit_at};
 ghost use Rattle.std.specs.Simd.Lanes.{mask_l};
 
-use cull_base::eights::{greatest_of, least_of};
+use crate::eight_columns::{greatest_column, least_column};
 use std::simd::prelude::*;
 
 /// The columns inside in each of eight rows, from a first to before an end.
 #[derive(Clone, Copy)]
 pub struct Spans {
-    pub first: u32x8,
-    pub end: u32x8,
+    pub first: u16x8,
+    pub end: u16x8,
     ghost eight_firsts: { length first ≡ 8 },
     ghost eight_ends: { length end ≡ 8 },
 }
@@ -30,28 +31,28 @@ const BEFORE: [u8; 32] = [
 
 // How many of the 32 columns from one on lie before each of eight ends.
 #[inline(always)]
-fn columns_before(ends: u32x8, column: u32) -> u32x8
+fn columns_before(ends: u16x8, column: u16) -> u16x8
     requires { length ends ≡ 8 }
     ensures eight { length result ≡ 8 }
     ensures value { (r : ℕ) → r < 8 → slice_index_or result r 0 ≡ min (slice_index_or ends r 0 - column) 32 }
 {
-    let start = u32x8::splat(column);
+    let start = u16x8::splat(column);
     ends.simd_max(start)
         .strict_sub(start)
-        .simd_min(u32x8::splat(32))
+        .simd_min(u16x8::splat(32))
 }
 
 // Of eight numbers that are at most 32, that of the row of each byte of a tile's masks.
 #[inline(always)]
-fn by_rows(numbers: u32x8) -> u8x32
+fn by_rows(numbers: u16x8) -> u8x32
     requires eight { length numbers ≡ 8 }
     requires within { (r : ℕ) → r < 8 → slice_index_or numbers r 0 ≤ 32 }
     ensures long { length result ≡ 32 }
     ensures value { (i : ℕ) → i < 32 → slice_index_or result i 0 ≡ slice_index_or numbers (4 * (i / 16) + i % 4) 0 }
 {
     numbers.to_le_bytes().swizzle([
-        0, 4, 8, 12, 0, 4, 8, 12, 0, 4, 8, 12, 0, 4, 8, 12, 16, 20, 24, 28, 16, 20, 24, 28, 16, 20,
-        24, 28, 16, 20, 24, 28,
+        0, 2, 4, 6, 0, 2, 4, 6, 0, 2, 4, 6, 0, 2, 4, 6, 8, 10, 12, 14, 8, 10, 12, 14, 8, 10, 12,
+        14, 8, 10, 12, 14,
     ])
 }
 
@@ -69,7 +70,7 @@ fn past(numbers: u8x32, starts: u8x32) -> u8x32
 
 // Of eight numbers of columns of a tile, those of the eight columns of each byte of its masks.
 #[inline(always)]
-fn in_bytes(counts: u32x8) -> u8x32
+fn in_bytes(counts: u16x8) -> u8x32
     requires eight { length counts ≡ 8 }
     requires within { (r : ℕ) → r < 8 → slice_index_or counts r 0 ≤ 32 }
     ensures long { length result ≡ 32 }
@@ -92,14 +93,14 @@ fn bytes_from(numbers: u8x32) -> u8x32
 
 // The bytes of a tile's masks whose columns aren't before these ends of its rows.
 #[inline(always)]
-fn from_ends(ends: u32x8, column: u32) -> u8x32
+fn from_ends(ends: u16x8, column: u32) -> u8x32
     requires eight { length ends ≡ 8 }
     requires column { column < 64 }
     ensures long { length result ≡ 32 }
     ensures value { (i : ℕ) → i < 32 → slice_index_or result i 0
         ≡ 2 ^ 8 - 2 ^ min (slice_index_or ends (4 * (i / 16) + i % 4) 0 - 8 * (4 * column + i / 4 % 4)) 8 }
 {
-    bytes_from(in_bytes(columns_before(ends, 32 * column)))
+    bytes_from(in_bytes(columns_before(ends, 32 * column as u16)))
 }
 
 // The ones from a first bit to before an end, of eight bits.
@@ -119,8 +120,8 @@ impl Spans {
     #[inline(always)]
     pub fn none() -> Spans {
         Spans {
-            first: u32x8::splat(0),
-            end: u32x8::splat(0),
+            first: u16x8::splat(0),
+            end: u16x8::splat(0),
         }
     }
 
@@ -142,8 +143,8 @@ impl Spans {
     {
         let some = self.first.simd_lt(self.end);
         Spans {
-            first: some.select(self.first, u32x8::splat(4096)),
-            end: some.select(self.end, u32x8::splat(0)),
+            first: some.select(self.first, u16x8::splat(4096)),
+            end: some.select(self.end, u16x8::splat(0)),
         }
     }
 
@@ -154,8 +155,8 @@ impl Spans {
         ensures met { AreMet self.now column result }
         ensures byte { result < 2 ^ 8 }
     {
-        let first = least_of(self.first.to_array()) / 32;
-        let end = greatest_of(self.end.to_array()).div_ceil(32);
+        let first = least_column(self.first.to_array()) / 32;
+        let end = greatest_column(self.end.to_array()).div_ceil(32);
         ones_between(first.saturating_sub(column), end.saturating_sub(column))
     }
 

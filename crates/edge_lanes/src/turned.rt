@@ -10,7 +10,7 @@ use crate::narrow_edges::NarrowEdges;
 use crate::slant::Slant;
 
 /// The columns of the widest screen.
-const COLUMNS: u32 = 2048;
+const COLUMNS: u16 = 2048;
 
 /// A near edge's first crossing has no greater numerator.
 const FARTHEST: i64 = 0x4000_0000;
@@ -25,7 +25,7 @@ pub struct Turned {
     pub row: i64,
     pub size: i64,
     // 0 where the samples before the crossing are inside, 2048 where those from it on are
-    pub limit: u32,
+    pub limit: u16,
     ghost start_bounded: { Bounded (2 ^ 58 + 2 ^ 21) start },
     ghost row_bounded: { Bounded (2 ^ 20) row },
     ghost positive: { pos 1 ≤ℤ size },

@@ -1,16 +1,17 @@
 //! A piece is drawn into the tiles of a window that its box reaches.
 ghost use Rattle.std.specs.Prelude.{◌≡◌, ◌<◌, ◌≤◌, true, length};
-ghost use Rattle.cull_base.specs.Piece.{IsPiece, box_of};
+ghost use Rattle.cull_base.specs.Piece.{IsPiece};
 ghost use Rattle.cull_base.specs.Screen.{IsSize};
 ghost use Rattle.cull_base.specs.Span.{IsPartOf, IsSpan, has_tile};
 ghost use Rattle.masked_update.specs.Canvas.{IsCanvas, MergedMet};
 ghost use Rattle.masked_update.specs.Least.{NoneBelow};
-ghost use Rattle.masked_update.specs.Merged.{IsSubBox};
+ghost use Rattle.masked_update.specs.Samples.{HoldsSampled};
 ghost use Rattle.masked_update.specs.Walk.{MergedWhere, NoneBelowWhere, is_in_row};
 ghost use Rattle.maskcull_c.specs.Bands.{band_of};
 
+use crate::small_band::merge_small_in_span;
 use cull_base::{ScreenTri, Size, Tile, TileSpan};
-use masked_update::{PieceSetup, SubBox, TileState};
+use masked_update::{PieceSetup, SmallPiece, SubBox, TileState, sampled};
 
 // Whether a piece that is nowhere nearer changes nothing in a tile.
 #[inline(always)]
@@ -61,7 +62,7 @@ fn is_behind_in_span(tiles: &[TileState], window: TileSpan, span: TileSpan, near
     true
 }
 
-// Merges a piece into the tiles of one row, in the columns of a span.
+// Merges a piece into the tiles of one row, in the columns of a span. Its edges over the row are computed once.
 #[inline(always)]
 fn merge_in_row(
     tiles: &mut [TileState],
@@ -73,7 +74,7 @@ fn merge_in_row(
 )
     requires whole { IsCanvas (band_of window tiles.old) }
     requires part { IsPartOf window span }
-    requires reached { IsSubBox (box_of piece.now) reached.now }
+    requires reached { HoldsSampled piece.now reached.now }
     requires span { IsSpan reached.now.size span }
     requires row { (span.first_row ≤ row) × (row < span.end_row) }
     requires small { row < 256 }
@@ -83,13 +84,14 @@ fn merge_in_row(
     let start = window.row_start(row);
     // an accessor tells how many columns there may be
     let _columns = reached.size.tile_columns();
+    let over = piece.over_row(row);
     for column in span.first_column..span.end_column {
         let number = start + (column - window.first_column) as usize;
         let place = Tile {
             column: column as u16,
             row: row as u16,
         };
-        tiles[number].merge(piece, reached, place);
+        tiles[number].merge_ahead(piece, reached, &over, place);
     }
 }
 
@@ -103,18 +105,41 @@ fn merge_in_span(
 )
     requires whole { IsCanvas (band_of window tiles.old) }
     requires part { IsPartOf window span }
-    requires reached { IsSubBox (box_of piece.now) reached.now }
+    requires reached { HoldsSampled piece.now reached.now }
     requires span { IsSpan reached.now.size span }
     requires sized { IsSize reached.now.size.width reached.now.size.height }
     ensures { MergedWhere (has_tile span) reached.now.size piece.now
         (band_of window tiles.old) (band_of window tiles.new) }
 {
+    // a copy: what is computed of it is known to stay while tiles are written
+    let here = *reached;
     for row in span.first_row..span.end_row {
-        merge_in_row(tiles, window, piece, reached, span, row);
+        merge_in_row(tiles, window, piece, &here, span, row);
     }
 }
 
 // Sets a piece up, and merges it into the tiles of a span.
+#[inline(never)]
+fn merge_set_up(
+    tiles: &mut [TileState],
+    window: TileSpan,
+    tri: &ScreenTri,
+    reached: &SubBox,
+    span: TileSpan,
+)
+    requires whole { IsCanvas (band_of window tiles.old) }
+    requires part { IsPartOf window span }
+    requires reached { HoldsSampled tri.now reached.now }
+    requires span { IsSpan reached.now.size span }
+    requires sized { IsSize reached.now.size.width reached.now.size.height }
+    ensures { MergedWhere (has_tile span) reached.now.size tri.now
+        (band_of window tiles.old) (band_of window tiles.new) }
+{
+    let piece = PieceSetup::of(tri);
+    merge_in_span(tiles, window, &piece, reached, span);
+}
+
+// Merges a piece into the tiles of a span, a small one subtile by subtile.
 #[inline(always)]
 fn merge_piece(
     tiles: &mut [TileState],
@@ -129,8 +154,12 @@ fn merge_piece(
     requires sized { IsSize size.width size.height }
     ensures { MergedWhere (has_tile span) size tri.now (band_of window tiles.old) (band_of window tiles.new) }
 {
-    let piece = PieceSetup::of(tri);
-    merge_in_span(tiles, window, &piece, &piece.reached_on(size), span);
+    let sampled = sampled(tri);
+    let reached = SubBox::of(&sampled, size);
+    match SmallPiece::of(tri, &reached) {
+        Some(piece) => merge_small_in_span(tiles, window, &piece, &reached, span),
+        None => merge_set_up(tiles, window, tri, &reached, span),
+    }
 }
 
 /// Merges a piece into the tiles of a window that its box reaches. One that stands behind all of them changes nothing

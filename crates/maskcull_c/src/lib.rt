@@ -15,6 +15,7 @@ mod picture;
 mod piece_tests;
 mod pieces;
 mod set_up;
+mod small_band;
 mod status;
 #[cfg(test)]
 mod tests;

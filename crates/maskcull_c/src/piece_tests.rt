@@ -155,6 +155,36 @@ fn pieces_are_drawn_onto_rows_of_the_screen(rt: HostRuntime) -> Result<(), Fail>
     Ok(())
 }
 
+// A piece of two pixels each way at the corner of four tiles, and one of sixteen subtiles in two of them.
+#[test]
+fn small_pieces_and_others_are_drawn_into_the_tiles_that_they_reach(
+    rt: HostRuntime,
+) -> Result<(), Fail> {
+    let mut tiles = [TileState::empty(); 4];
+    let small = PieceRoom {
+        x: [496, 528, 528],
+        y: [112, 112, 144],
+        q: [100; 3],
+    };
+    assert_eq!(rt; draw_one(&mut tiles, 0, &small)?, DONE);
+    assert_eq!(rt; held(&tiles, 0, 7), (0, 100, 0x8000_0000));
+    assert_eq!(rt; held(&tiles, 1, 4), (0, 100, 0x0100_0000));
+    assert_eq!(rt; held(&tiles, 2, 3), (0, 0, 0));
+    assert_eq!(rt; held(&tiles, 3, 0), (0, 100, 1));
+    let other = PieceRoom {
+        x: [0, 1024, 0],
+        y: [0, 128, 128],
+        q: [300; 3],
+    };
+    assert_eq!(rt; draw_one(&mut tiles, 0, &other)?, DONE);
+    assert_eq!(rt; held(&tiles, 0, 0), (0, 300, 0xFFFF_FF0F));
+    // the layer of the small piece is dropped: the other is 200 in front of it
+    assert_eq!(rt; held(&tiles, 0, 7), (300, 0, 0));
+    assert_eq!(rt; held(&tiles, 1, 4), (0, 300, 0xFFFF_FF0F));
+    assert_eq!(rt; held(&tiles, 3, 0), (0, 100, 1));
+    Ok(())
+}
+
 #[test]
 fn a_picture_has_the_bound_at_each_pixel(rt: HostRuntime) -> Result<(), Fail> {
     let mut tiles = [TileState::empty(); 1];

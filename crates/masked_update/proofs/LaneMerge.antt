@@ -42,7 +42,8 @@ abbrev pub new_references : List ℕ → List ℕ → List ℕ → List ℕ → 
 new_references rs ws ms ls cs =
     let ts = bounds ls cs in
     let ks = lefts rs ws ms ts in
-    sel_l (tests nat_lt rs ts) (sel_l (fulls (joineds ks cs)) (lowereds ws ks ts) rs) rs
+    let fs = sel_l (fulls (joineds ks cs)) (lowereds ws ks ts) (all 0) in
+    sel_l (tests nat_lt rs fs) fs rs
 
 abbrev pub new_workings : List ℕ → List ℕ → List ℕ → List ℕ → List ℕ → List ℕ
 new_workings rs ws ms ls cs =
@@ -69,6 +70,15 @@ left_at a w m t = cond (told nat_lt ((w + w) % 4294967296) ((t + a) % 4294967296
 abbrev lowered_at : ℕ → ℕ → ℕ → ℕ
 lowered_at w k t = cond (told nat_eq k 0) t (cond (told nat_lt w t) w t)
 
+-- the greater of the reference and a full layer's depth
+abbrev raised_at : ℕ → ℕ → ℕ → ℕ → ℕ → ℕ
+raised_at a w m l c =
+    let t = bound_at l c in
+    let k = left_at a w m t in
+    let f = cond (told nat_eq (bit_or k c) 4294967295) (lowered_at w k t) 0 in
+    cond (told nat_lt a f) f a
+
+-- and by cases
 abbrev reference_at : ℕ → ℕ → ℕ → ℕ → ℕ → ℕ
 reference_at a w m l c =
     let t = bound_at l c in
@@ -138,17 +148,10 @@ lane_by a w m l c t k b n true full h hl hc et ek eb en e f = by full f
           layers = next_layers a w m l c k b h hl hc within some nearer left lowered part;
         })
 
-one_lane : (a w m l c : ℕ) → Layers a w m → l ≤ HELD_TOP → c < 2 ^ 32 → IsLaneStep a w m l c (reference_at a w m l c) (working_at a w m l c) (mask_of a w m l c)
-one_lane a w m l c h hl hc =
-    let t = bound_at l c in
-    let k = left_at a w m t in
-    let b = lowered_at w k t in
-    let et : t ≡ cond (nat_eq c 0) 0 l = ap (λ x. cond x 0 l) (told_is (nat_eq c 0)) in
-    lane_by a w m l c t k b (bit_or k c) (told nat_lt a t) (told nat_eq (bit_or k c) 4294967295) h hl hc et (small t et)
-    (ap (λ x. cond x t (cond (told nat_lt w t) w t)) (told_is (nat_eq k 0)) ∙ ap (λ x. cond (nat_eq k 0) t (cond x w t)) (told_is (nat_lt w t)))
-    refl (told_is (nat_lt a t)) (told_is (nat_eq (bit_or k c) 4294967295))
+-- what is left of the layer, where nothing wraps
+left_is : (a w m l c : ℕ) → Layers a w m → l ≤ HELD_TOP → left_at a w m (bound_at l c) ≡ cond (nat_lt (w + w) (bound_at l c + a)) 0 m
+left_is a w m l c h hl = small (bound_at l c) (ap (λ x. cond x 0 l) (told_is (nat_eq c 0)))
   where
-    -- nothing wraps
     small : (t : ℕ) → t ≡ cond (nat_eq c 0) 0 l → left_at a w m t ≡ cond (nat_lt (w + w) (t + a)) 0 m
     small t e =
         let ha = h.reference_within in
@@ -157,6 +160,42 @@ one_lane a w m l c h hl hc =
         let ew : (w + w) % 4294967296 ≡ w + w = omega arith in
         let ea : (t + a) % 4294967296 ≡ t + a = omega arith in
         ap (λ x. cond x 0 m) (told_is (nat_lt ((w + w) % 4294967296) ((t + a) % 4294967296)) ∙ ap (λ x. nat_lt x ((t + a) % 4294967296)) ew ∙ ap (nat_lt (w + w)) ea)
+
+-- the depth of the layer
+lowered_is : (w k t : ℕ) → lowered_at w k t ≡ cond (nat_eq k 0) t (cond (nat_lt w t) w t)
+lowered_is w k t = ap (λ x. cond x t (cond (told nat_lt w t) w t)) (told_is (nat_eq k 0)) ∙ ap (λ x. cond (nat_eq k 0) t (cond x w t)) (told_is (nat_lt w t))
+
+-- a full layer's depth is above the reference just where the bound is
+raised_is : (a w m t k b : ℕ) → (0 < m → a < w) → k ≡ cond (nat_lt (w + w) (t + a)) 0 m → b ≡ cond (nat_eq k 0) t (cond (nat_lt w t) w t) → (full : Bool)
+    → cond (nat_lt a (cond full b 0)) (cond full b 0) a ≡ cond (nat_lt a t) (cond full b a) a
+raised_is a w m t k b near ek eb true = elim (cases_eq k 0) [
+  | inl z ↦ let e : b ≡ t = grind (arith, nat_tests) in ap (λ x. cond (nat_lt a x) b a) e
+  | inr some ↦
+      let kept : k ≡ m = grind (arith, nat_tests) in
+      let above : a < w = near (omega (arith, kept, some)) in
+      let lesser : b ≡ cond (nat_lt w t) w t = grind (arith, nat_tests) in
+      grind (arith, nat_tests)
+]
+raised_is a w m t k b near ek eb false = grind (arith, nat_tests)
+
+raised-is-reference : (a w m l c : ℕ) → Layers a w m → l ≤ HELD_TOP → raised_at a w m l c ≡ reference_at a w m l c
+raised-is-reference a w m l c h hl =
+    let t = bound_at l c in
+    let k = left_at a w m t in
+    let b = lowered_at w k t in
+    let full = told nat_eq (bit_or k c) 4294967295 in
+    ap (λ x. cond x (cond full b 0) a) (told_is (nat_lt a (cond full b 0)))
+    ∙ raised_is a w m t k b h.working_nearer (left_is a w m l c h hl) (lowered_is w k t) full
+    ∙ ap (λ x. cond x (cond full b a) a) (sym (told_is (nat_lt a t)))
+
+one_lane : (a w m l c : ℕ) → Layers a w m → l ≤ HELD_TOP → c < 2 ^ 32 → IsLaneStep a w m l c (reference_at a w m l c) (working_at a w m l c) (mask_of a w m l c)
+one_lane a w m l c h hl hc =
+    let t = bound_at l c in
+    let k = left_at a w m t in
+    let b = lowered_at w k t in
+    let et : t ≡ cond (nat_eq c 0) 0 l = ap (λ x. cond x 0 l) (told_is (nat_eq c 0)) in
+    lane_by a w m l c t k b (bit_or k c) (told nat_lt a t) (told nat_eq (bit_or k c) 4294967295) h hl hc et (left_is a w m l c h hl) (lowered_is w k t)
+    refl (told_is (nat_lt a t)) (told_is (nat_eq (bit_or k c) 4294967295))
 
 -- a number for each of eight lanes
 abbrev eight : (ℕ → ℕ) → List ℕ
@@ -185,8 +224,8 @@ lane_wise F f each rs ws ms ls cs hr hw hm hl hc =
     ∙ each (at rs) (at ws) (at ms) (at ls) (at cs)
 
 module _ (rs ws ms ls cs : List ℕ) (h : AreLayers rs ws ms) (hl : length ls ≡ 8) (hc : length cs ≡ 8) where
-  references_are : new_references rs ws ms ls cs ≡ eight (λ j. reference_at (at rs j) (at ws j) (at ms j) (at ls j) (at cs j))
-  references_are = lane_wise new_references reference_at (λ r w m l c. refl) rs ws ms ls cs h.eight_references h.eight_workings h.eight_masks hl hc
+  references_are : new_references rs ws ms ls cs ≡ eight (λ j. raised_at (at rs j) (at ws j) (at ms j) (at ls j) (at cs j))
+  references_are = lane_wise new_references raised_at (λ r w m l c. refl) rs ws ms ls cs h.eight_references h.eight_workings h.eight_masks hl hc
 
   workings_are : new_workings rs ws ms ls cs ≡ eight (λ j. working_at (at rs j) (at ws j) (at ms j) (at ls j) (at cs j))
   workings_are = lane_wise new_workings working_at (λ r w m l c. refl) rs ws ms ls cs h.eight_references h.eight_workings h.eight_masks hl hc
@@ -197,7 +236,7 @@ module _ (rs ws ms ls cs : List ℕ) (h : AreLayers rs ws ms) (hl : length ls �
   module _ (within : (j : ℕ) → j < 8 → at ls j ≤ HELD_TOP) (fit : (j : ℕ) → j < 8 → at cs j < 2 ^ 32) where
     lane : (j : ℕ) → j < 8 → IsLaneStep (at rs j) (at ws j) (at ms j) (at ls j) (at cs j) (at (new_references rs ws ms ls cs) j) (at (new_workings rs ws ms ls cs) j) (at (new_masks rs ws ms ls cs) j)
     lane j lt =
-        let r = ap (λ x. at x j) references_are ∙ at-eight (λ k. reference_at (at rs k) (at ws k) (at ms k) (at ls k) (at cs k)) j lt in
+        let r = ap (λ x. at x j) references_are ∙ at-eight (λ k. raised_at (at rs k) (at ws k) (at ms k) (at ls k) (at cs k)) j lt ∙ raised-is-reference (at rs j) (at ws j) (at ms j) (at ls j) (at cs j) (h.layers j lt) (within j lt) in
         let w = ap (λ x. at x j) workings_are ∙ at-eight (λ k. working_at (at rs k) (at ws k) (at ms k) (at ls k) (at cs k)) j lt in
         let m = ap (λ x. at x j) masks_are ∙ at-eight (λ k. mask_of (at rs k) (at ws k) (at ms k) (at ls k) (at cs k)) j lt in
         let is = one_lane (at rs j) (at ws j) (at ms j) (at ls j) (at cs j) (h.layers j lt) (within j lt) (fit j lt) in
@@ -207,7 +246,7 @@ module _ (rs ws ms ls cs : List ℕ) (h : AreLayers rs ws ms) (hl : length ls �
 
     pub new_layers : AreLayers (new_references rs ws ms ls cs) (new_workings rs ws ms ls cs) (new_masks rs ws ms ls cs)
     new_layers = record {
-      eight_references = ap length references_are ∙ length-map-range_with_len (λ j. reference_at (at rs j) (at ws j) (at ms j) (at ls j) (at cs j)) 0 8;
+      eight_references = ap length references_are ∙ length-map-range_with_len (λ j. raised_at (at rs j) (at ws j) (at ms j) (at ls j) (at cs j)) 0 8;
       eight_workings = ap length workings_are ∙ length-map-range_with_len (λ j. working_at (at rs j) (at ws j) (at ms j) (at ls j) (at cs j)) 0 8;
       eight_masks = ap length masks_are ∙ length-map-range_with_len (λ j. mask_of (at rs j) (at ws j) (at ms j) (at ls j) (at cs j)) 0 8;
       layers = λ j lt. (lane j lt).layers;

@@ -30,7 +30,17 @@ step_apart_from u s x r holds off = step_unless_covered u s x (λ k below c.
     in_sub : (k : ℕ) → k < 32 → HasPixel (sub_rect_of u) (pos (8 * u.column + k % 8)) (pos (4 * u.row + k / 8))
     in_sub k h = (omega (arith, ints), omega (arith, ints), omega (arith, ints), omega (arith, ints))
 
--- the subtiles that have some of the pixels, and whose reference is below the piece
+-- the subtiles that have some of the pixels
+pub sampled_reached : (size : Dimensions) (place : Tile) (x : Piece) (subs : List State) (span : SubSpan) (r : Rect) (reached : ℕ) → HoldsCovered x r → IsSubSpan r size place span
+    → ((j : ℕ) → j < 8 → bit_at reached j ≡ cond (has_sub span j) 1 0) → AreWanted size place x subs reached
+sampled_reached size place x subs span r reached holds is reached_are = record {
+  on_screen = λ j lt one. is.on_screen j (held (has_sub span j) (sym (reached_are j lt) ∙ one));
+  unchanged = λ j lt clear on.
+      let apart = false_from_ne_true _ (λ m. both_ways (has_sub span j) (not_held (has_sub span j) (sym (reached_are j lt) ∙ clear)) (is.reached j lt on m)) in
+      step_apart_from (sub_of place j) (slice_index_or subs j empty_state) x r holds apart;
+}
+
+-- and of those whose reference is below the piece
 pub sampled_behind : (size : Dimensions) (place : Tile) (x : Piece) (subs : List State) (span : SubSpan) (r : Rect) (reached below : ℕ) → IsPiece x → HoldsCovered x r → IsSubSpan r size place span
     → ((j : ℕ) → j < 8 → bit_at reached j ≡ cond (has_sub span j) 1 0)
     → ((j : ℕ) → j < 8 → bit_at below j ≡ 0 → greatest_nearness x ≤ (slice_index_or subs j empty_state).reference)

@@ -1,13 +1,12 @@
 //! Tiles of a window that are drawn into, with a table that tells where a piece changes nothing.
 ghost use Rattle.std.specs.Prelude.{◌≡◌, ℕ, ◌+◌, ◌<◌, ◌^◌, true, length, IfOk};
 ghost use Rattle.std.specs.Int.{bit_at};
-ghost use Rattle.cull_base.specs.Piece.{box_of};
 ghost use Rattle.cull_base.specs.Screen.{tile_columns_of, tile_rows_of};
 ghost use Rattle.cull_base.specs.Span.{has_tile, tiles_in};
 ghost use Rattle.cull_base.specs.Tiles.{PieceList};
 ghost use Rattle.masked_update.specs.Canvas.{CountsAt, IsCanvas, StandsAt, empty_canvas, with_tile, tile_on};
 ghost use Rattle.masked_update.specs.Least.{NoneBelow};
-ghost use Rattle.masked_update.specs.Merged.{AreRowOf, IsSubBox};
+ghost use Rattle.masked_update.specs.Merged.{AreRowOf};
 ghost use Rattle.masked_update.specs.Samples.{HoldsSampled};
 ghost use Rattle.masked_update.specs.Taken.{counted_tile, merged_tile};
 ghost use Rattle.masked_update.specs.TileOf.{tile_at};
@@ -120,8 +119,8 @@ impl Canvas {
     }
 
     /// Merges a piece into the tile of a number, and counts nothing. Conditions: there is such a tile, the column and
-    /// the row are below the screen's, what is reached on it is what the piece reaches, and the edges are the piece's
-    /// over the tile's row.
+    /// the row are below the screen's, what is reached on it has each sample that the piece covers, and the edges are
+    /// the piece's over the tile's row.
     #[inline(always)]
     pub(crate) fn merge(
         &mut self,
@@ -131,7 +130,7 @@ impl Canvas {
         over: &TileRow,
         place: Tile,
     )
-        requires reached { IsSubBox (box_of piece.now) reached.now }
+        requires reached { HoldsSampled piece.now reached.now }
         requires over { AreRowOf over.now place.row piece.now }
         requires tile { number < length self.old.tiles }
         requires column { place.column < tile_columns_of reached.now.size }

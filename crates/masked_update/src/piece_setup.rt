@@ -6,6 +6,7 @@ ghost use Rattle.cull_base.specs.Screen.{tile_columns_of, tile_rows_of};
 ghost use Rattle.cull_base.specs.State.{State};
 ghost use Rattle.masked_update.specs.Coverage.{IsCoverage, AreWanted};
 ghost use Rattle.masked_update.specs.Merged.{AreRowOf, IsSubBox, merged_by};
+ghost use Rattle.masked_update.specs.Samples.{HoldsSampled};
 
 use crate::coverage::Coverage;
 use crate::sub_span::SubBox;
@@ -15,13 +16,12 @@ use depth_plane::Plane;
 use edge_lanes::{RowEdges, TileRow};
 use std::marker::Model;
 
-/// A piece with what each tile needs of it: its edges, its plane, its box, its greatest and its least nearness.
+/// A piece with what each tile needs of it: its edges, its plane, its greatest and its least nearness.
 #[derive(Drop)]
 pub struct PieceSetup {
     tri: ScreenTri,
     edges: RowEdges,
     plane: Plane,
-    reached: Rect,
     nearest: u32,
     least: u32,
 }
@@ -49,7 +49,6 @@ impl PieceSetup {
             tri: *tri,
             edges: RowEdges::of(tri),
             plane: Plane::of(tri),
-            reached: tri.boxed(),
             nearest: tri.greatest_nearness(),
             least: tri.least_nearness(),
         }
@@ -60,7 +59,7 @@ impl PieceSetup {
         ensures value { result ≡ box_of self.now }
         ensures valid { IsPiece self.now }
     {
-        self.reached
+        self.tri.boxed()
     }
 
     /// The greatest nearness of its vertices.
@@ -77,12 +76,12 @@ impl PieceSetup {
         ensures reached { IsSubBox (box_of self.now) result }
         ensures size { result.size ≡ size }
     {
-        SubBox::of(&self.reached, size)
+        SubBox::of(&self.boxed(), size)
     }
 
     /// The edges over a row of tiles. Condition: the row is below 256.
     #[inline(always)]
-    pub(crate) fn over_row(&self, row: u32) -> TileRow<'_>
+    pub fn over_row(&self, row: u32) -> TileRow<'_>
         requires { row < 256 }
         ensures { AreRowOf result row self.now }
     {
@@ -102,16 +101,14 @@ impl PieceSetup {
         Coverage::among(self.plane.floors(place), masks, wanted)
     }
 
-    // The subtiles of a tile, as bits, that are on the screen; of a tile at its right or lower end those that the box
-    // reaches. The piece covers nothing outside its box.
+    // The subtiles of a tile, as bits, that are on the screen; of a tile at its right or lower end those that are
+    // reached. The piece covers nothing elsewhere.
     #[inline(always)]
     fn subtiles_on_screen(&self, reached: &SubBox, place: Tile) -> u32
-        requires { IsSubBox (box_of self.now) reached.now }
+        requires { HoldsSampled self.now reached.now }
         ensures wanted { (subs : List State) → AreWanted reached.now.size place self.now subs result }
         ensures byte { result < 2 ^ 8 }
     {
-        // an accessor tells what is held of a piece
-        let _nearest = self.nearest();
         let size = reached.size;
         if u32::from(place.column) + 1 < size.tile_columns()
             && u32::from(place.row) + 1 < size.tile_rows()
@@ -134,7 +131,8 @@ impl PieceSetup {
     }
 
     /// Merges the piece into a tile's subtiles on the screen. Conditions: the column and the row are below the
-    /// screen's, what is reached on it is what the piece reaches, and the edges are the piece's over the tile's row.
+    /// screen's, what is reached on it holds each sample that the piece covers, and the edges are the piece's over the
+    /// tile's row.
     #[inline(always)]
     pub(crate) fn merge_over(
         &self,
@@ -143,7 +141,7 @@ impl PieceSetup {
         over: &TileRow,
         place: Tile,
     )
-        requires reached { IsSubBox (box_of self.now) reached.now }
+        requires reached { HoldsSampled self.now reached.now }
         requires over { AreRowOf over.now place.row self.now }
         requires column { place.column < tile_columns_of reached.now.size }
         requires row { place.row < tile_rows_of reached.now.size }
@@ -155,7 +153,8 @@ impl PieceSetup {
         layers.merge(self.coverage(over, place, wanted).raised(self.least));
     }
 
-    /// The same where the row's edges aren't at hand. Says whether any subtile may have changed.
+    /// The same where the row's edges aren't at hand, and what is reached is what the piece reaches. Says whether any
+    /// subtile may have changed.
     pub(crate) fn merge_into(&self, layers: &mut TileLayers, reached: &SubBox, place: Tile) -> bool
         requires reached { IsSubBox (box_of self.now) reached.now }
         requires column { place.column < tile_columns_of reached.now.size }
@@ -163,8 +162,8 @@ impl PieceSetup {
         ensures merged { layers.new ≡ merged_by reached.now.size place self.now layers.old }
         ensures same { result ≡ false → layers.new ≡ layers.old }
     {
-        // an accessor tells what is held of a size
-        let _width = reached.size.width();
+        // accessors tell what is held of a size and of a piece
+        let (_width, _nearest) = (reached.size.width(), self.nearest());
         if self.subtiles_behind(layers, reached, place) == 0 {
             return false;
         }

@@ -58,12 +58,13 @@ fn subtile(tile: Tile, j: u32) -> Sub
     }
 }
 
-// Whether a piece that reaches these subtiles is worth asking one after the other.
+// Whether a piece that reaches these subtiles is worth asking one after the other. A screen has at most 256 by 512 of
+// them, and no end lies before its first: nothing wraps.
 #[inline(always)]
 fn are_few(reached: &SubBox) -> bool {
-    let columns = reached.end_column.saturating_sub(reached.first_column);
-    let rows = reached.end_row.saturating_sub(reached.first_row);
-    columns.saturating_mul(rows) <= FEW
+    let columns = reached.end_column.wrapping_sub(reached.first_column);
+    let rows = reached.end_row.wrapping_sub(reached.first_row);
+    columns.wrapping_mul(rows) <= FEW
 }
 
 impl SmallPiece {

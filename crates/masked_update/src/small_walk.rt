@@ -61,7 +61,9 @@ pub fn merge_small_in_span(
 {
     // an accessor tells what is held of a canvas
     let _window = canvas.window();
+    // a copy: what is computed of it is known to stay while tiles are written
+    let here = *reached;
     for row in span.first_row..span.end_row {
-        merge_small_in_row(canvas, piece, reached, span, row);
+        merge_small_in_row(canvas, piece, &here, span, row);
     }
 }

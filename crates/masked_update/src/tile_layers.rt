@@ -132,9 +132,8 @@ impl TileLayers {
         let joined = left | covered;
         let full = joined.simd_eq(all);
         let nearer = bound.simd_gt(reference);
-        self.references = nearer
-            .select(full.select(lowered, reference), reference)
-            .to_array();
+        // a full layer is above the reference where the bound is, and nowhere else
+        self.references = reference.simd_max(full.select(lowered, none)).to_array();
         self.workings = nearer
             .select(full.select(none, lowered), working)
             .to_array();

@@ -123,8 +123,9 @@ impl TileState {
         piece.merge_into(&mut self.layers, reached, place)
     }
 
-    /// Merges a piece, whose edges over the tile's row are at hand, and doesn't count it. Conditions as for `merge`,
-    /// and the edges are the piece's.
+    /// Merges a piece, whose edges over the tile's row are at hand, and doesn't count it. Conditions: the column and
+    /// the row are below the screen's, what is reached on it has each sample that the piece covers, and the edges are
+    /// the piece's.
     #[inline(always)]
     pub(crate) fn merge_over(
         &mut self,
@@ -133,7 +134,7 @@ impl TileState {
         over: &TileRow,
         place: Tile,
     )
-        requires reached { IsSubBox (box_of piece.now) reached.now }
+        requires reached { HoldsSampled piece.now reached.now }
         requires over { AreRowOf over.now place.row piece.now }
         requires column { place.column < tile_columns_of reached.now.size }
         requires row { place.row < tile_rows_of reached.now.size }
@@ -143,10 +144,37 @@ impl TileState {
         piece.merge_over(&mut self.layers, reached, over, place);
     }
 
+    /// Merges a piece, whose edges over the tile's row are at hand, and doesn't count it. A tile to which the edges
+    /// leave nothing stays, and so does one that is nowhere behind the piece. Conditions: the column and the row are
+    /// below the screen's, what is reached on it has each sample that the piece covers, and the edges are the piece's.
+    #[inline(always)]
+    pub fn merge_ahead(&mut self, piece: &PieceSetup, reached: &SubBox, over: &TileRow, place: Tile)
+        requires reached { HoldsSampled piece.now reached.now }
+        requires over { AreRowOf over.now place.row piece.now }
+        requires column { place.column < tile_columns_of reached.now.size }
+        requires row { place.row < tile_rows_of reached.now.size }
+        ensures { self.new ≡ merged_tile reached.now.size place piece.now self.old }
+    {
+        // accessors tell what is held of a size, of a piece and of a tile
+        let _columns = reached.size.tile_columns();
+        let _rows = reached.size.tile_rows();
+        let _first = self.sub(0);
+        let nearest = piece.nearest();
+        let ahead = over.ahead(u32::from(place.column)) % 2;
+        if ahead == 0 {
+            return;
+        }
+        let least = self.least_reference();
+        if nearest <= least {
+            return;
+        }
+        self.merge_over(piece, reached, over, place);
+    }
+
     /// Merges a small piece, doesn't count it, and says whether any reference is another then. Conditions: the column and
     /// the row are below the screen's, and what is reached on it has each sample that the piece covers.
     #[inline(always)]
-    pub(crate) fn merge_small(&mut self, piece: &SmallPiece, reached: &SubBox, place: Tile) -> bool
+    pub fn merge_small(&mut self, piece: &SmallPiece, reached: &SubBox, place: Tile) -> bool
         requires reached { HoldsSampled piece.now reached.now }
         requires column { place.column < tile_columns_of reached.now.size }
         requires row { place.row < tile_rows_of reached.now.size }

@@ -1,12 +1,11 @@
 //! A piece is drawn into the tiles of a canvas that its box reaches.
 ghost use Rattle.std.specs.Prelude.{◌≡◌, ℕ, ◌+◌, ◌<◌, ◌≤◌, ◌^◌, true, length};
 ghost use Rattle.std.specs.Int.{bit_at};
-ghost use Rattle.cull_base.specs.Piece.{IsPiece, box_of};
 ghost use Rattle.cull_base.specs.Screen.{IsSize, tile_rows_of};
 ghost use Rattle.cull_base.specs.Span.{IsPartOf, IsSpan, has_tile};
 ghost use Rattle.masked_update.specs.Canvas.{CountedMet, IsInWindow, MergedMet, tile_in, tile_on};
 ghost use Rattle.masked_update.specs.Least.{NoneBelow};
-ghost use Rattle.masked_update.specs.Merged.{AreRowOf, IsSubBox};
+ghost use Rattle.masked_update.specs.Merged.{AreRowOf};
 ghost use Rattle.masked_update.specs.Samples.{HoldsSampled};
 ghost use Rattle.masked_update.specs.Walk.{CountedWhere, MayCount, MergedWhere, NoneBelowWhere, is_in_row, is_marked, rows_before};
 
@@ -121,7 +120,7 @@ fn merge_marked(
     marked: Marked,
 )
     requires part { IsPartOf canvas.old.window span }
-    requires reached { IsSubBox (box_of piece.now) reached.now }
+    requires reached { HoldsSampled piece.now reached.now }
     requires span { IsSpan reached.now.size span }
     requires row { (span.first_row ≤ marked.row) × (marked.row < span.end_row) }
     requires small { marked.row < 256 }
@@ -158,7 +157,7 @@ fn merge_marked(
 #[inline(always)]
 fn merge_in_row(canvas: &mut Canvas, piece: &PieceSetup, reached: &SubBox, span: TileSpan, row: u32)
     requires part { IsPartOf canvas.old.window span }
-    requires reached { IsSubBox (box_of piece.now) reached.now }
+    requires reached { HoldsSampled piece.now reached.now }
     requires span { IsSpan reached.now.size span }
     requires row { (span.first_row ≤ row) × (row < span.end_row) }
     requires small { row < 256 }
@@ -193,28 +192,31 @@ fn merge_in_row(canvas: &mut Canvas, piece: &PieceSetup, reached: &SubBox, span:
 #[inline(never)]
 fn merge_in_span(canvas: &mut Canvas, piece: &PieceSetup, reached: &SubBox, span: TileSpan)
     requires part { IsPartOf canvas.old.window span }
-    requires reached { IsSubBox (box_of piece.now) reached.now }
+    requires reached { HoldsSampled piece.now reached.now }
     requires span { IsSpan reached.now.size span }
     requires sized { IsSize reached.now.size.width reached.now.size.height }
     ensures { MergedWhere (has_tile span) reached.now.size piece.now canvas.old canvas.new }
 {
     // an accessor tells what is held of a canvas
     let _window = canvas.window();
+    // a copy: what is computed of it is known to stay while tiles are written
+    let here = *reached;
     for row in span.first_row..span.end_row {
-        merge_in_row(canvas, piece, reached, span, row);
+        merge_in_row(canvas, piece, &here, span, row);
     }
 }
 
 // Sets a piece up, and merges it into the tiles of a span.
 #[inline(never)]
-fn merge_set_up(canvas: &mut Canvas, tri: &ScreenTri, size: Size, span: TileSpan)
+fn merge_set_up(canvas: &mut Canvas, tri: &ScreenTri, reached: &SubBox, span: TileSpan)
     requires part { IsPartOf canvas.old.window span }
-    requires span { IsSpan size span }
-    requires sized { IsSize size.width size.height }
-    ensures { MergedWhere (has_tile span) size tri.now canvas.old canvas.new }
+    requires reached { HoldsSampled tri.now reached.now }
+    requires span { IsSpan reached.now.size span }
+    requires sized { IsSize reached.now.size.width reached.now.size.height }
+    ensures { MergedWhere (has_tile span) reached.now.size tri.now canvas.old canvas.new }
 {
     let piece = PieceSetup::of(tri);
-    merge_in_span(canvas, &piece, &piece.reached_on(size), span);
+    merge_in_span(canvas, &piece, reached, span);
 }
 
 // Merges a piece into the tiles of a span, a small one subtile by subtile.
@@ -228,7 +230,7 @@ fn merge_piece(canvas: &mut Canvas, tri: &ScreenTri, reached: &SubBox, span: Til
 {
     match SmallPiece::of(tri, reached) {
         Some(piece) => merge_small_in_span(canvas, &piece, reached, span),
-        None => merge_set_up(canvas, tri, reached.size, span),
+        None => merge_set_up(canvas, tri, reached, span),
     }
 }
 

@@ -69,7 +69,7 @@ fn push_by_vertices(
         let corners = vertex_references(vertices, tri);
         count += push_shared(
             occluders,
-            &corner_references(clips, tri),
+            corner_references(clips, tri),
             &corners,
             winding,
             keeping,

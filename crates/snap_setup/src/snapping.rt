@@ -369,5 +369,7 @@ pub fn snap(point: &HomPoint, near: u16, size: Size, side: Side, grade: Grade) -
             return snapped;
         }
     }
-    long_snap(point, near, size, side, grade)
+    // a copy, so that only here the point has to lie in memory
+    let far = *point;
+    long_snap(&far, near, size, side, grade)
 }

@@ -264,19 +264,19 @@ impl<'a> ScreenCorners<'a> {
 #[inline(always)]
 pub(crate) fn push_shared(
     occluders: &Occluders,
-    tri: &Corners,
+    tri: Corners,
     corners: &ScreenCorners,
     winding: Winding,
     keeping: Keeping,
     list: &mut FrameList,
 ) -> u32
     requires corners { let o = occluders.now in
-        AreCornersOf tri.now (top_of o.grade) o.near.distance o.size corners.now }
+        AreCornersOf tri (top_of o.grade) o.near.distance o.size corners.now }
     requires room { length list.old.list.members + 2 ≤ list.old.room }
     ensures value { let o = occluders.now in Took keeping list.old list.new result
-        (pieces_of_corners tri.now (top_of o.grade) o.near.distance o.size winding) }
+        (pieces_of_corners tri.entry (top_of o.grade) o.near.distance o.size winding) }
     ensures most { let o = occluders.now in
-        length (pieces_of_corners tri.now (top_of o.grade) o.near.distance o.size winding) ≤ 2 }
+        length (pieces_of_corners tri.entry (top_of o.grade) o.near.distance o.size winding) ≤ 2 }
 {
     // an accessor tells what is held of a size
     let _width = occluders.size.width();
@@ -291,8 +291,10 @@ pub(crate) fn push_shared(
         return 0;
     }
     if corners.is_any_placed() {
+        // a copy, so that only here the vertices have to lie in memory
+        let cut = tri;
         push_clipped(
-            tri,
+            &cut,
             occluders.near,
             occluders.size,
             winding,

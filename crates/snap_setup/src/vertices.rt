@@ -60,8 +60,15 @@ pub(crate) fn shared_vertices(
 {
     let shared = shared_clips(occluders);
     let mut vertices = Vec::with_capacity(alloc, shared.len()).map_err(|_| Memory)?;
+    // copies: they are known to stay while vertices are written
+    let Occluders {
+        near,
+        size,
+        grade,
+        ..
+    } = *occluders;
     for v in shared {
-        vertices.push_reserved(screen_vertex(v, occluders.near, occluders.size, occluders.grade));
+        vertices.push_reserved(screen_vertex(v, near, size, grade));
     }
     Ok(vertices)
 }

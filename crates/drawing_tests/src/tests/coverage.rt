@@ -3,7 +3,7 @@ ghost use Rattle.std.specs.Prelude.{◌<◌, ◌^◌, ◌≤ℤ◌, pos, negsuc}
 
 use crate::tests::numbers::{after, number};
 use cull_base::{ScreenTri, Side, Sub, Tile};
-use edge_lanes::{Edges, RowEdges, shared_edge};
+use edge_lanes::{Edges, RowEdges, SmallEdges, shared_edge};
 use std::process::Abort;
 
 // The greatest coordinate of a piece.
@@ -208,6 +208,59 @@ fn a_diagonal_through_samples_is_exact_at_each_height(rt: HostRuntime) {
             row_masks(&rt, [0, size, 0], [0, size, size], 252, 63),
             below
         );
+    }
+}
+
+// An edge that crosses rows of samples 4,063 columns apart, from column 2,031 to column 62,969, and below the piece
+// past the last column that 16 bits hold.
+#[test]
+fn a_flat_edge_crosses_far_beside_the_screen(rt: HostRuntime) {
+    let full = u32::MAX;
+    let far = 1_040_000;
+    let (x, y) = ([0, far, 0], [0, 256, 256]);
+    let first = [
+        full,
+        0xFFFF_FF7F,
+        0xFFFF_FF00,
+        0xFFFF_FF00,
+        full,
+        full,
+        full,
+        full,
+    ];
+    assert_eq!(rt; row_masks(&rt, x, y, 0, 63), first);
+    assert_eq!(rt; row_masks(&rt, x, y, 1, 63), [full; 8]);
+    assert_eq!(rt; row_masks(&rt, x, y, 2, 63), [0; 8]);
+    let (x, y) = ([0, far, far], [0, 0, 256]);
+    assert_eq!(rt;
+        row_masks(&rt, x, y, 0, 63),
+        [0, 0x80, 0xFF, 0xFF, 0, 0, 0, 0]
+    );
+    assert_eq!(rt; row_masks(&rt, x, y, 1, 63), [0; 8]);
+}
+
+// Sides of 1,023 sixteenths of a pixel take lanes of 16 bits, and of 1,024 no longer.
+#[test]
+fn small_edges_are_less_than_64_pixels_long(rt: HostRuntime) {
+    let longest = ScreenTri::new([0, 1023, 1023], [0, 0, 1023], [0; 3]).expect(&rt, "a piece");
+    let edges = SmallEdges::of(&longest).expect(&rt, "small edges");
+    for (column, row, wanted) in [
+        (0, 0, 0xF8FC_FEFF),
+        (0, 1, 0x80C0_E0F0),
+        (4, 7, u32::MAX),
+        (7, 14, 0xF8FC_FEFF),
+        (0, 511, 0),
+        (255, 0, 0),
+        (255, 511, 0),
+    ] {
+        assert_eq!(rt; edges.mask(Sub { column, row }), wanted);
+    }
+    for (x, y) in [
+        ([0, 1024, 1024], [0, 0, 1023]),
+        ([0, 1023, 1023], [0, 0, 1024]),
+    ] {
+        let longer = ScreenTri::new(x, y, [0; 3]).expect(&rt, "a piece");
+        assert!(rt; SmallEdges::of(&longer).is_none());
     }
 }
 

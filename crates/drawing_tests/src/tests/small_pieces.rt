@@ -49,6 +49,19 @@ fn sides_of_26_pixels_and_a_sixteenth_more_cover_the_same(rt: HostRuntime) -> Re
     Ok(())
 }
 
+// Eight subtiles side by side, by lanes of 16 bits and by the spans of a row.
+#[test]
+fn sides_of_64_pixels_and_a_sixteenth_less_cover_the_same(rt: HostRuntime) -> Result<(), Fail> {
+    for side in [1023, 1024] {
+        let (x, y) = ([0, side, 0], [0, 64, 64]);
+        assert_eq!(rt; subtile_of(&rt, x, y, 0, 0)?, (100, 0, 0));
+        assert_eq!(rt; subtile_of(&rt, x, y, 0, 1)?, (0, 100, 0xFFFF_FF00));
+        assert_eq!(rt; subtile_of(&rt, x, y, 1, 2)?, (0, 100, 0xFF00_0000));
+        assert_eq!(rt; subtile_of(&rt, x, y, 1, 3)?, (0, 0, 0));
+    }
+    Ok(())
+}
+
 // Two pieces meet at a corner of four tiles.
 #[test]
 fn a_small_piece_reaches_four_tiles(rt: HostRuntime) -> Result<(), Fail> {

@@ -1,4 +1,5 @@
 use Rattle.std.proofs.Common.{◌≡◌, ◌+◌, false, true, arith, ap, sym, ◌∙◌, subst}
+use Rattle.cull_base.specs.Piece.{box_of}
 use Rattle.cull_base.specs.Rectangle.{meets}
 use Rattle.cull_base.specs.Screen.{Dimensions, IsSize}
 use Rattle.binning.specs.Bins.{bin_rect_of}
@@ -17,28 +18,28 @@ overflow_add-result g c =
     let most = drawn_within c.args.screen.now.list.now.list c.args.screen.now.cut.now c.args.bin c.args.index in
     omega (arith, most, c.requires.taken, c.requires.index, c.len-len.ensures.value, c.len-len.ensures.within, c.len-len.ensures.small)
 
-pub returns-then-meets-clause-taken : goal.returns-then-meets-clause-taken
-returns-then-meets-clause-taken g c =
+pub returns-then-is_met-clause-taken : goal.returns-then-is_met-clause-taken
+returns-then-is_met-clause-taken g c =
     let list = c.args.screen.now.list.now.list in
     let rect = bin_rect_of list.size c.args.screen.now.cut.now c.args.bin in
     let met : meets_at rect list.members c.args.index ≡ true =
-    meets_at-is rect list.members c.args.index c.get.result.now c.requires.index (sym c.get.ensures) ∙ (λ i. meets (sym c.boxed.ensures i) (sym c.requires.rect i)) ∙ sym c.meets.ensures.value ∙ c.if-meets.true in
+    meets_at-is rect list.members c.args.index c.get.result.now c.requires.index (sym c.get.ensures) ∙ ap (meets (box_of c.get.result.now)) (sym c.requires.rect) ∙ sym c.is_met.ensures ∙ c.if-is_met.true in
     ap (λ k. k + 1) c.requires.taken ∙ sym (drawn_more list c.args.screen.now.cut.now c.args.bin c.args.index met)
 
-pub returns-else-meets-clause-taken : goal.returns-else-meets-clause-taken
-returns-else-meets-clause-taken g c =
+pub returns-else-is_met-clause-taken : goal.returns-else-is_met-clause-taken
+returns-else-is_met-clause-taken g c =
     let list = c.args.screen.now.list.now.list in
     let rect = bin_rect_of list.size c.args.screen.now.cut.now c.args.bin in
     let off : meets_at rect list.members c.args.index ≡ false =
-    meets_at-is rect list.members c.args.index c.get.result.now c.requires.index (sym c.get.ensures) ∙ (λ i. meets (sym c.boxed.ensures i) (sym c.requires.rect i)) ∙ sym c.meets.ensures.value ∙ c.if-meets.false in
+    meets_at-is rect list.members c.args.index c.get.result.now c.requires.index (sym c.get.ensures) ∙ ap (meets (box_of c.get.result.now)) (sym c.requires.rect) ∙ sym c.is_met.ensures ∙ c.if-is_met.false in
     c.requires.taken ∙ sym (drawn_missed list c.args.screen.now.cut.now c.args.bin c.args.index off)
 
-pub returns-else-meets-clause-stands : goal.returns-else-meets-clause-stands
-returns-else-meets-clause-stands g c =
+pub returns-else-is_met-clause-stands : goal.returns-else-is_met-clause-stands
+returns-else-is_met-clause-stands g c =
     let list = c.args.screen.now.list.now.list in
     let rect = bin_rect_of list.size c.args.screen.now.cut.now c.args.bin in
     let sized = subst (λ (s : Dimensions). IsSize s.width s.height) c.size.ensures c.width-width.ensures.valid in
     let off : meets_at rect list.members c.args.index ≡ false =
-    meets_at-is rect list.members c.args.index c.get.result.now c.requires.index (sym c.get.ensures) ∙ (λ i. meets (sym c.boxed.ensures i) (sym c.requires.rect i)) ∙ sym c.meets.ensures.value ∙ c.if-meets.false in
+    meets_at-is rect list.members c.args.index c.get.result.now c.requires.index (sym c.get.ensures) ∙ ap (meets (box_of c.get.result.now)) (sym c.requires.rect) ∙ sym c.is_met.ensures ∙ c.if-is_met.false in
     moved g.K.Keeper.stands g.met.K.Keeper.passes c.args.screen.now.beside.now list c.args.screen.now.cut.now c.args.bin sized c.columns-columns.ensures.valid c.args.index (c.args.index + 1) c.args.keeper.now (omega arith)
     (λ n le lt. let here : n ≡ c.args.index = omega (arith, le, lt) in ap (meets_at rect list.members) here ∙ off) c.requires.stands

@@ -16,10 +16,10 @@ returns-clause-value c =
     let fa : FitsSigned w64 c.args.a = c.ranges.a in let fb : FitsSigned w64 c.args.b = c.ranges.b in let fc : FitsSigned w64 c.args.c = c.ranges.c in
     let fs : FitsSigned w64 (c.args.a +ℤ c.args.b) = omega (arith, ints, c.requires.a, c.requires.b) in
     let ft : FitsSigned w64 ((c.args.a +ℤ c.args.b) +ℤ c.args.c) = omega (arith, ints, c.requires.a, c.requires.b, c.requires.c) in
-    let fq : FitsSigned w64 c.div_euclid.result = search rules in
-    simp to_z-of_z (simp to_z-of_z at c.div_euclid.ensures)
+    let fq : FitsSigned w64 c.floored.result = search rules in
+    simp to_z-of_z (simp to_z-of_z at c.floored.ensures)
 
 pub returns-clause-bounded : goal.returns-clause-bounded
-returns-clause-bounded c = let fq : FitsSigned w64 c.div_euclid.result = search rules in
+returns-clause-bounded c = let fq : FitsSigned w64 c.floored.result = search rules in
     let e = returns-clause-value c in
     within ((c.args.a +ℤ c.args.b) +ℤ c.args.c) _ (sum_within _ _ _ c.requires.a c.requires.b c.requires.c) e

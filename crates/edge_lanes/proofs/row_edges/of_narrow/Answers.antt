@@ -1,4 +1,3 @@
-use Rattle.std.proofs.Common.{refl}
 use Rattle.edge_lanes.specs.Crossings.{inside_rows}
 use Rattle.edge_lanes.specs.Inside.{narrow_lines}
 use Rattle.edge_lanes.proofs.Rows.{crossed_in-covered}
@@ -11,5 +10,4 @@ returns-then-are_near c =
     crossed_in-covered e c.args.tri.now c.of-then-are_near.result c.of.ensures (c.of-then-are_near.ensures e c.of-edges.ensures)
 
 pub returns-else-are_near : goal.returns-else-are_near
-unfolding inside_rows
-returns-else-are_near c u lc lr = c.of-else-are_near.ensures.covered refl u
+returns-else-are_near c u lc lr = c.plain.ensures u

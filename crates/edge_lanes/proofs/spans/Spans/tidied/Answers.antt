@@ -1,4 +1,4 @@
-use Rattle.std.proofs.Common.{◌≡◌, ℕ, ◌&&◌, cond, nat_le, nat_lt, refl, ap, ap₂, ◌∙◌, arith, w32, replicate, slice_index_or}
+use Rattle.std.proofs.Common.{◌≡◌, ℕ, ◌&&◌, cond, nat_le, nat_lt, refl, ap, ap₂, ◌∙◌, arith, w16, replicate, slice_index_or}
 use Rattle.std.proofs.lemmas.Bool.Decides.{nat_tests}
 use Rattle.std.proofs.lemmas.Simd.{get_or-replicate}
 use Rattle.edge_lanes.proofs.SpanLanes.{chosen_long, chosen_at}
@@ -8,8 +8,8 @@ pub invariant_of-result : goal.invariant_of-result
 invariant_of-result c =
     let s = c.args.self in
     record {
-      eight_firsts = chosen_long w32 nat_lt 8 s.first s.end s.first (replicate 8 4096) s.eight_firsts s.eight_ends s.eight_firsts refl;
-      eight_ends = chosen_long w32 nat_lt 8 s.first s.end s.end (replicate 8 0) s.eight_firsts s.eight_ends s.eight_ends refl;
+      eight_firsts = chosen_long w16 nat_lt 8 s.first s.end s.first (replicate 8 4096) s.eight_firsts s.eight_ends s.eight_firsts refl;
+      eight_ends = chosen_long w16 nat_lt 8 s.first s.end s.end (replicate 8 0) s.eight_firsts s.eight_ends s.eight_ends refl;
     }
 
 same : (f e x : ℕ) → (nat_le (cond (nat_lt f e) f 4096) x && nat_lt x (cond (nat_lt f e) e 0)) ≡ (nat_le f x && nat_lt x e)
@@ -20,6 +20,6 @@ returns c r x lt =
     let s = c.args.self in
     let f = slice_index_or s.first r 0 in let e = slice_index_or s.end r 0 in
     ap₂ (λ f e. nat_le f x && nat_lt x e)
-    (chosen_at w32 nat_lt 8 s.first s.end s.first (replicate 8 4096) s.eight_firsts s.eight_ends s.eight_firsts refl r lt ∙ ap (cond (nat_lt f e) f) (get_or-replicate 8 r 4096 0 lt))
-    (chosen_at w32 nat_lt 8 s.first s.end s.end (replicate 8 0) s.eight_firsts s.eight_ends s.eight_ends refl r lt ∙ ap (cond (nat_lt f e) e) (get_or-replicate 8 r 0 0 lt))
+    (chosen_at w16 nat_lt 8 s.first s.end s.first (replicate 8 4096) s.eight_firsts s.eight_ends s.eight_firsts refl r lt ∙ ap (cond (nat_lt f e) f) (get_or-replicate 8 r 4096 0 lt))
+    (chosen_at w16 nat_lt 8 s.first s.end s.end (replicate 8 0) s.eight_firsts s.eight_ends s.eight_ends refl r lt ∙ ap (cond (nat_lt f e) e) (get_or-replicate 8 r 0 0 lt))
     ∙ same f e x

@@ -1,8 +1,8 @@
 use Rattle.std.proofs.Common.{arith, sym, subst}
-use Rattle.cull_base.specs.Piece.{box_of}
 use Rattle.masked_update.specs.Merged.{IsSubSpan}
 use Rattle.masked_update.specs.declared.sub_span.SubSpan.{SubSpan}
-use Rattle.masked_update.proofs.Wanting.{all_of, reached_of}
+use Rattle.masked_update.proofs.SampledSubs.{sampled_reached}
+use Rattle.masked_update.proofs.Wanting.{all_of}
 use Rattle.masked_update.proofs.piece_setup.PieceSetup.subtiles_on_screen.Goals as goal
 
 pub returns-then-from-tile_rows-clause-wanted : goal.returns-then-from-tile_rows-clause-wanted
@@ -13,6 +13,6 @@ returns-then-from-tile_rows-clause-wanted c subs =
 
 pub returns-else-from-tile_columns-clause-wanted : goal.returns-else-from-tile_columns-clause-wanted
 returns-else-from-tile_columns-clause-wanted c subs =
-    let x = c.args.self.now in
-    reached_of c.args.reached.now.size c.args.place x subs c.in_tile.result c.bits.result c.nearest-nearest.ensures.valid
-    (subst (λ (s : SubSpan). IsSubSpan (box_of x) c.args.reached.now.size c.args.place s) (sym c.in_tile.ensures) (c.requires c.args.place)) c.bits.ensures.value
+    let (r, holds, is) = c.requires in
+    sampled_reached c.args.reached.now.size c.args.place c.args.self.now subs c.in_tile.result r c.bits.result holds
+    (subst (λ (s : SubSpan). IsSubSpan r c.args.reached.now.size c.args.place s) (sym c.in_tile.ensures) (is c.args.place)) c.bits.ensures.value
