@@ -8,7 +8,7 @@ use Rattle.bin_queues.specs.Tasks.{Tasking}
 use Rattle.steal_pool.specs.declared.deque_rule.Call.{Call}
 use Rattle.steal_pool.specs.declared.deque_rule.Role.TheVariants.{Owns}
 use Rattle.steal_pool.specs.declared.deque_rule.View.{View}
-use Rattle.steal_pool.specs.declared.seats.Seat.{Seat}
+use Rattle.steal_pool.specs.declared.seat.Seat.{Seat}
 use Rattle.steal_pool.specs.DequeRule.{weigh, owning, IsToldIn}
 use Rattle.steal_pool.specs.Finish.{pushed_weigh}
 use Rattle.steal_pool.specs.Making.{belongs, owned, AreFilling, IsFilling}

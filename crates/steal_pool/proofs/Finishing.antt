@@ -5,7 +5,7 @@ use Rattle.atomic_table.proofs.Lists.{at_index}
 use Rattle.crossbeam_deque.specs.Handles.{worker_view}
 use Rattle.steal_pool.specs.declared.deque_rule.Call.{Call}
 use Rattle.steal_pool.specs.declared.deque_rule.View.{View}
-use Rattle.steal_pool.specs.declared.seats.Seat.{Seat}
+use Rattle.steal_pool.specs.declared.seat.Seat.{Seat}
 use Rattle.steal_pool.specs.DequeRule.{weigh, LooksEmpty}
 use Rattle.steal_pool.specs.Pools.{tasks_weigh, bins_weigh, Drew}
 use Rattle.bin_queues.specs.Tasks.{Tasking}

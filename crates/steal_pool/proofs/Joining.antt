@@ -9,7 +9,7 @@ use Rattle.tile_queues.specs.Owners.{AreTasksOf}
 use Rattle.tile_queues.specs.Shares.{AreWhole}
 use Rattle.tile_queues.proofs.Changing.{all_parts}
 use Rattle.steal_pool.specs.declared.deque_rule.Call.{Call}
-use Rattle.steal_pool.specs.declared.seats.Seat.{Seat}
+use Rattle.steal_pool.specs.declared.seat.Seat.{Seat}
 use Rattle.steal_pool.specs.DequeRule.{weigh, IsToldIn}
 use Rattle.steal_pool.specs.Finish.{AreFinishedTo, lists_weigh}
 use Rattle.steal_pool.specs.Lists.{joined, drawn_weigh, AreDrawnLists, AreListed, AreTold}

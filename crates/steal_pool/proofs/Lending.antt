@@ -8,7 +8,7 @@ use Rattle.crossbeam_deque.specs.Handles.{Pass, view, IsPassOf, worker_view, wor
 use Rattle.bin_queues.specs.Tasks.{Tasking}
 use Rattle.steal_pool.specs.declared.deque_rule.Call.{Call}
 use Rattle.steal_pool.specs.declared.deque_rule.View.{View}
-use Rattle.steal_pool.specs.declared.seats.Seat.{Seat}
+use Rattle.steal_pool.specs.declared.seat.Seat.{Seat}
 use Rattle.steal_pool.specs.DequeRule.{owning, stealing, lending}
 use Rattle.steal_pool.specs.Finish.{AreAt}
 use Rattle.steal_pool.specs.Gather.{AreEnds}

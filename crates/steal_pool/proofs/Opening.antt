@@ -8,7 +8,7 @@ use Rattle.crossbeam_deque.specs.Handles.{worker_deque, worker_view}
 use Rattle.bin_queues.specs.Tasks.{Tasking}
 use Rattle.steal_pool.specs.declared.deque_rule.Call.{Call}
 use Rattle.steal_pool.specs.declared.deque_rule.View.{View}
-use Rattle.steal_pool.specs.declared.seats.Seat.{Seat}
+use Rattle.steal_pool.specs.declared.seat.Seat.{Seat}
 use Rattle.steal_pool.specs.DequeRule.{weigh, owning, IsToldIn}
 use Rattle.steal_pool.specs.Making.{AreAtTo, AreFilling, IsEmptySeat, IsFilling, owned}
 use Rattle.steal_pool.proofs.Weights.{weigh_zero}

@@ -13,7 +13,7 @@ use Rattle.steal_pool.specs.declared.deque_rule.Call.{Call}
 use Rattle.steal_pool.specs.declared.deque_rule.Role.TheVariants.{Steals}
 use Rattle.steal_pool.specs.declared.deque_rule.View.{View}
 use Rattle.steal_pool.specs.DequeRule.{stealing, with_taken, IsShort}
-use Rattle.steal_pool.specs.declared.seats.Seat.{Seat}
+use Rattle.steal_pool.specs.declared.seat.Seat.{Seat}
 use Rattle.steal_pool.specs.Pools.{tasks_weigh, bins_weigh, IsWholeIn, Drew}
 use Rattle.steal_pool.specs.Seats.{passes_weigh, ArePassesOf, AreFresh, IsOpen, IsWorked}
 use Rattle.steal_pool.proofs.Weights.{weigh_set}

@@ -4,7 +4,7 @@ use Rattle.std.specs.Global.{Global}
 use Rattle.atomic_blocks.specs.Lent.{RowsId}
 use Rattle.crossbeam_deque.specs.Handles.{worker_view, worker_flavor, worker_deque}
 use Rattle.steal_pool.specs.declared.deque_rule.Call.{Call}
-use Rattle.steal_pool.specs.declared.seats.Seat.{Seat}
+use Rattle.steal_pool.specs.declared.seat.Seat.{Seat}
 use Rattle.steal_pool.specs.DequeRule.{weigh, owning}
 use Rattle.steal_pool.specs.Pools.{tasks_weigh, bins_weigh, IsWholeIn}
 

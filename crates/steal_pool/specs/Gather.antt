@@ -6,7 +6,7 @@ use Rattle.crossbeam_deque.specs.Handles.{Pass, view, IsPassOf, worker_view, wor
 use Rattle.steal_pool.specs.declared.deque_rule.Call.{Call}
 use Rattle.bin_queues.specs.Tasks.{Tasking}
 use Rattle.steal_pool.specs.declared.deque_rule.View.{View}
-use Rattle.steal_pool.specs.declared.seats.Seat.{Seat}
+use Rattle.steal_pool.specs.declared.seat.Seat.{Seat}
 use Rattle.steal_pool.specs.DequeRule.{weigh, owning, stealing}
 use Rattle.steal_pool.specs.Pools.{bins_weigh}
 use Rattle.steal_pool.specs.Seats.{passes_weigh, ArePassesOf}

@@ -4,7 +4,7 @@ use Rattle.bin_queues.specs.QueueParts.{BatchedFrame, batches_in}
 use Rattle.bin_queues.specs.Tasks.{QueuesOf, Tasking}
 use Rattle.tile_queues.specs.Owners.{AreTasksOf}
 use Rattle.steal_pool.specs.declared.deque_rule.Call.{Call}
-use Rattle.steal_pool.specs.declared.seats.Seat.{Seat}
+use Rattle.steal_pool.specs.declared.seat.Seat.{Seat}
 use Rattle.steal_pool.specs.DequeRule.{weigh, nobody}
 use Rattle.steal_pool.specs.Finish.{lists_weigh}
 use Rattle.steal_pool.specs.Pools.{tasks_weigh, IsWholeIn}

@@ -6,7 +6,7 @@ use Rattle.atomic_blocks.specs.Lent.{RowsId}
 use Rattle.crossbeam_deque.specs.Handles.{worker_view, worker_flavor, worker_deque, worker_index, worker_capacity}
 use Rattle.bin_queues.specs.Tasks.{Tasking}
 use Rattle.steal_pool.specs.declared.deque_rule.Call.{Call}
-use Rattle.steal_pool.specs.declared.seats.Seat.{Seat}
+use Rattle.steal_pool.specs.declared.seat.Seat.{Seat}
 use Rattle.steal_pool.specs.DequeRule.{owning, IsToldIn}
 use Rattle.steal_pool.specs.Pools.{tasks_weigh}
 use Rattle.steal_pool.specs.Finish.{pushed_weigh}

@@ -8,7 +8,7 @@ use Rattle.steal_pool.specs.declared.deque_rule.Call.{Call}
 use Rattle.steal_pool.specs.declared.deque_rule.View.{View}
 use Rattle.steal_pool.specs.DequeRule.{weigh, owning, stealing}
 use Rattle.steal_pool.specs.Pools.{tasks_weigh, bins_weigh, IsWholeIn}
-use Rattle.steal_pool.specs.declared.seats.Seat.{Seat}
+use Rattle.steal_pool.specs.declared.seat.Seat.{Seat}
 
 -- what the passes took, by the weights of the bins
 abbrev pub passes_weigh : {A : Type 0} → (ℕ → ℕ) → List (Pass Tasking View A) → ℕ

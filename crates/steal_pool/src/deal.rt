@@ -7,7 +7,7 @@ ghost use Rattle.steal_pool.specs.Pools.{call_of, tasks_weigh};
 
 use crate::deque_steps::push;
 use crate::pool::Pool;
-use crate::seats::Seat;
+use crate::seat::Seat;
 use tile_queues::{BinTask, Held};
 
 // To which worker a task is dealt: bin b belongs to worker b modulo the workers.

@@ -17,7 +17,7 @@ use crate::lend::lend_all;
 use crate::lists::lists_of;
 use crate::making::{empty_seats, thieves_of};
 use crate::pool::Pool;
-use crate::seats::Seat;
+use crate::seat::Seat;
 use crate::several::drain_seats;
 use binning::Cut;
 use cull_base::{FrameList, Memory};

@@ -7,7 +7,7 @@ ghost use Rattle.steal_pool.specs.Finish.{IsLeft, IsFinished, AreFinishedTo, lis
 
 use crate::draws::Draws;
 use crate::pool::Pool;
-use crate::seats::Seat;
+use crate::seat::Seat;
 use crate::worker::pop_all;
 use std::sync::Wait;
 use tile_queues::Gate;

@@ -24,7 +24,7 @@ use crate::draws::Draws;
 use crate::lists::{join_lists, lists_of};
 use crate::making::{empty_seats, thieves_of};
 use crate::pool::Pool;
-use crate::seats::Seat;
+use crate::seat::Seat;
 use crate::several::drain_seats;
 use crate::submitting::{submit_all, tell_all};
 use bin_queues::Batched;

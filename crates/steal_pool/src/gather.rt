@@ -10,7 +10,7 @@ ghost use Rattle.steal_pool.specs.Gather.{AreKeptAside, HavePassesFrom};
 use crate::deque_rule::{DequePass, Thief};
 use crate::deque_steps::take_back;
 use crate::pool::Pool;
-use crate::seats::Seat;
+use crate::seat::Seat;
 use std::alloc::Global;
 use std::mem;
 use tile_queues::Held;

@@ -10,7 +10,7 @@ ghost use Rattle.steal_pool.specs.Seats.{ArePassesOf, AreFresh, IsOpen};
 use crate::deque_rule::{DequePass, Thief};
 use crate::deque_steps::lend;
 use crate::pool::Pool;
-use crate::seats::Seat;
+use crate::seat::Seat;
 use cull_base::Memory;
 use std::alloc::Global;
 use std::mem;

@@ -5,7 +5,7 @@ ghost use Rattle.steal_pool.specs.Lists.{joined, drawn_weigh, AreDrawnLists};
 ghost use Rattle.steal_pool.specs.Pools.{call_of};
 
 use crate::pool::Pool;
-use crate::seats::Seat;
+use crate::seat::Seat;
 use tile_queues::{BinTask, Held};
 
 /// The list of each worker, in order. Conditions: all tasks are drawn, and there is room for so many lists.

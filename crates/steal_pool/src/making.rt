@@ -10,7 +10,7 @@ ghost use Rattle.steal_pool.specs.Pools.{call_of};
 use crate::deque_rule::{Owner, Thief};
 use crate::deque_steps::{name, opened};
 use crate::pool::Pool;
-use crate::seats::Seat;
+use crate::seat::Seat;
 use cull_base::Memory;
 use std::alloc::Global;
 use tile_queues::Held;

@@ -10,7 +10,7 @@ use crate::draws::Draws;
 use crate::finish::finish_all;
 use crate::gather::take_all;
 use crate::pool::Pool;
-use crate::seats::{Seat, work_all};
+use crate::seat::{Seat, work_all};
 use std::alloc::Global;
 use std::sync::Wait;
 use std::thread::Threads;

@@ -1,7 +1,7 @@
 use Rattle.std.proofs.Common.{◌≡◌, All, List, length, vec_items, vec_capacity, arith, rules, ap, sym, ◌∙◌, subst}
 use Rattle.std.proofs.lemmas.Grind.{common_steps}
 use Rattle.std.proofs.lemmas.List.{with_items_is}
-use Rattle.steal_pool.specs.declared.seats.Seat.{Seat}
+use Rattle.steal_pool.specs.declared.seat.Seat.{Seat}
 use Rattle.steal_pool.specs.Finish.{AreFinishedTo, lists_weigh}
 use Rattle.steal_pool.specs.Lists.{joined}
 use Rattle.steal_pool.specs.Making.{HaveRoom, IsEmptySeat}

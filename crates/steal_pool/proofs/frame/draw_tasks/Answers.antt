@@ -3,7 +3,7 @@ use Rattle.std.proofs.lemmas.Grind.{common_steps}
 use Rattle.std.proofs.lemmas.List.{with_items_is}
 use Rattle.bin_queues.specs.Tasks.{Tasking}
 use Rattle.tile_queues.specs.Shares.{AreWhole}
-use Rattle.steal_pool.specs.declared.seats.Seat.{Seat}
+use Rattle.steal_pool.specs.declared.seat.Seat.{Seat}
 use Rattle.steal_pool.specs.Finish.{AreFinishedTo, lists_weigh}
 use Rattle.steal_pool.specs.Lists.{joined}
 use Rattle.steal_pool.specs.Making.{HaveRoom, IsEmptySeat}

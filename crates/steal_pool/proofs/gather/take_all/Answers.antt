@@ -1,7 +1,7 @@
 use Rattle.std.proofs.Common.{◌≡◌, ◌+◌, ◌-◌, ◌<◌, length, ap, ◌∙◌, subst, ℕ, arith, get_or, set, refl}
 use Rattle.std.proofs.lemmas.List.{length-set}
 use Rattle.crossbeam_deque.specs.Handles.{stealer_deque}
-use Rattle.steal_pool.specs.declared.seats.Seat.{Seat}
+use Rattle.steal_pool.specs.declared.seat.Seat.{Seat}
 use Rattle.steal_pool.specs.Pools.{call_of}
 use Rattle.steal_pool.specs.Gather.{AreOut, owners_weigh}
 use Rattle.steal_pool.specs.Seats.{passes_weigh}

@@ -1,6 +1,6 @@
 use Rattle.std.proofs.Common.{◌<◌, length, get_or, arith, refl, ap, sym, subst}
 use Rattle.crossbeam_deque.specs.Handles.{stealer_deque}
-use Rattle.steal_pool.specs.declared.seats.Seat.{Seat}
+use Rattle.steal_pool.specs.declared.seat.Seat.{Seat}
 use Rattle.steal_pool.specs.Pools.{call_of}
 use Rattle.steal_pool.specs.Seats.{ArePassesOf, AreFresh}
 use Rattle.steal_pool.proofs.Lending.{at_on, lent_next, lent_to, all_open, none_lent, no_rows, rows_next, seats_on_none, seats_on_next}

@@ -2,7 +2,7 @@ use Rattle.std.proofs.Common.{◌≡◌, ◌≤◌, ◌∷◌, [], All, List, le
 use Rattle.std.proofs.lemmas.Grind.{common_steps}
 use Rattle.std.proofs.lemmas.List.{length-append}
 use Rattle.std.proofs.lemmas.List.Elements.{All-nil, All-push}
-use Rattle.steal_pool.specs.declared.seats.Seat.{Seat}
+use Rattle.steal_pool.specs.declared.seat.Seat.{Seat}
 use Rattle.steal_pool.specs.Making.{IsEmptySeat}
 use Rattle.steal_pool.specs.Pools.{call_of}
 use Rattle.steal_pool.proofs.making.empty_seats.Goals as goal

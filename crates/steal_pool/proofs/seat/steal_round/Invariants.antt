@@ -2,7 +2,7 @@ use Rattle.std.proofs.Common.{◌≡◌, ◌+◌, ◌*◌, ◌≤◌, ℕ, All, 
 use Rattle.crossbeam_deque.specs.Handles.{stealer_deque}
 use Rattle.steal_pool.specs.Pools.{call_of, tasks_weigh, IsWholeIn}
 use Rattle.steal_pool.specs.Seats.{passes_weigh, ArePassesOf}
-use Rattle.steal_pool.proofs.seats.steal_round.Given as goal
+use Rattle.steal_pool.proofs.seat.steal_round.Given as goal
 
 abbrev pub invariant-loop : goal.invariant-loop
 invariant-loop g l =

@@ -2,7 +2,7 @@ use Rattle.std.proofs.Common.{◌+◌, ◌*◌, ◌≤◌, ◌<◌, length, get_
 use Rattle.crossbeam_deque.specs.Handles.{view, stealer_deque}
 use Rattle.steal_pool.specs.Pools.{call_of}
 use Rattle.steal_pool.proofs.Seating.{of_is, pass_at, pass_room, passes_of_set, passes_set, room_kept, steals_as_role, steals_on}
-use Rattle.steal_pool.proofs.seats.steal_round.Goals as goal
+use Rattle.steal_pool.proofs.seat.steal_round.Goals as goal
 
 pub loop-init : goal.loop-init
 loop-init g c = (c.requires.passes, (λ k. refl), grind arith, c.requires.whole, grind arith)

@@ -4,11 +4,11 @@ use Rattle.crossbeam_deque.specs.Handles.{stealer_deque, worker_flavor, worker_v
 use Rattle.bin_queues.specs.Tasks.{Tasking}
 use Rattle.steal_pool.specs.declared.deque_rule.Role.TheVariants.{Owns}
 use Rattle.steal_pool.specs.declared.deque_rule.View.{View}
-use Rattle.steal_pool.specs.declared.seats.Seat.{Seat}
+use Rattle.steal_pool.specs.declared.seat.Seat.{Seat}
 use Rattle.steal_pool.specs.Pools.{call_of, IsWholeIn}
 use Rattle.steal_pool.proofs.Drawing.{of_drew}
 use Rattle.steal_pool.proofs.Seating.{round_room, worked}
-use Rattle.steal_pool.proofs.seats.work_at.Goals as goal
+use Rattle.steal_pool.proofs.seat.work_at.Goals as goal
 
 pub pop_all-requires-clause-owns : goal.pop_all-requires-clause-owns
 pop_all-requires-clause-owns g c =
