@@ -7,7 +7,7 @@ use Rattle.steal_pool.proofs.deal.owned_by.Goals as goal
 pub loop-i-preserved : goal.loop-i-preserved
 loop-i-preserved g c =
     let inv = c.loop-i.invariant in
-    let one = c.counted.ensures in
+    let one = c.counted-count.ensures in
     let more = owned_more c.args.workers c.args.worker c.args.tasks.now c.loop-i.i c.index-tasks-i.result c.loop-i-test.true c.index-tasks-i.is in
     (omega (arith, inv.0, one.value, more), omega (arith, inv.1, one.small))
 
