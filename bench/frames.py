@@ -4,6 +4,7 @@
 usage: bench/frames.py PROGRAM [--triangles 1000,20000,65536] [--rectangles 500] [--rounds 5]
                        [--workers 1,2,4] [--bins 4] [--batch 64] [--path 64]
                        [--grade narrow|wide] [--near 16] [--scene-batches 1] [--words "cull"] [--uneven]
+                       [--scan 160] [--hall 200]
 
 Each scene has random triangles between near and far, as a camera that looks down the z axis sees them, and random
 rectangles as objects. A frame's time is the shortest of --rounds runs of the program, less that of a run without
@@ -15,11 +16,17 @@ have this grade, and their triangles come in --scene-batches; without it they ar
 distance is another, and all coordinates and distances are multiplied by a 64th of it, rounded up: the picture stays
 what it is. With --words the program runs this command with these options, such as "live --rounds 8 --steal". With
 --uneven all triangles lie in the left quarter of the view: the picture is pressed together there.
+
+With --scan or --hall the scenes are these instead: a closed surface of small triangles that share their vertices, of
+so many rings, and a hall with so many things in it, each with 500 boxes and seen by four cameras in turn. A frame's
+time is then that of 32 frames, the time of 4 subtracted.
 Measure on a quiet machine."""
 import argparse
 import struct
 import subprocess
 import time
+
+import models
 
 WIDTH, HEIGHT = 1280, 720
 FIRST_NEAR = 16
@@ -112,6 +119,18 @@ def path(program, command, form, triangles, rectangles, workers, frames, rounds)
     return (times[1] - times[0]) / (frames - few)
 
 
+def model(program, name, number, workers, rounds):
+    """Prints the times of a frame of a model, for each number of workers."""
+    parts = getattr(models, name)(Numbers(1), number)
+    few, many = models.scene(parts, 4), models.scene(parts, 36)
+    for count in workers:
+        options = ["cull", "--workers", str(count)]
+        times = [seconds(program, options, data, rounds) for data in (few, many)]
+        frame = (times[1] - times[0]) / 32
+        told = f"{name} of {len(parts[0].rows)} triangles, {len(parts[1])} boxes, {count} workers"
+        print(f"{told}: {1000 * frame:.2f} ms")
+
+
 def main():
     parser = argparse.ArgumentParser(description=__doc__, formatter_class=argparse.RawDescriptionHelpFormatter)
     parser.add_argument("program")
@@ -127,13 +146,21 @@ def main():
     parser.add_argument("--scene-batches", type=int, default=1)
     parser.add_argument("--words", default="cull")
     parser.add_argument("--uneven", action="store_true")
+    parser.add_argument("--scan", type=int, default=0)
+    parser.add_argument("--hall", type=int, default=0)
     args = parser.parse_args()
+    numbers_of_workers = [int(count) for count in args.workers.split(",")]
+    if args.scan or args.hall:
+        for name, number in (("scan", args.scan), ("hall", args.hall)):
+            if number:
+                model(args.program, name, number, numbers_of_workers, args.rounds)
+        return
     form = Form(args.near, args.grade, args.scene_batches, args.uneven)
     command = args.words.split()
     empty = seconds(args.program, command, scene(form, 1, 0, 1), args.rounds)
     for triangles in map(int, args.triangles.split(",")):
         data = scene(form, 1, triangles, args.rectangles)
-        for workers in map(int, args.workers.split(",")):
+        for workers in numbers_of_workers:
             shared = words(command, workers, args.bins, args.batch)
             frame = seconds(args.program, shared, data, args.rounds) - empty
             print(f"{triangles:>7} triangles, {args.rectangles} rectangles, {workers} workers: {1000 * frame:.2f} ms")

@@ -8,6 +8,7 @@ ghost use Rattle.culling.specs.declared.frames.Beside.TheVariants.{Nothing};
 use crate::drawing::{Drawing, Plan, draw_plainly};
 use crate::failure::Failure;
 use crate::frames::{Asking, Beside, groups_beside};
+use crate::heap::keep_freed_memory;
 use crate::live_frame::{Seen, draw_live};
 use crate::noting::write_and_note;
 use crate::window::{report_windows, round_count};
@@ -115,15 +116,6 @@ fn report_rest<R: Threads + Wait + Sync, W: Sink, E: Sink, G: Gate>(
     Ok(())
 }
 
-// Asks for a large block that nobody touches, and gives it up. The C library hands freed memory back to the system
-// where more lies free than twice the largest block that it was given back so far, and then a frame's memory is made
-// anew for each frame, page by page. After this it is kept for the next frame.
-fn keep_freed_memory(alloc: Global) -> Result<(), Memory> {
-    let block: Vec<u8> = Vec::with_capacity(alloc, LARGE).map_err(|_| Memory)?;
-    drop(block);
-    Ok(())
-}
-
 /// Draws all frames, writes their lines in order and notes what is noted beside: first windows of frames side by side,
 /// where there are no looks and the scene has as many frames as there are workers, and then what is left, frame after
 /// frame.
@@ -140,7 +132,7 @@ pub fn report_frames<R: Threads + Wait + Sync, W: Sink, E: Sink, G: Gate>(
         (W.says report.old) (W.says report.new) (E.says notes.old) (E.says notes.new) }
     ensures quiet { plan.now.beside ≡ Nothing → notes.new ≡ notes.old }
 {
-    keep_freed_memory(alloc)?;
+    keep_freed_memory(alloc, LARGE)?;
     let table = BinTable::of(alloc, scene.size(), &plan.settings.cut)?;
     let groups = groups_beside(alloc, plan.beside, scene)?;
     let drawing = Drawing {

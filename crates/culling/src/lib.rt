@@ -7,6 +7,7 @@ mod drawing;
 mod failure;
 mod frame_by_frame;
 mod frames;
+mod heap;
 mod live_caller;
 mod live_frame;
 mod noting;

@@ -11,6 +11,7 @@ ghost use Rattle.culling.specs.Windows.{HasPlaces};
 use crate::drawing::{Drawing, Plan, draw_plainly};
 use crate::failure::Failure;
 use crate::frames::{Asking, Beside, Frame, FrameLines};
+use crate::heap::keep_freed_memory;
 use crate::noting::write_and_note;
 use binning::Cut;
 use camera_path::Camera;
@@ -61,6 +62,12 @@ fn frame_size(scene: &Scene) -> u64 {
         .saturating_add(tiles)
         .saturating_add(objects)
         .saturating_add(REST)
+}
+
+// In bytes, what a slot takes at most while it makes so many frames: a frame, and the lines of all.
+fn slot_size(scene: &Scene, count: u32) -> u64 {
+    let lines = OBJECT.saturating_mul(scene.objects().len() as u64);
+    frame_size(scene).saturating_add(lines.saturating_mul(u64::from(count)))
 }
 
 // How many frames each worker has of a scene's windows. None where a worker is alone, where objects are settled while a
@@ -184,7 +191,7 @@ fn make_frames<R: Threads + Wait + Sync, G: Gate>(
     }
 }
 
-// Makes so many frames from a first on in a slot.
+// Makes so many frames from a first on in a slot, for which its thread's heap grows once.
 fn make<R: Threads + Wait + Sync, G: Gate>(
     drawing: &Drawing<R, G>,
     asking: Asking,
@@ -197,6 +204,8 @@ fn make<R: Threads + Wait + Sync, G: Gate>(
     requires places { HasPlaces drawing.now.scene.now slot.old }
     ensures { IsMade drawing.now.scene.now drawing.now.groups.now first count slot.new }
 {
+    // where there is no such block, a frame tells what it has no memory for
+    let _ = keep_freed_memory(drawing.alloc, slot_size(drawing.scene, count) as usize);
     make_frames(
         drawing,
         asking,

@@ -10,7 +10,7 @@ one_longer false m n le = omega arith
 
 pub front_length : (os : List Object) → boxes_at_front os ≤ length os
 front_length [] = omega arith
-front_length (o ∷ os) = one_longer (is_box o) (boxes_at_front os) (length os) (front_length os)
+front_length (o ∷ os) = omega (arith, one_longer (is_box o) (boxes_at_front os) (length os) (front_length os))
 
 -- a box at a place
 pub front_more : (os : List Object) (k : ℕ) (d : Object) → k < length os → is_box (get_or os k d) ≡ true → boxes_at_front (drop k os) ≡ boxes_at_front (drop (k + 1) os) + 1

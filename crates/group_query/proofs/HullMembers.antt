@@ -137,12 +137,12 @@ some_members size h (shape ∷ shapes) some = some_members size (grown size h sh
 
 -- ---- the hull of one
 
-unchanged : (size : Dimensions) (h : Option Hull) (shape : Shape) → cond (counts size shape) 1 0 ≡ 0 → grown size h shape ≡ h
+unchanged : (size : Dimensions) (h : Option Hull) (shape : Shape) → ◌≡◌ {A = ℕ} (cond (counts size shape) 1 0) 0 → grown size h shape ≡ h
 unchanged size h AlwaysOutside e = refl
 unchanged size h AlwaysVisible e = refl
 unchanged size h (Flat r q) e = by (meets r (screen_of size)) e
   where
-    by : (b : Bool) → cond b 1 0 ≡ 0 → cond b (Some (with_member h (cut_of r (screen_of size)) q)) h ≡ h
+    by : (b : Bool) → ◌≡◌ {A = ℕ} (cond b 1 0) 0 → cond b (Some (with_member h (cut_of r (screen_of size)) q)) h ≡ h
     by true f = absurd (omega (arith, f))
     by false f = refl
 unchanged size h (Pieces ps hull) e = refl
@@ -150,12 +150,15 @@ unchanged size h (Pieces ps hull) e = refl
 none_counted : (size : Dimensions) (h : Option Hull) (shapes : List Shape) → counted size shapes ≡ 0 → hull_from size h shapes ≡ h
 none_counted size h [] e = refl
 none_counted size h (shape ∷ shapes) e =
-    let first : cond (counts size shape) 1 0 ≡ 0 = omega (arith, e) in
+    let first : ◌≡◌ {A = ℕ} (cond (counts size shape) 1 0) 0 = omega (arith, e) in
     let rest : counted size shapes ≡ 0 = omega (arith, e) in
     none_counted size (grown size h shape) shapes rest ∙ unchanged size h shape first
 
-does_count : (size : Dimensions) (shape : Shape) (r : Rect) (q : ℕ) → shape ≡ Flat r q → meets r (screen_of size) ≡ true → cond (counts size shape) 1 0 ≡ 1
-does_count size shape r q is m = ap (λ (s : Shape). cond (counts size s) 1 0) is ∙ ap (λ (b : Bool). cond b 1 0) m
+abbrev one_if : Bool → ℕ
+one_if b = cond b 1 0
+
+does_count : (size : Dimensions) (shape : Shape) (r : Rect) (q : ℕ) → shape ≡ Flat r q → meets r (screen_of size) ≡ true → ◌≡◌ {A = ℕ} (cond (counts size shape) 1 0) 1
+does_count size shape r q is m = ap (λ (s : Shape). one_if (counts size s)) is ∙ ap one_if m
 
 one_counted : (size : Dimensions) (shapes : List Shape) (k : ℕ) (r : Rect) (q : ℕ) → k < length shapes → get_or shapes k AlwaysOutside ≡ Flat r q → meets r (screen_of size) ≡ true → 1 ≤ counted size shapes
 one_counted size [] k r q lt is m = absurd (omega (arith, lt))
@@ -172,7 +175,7 @@ one_member size (shape ∷ shapes) zero r q lt is m one =
     ap (λ (o : Option Hull). hull_from size o shapes) (grown_flat size None shape r q is m) ∙ none_counted size (Some (own size r q)) shapes rest
 one_member size (shape ∷ shapes) (suc k) r q lt is m one =
     let some = one_counted size shapes k r q (omega (arith, lt)) is m in
-    let first : cond (counts size shape) 1 0 ≡ 0 = omega (arith, one, some) in
+    let first : ◌≡◌ {A = ℕ} (cond (counts size shape) 1 0) 0 = omega (arith, one, some) in
     ap (λ (o : Option Hull). hull_from size o shapes) (unchanged size None shape first) ∙ one_member size shapes k r q (omega (arith, lt)) is m (omega (arith, one, first))
 
 -- ---- members one after the other

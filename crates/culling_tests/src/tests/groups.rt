@@ -231,7 +231,7 @@ fn members_that_do_not_count_are_no_part_of_it(rt: HostRuntime) -> Result<(), Fa
 fn groups_over_the_scene_of_demo(rt: HostRuntime) -> Result<(), Fail> {
     let alloc = rt.alloc();
     let mut bytes = SureSink::new(alloc);
-    write_scene(&mut bytes, &demo_scene(alloc, 1, 20000)?)?;
+    write_scene(&demo_scene(alloc, 1, 20000)?, &mut bytes)?;
     for (most, notes) in [
         (
             16u32,

@@ -24,4 +24,4 @@ returns-in_err-table-clause-reported g c =
     rw (p.1, p.2) (frames_no_memory [] plan.lines plan.beside drawing.scene.now 0 (c.args.rounds * plan.settings.now.workers) (g.W.Sink.says c.args.report.now) (g.E.Sink.says c.args.notes.now))
 
 pub report_in_slots-requires-clause-unseen : goal.report_in_slots-requires-clause-unseen
-report_in_slots-requires-clause-unseen g c = unseen_if c.args.drawing.now.plan.now.beside c.args.rounds c.requires.unseen (λ is. omega (arith, is, c.if-rounds-eq0.false))
+report_in_slots-requires-clause-unseen g c κs within = unseen_if c.args.drawing.now.plan.now.beside c.args.rounds c.requires.unseen (λ is. omega (arith, is, c.if-rounds-eq0.false))

@@ -12,7 +12,7 @@ loop-place-init c =
     ap (λ (gs : List Group). gs ++ groups_from c.args.most 0 0 (drop 0 os)) c.new-groups.ensures.items ∙ ap (groups_from c.args.most 0 0) (drop_nothing os)
 
 pub loop-place-preserved : goal.loop-place-preserved
-loop-place-preserved c = c.in_ok-add_object.ensures ∙ c.loop-place.invariant
+loop-place-preserved c = c.in_ok-left.ensures ∙ c.loop-place.invariant
 
 pub returns : goal.returns
 returns c =

@@ -16,9 +16,9 @@ loop-k-preserved c =
     let k = c.loop-k.k in
     let shape = shape_of_form s frame c.object_form-form.result in
     let lt : c.args.first + k < length s.objects = omega (arith, c.loop-k-test.true, c.requires.within) in
-    let few = ap members_of c.grown.ensures in
+    let few = ap members_of c.grown-hull.ensures in
     record {
-      hull_is = c.grown.ensures ∙ hull_more s frame c.args.first k (Mesh 0 0) c.args.front c.loop-k.hull shape lt c.loop-k.invariant.hull_is (c.object_form-form.ensures.shape (Mesh 0 0));
+      hull_is = c.grown-hull.ensures ∙ hull_more s frame c.args.first k (Mesh 0 0) c.args.front c.loop-k.hull shape lt c.loop-k.invariant.hull_is (c.object_form-form.ensures.shape (Mesh 0 0));
       few = omega (arith, few, grown_few (size_of s) c.loop-k.hull shape, c.loop-k.invariant.few);
     }
 

@@ -5,6 +5,6 @@ use Rattle.group_query.proofs.hulls.grown_by.Given as goal
 
 abbrev pub invariant-loop-k : goal.invariant-loop-k
 invariant-loop-k l = record {
-  hull_is : l.hull ≡ hull_from (size_of l.scene) l.front (shapes_from l.scene l.frame l.first l.k);
-  few : members_of l.hull ≤ members_of l.front + l.k;
+  hull_is : l.hull ≡ hull_from (size_of l.scene) l.fn.front (shapes_from l.scene l.frame l.first l.k);
+  few : members_of l.hull ≤ members_of l.fn.front + l.k;
 }

@@ -21,10 +21,10 @@ loop-k-preserved c =
     let shape = shape_of_form s frame form in
     let lt : first + k < length s.objects = omega (arith, c.loop-k-test.true, c.requires.within) in
     let place : k < length c.loop-k.forms = omega (arith, c.loop-k-test.true, c.requires.places, i.places) in
-    let few = ap members_of c.grown.ensures in
+    let few = ap members_of c.grown-hull.ensures in
     let own : IsFormOf s frame (first + k) form = record { own = c.object_form-form.ensures.shape; triangles = c.object_form-form.ensures.triangles } in
     record {
-      hull_is = c.grown.ensures ∙ hull_more s frame first k (Mesh 0 0) None c.loop-k.hull shape lt i.hull_is (c.object_form-form.ensures.shape (Mesh 0 0));
+      hull_is = c.grown-hull.ensures ∙ hull_more s frame first k (Mesh 0 0) None c.loop-k.hull shape lt i.hull_is (c.object_form-form.ensures.shape (Mesh 0 0));
       few = omega (arith, few, grown_few (size_of s) c.loop-k.hull shape, i.few);
       kept = λ j d below. set_each (λ (n : ℕ) (x : Form). IsFormOf s frame (first + n) x) c.loop-k.forms k form (k + 1) place (λ n e less ne. i.kept n e (omega (arith, less, ne))) own j d below;
       places = length-set c.loop-k.forms k form ∙ i.places;
