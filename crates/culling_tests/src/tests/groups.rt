@@ -47,8 +47,9 @@ fn first_hull(alloc: Global, scene: &Scene, most: u32) -> Result<Option<Hull>, F
     let Some(group) = list.first() else {
         return Err(Fail::from("a group"));
     };
-    let end = u64::from(group.first) + u64::from(group.count);
-    if scene.cameras().is_empty() || end > scene.objects().len() as u64 {
+    let objects = scene.objects().len();
+    let (first, count) = (group.first as usize, group.count as usize);
+    if scene.cameras().is_empty() || first > objects || count > objects - first {
         return Err(Fail::from("a group of the scene's first frame"));
     }
     Ok(hull(scene, 0, *group))
