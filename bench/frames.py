@@ -3,7 +3,7 @@
 
 usage: bench/frames.py PROGRAM [--triangles 1000,20000,65536] [--rectangles 500] [--rounds 5]
                        [--workers 1,2,4] [--bins 4] [--batch 64] [--path 64]
-                       [--grade narrow|wide] [--near 16] [--scene-batches 1]
+                       [--grade narrow|wide] [--near 16] [--scene-batches 1] [--words "cull"] [--uneven]
                        [--scan 160] [--hall 200]
 
 Each scene has random triangles between near and far, as a camera that looks down the z axis sees them, and random
@@ -14,7 +14,8 @@ more than one worker the screen is cut into --bins columns and rows of bins, and
 of a fourth of them is subtracted, so that reading isn't counted either. With --grade the scenes are of version 2 and
 have this grade, and their triangles come in --scene-batches; without it they are of version 1. With --near the near
 distance is another, and all coordinates and distances are multiplied by a 64th of it, rounded up: the picture stays
-what it is.
+what it is. With --words the program runs this command with these options, such as "live --rounds 8 --steal". With
+--uneven all triangles lie in the left quarter of the view: the picture is pressed together there.
 
 With --scan or --hall the scenes are these instead: a closed surface of small triangles that share their vertices, of
 so many rings, and a hall with so many things in it, each with 500 boxes and seen by four cameras in turn. A frame's
@@ -46,10 +47,10 @@ class Numbers:
 
 class Form:
     """What a scene is apart from its picture: its near distance, and in version 2 a grade and a number of batches. In
-    version 1 the grade is None."""
+    version 1 the grade is None. Where it is uneven, its triangles lie in the left quarter of the view."""
 
-    def __init__(self, near=FIRST_NEAR, grade=None, parts=1):
-        self.near, self.grade, self.parts = near, grade, parts
+    def __init__(self, near=FIRST_NEAR, grade=None, parts=1, uneven=False):
+        self.near, self.grade, self.parts, self.uneven = near, grade, parts, uneven
         # so many units are one of the scenes with the first near distance
         self.unit = -(-near // 64)
 
@@ -68,6 +69,11 @@ class Form:
         return b"".join(struct.pack("<IB", end - first, 0) for first, end in zip(ends, ends[1:]))
 
 
+def pressed(x, w):
+    """Where a point at this distance stands in the left quarter of the view, by where it stands in the whole."""
+    return (max(-w, min(x, w)) + w) // 4 - w
+
+
 def scene(form, seed, triangles, rectangles, frames=1):
     numbers = Numbers(seed)
     vertices = bytearray()
@@ -75,7 +81,9 @@ def scene(form, seed, triangles, rectangles, frames=1):
         x, y, z = numbers.below(16001) - 8000, numbers.below(4001) - 2000, 200 + numbers.below(16000)
         for _ in range(3):
             vx, vy, vz = x + numbers.below(801) - 400, y + numbers.below(801) - 400, z + numbers.below(201) - 100
-            vertices += struct.pack("<3i", *(form.unit * number for number in (36864 * vx >> 16, vy, vz)))
+            across = 36864 * vx >> 16
+            place = (pressed(across, vz) if form.uneven else across, vy, vz)
+            vertices += struct.pack("<3i", *(form.unit * number for number in place))
     indices = struct.pack(f"<{3 * triangles}I", *range(3 * triangles))
     objects = bytearray()
     for _ in range(rectangles):
@@ -88,10 +96,10 @@ def scene(form, seed, triangles, rectangles, frames=1):
     return header + vertices + indices + form.batches(triangles) + objects + cameras
 
 
-def words(workers, bins, batch):
+def words(command, workers, bins, batch):
     cut = bins if workers > 1 else 1
     options = {"--workers": workers, "--bins-x": cut, "--bins-y": cut, "--batch": batch}
-    return ["cull"] + [str(word) for option in options.items() for word in option]
+    return command + [str(word) for option in options.items() for word in option]
 
 
 def seconds(program, words, data, rounds):
@@ -103,10 +111,10 @@ def seconds(program, words, data, rounds):
     return least
 
 
-def path(program, form, triangles, rectangles, workers, frames, rounds):
+def path(program, command, form, triangles, rectangles, workers, frames, rounds):
     """Seconds a frame along a path."""
     few = frames // 4
-    options = ["cull", "--workers", str(workers)]
+    options = [*command, "--workers", str(workers)]
     times = [seconds(program, options, scene(form, 1, triangles, rectangles, n), rounds) for n in (few, frames)]
     return (times[1] - times[0]) / (frames - few)
 
@@ -136,6 +144,8 @@ def main():
     parser.add_argument("--grade", choices=GRADES)
     parser.add_argument("--near", type=int, default=FIRST_NEAR)
     parser.add_argument("--scene-batches", type=int, default=1)
+    parser.add_argument("--words", default="cull")
+    parser.add_argument("--uneven", action="store_true")
     parser.add_argument("--scan", type=int, default=0)
     parser.add_argument("--hall", type=int, default=0)
     args = parser.parse_args()
@@ -145,15 +155,17 @@ def main():
             if number:
                 model(args.program, name, number, numbers_of_workers, args.rounds)
         return
-    form = Form(args.near, args.grade, args.scene_batches)
-    empty = seconds(args.program, ["cull"], scene(form, 1, 0, 1), args.rounds)
+    form = Form(args.near, args.grade, args.scene_batches, args.uneven)
+    command = args.words.split()
+    empty = seconds(args.program, command, scene(form, 1, 0, 1), args.rounds)
     for triangles in map(int, args.triangles.split(",")):
         data = scene(form, 1, triangles, args.rectangles)
         for workers in numbers_of_workers:
-            frame = seconds(args.program, words(workers, args.bins, args.batch), data, args.rounds) - empty
+            shared = words(command, workers, args.bins, args.batch)
+            frame = seconds(args.program, shared, data, args.rounds) - empty
             print(f"{triangles:>7} triangles, {args.rectangles} rectangles, {workers} workers: {1000 * frame:.2f} ms")
             if args.path:
-                frame = path(args.program, form, triangles, args.rectangles, workers, args.path, args.rounds)
+                frame = path(args.program, command, form, triangles, args.rectangles, workers, args.path, args.rounds)
                 print(f"{'':>7} along a path of {args.path} frames: {1000 * frame:.2f} ms, {1 / frame:.0f} a second")
 
 

@@ -182,13 +182,14 @@ least a b k p q = omega arith
 other_at : (views : List View) (by other : ℕ) (w u : View) → ¬ (other ≡ by) → get_elem? (set views by w) other ≡ some u → get_elem? views other ≡ some u
 other_at views by other w u ne e = ⊎_elim (λ (t : (other ≡ by) × (w ≡ u)). absurd (ne t.0)) (λ (t : (other ≢ by) × (get_elem? views other ≡ some u)). t.1) (at_set views by other w u e)
 
-hears : (by : ℕ) (b : BinOfFrame) (k t other p : ℕ) → Merges QueueRule by (taker b k t) other (note b p) (told_by (taker b k t) (note b p)) spent
-hears by b k t other p items views kept at apart there =
+-- the rule tells that the note is of the task's bin
+hears : (by : ℕ) (b : BinOfFrame) (k t other : ℕ) (c : BinOfFrame) (p : ℕ) → Merges QueueRule by (taker b k t) other (note c p) (told_by (taker b k t) (note c p)) spent
+hears by b k t other c p items views kept at apart there =
     named items views by (taker b k t) (λ z. z) at kept
     (λ b' q n run.
     let s = takes items views by b b' k t q n run at in
-    let w = told_by (taker b k t) (note b p) in
-    let o = notes items views other b b p k n s.1 (other_at views by other w (note b p) apart there) in
+    let w = told_by (taker b k t) (note c p) in
+    let o = notes items views other c b p k n s.1 (other_at views by other w (note c p) apart there) in
     running b k n s.1.within s.1.holds
     (fits_set b k n (set views by w) other spent
     (λ j u _ e. fits_set b k n views by w (λ i y _ f. s.1.fit i y f) (s.0, refl, least t p (k + n) s.2 o) j u e) tt))
@@ -212,6 +213,6 @@ told_as by v is = subst (λ (u : View). Learns QueueRule by u (Told u)) (sym is)
 pub tells_as : (by : ℕ) (v : View) → IsSubmitter v → Forks QueueRule by v v (note v.of v.number)
 tells_as by v is = subst (λ (u : View). Forks QueueRule by u u (note u.of u.number)) (sym is) (tells by v.of v.number)
 
-pub hears_as : (by : ℕ) (v : View) (other : ℕ) (w : View) → IsTaker v → IsNote w → w.of ≡ v.of → Merges QueueRule by v other w (told_by v w) spent
-hears_as by v other w iv iw l =
-    subst (λ (z : View × View). Merges QueueRule by z.0 other z.1 (told_by z.0 z.1) spent) (λ i. (sym iv i, sym (iw ∙ (λ j. note (l j) w.number)) i)) (hears by v.of v.number v.told other w.number)
+pub hears_as : (by : ℕ) (v : View) (other : ℕ) (w : View) → IsTaker v → IsNote w → Merges QueueRule by v other w (told_by v w) spent
+hears_as by v other w iv iw =
+    subst (λ (z : View × View). Merges QueueRule by z.0 other z.1 (told_by z.0 z.1) spent) (λ i. (sym iv i, sym iw i)) (hears by v.of v.number v.told other w.of w.number)

@@ -147,7 +147,7 @@ impl Intake {
     /// Hears a note of the submitter's.
     pub(crate) fn hear(&mut self, queue: &Queue, note: QueuePass)
         requires queue { self.old.queue ≡ queue.now.table.shared.table_id }
-        requires note { IsPassOf queue.now note × IsNote (view note) × ((view note).of ≡ self.old.of) }
+        requires note { IsPassOf queue.now note × IsNote (view note) }
         ensures { self.new ≡ record self.old { told = max self.old.told (view note).number } }
     {
         queue_steps::hear(queue, &mut self.pass, note);

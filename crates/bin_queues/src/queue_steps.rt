@@ -78,11 +78,10 @@ pub(crate) fn tell(queue: &Queue, pass: &mut QueuePass) -> QueuePass
     queue.another::<Tell>(pass)
 }
 
-/// Takes a note into the task's view.
+/// Takes a note into the task's view. Both are of one queue, and so of one bin: the rule tells that.
 pub(crate) fn hear(queue: &Queue, pass: &mut QueuePass, note: QueuePass)
     requires own { IsPassOf queue.now pass.old × IsPassOf queue.now note }
     requires roles { IsTaker (view pass.old) × IsNote (view note) }
-    requires same { (view note).of ≡ (view pass.old).of }
     ensures own { IsSamePass pass.old pass.new }
     ensures heard { view pass.new ≡ told_by (view pass.old) (view note) }
 {

@@ -90,12 +90,11 @@ impl PartQueues {
         intake.look(rt, &self.number)
     }
 
-    /// Tells a task how many batches were submitted. Condition: the sender and the task are of these queues and of one
-    /// frame.
+    /// Tells a task how many batches were submitted: told is the greater of that and what it was. Condition: the sender
+    /// and the task are of these queues.
     pub fn tell(&self, sender: &mut Sender, intake: &mut Intake)
         requires sender { IsSubmitterOf self.now sender.old }
         requires task { IsTaskOf self.now intake.old }
-        requires same { intake.old.of.frame ≡ sender.old.frame }
         ensures sender { sender.new ≡ sender.old }
         ensures told { intake.new ≡ record intake.old { told = max intake.old.told sender.old.batches } }
     {

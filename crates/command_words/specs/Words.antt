@@ -15,7 +15,7 @@ use Rattle.command_words.specs.declared.table.Command.TheVariants.{Cull, Live, D
 use Rattle.command_words.specs.declared.settings.Settings.{Settings}
 use Rattle.command_words.specs.declared.table.CommandKind.{CommandKind}
 use Rattle.command_words.specs.declared.table.CommandKind.TheVariants as kinds
-use Rattle.command_words.specs.declared.table.TheConstants.{BATCH, BINS_X, BINS_Y, CHECK, CULL, DEMO, EARLY, FRAME, GROUP, LIVE, PICTURE, ROUNDS, SEED, TRIANGLES, WATCH, WORKERS}
+use Rattle.command_words.specs.declared.table.TheConstants.{BATCH, BINS_X, BINS_Y, CHECK, CULL, DEMO, EARLY, FRAME, GROUP, LIVE, PICTURE, ROUNDS, SEED, STEAL, TRIANGLES, WATCH, WORKERS}
 use Rattle.command_words.specs.declared.rows.Takes.TheVariants.{Number, Nothing}
 use Rattle.command_words.specs.declared.words.Refusal.{Refusal}
 use Rattle.command_words.specs.declared.words.Refusal.TheVariants as refusals
@@ -55,12 +55,16 @@ group = option_with (λ t. t.now) GROUP
 abbrev pub early : AnOption
 early = option_with (λ t. t.now) EARLY
 
--- the options by which frames are cut and shared, and those of a command that may settle objects early
+abbrev pub steal : AnOption
+steal = option_with (λ t. t.now) STEAL
+
+-- the options by which frames are cut and shared, and those of a command that may also settle objects early and let
+-- workers take bins from others
 abbrev pub cutting : List AnOption
 cutting = workers ∷ bins_x ∷ bins_y ∷ batch ∷ []
 
 abbrev pub sharing : List AnOption
-sharing = workers ∷ bins_x ∷ bins_y ∷ batch ∷ early ∷ []
+sharing = workers ∷ bins_x ∷ bins_y ∷ batch ∷ early ∷ steal ∷ []
 
 -- the options of the command of a kind
 abbrev pub options_by : CommandKind → List AnOption
@@ -121,18 +125,20 @@ value_in rows o = value_by o.takes (one_of o.name rows)
 abbrev pub number_of : (AnOption → Option ℕ) → AnOption → ℕ
 number_of values o = unwrap_or (values o) 0
 
--- how frames are cut and shared, where the options have these values, and whether objects are settled early
-abbrev pub cut_by : (AnOption → Option ℕ) → Bool → Settings
-cut_by values settled = record {
+-- how frames are cut and shared, where the options have these values, and whether objects are settled early and bins
+-- are taken from others
+abbrev pub cut_by : (AnOption → Option ℕ) → Bool → Bool → Settings
+cut_by values settled stolen = record {
   workers = number_of values workers;
   cut = cut_into (number_of values bins_x) (number_of values bins_y);
   batch = number_of values batch;
   early = settled;
+  steal = stolen;
 }
 
--- the same, where that is an option too
+-- the same, where these are options too
 abbrev pub settings_by : (AnOption → Option ℕ) → Settings
-settings_by values = cut_by values (is_some (values early))
+settings_by values = cut_by values (is_some (values early)) (is_some (values steal))
 
 -- what a command asks for, where its options have these values
 abbrev pub asked_by : CommandKind → (AnOption → Option ℕ) → Command
@@ -151,7 +157,7 @@ asked_by kinds.Check values = Check (record {
   rounds = number_of values rounds;
   watch = number_of values watch;
 })
-asked_by kinds.Picture values = Picture (record { settings = cut_by values false; frame = number_of values frame })
+asked_by kinds.Picture values = Picture (record { settings = cut_by values false false; frame = number_of values frame })
 asked_by (kinds.Bare command) values = Bare command
 
 -- the values of a command's own options, found by their names

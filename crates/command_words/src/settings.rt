@@ -3,7 +3,7 @@ ghost use Rattle.std.specs.Prelude.{◌≡◌};
 ghost use Rattle.clap.specs.Words.{found_of, rows_of};
 ghost use Rattle.command_words.specs.Words.{AreInRange, HaveValues, cut_by, cutting, settings_by, sharing, value_in};
 
-use crate::table::{BATCH, BINS_X, BINS_Y, EARLY, WORKERS};
+use crate::table::{BATCH, BINS_X, BINS_Y, EARLY, STEAL, WORKERS};
 use crate::values::{is_given, number, side};
 use binning::Cut;
 use clap::ArgMatches;
@@ -20,12 +20,15 @@ pub struct Settings {
     pub batch: u32,
     /// Whether objects that references hide are settled while a frame is drawn.
     pub early: bool,
+    /// Whether a worker that is done takes bins from the others.
+    pub steal: bool,
 }
 
-/// How a frame is cut and shared, where each option of that has its value, and whether objects are settled early.
-pub fn cut_of(matches: &ArgMatches<'_>, early: bool) -> Settings
+/// How a frame is cut and shared, where each option of that has its value, and whether objects are settled early and
+/// bins are taken from others.
+pub fn cut_of(matches: &ArgMatches<'_>, early: bool, steal: bool) -> Settings
     requires { HaveValues cutting (rows_of (found_of matches.now)) }
-    ensures value { result ≡ cut_by (value_in (rows_of (found_of matches.now))) early }
+    ensures value { result ≡ cut_by (value_in (rows_of (found_of matches.now))) early steal }
     ensures range { AreInRange result }
 {
     let columns = side(matches, &BINS_X);
@@ -35,6 +38,7 @@ pub fn cut_of(matches: &ArgMatches<'_>, early: bool) -> Settings
         cut: Cut::new(columns, rows).unwrap(),
         batch: number(matches, &BATCH),
         early,
+        steal,
     }
 }
 
@@ -44,5 +48,7 @@ pub fn settings_of(matches: &ArgMatches<'_>) -> Settings
     ensures value { result ≡ settings_by (value_in (rows_of (found_of matches.now))) }
     ensures range { AreInRange result }
 {
-    cut_of(matches, is_given(matches, &EARLY))
+    let early = is_given(matches, &EARLY);
+    let steal = is_given(matches, &STEAL);
+    cut_of(matches, early, steal)
 }

@@ -65,6 +65,12 @@ pub const EARLY: AnOption = OptionRow {
     help: "Settle objects that are hidden for good while a frame is drawn; the report stays the same",
 };
 
+pub const STEAL: AnOption = OptionRow {
+    name: "steal",
+    takes: Takes::Nothing,
+    help: "Let a worker that is done with its own bins take bins from the others; the report stays the same",
+};
+
 /// A command without options.
 #[derive(Clone, Copy)]
 pub enum BareCommand {
@@ -91,8 +97,8 @@ pub const CULL: ACommand = CommandRow {
     more: "Reads the bytes of a scene from standard input, to their end.
 Writes to standard output a header, and for each frame: how many pieces it has, whether each object is visible, occluded
 or outside the screen, and how many are. No option changes a byte of it.
-For a path of many cameras give --workers alone: without --early each thread draws frames of its own while the scene has
-as many left, and bins and batches change nothing. For a single frame, which threads share, give bins too.
+For a path of many cameras give --workers alone: without --early and --steal each thread draws frames of its own while
+the scene has as many left, and bins and batches change nothing. For a single frame, which threads share, give bins too.
 With --group boxes that follow on one another in the scene are taken in groups. Those count in a frame that have all
 corners in front of the near plane, or on it, and within the guard, and a rectangle with a pixel on the screen. Where a
 rectangle around those of a group that count, as near as the nearest of them, is hidden, each of these is occluded and
@@ -108,7 +114,7 @@ Exit status:
   5  the report couldn't be written
   6  the notes couldn't be written
   7  out of memory",
-    options: &[WORKERS, BINS_X, BINS_Y, BATCH, EARLY, GROUP],
+    options: &[WORKERS, BINS_X, BINS_Y, BATCH, EARLY, STEAL, GROUP],
 };
 
 /// The same, and looks at objects while each frame is drawn.
@@ -132,7 +138,7 @@ Exit status:
   5  the report couldn't be written
   6  the notes couldn't be written
   7  out of memory",
-    options: &[WORKERS, BINS_X, BINS_Y, BATCH, ROUNDS, WATCH, EARLY],
+    options: &[WORKERS, BINS_X, BINS_Y, BATCH, ROUNDS, WATCH, EARLY, STEAL],
 };
 
 /// Makes a scene from a number and writes its summary.
@@ -143,8 +149,8 @@ pub const DEMO: ACommand = CommandRow {
     more: "Reads nothing: the scene is made of a number, with 500 boxes as objects, and 4 frames.
 Writes to standard output a header, and for each frame: how many pieces it has, and how many boxes are visible, occluded
 or outside the screen. Of the options only --seed and --triangles change it.
-With --workers up to 4 and without --early each thread draws frames of its own, and bins and batches change nothing;
-otherwise threads share each frame.
+With --workers up to 4 and without --early and --steal each thread draws frames of its own, and bins and batches change
+nothing; otherwise threads share each frame.
 Tells on standard error why a run isn't done.
 
 Exit status:
@@ -152,7 +158,9 @@ Exit status:
   2  the command line was refused, or help was printed
   5  the summary couldn't be written
   7  out of memory",
-    options: &[WORKERS, BINS_X, BINS_Y, BATCH, SEED, TRIANGLES, EARLY],
+    options: &[
+        WORKERS, BINS_X, BINS_Y, BATCH, SEED, TRIANGLES, EARLY, STEAL,
+    ],
 };
 
 /// Reads a scene and writes it in the newest version of its layout.
@@ -256,7 +264,8 @@ pub struct CheckWords {
     pub watch: u32,
 }
 
-/// What `picture` is to do: the number of the frame, at most 255. Nothing is settled early.
+/// What `picture` is to do: the number of the frame, at most 255. Nothing is settled early, and no bin is taken from
+/// another worker.
 #[derive(Clone, Copy)]
 pub struct PictureWords {
     pub settings: Settings,
@@ -308,7 +317,7 @@ pub fn asked_by(kind: CommandKind, matches: &ArgMatches<'_>) -> Command
             Command::Check(CheckWords { rounds, watch })
         }
         CommandKind::Picture => Command::Picture(PictureWords {
-            settings: cut_of(matches, false),
+            settings: cut_of(matches, false, false),
             frame: number(matches, &FRAME),
         }),
         CommandKind::Bare(command) => Command::Bare(command),

@@ -3,6 +3,8 @@ ghost use Rattle.std.specs.Prelude.{◌≡◌, ◌<◌, ◌≤◌, length, IfOk,
 ghost use Rattle.cull_base.specs.Tiles.{ArePieces};
 ghost use Rattle.cull_report.specs.Scene.{size_of, frame_clips, frame_pieces, frame_verdicts};
 ghost use Rattle.bin_tiles.specs.BinViews.{table_of};
+ghost use Rattle.bin_tiles.specs.Bins.{AreBinsAt};
+ghost use Rattle.bin_tiles.specs.Plain.{StandsPlain};
 ghost use Rattle.command_words.specs.Words.{AreInRange};
 ghost use Rattle.culling.specs.Frames.{AreCounted, HasMembers, HasMembers-prop, groups_beside, rounds_of, watch_of};
 
@@ -11,13 +13,15 @@ use crate::frames::{
 };
 use binning::batch_size;
 use command_words::Settings;
-use cull_base::{ClipVertex, Memory};
+use cull_base::{ClipVertex, FrameList, Memory};
 use cull_report::Asked;
 use group_query::{Group, Grouped};
+use masked_update::Canvas;
 use scene_reader::Scene;
 use std::alloc::Global;
 use std::sync::Wait;
 use std::thread::Threads;
+use steal_pool::draw_stolen_plain;
 use tile_queues::{BinTable, BinView, Gate, draw_plain_frame};
 
 /// How frames are drawn, what is written of each, and what is noted beside. Conditions: the settings are in range,
@@ -48,6 +52,27 @@ pub struct Drawing<'a, R, G> {
     ghost are_groups: { groups.now ≡ groups_beside plan.now.beside scene.now },
 }
 
+// Draws a list into the plain tiles of bins, by workers as the settings ask: whoever comes takes a bin that waits, or
+// each draws the bins of its own, and then takes bins from the others.
+fn draw_into_bins<R: Threads + Wait + Sync, G: Gate>(
+    drawing: &Drawing<R, G>,
+    list: &FrameList,
+) -> Result<Vec<Canvas>, Memory>
+    ensures drawn { let drawn = length list.now.list.members in IfOk result (λ v.
+        AreBinsAt StandsPlain (tt {0}) list.now.list drawing.now.plan.now.settings.now.cut drawn v.items) }
+    ensures pieces { OnOk result (ArePieces list.now.list.members) }
+{
+    let (rt, alloc, settings) = (drawing.rt, drawing.alloc, drawing.plan.settings);
+    // an accessor tells what is held of a list
+    let _len = list.len();
+    let batch = batch_size(list.len(), settings.batch);
+    let (cut, workers, gate) = (&settings.cut, settings.workers, drawing.gate);
+    if settings.steal {
+        return draw_stolen_plain(rt, alloc, list, cut, workers, batch, gate);
+    }
+    draw_plain_frame(rt, alloc, list, cut, workers, batch, gate)
+}
+
 /// Draws a frame and then tests the objects, by workers as the settings ask: what each tile takes, and in which order,
 /// is as by one thread that merges all pieces in order. Conditions: there is such a frame, and these are its clip
 /// vertices.
@@ -69,16 +94,7 @@ pub fn draw_plainly<R: Threads + Wait + Sync, G: Gate>(
     let settings = drawing.plan.settings;
     let drawn = drawn_pieces(rt, alloc, scene, frame, clips, settings)?;
     let list = &drawn.list;
-    let batch = batch_size(list.len(), settings.batch);
-    let bins = draw_plain_frame(
-        rt,
-        alloc,
-        list,
-        &settings.cut,
-        settings.workers,
-        batch,
-        drawing.gate,
-    )?;
+    let bins = draw_into_bins(drawing, list)?;
     let view = BinView::of(drawing.table, &bins, list);
     let settled = unset_marks(alloc, scene.objects().len())?;
     let asked = Asked {

@@ -6,7 +6,8 @@ ghost use Rattle.cull_base.specs.Stream.{Writes};
 ghost use Rattle.cull_base.specs.Tiles.{ArePieces};
 ghost use Rattle.cull_report.specs.Live.{text_of_line, watched};
 ghost use Rattle.cull_report.specs.Scene.{frame_clips, frame_list, frame_pieces, frame_verdicts};
-ghost use Rattle.tile_cells.specs.Cells.{Reading};
+ghost use Rattle.tile_cells.specs.Cells.{AreFresh, Reading};
+ghost use Rattle.tile_cells.specs.Standing.{AreStanding, IsReading};
 ghost use Rattle.tile_queues.specs.Frames.{HaveStates};
 ghost use Rattle.culling.specs.Frames.{AreCounted};
 ghost use Rattle.culling.specs.LiveFrames.{AreLive, HaveRoom, IsReady, IsWatching, RoomFor};
@@ -24,7 +25,8 @@ use masked_update::{PlainView, TileState};
 use std::alloc::Global;
 use std::sync::Wait;
 use std::thread::Threads;
-use tile_cells::{Snapshot, TileCells};
+use steal_pool::draw_stolen;
+use tile_cells::{Snapshot, TileCells, TileReader, TileWriter};
 use tile_queues::{Caller, Gate, draw_frame};
 
 /// What was drawn of a frame, and what was seen of it meanwhile.
@@ -62,6 +64,41 @@ fn make_lines(alloc: Global, watched: &Watched, rounds: u32) -> Result<Vec<LiveL
     Ok(lines)
 }
 
+// Draws a list into new cells while the caller reads them, by workers as the settings ask: each draws the bins of its
+// own, and takes bins from the others where it is to.
+fn draw_into_cells<R: Threads + Wait + Sync, G: Gate, C: Caller>(
+    drawing: &Drawing<R, G>,
+    list: &FrameList,
+    cells: &TileCells,
+    writers: Vec<TileWriter>,
+    reader: &mut TileReader,
+    caller: &mut C,
+) -> Result<Vec<TileWriter>, Memory>
+    requires whole { length cells.now ≡ tile_count_of list.now.list.size }
+    requires writers { AreFresh cells.now list.now.list (length cells.now) writers.items }
+    requires reader { IsReading cells.now list.now.list reader.old }
+    requires ready { C.ready caller.old list.now.list }
+    ensures standing { IfOk result (λ v.
+        AreStanding cells.now list.now.list (length list.now.list.members) v.items) }
+    ensures done { OnOk result (C.done caller.new list.now.list reader.new) }
+    ensures keeps { OnOk result (C.keeps caller.old caller.new) }
+    ensures pieces { OnOk result (ArePieces list.now.list.members) }
+{
+    let (rt, alloc, settings) = (drawing.rt, drawing.alloc, drawing.plan.settings);
+    // an accessor tells what is held of a list
+    let _len = list.len();
+    let batch = batch_size(list.len(), settings.batch);
+    let (cut, workers, gate) = (&settings.cut, settings.workers, drawing.gate);
+    if settings.steal {
+        return draw_stolen(
+            rt, alloc, list, cells, writers, reader, cut, workers, batch, gate, caller,
+        );
+    }
+    draw_frame(
+        rt, alloc, list, cells, writers, reader, cut, workers, batch, gate, caller,
+    )
+}
+
 // Draws a list through cells of its own, while the caller reads them.
 fn draw_in_cells<R: Threads + Wait + Sync, G: Gate, C: Caller>(
     drawing: &Drawing<R, G>,
@@ -77,22 +114,9 @@ fn draw_in_cells<R: Threads + Wait + Sync, G: Gate, C: Caller>(
 {
     // accessors tell what is held of a size and of a list
     let (_width, _len) = (list.size().width(), list.len());
-    let (rt, alloc, settings) = (drawing.rt, drawing.alloc, drawing.plan.settings);
-    let batch = batch_size(list.len(), settings.batch);
+    let (rt, alloc) = (drawing.rt, drawing.alloc);
     let (cells, writers, mut readers) = TileCells::make(rt, alloc, list, 1)?;
-    let writers = draw_frame(
-        rt,
-        alloc,
-        list,
-        &cells,
-        writers,
-        &mut readers[0],
-        &settings.cut,
-        settings.workers,
-        batch,
-        drawing.gate,
-        caller,
-    )?;
+    let writers = draw_into_cells(drawing, list, &cells, writers, &mut readers[0], caller)?;
     Ok(cells.close(rt, writers, readers))
 }
 

@@ -18,6 +18,7 @@ mod pictures;
 mod runs;
 mod scenes;
 mod second_version;
+mod stolen_tasks;
 mod waiting;
 mod windows;
 mod words;

@@ -4,6 +4,7 @@ ghost use Rattle.tile_cells.specs.Cells.{IsAt};
 
 use crate::rule::Cell;
 use masked_update::TileState;
+use std::alloc::Global;
 use std::marker::Model;
 
 /// One cell for each tile of a screen, and room for the tiles that the cells hold when they are closed.
@@ -33,6 +34,13 @@ impl TileCells {
         ensures { result ≡ map (λ c. c.table.shared.table_id) cells.items }
     {
         TileCells { cells, room }
+    }
+
+    /// No cells, for tiles that nobody reads while they are drawn.
+    pub fn none(alloc: Global) -> TileCells
+        ensures { result ≡ [] }
+    {
+        TileCells::of(Vec::new(alloc), Vec::new(alloc))
     }
 
     /// The cell of a tile. Condition: there is one.

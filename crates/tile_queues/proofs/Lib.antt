@@ -9,3 +9,4 @@ pub mod Ending
 pub mod Keeping
 pub mod Turning
 pub mod Changing
+pub mod PlainBins

@@ -4,3 +4,4 @@ pub mod Callers
 pub mod Frames
 pub mod Owners
 pub mod Shares
+pub mod PlainBins

@@ -5,6 +5,7 @@ use Rattle.bin_queues.specs.Frames.{over}
 use Rattle.bin_queues.specs.QueueParts.{BatchedFrame, batches_in, bin_of_frame}
 use Rattle.bin_queues.specs.Tasks.{IsTaskOf, QueuesOf, Tasking, first_task}
 use Rattle.bin_tasks.specs.declared.drawing.Drawing.{Drawing}
+use Rattle.tile_queues.specs.Owners.{AreTasksOf}
 use Rattle.tile_queues.specs.declared.cell_bin.InCells.{InCells}
 use Rattle.tile_queues.specs.declared.share.Share.{Share}
 
@@ -20,6 +21,11 @@ pub record IsTaskOver (queues : QueuesOf) (frame : BatchedFrame) (t : Tasking) :
 -- the task of a bin of the frame that is drawn
 abbrev pub MayDraw : {R G : Type 0} → Drawing R (InCells R) G → Tasking → Type 0
 MayDraw {R} {G} d t = IsTaskOver d.queues.now (frame_over d) t
+
+-- the tasks of a frame and of these queues, one of each bin in any order, all of which drew all batches
+pub record AreWhole (queues : QueuesOf) (frame : BatchedFrame) (tasks : List Tasking) : Type 0 where
+  pub tasks_are : AreTasksOf queues frame tasks
+  pub drawn : All (λ t. t.batches ≡ batches_in frame) tasks
 
 -- how many bins a worker owns, of so many: bin b is that of worker b mod workers
 abbrev pub bins_owned : ℕ → ℕ → ℕ → ℕ

@@ -7,6 +7,7 @@ ghost use Rattle.cull_base.specs.Span.{IsPartOf, IsSpan, has_tile};
 ghost use Rattle.tile_cells.specs.Standing.{StandsAt};
 ghost use Rattle.tile_queues.specs.CellBins.{HasMet, HasStored, Stands, is_passed};
 
+use crate::held::Held;
 use bin_tiles::Keeper;
 use binning::Cut;
 use cull_base::{FrameList, TileSpan};
@@ -16,7 +17,7 @@ use tile_cells::{TileCells, TileWriter};
 
 /// The writers of a window's tiles, row by row.
 #[derive(Drop)]
-pub(crate) struct CellBin {
+pub struct CellBin {
     pub(crate) window: TileSpan,
     pub(crate) writers: Vec<TileWriter>,
 }
@@ -94,6 +95,12 @@ fn store_in_span<R: Wait>(
     for row in span.first_row..span.end_row {
         store_in_row(writers, member, window, span, row);
     }
+}
+
+impl Held for CellBin {
+    ghost use Rattle.tile_queues.specs.CellBins.{StandsInCells};
+
+    ghost held = { StandsInCells };
 }
 
 impl<'a, R: Wait> Keeper<InCells<'a, R>> for CellBin {

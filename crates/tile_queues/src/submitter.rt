@@ -1,10 +1,12 @@
 //! The submitter of batches to the queues of all bins.
-ghost use Rattle.std.specs.Prelude.{◌≡◌, ◌≤◌, ◌<◌, ◌+◌, [], length, vec_capacity};
+ghost use Rattle.std.specs.Prelude.{◌≡◌, ◌≤◌, ◌<◌, ◌+◌, [], max, length, vec_capacity};
 ghost use Rattle.binning.specs.Parts.{parts_of};
 ghost use Rattle.cull_base.specs.Screen.{tile_count_of};
 ghost use Rattle.bin_queues.specs.QueueParts.{IsBatched, batches_in};
-ghost use Rattle.bin_queues.specs.Tasks.{IsSubmitterOf};
+ghost use Rattle.bin_queues.specs.Tasks.{IsSubmitterOf, IsTaskOf};
 
+use crate::bin_task::BinTask;
+use crate::held::Held;
 use bin_queues::{PartQueues, Sender};
 use binning::BinPart;
 use std::marker::Model;
@@ -94,5 +96,15 @@ impl Submitter {
         ensures { self.new ≡ record self.old { batches = self.old.batches + 1 } }
     {
         queues.send(rt, &mut self.sender, parts);
+    }
+
+    /// Tells a task how many batches were submitted. Conditions: those of `BinQueues::tell`.
+    pub(crate) fn tell<K: Held>(&mut self, queues: &PartQueues, task: &mut BinTask<K>)
+        requires queues { IsSubmitterOf queues.now self.old }
+        requires task { IsTaskOf queues.now task.old }
+        ensures same { self.new ≡ self.old }
+        ensures told { task.new ≡ record task.old { told = max task.old.told self.old.batches } }
+    {
+        task.hear(queues, &mut self.sender);
     }
 }

@@ -15,6 +15,7 @@ use std::sync::Wait;
 use std::sync::atomic::{AtomicU32, Ordering};
 use std::test::Fail;
 use std::thread::{Threads, yield_now};
+use steal_pool::{draw_stolen, draw_stolen_plain};
 use tile_cells::{Snapshot, TileCells, TileReader};
 use tile_queues::{BinTable, BinView, Caller, Gate, OpenGate, draw_frame, draw_plain_frame};
 
@@ -144,6 +145,30 @@ fn drawn_in_cells<R: Threads + Wait + Sync, G: Gate>(
     Ok((cells.close(rt, writers, readers), caller.count))
 }
 
+// The same, where a worker that is done takes bins from the others.
+fn stolen_in_cells<R: Threads + Wait + Sync, G: Gate>(
+    rt: &R,
+    alloc: Global,
+    frame: &Batched,
+    workers: u32,
+    gate: &G,
+) -> Result<(Vec<TileState>, Option<u32>), Memory>
+    requires some { 1 ≤ workers }
+    requires most { workers ≤ 64 }
+{
+    let (list, cut, batch) = (frame.list, frame.cut, frame.size);
+    let caller = &mut Looker {
+        snapshot: Snapshot::with_room(alloc, list.size())?,
+        count: None,
+    };
+    let (cells, writers, mut readers) = TileCells::make(rt, alloc, list, 1)?;
+    let reader = &mut readers[0];
+    let writers = draw_stolen(
+        rt, alloc, list, &cells, writers, reader, cut, workers, batch, gate, caller,
+    )?;
+    Ok((cells.close(rt, writers, readers), caller.count))
+}
+
 // How often a gate was asked before each member of each bin, for so many members of a bin at most, and before how many
 // batches, one after another.
 #[derive(Drop)]
@@ -222,9 +247,36 @@ fn met_by(list: &FrameList, cut: &Cut, bin: u32) -> u32
     met
 }
 
-// Whether so many workers, of a screen cut into so many columns and rows of bins, draw in both forms the states that
-// one draws, and ask once for each member of each bin and for each batch.
-fn both_are_alike<R: Threads + Wait + Sync>(
+// Whether so many workers that take bins from each other draw these states in both forms, and ask once for each member
+// of each bin and for each batch.
+fn stolen_are_alike<R: Threads + Wait + Sync>(
+    rt: &R,
+    alloc: Global,
+    frame: &Batched,
+    workers: u32,
+    states: &[TileState],
+) -> Result<bool, Fail>
+    requires some { 1 ≤ workers }
+    requires most { workers ≤ 64 }
+{
+    let (list, cut, batch) = (frame.list, frame.cut, frame.size);
+    let plain = Questions::with_room(alloc, cut.bins(), list.len())?;
+    let bins = draw_stolen_plain(rt, alloc, list, cut, workers, batch, &plain)?;
+    let shown = bins_show(alloc, bins.as_slice(), list, cut, states)?;
+    let in_cells = Questions::with_room(alloc, cut.bins(), list.len())?;
+    let (held, seen) = stolen_in_cells(rt, alloc, frame, workers, &in_cells)?;
+    Ok(
+        shown
+            && are_alike(held.as_slice(), states)
+            && plain.are_those_of(list, cut, frame.batches())
+            && in_cells.are_those_of(list, cut, frame.batches())
+            && seen.is_some(),
+    )
+}
+
+// Whether so many workers, of a screen cut into so many columns and rows of bins, draw in each form the states that one
+// draws, and ask once for each member of each bin and for each batch.
+fn all_are_alike<R: Threads + Wait + Sync>(
     rt: &R,
     alloc: Global,
     list: &FrameList,
@@ -250,8 +302,10 @@ fn both_are_alike<R: Threads + Wait + Sync>(
     let shown = bins_show(alloc, bins.as_slice(), list, &cut, states.as_slice())?;
     let in_cells = Questions::with_room(alloc, cut.bins(), list.len())?;
     let (held, seen) = drawn_in_cells(rt, alloc, &frame, workers, &in_cells)?;
+    let stolen = stolen_are_alike(rt, alloc, &frame, workers, states.as_slice())?;
     Ok(
         shown
+            && stolen
             && are_alike(held.as_slice(), states.as_slice())
             && plain.are_those_of(list, &cut, batches)
             && in_cells.are_those_of(list, &cut, batches)
@@ -281,6 +335,17 @@ fn two_workers_draw_what_one_draws(rt: HostRuntime) -> Result<(), Fail> {
     assert_eq!(rt; held[0].count(), 2);
     assert_eq!(rt; held[1].count(), 2);
     assert!(rt; seen.is_some_and(|count| count <= 2));
+    for workers in [1, 2] {
+        let bins = draw_stolen_plain(&rt, rt.alloc(), &list, &cut, workers, batch, &OpenGate)?;
+        assert_eq!(rt; bins.len(), 2);
+        assert!(rt; bins_show(rt.alloc(), bins.as_slice(), &list, &cut, states.as_slice())?);
+        let (held, seen) = stolen_in_cells(&rt, rt.alloc(), &frame, workers, &OpenGate)?;
+        assert_eq!(rt; held.len(), 2);
+        assert!(rt; are_alike(held.as_slice(), states.as_slice()));
+        assert_eq!(rt; held[0].count(), 2);
+        assert_eq!(rt; held[1].count(), 2);
+        assert!(rt; seen.is_some_and(|count| count <= 2));
+    }
     Ok(())
 }
 
@@ -288,8 +353,8 @@ fn two_workers_draw_what_one_draws(rt: HostRuntime) -> Result<(), Fail> {
 #[test]
 fn threads_draw_what_one_draws(rt: HostRuntime) -> Result<(), Fail> {
     let list = columns(&rt, 64, &THREE, 500)?;
-    assert!(rt; both_are_alike(&rt, rt.alloc(), &list, 64, (8, 8), 7)?);
-    assert!(rt; both_are_alike(&rt, rt.alloc(), &list, 7, (2, 1), 1)?);
+    assert!(rt; all_are_alike(&rt, rt.alloc(), &list, 64, (8, 8), 7)?);
+    assert!(rt; all_are_alike(&rt, rt.alloc(), &list, 7, (2, 1), 1)?);
     Ok(())
 }
 
@@ -320,8 +385,8 @@ fn each_cut_is_drawn_and_asks_once_for_each_member(rt: HostRuntime) -> Result<()
     let list = few(&rt)?;
     assert_eq!(rt; list.len(), 6);
     for workers in [1, 7, 64] {
-        assert!(rt; both_are_alike(&rt, rt.alloc(), &list, workers, (1, 1), 1)?);
-        assert!(rt; both_are_alike(&rt, rt.alloc(), &list, workers, (8, 8), 1)?);
+        assert!(rt; all_are_alike(&rt, rt.alloc(), &list, workers, (1, 1), 1)?);
+        assert!(rt; all_are_alike(&rt, rt.alloc(), &list, workers, (8, 8), 1)?);
     }
     Ok(())
 }

@@ -136,7 +136,8 @@ fn assert_noted<R: Threads + Wait + Sync + Abort>(
 ) -> Result<(), Fail> {
     let plain = run_with(rt, alloc, CULL, Vec::from_slice(alloc, bytes)?)?;
     assert_ended(rt, &plain, Status::Done, plain.report.as_str(), "");
-    for more in ["", " --early", " --workers 3 --bins-x 2"] {
+    let shared = " --steal --workers 3 --bins-x 2";
+    for more in ["", " --early", " --workers 3 --bins-x 2", shared] {
         let line = format!(in alloc; "maskcull cull --group {most}{more}")?;
         let ended = run_with(rt, alloc, line.as_str(), Vec::from_slice(alloc, bytes)?)?;
         assert_ended(rt, &ended, Status::Done, plain.report.as_str(), notes);

@@ -19,6 +19,7 @@ use std::sync::Wait;
 use std::sync::atomic::{AtomicBool, Ordering};
 use std::test::*;
 use std::thread::Threads;
+use steal_pool::draw_stolen;
 use tile_cells::{Snapshot, TileCells, TileReader};
 use tile_queues::{Caller, Gate, draw_frame};
 
@@ -124,6 +125,29 @@ fn drawn_in_cells<R: Threads + Wait + Sync, G: Gate, C: Caller>(
     Ok(cells.close(rt, writers, readers))
 }
 
+// The same, where a worker that is done takes bins from the others.
+fn stolen_in_cells<R: Threads + Wait + Sync, G: Gate, C: Caller>(
+    rt: &R,
+    alloc: Global,
+    list: &FrameList,
+    cut: &Cut,
+    workers: u32,
+    gate: &G,
+    caller: &mut C,
+) -> Result<Vec<TileState>, Memory>
+    requires some { 1 ≤ workers }
+    requires workers { workers ≤ 64 }
+    requires ready { C.ready caller.old list.now.list }
+{
+    let batch = batch_size(list.len(), 1);
+    let (cells, writers, mut readers) = TileCells::make(rt, alloc, list, 1)?;
+    let reader = &mut readers[0];
+    let writers = draw_stolen(
+        rt, alloc, list, &cells, writers, reader, cut, workers, batch, gate, caller,
+    )?;
+    Ok(cells.close(rt, writers, readers))
+}
+
 fn have_same_states(one: &TileState, other: &TileState) -> bool {
     (0..8).all(|j| {
         let (a, b) = (one.sub(j), other.sub(j));
@@ -152,6 +176,7 @@ fn assert_held<R: Threads + Wait + Sync + Abort>(
     alloc: Global,
     workers: u32,
     bins: u8,
+    steal: bool,
 ) -> Result<(), Fail>
     requires some { 1 ≤ workers }
     requires workers { workers ≤ 64 }
@@ -169,7 +194,11 @@ fn assert_held<R: Threads + Wait + Sync + Abort>(
         snapshot: Snapshot::with_room(alloc, list.size())?,
         visible: false,
     };
-    let held = drawn_in_cells(rt, alloc, &list, &cut, workers, &gate, &mut watcher)?;
+    let held = if steal {
+        stolen_in_cells(rt, alloc, &list, &cut, workers, &gate, &mut watcher)?
+    } else {
+        drawn_in_cells(rt, alloc, &list, &cut, workers, &gate, &mut watcher)?
+    };
     let states = draw_plain(alloc, &list)?;
     assert!(rt; gate.freed.load(Ordering::SeqCst));
     assert!(rt; watcher.visible);
@@ -179,11 +208,18 @@ fn assert_held<R: Threads + Wait + Sync + Abort>(
 
 #[test]
 fn holding_gate(rt: HostRuntime) -> Result<(), Fail> {
-    assert_held(&rt, rt.alloc(), 1, 1)
+    assert_held(&rt, rt.alloc(), 1, 1, false)
 }
 
 // There are as many bins as workers, since a worker without a bin isn't started.
 #[test]
 fn holding_gate_with_eight_workers(rt: HostRuntime) -> Result<(), Fail> {
-    assert_held(&rt, rt.alloc(), 8, 8)
+    assert_held(&rt, rt.alloc(), 8, 8, false)
+}
+
+// So it is where workers take bins from each other.
+#[test]
+fn holding_gate_with_stolen_tasks(rt: HostRuntime) -> Result<(), Fail> {
+    assert_held(&rt, rt.alloc(), 1, 1, true)?;
+    assert_held(&rt, rt.alloc(), 8, 8, true)
 }

@@ -39,6 +39,8 @@ fn words_that_are_no_command_are_refused(rt: HostRuntime) -> Result<(), Fail> {
         "maskcull cull --version",
         "maskcull --early cull",
         "maskcull cull --early 1",
+        "maskcull cull --steal 1",
+        "maskcull picture --steal",
         "maskcull cull --seed 1",
         "maskcull --workers 1 cull",
         "maskcull cull --workers",
@@ -84,6 +86,10 @@ fn a_refusal_tells_why(rt: HostRuntime) -> Result<(), Fail> {
             "the argument '--early' cannot be used multiple times",
         ),
         (
+            "maskcull demo --steal --seed 1 --steal",
+            "the argument '--steal' cannot be used multiple times",
+        ),
+        (
             "maskcull live --early=1 --rounds=2",
             "unexpected value '1' for '--early' found; no more were expected",
         ),
@@ -106,10 +112,12 @@ fn help_tells_all(rt: HostRuntime) -> Result<(), Fail> {
         ("maskcull cull --help", "--workers <workers>"),
         ("maskcull cull --help", "[default: 64]"),
         ("maskcull cull --help", "--early"),
+        ("maskcull cull --help", "--steal"),
         ("maskcull cull --help", "3  the input is no scene"),
         ("maskcull live --help", "--rounds <rounds>"),
         ("maskcull live --help", "--watch <watch>"),
         ("maskcull live --help", "--early"),
+        ("maskcull live --help", "--steal"),
         ("maskcull live --help", "TILE:COUNT"),
         ("maskcull live --help", "6  the notes couldn't be written"),
         (
@@ -119,6 +127,7 @@ fn help_tells_all(rt: HostRuntime) -> Result<(), Fail> {
         ("maskcull demo --help", "--triangles <triangles>"),
         ("maskcull demo --help", "[default: 20000]"),
         ("maskcull demo --help", "--early"),
+        ("maskcull demo --help", "--steal"),
         (
             "maskcull demo --help",
             "2  the command line was refused, or help was printed",

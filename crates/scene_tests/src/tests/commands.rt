@@ -95,22 +95,52 @@ fn live_asks_for_rounds_and_watched_objects(rt: HostRuntime) -> Result<(), Fail>
 }
 
 #[test]
-fn the_flag_stands_anywhere_among_the_options(rt: HostRuntime) -> Result<(), Fail> {
+fn flags_stand_anywhere_among_the_options(rt: HostRuntime) -> Result<(), Fail> {
     let alloc = rt.alloc();
-    for (given, workers, is_early) in [
-        (["maskcull", "cull", "--workers", "3"].as_slice(), 3, false),
-        (&["maskcull", "cull", "--early"], 1, true),
-        (&["maskcull", "live", "--early", "--workers", "3"], 3, true),
+    for (given, workers, is_early, is_stealing) in [
+        (
+            ["maskcull", "cull", "--workers", "3"].as_slice(),
+            3,
+            false,
+            false,
+        ),
+        (&["maskcull", "cull", "--early"], 1, true, false),
+        (&["maskcull", "cull", "--steal"], 1, false, true),
+        (
+            &["maskcull", "live", "--early", "--workers", "3"],
+            3,
+            true,
+            false,
+        ),
+        (
+            &["maskcull", "live", "--steal", "--workers", "3", "--early"],
+            3,
+            true,
+            true,
+        ),
         (
             &["maskcull", "demo", "--seed", "5", "--early", "--workers=3"],
             3,
             true,
+            false,
         ),
-        (&["maskcull", "cull", "--workers", "3", "--early"], 3, true),
+        (
+            &["maskcull", "demo", "--seed", "5", "--workers=3", "--steal"],
+            3,
+            false,
+            true,
+        ),
+        (
+            &["maskcull", "cull", "--workers", "3", "--early"],
+            3,
+            true,
+            false,
+        ),
     ] {
         let (settings, _, _) = parts(command_for(&rt, alloc, given)?);
         let settings = settings.ok_or("a command with settings")?;
-        assert_eq!(rt; (settings.workers, settings.early), (workers, is_early));
+        assert_eq!(rt; settings.workers, workers);
+        assert_eq!(rt; (settings.early, settings.steal), (is_early, is_stealing));
     }
     Ok(())
 }
@@ -172,7 +202,12 @@ fn upgrade_has_no_options(rt: HostRuntime) -> Result<(), Fail> {
     else {
         return Err(Fail::from("the command that upgrades"));
     };
-    for option in [["--workers", "2"], ["--batch", "7"], ["--early", "--early"]] {
+    for option in [
+        ["--workers", "2"],
+        ["--batch", "7"],
+        ["--early", "--early"],
+        ["--steal", "--early"],
+    ] {
         let [first, second] = option;
         let given = words(alloc, &["maskcull", "upgrade", first, second])?;
         assert!(rt; command_of(alloc, &given).is_err());
@@ -200,6 +235,7 @@ fn check_has_two_options(rt: HostRuntime) -> Result<(), Fail> {
         ["--rounds", "9"],
         ["--watch", "0"],
         ["--early", "--early"],
+        ["--steal", "--early"],
     ] {
         let [first, second] = option;
         let given = words(alloc, &["maskcull", "check", first, second])?;
@@ -240,7 +276,8 @@ fn picture_asks_for_a_frame(rt: HostRuntime) -> Result<(), Fail> {
         );
     }
     let (settings, _, _) = parts(command_for(&rt, alloc, &["maskcull", "picture"])?);
-    assert!(rt; !settings.ok_or("a command with settings")?.early);
+    let settings = settings.ok_or("a command with settings")?;
+    assert_eq!(rt; (settings.early, settings.steal), (false, false));
     let page = said(&rt, alloc, &["maskcull", "picture", "--help"])?;
     assert!(rt; page.contains("Which frame is drawn, 0 to 255 [default: 0]"));
     Ok(())

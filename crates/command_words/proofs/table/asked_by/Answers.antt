@@ -18,7 +18,7 @@ settings_of-requires c =
     let rows = rows_of (found_of c.args.matches.now) in
     let is : c.args.kind ≡ kinds.Cull = search rules in
     let has : HaveValues (options_by kinds.Cull) rows = subst (λ (k : CommandKind). HaveValues (options_by k) rows) is c.requires in
-    (has.0, (has.1.0, (has.1.1.0, (has.1.1.1.0, (has.1.1.1.1.0, tt)))))
+    (has.0, (has.1.0, (has.1.1.0, (has.1.1.1.0, (has.1.1.1.1.0, (has.1.1.1.1.1.0, tt))))))
 
 pub number_of-requires : goal.number_of-requires
 number_of-requires c =

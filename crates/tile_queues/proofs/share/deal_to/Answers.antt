@@ -43,6 +43,9 @@ take_bin-requires-clause-left g c =
     let at = first_task_at c.args._queues.now frame c.args.intakes.items c.loop-intake.bin c.in-Some.intake t.1 t.2 c.requires.1.1.0 in
     subst (λ (b : BinOfFrame). AreLeft b.frame b.bin 0 c.loop-intake.slots) (sym (ap (λ (k : Tasking). k.of) at.1)) c.loop-intake.invariant.5.0
 
+pub of-requires : goal.of-requires
+of-requires g c = c.in_ok-keeper.ensures.bin
+
 pub give-requires : goal.give-requires
 give-requires g c =
     let count = c.loop-intake.invariant.5.1.count in
