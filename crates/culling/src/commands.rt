@@ -54,12 +54,9 @@ fn perform<R: Threads + Wait + Sync, S: Source, W: Sink, E: Sink, G: Gate>(
     }
 }
 
-/// Runs a command, whatever its settings: `cull` reads a scene from the input and writes its report, and where it takes
-/// boxes in groups notes how many of these are hidden, `live` looks at the scene's first objects too while each frame
-/// is drawn, and notes what it saw, `demo` makes a scene and writes its summary, `upgrade` reads a scene and writes it
-/// in version 2, `check` reads a scene and a log and writes whether `live` may have noted it, `picture` reads a scene
-/// and writes a picture of one of its frames. The gate is asked while frames are drawn. What is said of bytes holds
-/// where the input tells its bytes; a sink's claim where the sink tells its own.
+/// Runs a command, whatever its settings: `work_of` says of each what it reads, writes and notes (the table of commands
+/// in README.md says it in words). The gate is asked while frames are drawn. What is said of bytes holds where the input
+/// tells its bytes; a sink's claim where the sink tells its own.
 pub fn run<R: Threads + Wait + Sync, S: Source, W: Sink, E: Sink, G: Gate>(
     rt: &R,
     alloc: Global,
