@@ -1,4 +1,4 @@
-use Rattle.std.proofs.Common.{[], ap, sym, ◌∙◌, subst}
+use Rattle.std.proofs.Common.{List, [], ap, sym, ◌∙◌, subst}
 use Rattle.cull_base.specs.Screen.{tile_count_of}
 use Rattle.bin_queues.specs.Frames.{over}
 use Rattle.bin_queues.specs.QueueParts.{BatchedFrame}
