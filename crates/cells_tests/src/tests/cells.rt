@@ -83,7 +83,7 @@ fn draw_tile<R: Wait>(
 }
 
 // Draws them into all tiles.
-#[tactic(auto, using(tile_cells::proofs::Standing::standing_begins, tile_cells::proofs::Standing::standing_more, tile_cells::proofs::Standing::standing_ends))]
+#[tactic(auto, using(crate::proofs::Draws::standing_steps))]
 fn draw<R: Wait>(
     rt: &R,
     cells: &TileCells,

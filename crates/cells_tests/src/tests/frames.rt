@@ -398,6 +398,15 @@ struct Holding {
     saw_all: AtomicU32,
 }
 
+impl Holding {
+    fn new() -> Holding {
+        Holding {
+            others: AtomicU32::new(0),
+            saw_all: AtomicU32::new(0),
+        }
+    }
+}
+
 impl Gate for Holding {
     fn before(&self, bin: u32, taken: u32) {
         if taken == 0 && bin > 0 {
@@ -415,22 +424,47 @@ impl Gate for Holding {
     }
 }
 
+// Eight times four pieces, one in each tile.
+fn four_columns(rt: &HostRuntime) -> Result<FrameList, Fail> {
+    let (left, right) = ([0, 400, 400], [1024, 1424, 1424]);
+    let four = [left, [512, 912, 912], right, [1536, 1936, 1936]];
+    columns(rt, 128, &four, 8)
+}
+
 // While one of two workers is held in a bin, the other comes to each of the other three.
 #[test]
 fn no_bin_is_tied_to_a_worker(rt: HostRuntime) -> Result<(), Fail> {
-    let (left, right) = ([0, 400, 400], [1024, 1424, 1424]);
-    let four = [left, [512, 912, 912], right, [1536, 1936, 1936]];
-    let list = columns(&rt, 128, &four, 8)?;
+    let list = four_columns(&rt)?;
     let cut = Cut::new(4, 1).ok_or("a cut")?;
     let states = draw_plain(rt.alloc(), &list)?;
-    let gate = Holding {
-        others: AtomicU32::new(0),
-        saw_all: AtomicU32::new(0),
-    };
+    let gate = Holding::new();
     let batch = batch_size(list.len(), 4);
     assert_eq!(rt; batch_count(list.len(), batch), 8);
     let bins = draw_plain_frame(&rt, rt.alloc(), &list, &cut, 2, batch, &gate)?;
     assert_eq!(rt; gate.saw_all.load(Ordering::SeqCst), 1);
     assert!(rt; bins_show(rt.alloc(), bins.as_slice(), &list, &cut, states.as_slice())?);
+    Ok(())
+}
+
+// So it is where bins have owners: bin 2 is taken from the worker that is held in bin 0.
+#[test]
+fn bins_of_a_held_worker_are_stolen(rt: HostRuntime) -> Result<(), Fail> {
+    let list = four_columns(&rt)?;
+    let cut = Cut::new(4, 1).ok_or("a cut")?;
+    let states = draw_plain(rt.alloc(), &list)?;
+    let batch = batch_size(list.len(), 4);
+    let gate = Holding::new();
+    let bins = draw_stolen_plain(&rt, rt.alloc(), &list, &cut, 2, batch, &gate)?;
+    assert_eq!(rt; gate.saw_all.load(Ordering::SeqCst), 1);
+    assert!(rt; bins_show(rt.alloc(), bins.as_slice(), &list, &cut, states.as_slice())?);
+    let frame = Batched {
+        list: &list,
+        cut: &cut,
+        size: batch,
+    };
+    let gate = Holding::new();
+    let (held, _) = stolen_in_cells(&rt, rt.alloc(), &frame, 2, &gate)?;
+    assert_eq!(rt; gate.saw_all.load(Ordering::SeqCst), 1);
+    assert!(rt; are_alike(held.as_slice(), states.as_slice()));
     Ok(())
 }

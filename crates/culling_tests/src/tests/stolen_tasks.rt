@@ -9,7 +9,7 @@ use masked_update::{TileState, draw_plain};
 use std::alloc::{AllocError, Global};
 use std::process::Abort;
 use std::sync::Wait;
-use std::sync::atomic::{AtomicBool, Ordering};
+use std::sync::atomic::{AtomicBool, AtomicU32, Ordering};
 use std::test::*;
 use std::thread::Threads;
 use steal_pool::draw_stolen;
@@ -181,16 +181,22 @@ fn stolen_task_of_cull(rt: HostRuntime) -> Result<(), Fail> {
 
 // Without the flag bins 0 and 2 are drawn one after the other.
 #[test]
-fn stolen_task_of_live(rt: HostRuntime) -> Result<(), Fail> {
-    let line = "maskcull live --steal --workers 2 --bins-x 3 --batch 1";
-    assert_freed(&rt, rt.alloc(), line)
+fn stolen_task_through_cells(rt: HostRuntime) -> Result<(), Fail> {
+    for line in [
+        "maskcull live --steal --workers 2 --bins-x 3 --batch 1",
+        "maskcull cull --early --steal --workers 2 --bins-x 3 --batch 1",
+    ] {
+        assert_freed(&rt, rt.alloc(), line)?;
+    }
+    Ok(())
 }
 
-// Sees whether a batch was binned behind the first question for a piece. Holds a batch up, if there is one of this
-// number, until a piece is asked for.
+// Counts the batches, and sees whether one was binned behind the first question for a piece. Holds a batch up, if there
+// is one of this number, until a piece is asked for.
 #[derive(Drop)]
 struct OrderGate {
     held: Option<u32>,
+    batches: AtomicU32,
     drawn: AtomicBool,
     behind: AtomicBool,
     late: AtomicBool,
@@ -200,6 +206,7 @@ impl OrderGate {
     fn holding(held: Option<u32>) -> OrderGate {
         OrderGate {
             held,
+            batches: AtomicU32::new(0),
             drawn: AtomicBool::new(false),
             behind: AtomicBool::new(false),
             late: AtomicBool::new(false),
@@ -214,6 +221,7 @@ impl Gate for OrderGate {
     }
 
     fn submits(&self, batch: u32) {
+        self.batches.fetch_add(1, Ordering::SeqCst);
         if self.drawn.load(Ordering::SeqCst) {
             self.behind.store(true, Ordering::SeqCst);
         }
@@ -223,7 +231,7 @@ impl Gate for OrderGate {
     }
 }
 
-// Sixty-six batches, of which the first are submitted before workers begin.
+// All sixty-six batches are submitted before a worker begins.
 #[test]
 fn all_batches_are_submitted_before_tasks_are_stolen(rt: HostRuntime) -> Result<(), Fail> {
     let alloc = rt.alloc();
@@ -231,6 +239,7 @@ fn all_batches_are_submitted_before_tasks_are_stolen(rt: HostRuntime) -> Result<
     let gate = OrderGate::holding(None);
     let ended = run_gated(&rt, alloc, line, wide_scene(alloc, 22)?, &gate)?;
     assert_eq!(rt; ended.status, Status::Done);
+    assert_eq!(rt; gate.batches.load(Ordering::SeqCst), 66);
     assert!(rt; gate.drawn.load(Ordering::SeqCst));
     assert!(rt; !gate.behind.load(Ordering::SeqCst));
     Ok(())
@@ -244,6 +253,7 @@ fn without_stealing_workers_begin_before_the_last_batch(rt: HostRuntime) -> Resu
     let gate = OrderGate::holding(Some(65));
     let ended = run_gated(&rt, alloc, line, wide_scene(alloc, 22)?, &gate)?;
     assert_eq!(rt; ended.status, Status::Done);
+    assert_eq!(rt; gate.batches.load(Ordering::SeqCst), 66);
     assert!(rt; gate.drawn.load(Ordering::SeqCst));
     assert!(rt; !gate.late.load(Ordering::SeqCst));
     Ok(())
@@ -253,13 +263,14 @@ fn without_stealing_workers_begin_before_the_last_batch(rt: HostRuntime) -> Resu
 #[test]
 fn stealing_changes_no_byte(rt: HostRuntime) -> Result<(), Fail> {
     let alloc = rt.alloc();
-    for command in ["cull", "live", "cull --early"] {
+    for (command, is_noted) in [("cull", false), ("live", true), ("cull --early", false)] {
         for workers in [1u32, 7, 64] {
             for bins in [1u32, 8] {
                 let line = format!(in alloc;
                     "maskcull {command} --steal --workers {workers} --bins-x {bins} --bins-y {bins} --batch 1"
                 )?;
                 let ended = run_with(&rt, alloc, line.as_str(), first_scene(alloc)?)?;
+                assert!(rt; is_noted || ended.notes.is_empty());
                 assert_ended(&rt, &ended, Status::Done, OCCLUDED, ended.notes.as_str());
             }
         }
