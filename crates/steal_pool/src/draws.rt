@@ -1,58 +1,72 @@
-//! What draws the task of a bin, over whatever keeps the bin's tiles.
-use cull_base::FrameList;
+//! What keeps the tiles of tasks that a pool draws: in the pool each task is one of either kind.
+ghost use Rattle.std.specs.Prelude.{◌≡◌};
+ghost use Rattle.steal_pool.specs.Either.{is_in_cells, tasking_of};
+
+use crate::either_task::EitherTask;
 use masked_update::Canvas;
-use std::sync::Wait;
-use tile_cells::TileCells;
-use tile_queues::{BinQueues, BinTask, CellBin, Drained, Gate, Held};
+use tile_queues::{BinTask, CellBin, Held};
 
 /// Keeps the tiles of tasks that a pool draws.
 pub trait Draws: Held + Drop + Send {
-    ghost use Rattle.std.specs.Prelude.{◌≡◌};
-    ghost use Rattle.bin_queues.specs.QueueParts.{batches_in};
-    ghost use Rattle.bin_queues.specs.Tasks.{GoesOn, IsTaskOf};
-    ghost use Rattle.bin_tasks.specs.Drains.{IsAnswer};
-    ghost use Rattle.bin_tasks.specs.declared.task.Drained.TheVariants.{Whole};
+    ghost use Rattle.std.specs.Prelude.{◌≡◌, Bool, IfSome, MatchOption};
+    ghost use Rattle.steal_pool.specs.Either.{is_in_cells, tasking_of};
 
-    /// Draws what is in the queue of a task's bin, and all of it where the task was told of all batches. Conditions:
-    /// the task is of these queues, of these cells and of this list.
-    fn draw_queue<R: Wait, G: Gate>(
-        task: &mut BinTask<Self>,
-        rt: &R,
-        queues: &BinQueues,
-        cells: &TileCells,
-        list: &FrameList,
-        gate: &G,
-    ) -> Drained
-        requires queues { IsTaskOf queues.now task.old }
-        requires cells { task.old.of.frame.cells ≡ cells.now }
-        requires list { task.old.of.frame.list ≡ list.now.list }
-        ensures on { GoesOn task.old task.new }
-        ensures answer { IsAnswer result task.old task.new }
-        ensures told { task.old.told ≡ batches_in task.old.of.frame → result ≡ Whole };
+    /// Whether the tiles lie in cells.
+    ghost in_cells: { Bool };
+
+    /// The task of a slot as one of either kind.
+    fn take_either(slot: &mut Option<BinTask<Self>>) -> Option<EitherTask>
+        ensures { IfSome slot.old (λ task. MatchOption result ⊥
+            (λ e. (is_in_cells e ≡ in_cells) × (tasking_of e ≡ task))) };
+
+    /// The task as one of this kind. Condition: it is one.
+    fn from_either(task: EitherTask) -> BinTask<Self>
+        requires { is_in_cells task ≡ in_cells }
+        ensures { result ≡ tasking_of task };
 }
 
 impl Draws for CellBin {
-    fn draw_queue<R: Wait, G: Gate>(
-        task: &mut BinTask<CellBin>,
-        rt: &R,
-        queues: &BinQueues,
-        cells: &TileCells,
-        list: &FrameList,
-        gate: &G,
-    ) -> Drained {
-        queues.drain(rt, task, cells, list, gate)
+    ghost use Rattle.std.specs.Prelude.{true};
+
+    ghost in_cells = { true };
+
+    fn take_either(slot: &mut Option<BinTask<CellBin>>) -> Option<EitherTask> {
+        slot.take().map(|task| EitherTask::Cells(task))
+    }
+
+    fn from_either(task: EitherTask) -> BinTask<CellBin> {
+        match task {
+            EitherTask::Cells(task) => task,
+            EitherTask::Plain(_) => unreachable!(),
+        }
     }
 }
 
 impl Draws for Canvas {
-    fn draw_queue<R: Wait, G: Gate>(
-        task: &mut BinTask<Canvas>,
-        rt: &R,
-        queues: &BinQueues,
-        _cells: &TileCells,
-        list: &FrameList,
-        gate: &G,
-    ) -> Drained {
-        queues.drain_plain(rt, task, list, gate)
+    ghost use Rattle.std.specs.Prelude.{false};
+
+    ghost in_cells = { false };
+
+    fn take_either(slot: &mut Option<BinTask<Canvas>>) -> Option<EitherTask> {
+        slot.take().map(|task| EitherTask::Plain(task))
+    }
+
+    fn from_either(task: EitherTask) -> BinTask<Canvas> {
+        match task {
+            EitherTask::Cells(_) => unreachable!(),
+            EitherTask::Plain(task) => task,
+        }
+    }
+}
+
+/// The task as one of either kind.
+pub(crate) fn into_either<K: Draws>(task: BinTask<K>) -> EitherTask
+    ensures kind { is_in_cells result ≡ K.in_cells }
+    ensures task { tasking_of result ≡ task }
+{
+    let mut slot = Some(task);
+    match K::take_either(&mut slot) {
+        Some(either) => either,
+        None => unreachable!(),
     }
 }

@@ -7,7 +7,8 @@ ghost use Rattle.steal_pool.specs.declared.deque_rule.Role.TheVariants.{Owns, St
 
 use crate::deque_rule::{DequePass, Owner, Thief};
 use crate::deque_steps::{pop, steal};
-use crate::draws::Draws;
+use crate::draws::{Draws, into_either};
+use crate::either_task::draw_either;
 use crate::pool::Pool;
 use std::sync::Wait;
 use tile_queues::{BinTask, Gate};
@@ -16,7 +17,7 @@ use tile_queues::{BinTask, Gate};
 fn draw_into<R: Wait, G: Gate, K: Draws>(
     pool: &Pool<R, G>,
     list: &mut Vec<BinTask<K>>,
-    mut task: BinTask<K>,
+    task: BinTask<K>,
 )
     requires told { IsToldIn (call_of pool.now) task }
     requires room { vec_len list.old < vec_capacity list.old }
@@ -24,9 +25,9 @@ fn draw_into<R: Wait, G: Gate, K: Draws>(
     ensures len { vec_len list.new ≡ vec_len list.old + 1 }
     ensures capacity { vec_capacity list.new ≡ vec_capacity list.old }
 {
-    let (rt, cells) = (pool.rt, pool.cells);
-    K::draw_queue(&mut task, rt, pool.queues, cells, pool.list, pool.gate);
-    list.push_reserved(task);
+    let either = into_either(task);
+    let drawn = K::from_either(draw_either(pool, either));
+    list.push_reserved(drawn);
 }
 
 /// Draws all tasks of an own deque until it is found empty. Conditions: the deque is named after the pool, and the list

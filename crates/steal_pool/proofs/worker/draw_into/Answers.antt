@@ -1,26 +1,21 @@
-use Rattle.std.proofs.Common.{ap, rules}
-use Rattle.bin_queues.specs.QueueParts.{BatchedFrame, BinOfFrame}
-use Rattle.steal_pool.specs.Pools.{call_of}
-use Rattle.steal_pool.proofs.Drawing.{is_whole}
+use Rattle.std.proofs.Common.{ap, rules, sym, ◌∙◌, subst}
+use Rattle.bin_queues.specs.Tasks.{Tasking}
+use Rattle.steal_pool.specs.DequeRule.{IsToldIn}
+use Rattle.steal_pool.specs.Pools.{call_of, IsWholeIn}
 use Rattle.steal_pool.proofs.worker.draw_into.Goals as goal
 
-pub draw_queue-requires-clause-queues : goal.draw_queue-requires-clause-queues
-draw_queue-requires-clause-queues g c = search (rules, c.requires.told.over.of)
+pub draw_either-requires : goal.draw_either-requires
+draw_either-requires g c =
+    let told = subst (IsToldIn (call_of c.args.pool.now)) (sym c.into_either-either.ensures.task) c.requires.told in
+    search (rules, told)
 
-pub draw_queue-requires-clause-cells : goal.draw_queue-requires-clause-cells
-draw_queue-requires-clause-cells g c =
-    let is = ap (λ (f : BatchedFrame). f.cells) c.requires.told.over.frame_is in
-    search (rules, is)
-
-pub draw_queue-requires-clause-list : goal.draw_queue-requires-clause-list
-draw_queue-requires-clause-list g c =
-    let is = ap (λ (f : BatchedFrame). f.list) c.requires.told.over.frame_is in
-    search (rules, is)
+pub from_either-drawn-requires : goal.from_either-drawn-requires
+from_either-drawn-requires g c = c.draw_either.ensures.kind ∙ c.into_either-either.ensures.kind
 
 pub returns-clause-joined : goal.returns-clause-joined
 returns-clause-joined g c = record {
-  task = c.draw_queue.new.task;
+  task = c.from_either-drawn.result;
   list_is = c.push_reserved.ensures.items;
-  bin_is = ap (λ (b : BinOfFrame). b.bin) c.draw_queue.ensures.on.of;
-  whole = is_whole (call_of c.args.pool.now) c.draw_queue.result c.args.task c.draw_queue.new.task c.requires.told c.draw_queue.ensures.on c.draw_queue.ensures.answer c.draw_queue.ensures.told;
+  bin_is = ap (λ (t : Tasking). t.of.bin) c.from_either-drawn.ensures ∙ c.draw_either.ensures.bin ∙ ap (λ (t : Tasking). t.of.bin) c.into_either-either.ensures.task;
+  whole = subst (IsWholeIn (call_of c.args.pool.now)) (sym c.from_either-drawn.ensures) c.draw_either.ensures.whole;
 }
