@@ -8,6 +8,7 @@ ghost use Rattle.cull_report.specs.Live.{text_of_line, watched};
 ghost use Rattle.cull_report.specs.Scene.{frame_clips, frame_list, frame_pieces, frame_verdicts};
 ghost use Rattle.tile_cells.specs.Cells.{AreFresh, Reading};
 ghost use Rattle.tile_cells.specs.Standing.{AreStanding, IsReading};
+ghost use Rattle.tile_queues.specs.Callers.{Follows};
 ghost use Rattle.tile_queues.specs.Frames.{HaveStates};
 ghost use Rattle.culling.specs.Frames.{AreCounted};
 ghost use Rattle.culling.specs.LiveFrames.{AreLive, HaveRoom, IsReady, IsWatching, RoomFor};
@@ -82,6 +83,7 @@ fn draw_into_cells<R: Threads + Wait + Sync, G: Gate, C: Caller>(
         AreStanding cells.now list.now.list (length list.now.list.members) v.items) }
     ensures done { OnOk result (C.done caller.new list.now.list reader.new) }
     ensures keeps { OnOk result (C.keeps caller.old caller.new) }
+    ensures follows { OnOk result (Follows reader.old reader.new) }
     ensures pieces { OnOk result (ArePieces list.now.list.members) }
 {
     let (rt, alloc, settings) = (drawing.rt, drawing.alloc, drawing.plan.settings);
