@@ -73,12 +73,10 @@ impl Caller for Nobody {
 
     fn beside<R: Threads + Wait + Sync>(
         &mut self,
-        rt: &R,
-        cells: &TileCells,
-        reader: &mut TileReader,
-    ) {
-        let _ = (rt, cells, reader);
-    }
+        _rt: &R,
+        _cells: &TileCells,
+        _reader: &mut TileReader,
+    ) {}
 }
 
 // Three pieces on a screen of three tiles, one in each.
