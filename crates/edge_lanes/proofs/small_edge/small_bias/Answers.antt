@@ -38,7 +38,7 @@ returns-clause-value c =
     let fl : FitsSigned w32 c.lean.result = search rules in
     let fs : FitsSigned w64 c.sign.result = search rules in
     let at = joined c.args.ax c.args.ay c.args.bx c.args.by c.step.result c.step-2.result c.lean.result (simp to_z-of_z at c.step.ensures) (simp to_z-of_z at c.step-2.ensures) (simp to_z-of_z at c.lean.ensures) in
-    simp to_z-of_z at c.sign.ensures ∙ bias_by_sign c.args.ax c.args.ay c.args.bx c.args.by c.lean.result c.requires.few.across c.requires.few.down at
+    simp to_z-of_z (simp to_z-of_z at c.sign.ensures ∙ bias_by_sign c.args.ax c.args.ay c.args.bx c.args.by c.lean.result c.requires.few.across c.requires.few.down at)
 
 pub returns-clause-bounded : goal.returns-clause-bounded
-returns-clause-bounded c = bias_bounded c.args.ax c.args.ay c.args.bx c.args.by c.sign.result (returns-clause-value c)
+returns-clause-bounded c = bias_bounded c.args.ax c.args.ay c.args.bx c.args.by _ (returns-clause-value c)

@@ -22,11 +22,11 @@ returns-clause-second c h =
     let fb : FitsSigned w32 c.args.b = c.ranges.b in let fc : FitsSigned w32 c.args.c = c.ranges.c in
     let fs : FitsSigned w32 c.step-2.result = search rules in
     let all = three c.is_little_step.result c.is_little_step-2.result c.is_little_step-3.result h in
-    moved c.step-2.result (c.args.c -ℤ c.args.b) (simp to_z-of_z at c.step-2.ensures) (simp to_z-of_z at (c.is_little_step-2.ensures all.1.0))
+    moved c.step-2.result (c.args.c -ℤ c.args.b) (simp to_z-of_z at c.step-2.ensures) (simp to_z-of_z at (c.is_little_step-2.ensures all.1))
 
 pub returns-clause-third : goal.returns-clause-third
 returns-clause-third c h =
     let fa : FitsSigned w32 c.args.a = c.ranges.a in let fc : FitsSigned w32 c.args.c = c.ranges.c in
     let fs : FitsSigned w32 c.step-3.result = search rules in
     let all = three c.is_little_step.result c.is_little_step-2.result c.is_little_step-3.result h in
-    moved c.step-3.result (c.args.a -ℤ c.args.c) (simp to_z-of_z at c.step-3.ensures) (simp to_z-of_z at (c.is_little_step-3.ensures all.1.1))
+    moved c.step-3.result (c.args.a -ℤ c.args.c) (simp to_z-of_z at c.step-3.ensures) (simp to_z-of_z at (c.is_little_step-3.ensures all.2))
