@@ -8,6 +8,7 @@ pub mod Sharing
 pub mod Subtiles
 pub mod SubStarts
 pub mod SmallLanes
+pub mod SmallBias
 pub mod Tiles
 pub mod EightColumns
 pub mod SpanLanes

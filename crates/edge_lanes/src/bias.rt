@@ -28,7 +28,7 @@ fn bias(side: Side, top_or_left: bool) -> i64
 }
 
 #[inline(always)]
-fn with_bias(value: i64, bias: i64) -> i64
+pub(crate) fn with_bias(value: i64, bias: i64) -> i64
     requires value { Bounded (2 ^ 61) value }
     requires bias { Bounded 1 bias }
     ensures value { result ≡ value +ℤ bias }

@@ -3,7 +3,6 @@ ghost use Rattle.std.specs.Prelude.{◌≡◌, ℕ, ◌<◌};
 ghost use Rattle.cull_base.specs.Piece.{covered};
 ghost use Rattle.cull_base.specs.declared.place.Sub.{Sub};
 ghost use Rattle.edge_lanes.specs.Crossings.{inside_rows};
-ghost use Rattle.edge_lanes.specs.Lines.{IsNarrow};
 
 use crate::crossings::Crossings;
 use crate::edges::{Edges, is_narrow};
@@ -34,32 +33,23 @@ fn plain(tri: &ScreenTri) -> RowEdges
     }
 }
 
-// A narrow piece's edges.
-#[inline(always)]
-fn of_narrow(tri: &ScreenTri) -> RowEdges
-    requires { IsNarrow tri.now }
-    ensures { (u : Sub) → u.column < 256 → u.row < 512 → inside_rows result u ≡ covered tri.now u }
-{
-    let edges = TurnedEdges::of(&NarrowEdges::of(tri, Side::Occluder));
-    if edges.are_near() {
-        RowEdges {
-            kind: RowKind::Crossed(Crossings::of(&edges)),
-        }
-    } else {
-        plain(tri)
-    }
-}
-
 impl RowEdges {
-    // Out of line, so that what is made is written where the caller keeps it, and no copy passes through its branches.
+    // Out of line, so that what is made is written where the caller keeps it. Each way returns by itself: where two ways
+    // join, what is large is copied.
     #[inline(never)]
     pub fn of(tri: &ScreenTri) -> RowEdges
         ensures { (u : Sub) → u.column < 256 → u.row < 512 → inside_rows result u ≡ covered tri.now u }
     {
-        if is_narrow(tri) {
-            of_narrow(tri)
-        } else {
-            plain(tri)
+        if !is_narrow(tri) {
+            return plain(tri);
+        }
+        let edges = TurnedEdges::of(&NarrowEdges::of(tri, Side::Occluder));
+        if !edges.are_near() {
+            return plain(tri);
+        }
+        let crossings = Crossings::of(&edges);
+        RowEdges {
+            kind: RowKind::Crossed(crossings),
         }
     }
 }

@@ -1,20 +1,25 @@
 //! An edge of a piece of a few pixels, at most 2^10 sixteenths of a pixel long each way, by its values' sixteenths as
 //! in `NarrowEdge`, in lanes of 16 bits.
-ghost use Rattle.std.specs.Prelude.{◌≡◌, ℕ, pos, ◌^◌, ◌+◌, ◌*◌, ◌<◌, ◌*ℤ◌};
+ghost use Rattle.std.specs.Prelude.{◌≡◌, ℕ, pos, ◌^◌, ◌+◌, ◌*◌, ◌<◌, ◌+ℤ◌, ◌-ℤ◌, ◌*ℤ◌};
+ghost use Rattle.std.specs.Int.{int_div_euclid};
 ghost use Rattle.cull_base.specs.Bounds.{Bounded};
-ghost use Rattle.cull_base.specs.Piece.{IsCoordinate, point};
+ghost use Rattle.cull_base.specs.Piece.{IsCoordinate, edge_value, is_top_or_left, point};
 ghost use Rattle.cull_base.specs.declared.triangle.Side.{Side};
-ghost use Rattle.edge_lanes.specs.Lanes.{offsets_of, row_of};
+ghost use Rattle.edge_lanes.specs.Lanes.{bias_of, offsets_of, row_of};
 ghost use Rattle.edge_lanes.specs.Lines.{IsEdge, IsFew, held_few, inside_from, sub_value};
 
 use crate::arithmetic::{shift, steps};
-use crate::bias::first_value;
+use crate::bias::with_bias;
 use crate::narrow_edge::{Rows, sixteenth, step};
-use cull_base::{Side, Sub};
+use cull_base::Sub;
+use cull_base::arithmetic::edge_value;
 use std::simd::prelude::*;
 
 /// A subtile's samples lie less than 2^14 from its first, so a value clamped to this size there keeps its sign at each.
 const FAR: i64 = 0x4000;
+
+/// In `lean` a row counts as so many columns, which is more than such an edge passes.
+const ROW: i32 = 2048;
 
 /// An edge over the screen. A sample is inside where the value there isn't negative.
 #[derive(Clone, Copy)]
@@ -30,6 +35,53 @@ pub struct SmallEdge {
     ghost column_bounded: { Bounded (2 ^ 10) column },
     ghost row_bounded: { Bounded (2 ^ 10) row },
     ghost are_columns: { columns ≡ offsets_of column },
+}
+
+// An edge's steps as one number: it isn't negative where the edge is a top or left one.
+#[inline(always)]
+fn lean(column: i32, row: i32) -> i32
+    requires column { Bounded (2 ^ 10) column }
+    requires row { Bounded (2 ^ 10) row }
+    ensures { result ≡ (row +ℤ (pos 2048 *ℤ column)) -ℤ pos 1 }
+{
+    row + ROW * column - 1
+}
+
+// -1 of a negative number, else 0.
+#[inline(always)]
+fn sign(number: i32) -> i64
+    ensures { result ≡ int_div_euclid number (pos (2 ^ 31)) }
+{
+    i64::from(number >> 31)
+}
+
+// The bias of an occluder's edge, without a test.
+#[inline(always)]
+fn small_bias(ax: i32, ay: i32, bx: i32, by: i32) -> i64
+    requires ax { IsCoordinate ax }
+    requires ay { IsCoordinate ay }
+    requires bx { IsCoordinate bx }
+    requires by { IsCoordinate by }
+    requires few { IsFew (point ax ay) (point bx by) }
+    ensures value { result ≡ bias_of Side.Occluder (is_top_or_left (point ax ay) (point bx by)) }
+    ensures bounded { Bounded 1 result }
+{
+    sign(lean(step(ay, by), step(bx, ax)))
+}
+
+// The value at the first pixel's sample of an occluder's edge from a to b, with the bias.
+#[inline(always)]
+fn small_first(ax: i32, ay: i32, bx: i32, by: i32) -> i64
+    requires ax { IsCoordinate ax }
+    requires ay { IsCoordinate ay }
+    requires bx { IsCoordinate bx }
+    requires by { IsCoordinate by }
+    requires few { IsFew (point ax ay) (point bx by) }
+    ensures value { result ≡ edge_value (point ax ay) (point bx by) (point (pos 8) (pos 8))
+        +ℤ bias_of Side.Occluder (is_top_or_left (point ax ay) (point bx by)) }
+    ensures bounded { Bounded (2 ^ 61 + 1) result }
+{
+    with_bias(edge_value(ax, ay, bx, by, 8, 8), small_bias(ax, ay, bx, by))
 }
 
 // A step in 16 bits.
@@ -93,7 +145,7 @@ impl SmallEdge {
         ensures { IsEdge (small_line result) Side.Occluder (point ax ay) (point bx by) }
     {
         from_steps(
-            sixteenth(first_value(ax, ay, bx, by, Side::Occluder)),
+            sixteenth(small_first(ax, ay, bx, by)),
             short(step(ay, by)),
             short(step(bx, ax)),
         )

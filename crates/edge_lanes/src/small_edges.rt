@@ -9,6 +9,7 @@ ghost use Rattle.cull_base.specs.declared.triangle.Side.{Side};
 ghost use Rattle.edge_lanes.specs.Inside.{small_line, small_lines};
 ghost use Rattle.edge_lanes.specs.Lines.{AreEdges, AreFew, IsEdge, IsFew, inside_all};
 
+use crate::narrow_edge::step;
 use crate::narrow_edges::{in_each, mask_of_rows};
 use crate::small_edge::SmallEdge;
 use cull_base::{ScreenTri, Sub};
@@ -24,7 +25,16 @@ pub struct SmallEdges {
     third: SmallEdge,
 }
 
-// Whether three coordinates lie so near to each other.
+// Whether an edge of a little piece may pass so many sixteenths.
+#[inline(always)]
+fn is_little_step(step: i32) -> bool
+    ensures { IsTrue result → Bounded (2 ^ 10) step }
+{
+    -FEW < step && step < FEW
+}
+
+// Whether three coordinates lie so near to each other. Their differences are those that the edges take: no least and no
+// greatest is computed.
 #[inline(always)]
 fn are_together(a: i32, b: i32, c: i32) -> bool
     requires a { IsCoordinate a }
@@ -34,7 +44,7 @@ fn are_together(a: i32, b: i32, c: i32) -> bool
     ensures second { IsTrue result → Bounded (2 ^ 10) (c -ℤ b) }
     ensures third { IsTrue result → Bounded (2 ^ 10) (a -ℤ c) }
 {
-    a.max(b).max(c) - a.min(b).min(c) < FEW
+    is_little_step(step(b, a)) & is_little_step(step(c, b)) & is_little_step(step(a, c))
 }
 
 #[inline(always)]

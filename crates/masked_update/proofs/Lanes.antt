@@ -1,5 +1,5 @@
 -- The states that eight lanes are seen as.
-use Rattle.std.proofs.Common.{◌≡◌, ℕ, ◌<◌, List, length, map, ◌≤◌, false, cond, nat_lt, arith, ap, ◌∙◌, sym, slice_index_or, suc, zero, set, inl, inr}
+use Rattle.std.proofs.Common.{◌≡◌, ℕ, ◌<◌, List, length, map, ◌≤◌, false, cond, nat_lt, arith, ap, ◌∙◌, sym, slice_index_or, set, inl, inr}
 use Rattle.std.specs.Int.{bit_at}
 use Rattle.std.specs.Simd.Lanes.{mask_l}
 use Rattle.std.proofs.lemmas.Bool.Decides.{nat_tests}

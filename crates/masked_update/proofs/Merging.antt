@@ -73,6 +73,13 @@ pub merged_nowhere : (size : Dimensions) (place : Tile) (x : Piece) (bits : ℕ)
 unfolding merged_by
 merged_nowhere size place x bits old eight none wanted = eight_of (merged_at size place x old) old eight (λ j h. left_out size place x old bits j h wanted (ap (λ n. bit_at n j) none ∙ bit_at-zero j))
 
+-- and so it stays
+pub stays_unwanted : (size : Dimensions) (place : Tile) (x : Piece) (bits : ℕ) (t : TileOf) → length t.subs ≡ 8 → bits ≡ 0 → AreWanted size place x t.subs bits → merged_tile size place x t ≡ t
+stays_unwanted size place x bits t eight none wanted = ap (λ subs. tile_with subs t.count) (sym (merged_nowhere size place x bits t.subs eight none wanted))
+  where
+    tile_with : List State → ℕ → TileOf
+    tile_with subs count = record { subs = subs; count = count }
+
 -- a tile whose references are all at least as near as the piece stays as it is
 pub merged_behind : (size : Dimensions) (place : Tile) (x : Piece) (t : TileOf) → IsPiece x → NoneBelow (greatest_nearness x) t → merged_tile size place x t ≡ t
 unfolding merged_by

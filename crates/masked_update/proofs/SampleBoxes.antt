@@ -1,11 +1,10 @@
 -- The samples that a piece may cover stand between its least and its greatest coordinates.
 use Rattle.std.proofs.Common.{◌≡◌, ◌∙◌, ℕ, ℤ, pos, negsuc, ◌+◌, ◌-◌, ◌*◌, ◌<◌, ◌≤◌, ◌+ℤ◌, ◌≤ℤ◌, ◌<ℤ◌, ◌/◌, ◌%◌, arith, refl, ap, sym, subst, true, false, Bool, List, length, cond, min, max, slice_index_or}
-use Rattle.std.specs.List.{All}
 use Rattle.std.specs.Int.{div_ceil, int_div_euclid}
 use Rattle.std.proofs.lemmas.Bool.{and_left, and_parts, and_right, both_ways, cond-false, cond-true, false_from_ne_true, leb-true, ltb-true}
 use Rattle.std.proofs.lemmas.Bool.Decides.{nat_tests}
 use Rattle.std.proofs.lemmas.Int.{ints, clamps}
-use Rattle.cull_base.specs.Piece.{Piece, IsPiece, IsCoordinate, covers, sample, middle, least_of, greatest_of, first_pixel, box_of}
+use Rattle.cull_base.specs.Piece.{Piece, IsPiece, covers, sample, middle, least_of, greatest_of, first_pixel, box_of}
 use Rattle.cull_base.specs.Rectangle.{meets}
 use Rattle.cull_base.specs.Screen.{Dimensions, IsSize, tile_place, tile_rect_of, tile_sub, is_on_screen}
 use Rattle.cull_base.specs.Span.{IsPartOf, IsSpan, has_column, has_row, has_tile, is_between, number_in}

@@ -1,11 +1,11 @@
 -- Pieces that may cover no sample of the screen change nothing there, so the others give the same states.
-use Rattle.std.proofs.Common.{◌≡◌, ℕ, pos, ◌+◌, ◌*◌, ◌<◌, ◌/◌, ◌%◌, Bool, true, false, nat_lt, cond, List, filter, map, arith, refl, sym, ap}
-use Rattle.std.specs.List.{range_with_len, Contains}
+use Rattle.std.proofs.Common.{◌≡◌, ℕ, pos, ◌+◌, ◌*◌, ◌<◌, ◌/◌, ◌%◌, Bool, true, false, nat_lt, cond, List, map, arith, refl}
+use Rattle.std.specs.List.{range_with_len}
 use Rattle.std.proofs.lemmas.Bool.{and_parts, both_ways, ltb-true}
 use Rattle.std.proofs.lemmas.Int.{ints}
 use Rattle.cull_base.specs.declared.place.Sub.{Sub}
 use Rattle.cull_base.specs.Fold.{after, step}
-use Rattle.cull_base.specs.Piece.{Piece, IsPiece, covers, sample}
+use Rattle.cull_base.specs.Piece.{Piece, IsPiece}
 use Rattle.cull_base.specs.Rectangle.{HasPixel}
 use Rattle.cull_base.specs.Sampled.{is_sampled, sampled_among, sampled_list, samples_between}
 use Rattle.cull_base.specs.Screen.{Dimensions, IsSize, is_on_screen, screen_of, tile_sub}

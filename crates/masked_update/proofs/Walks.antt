@@ -1,6 +1,6 @@
 -- Tiles of a canvas that change, one place more at a time.
 use Rattle.std.proofs.Common.{◌≡◌, inl, inr, ℕ, ◌+◌, ◌-◌, ◌<◌, ◌≤◌, ◌&&◌, Bool, true, false, nat_eq, length, set, cond, arith, refl, ap, ◌∙◌, sym, subst}
-use Rattle.std.proofs.lemmas.Bool.{and_parts, and_from, and_left, and_right, cond-false, cond-true, cases_eq, cases_lt, eq-eqb, eqb-true}
+use Rattle.std.proofs.lemmas.Bool.{and_parts, and_from, and_left, and_right, cond-false, cond-true, cases_eq, cases_lt, eq-eqb, eqb-true, false_from_ne_true}
 use Rattle.std.proofs.lemmas.Bool.Decides.{eqb_tells, nat_tests}
 use Rattle.std.proofs.lemmas.List.{get_or-set_other, length-set}
 use Rattle.std.proofs.lemmas.Grind.{get_or-set_at}
@@ -15,7 +15,7 @@ use Rattle.cull_base.specs.declared.tile_span.TileSpan.{TileSpan}
 use Rattle.masked_update.specs.TileOf.{TileOf, tile_at, no_tile}
 use Rattle.masked_update.specs.Taken.{counted_tile, counted_where, merged_tile, merged_where}
 use Rattle.masked_update.specs.Canvas.{CanvasOf, CountedMet, IsCanvas, IsInWindow, MergedMet, with_tile, tile_on, tile_in}
-use Rattle.masked_update.specs.Walk.{ChangedWhere, HoldsWhere, NoneBelowWhere, is_in_row}
+use Rattle.masked_update.specs.Walk.{ChangedWhere, HoldsWhere, NoneBelowWhere, StayWhere, is_in_row}
 pub use Rattle.masked_update.specs.Walk.{rows_before}
 use Rattle.masked_update.proofs.Merging.{merged_behind}
 use Rattle.masked_update.proofs.Grid.{grows_elsewhere, before, last_between, none_between}
@@ -163,6 +163,58 @@ row_within span row p le lt on =
     let (rows, columns) = and_parts (nat_eq p.row row) (has_column span p.column) on in
     let e = eqb-true p.row row rows in
     and_from (has_row span p.row) (has_column span p.column) (between span.first_row span.end_row p.row (omega (arith, le, e)) (omega (arith, lt, e))) columns
+
+-- a piece changes no tile of a row before one, nor it
+pub stay_in_row : (span : TileSpan) (size : Dimensions) (x : Piece) (c : CanvasOf) (q : Tile) → StayWhere (is_in_row (columns_before span q.column) q.row) size x c → merged_tile size q x (tile_on c q) ≡ tile_on c q
+    → StayWhere (is_in_row (columns_before span (q.column + 1)) q.row) size x c
+stay_in_row span size x c q all one p h on = elim (cases_eq p.column q.column) [
+  | inl e ↦
+      let rows = eqb-true p.row q.row (and_parts (nat_eq p.row q.row) _ on).0 in
+      subst (λ (r : Tile). merged_tile size r x (tile_on c r) ≡ tile_on c r) (sym (same_place p q e rows)) one
+  | inr ne ↦ all p h (ap (λ b. nat_eq p.row q.row && b) (grows_elsewhere span.first_column q.column p.column ne) ∙ on)
+]
+
+-- where no column of the span is left, the row's are those before
+pub in_row_before : (span : TileSpan) (row column : ℕ) (p : Tile) → span.end_column ≤ column → is_in_row span row p ≡ true → is_in_row (columns_before span column) row p ≡ true
+in_row_before span row column p le on =
+    let (rows, columns) = and_parts (nat_eq p.row row) (has_column span p.column) on in
+    and_from (nat_eq p.row row) _ rows (wider span.first_column span.end_column column p.column le columns)
+  where
+    wider : (first end more n : ℕ) → end ≤ more → is_between first end n ≡ true → is_between first more n ≡ true
+    wider first end more n le h = grind (arith, nat_tests)
+
+-- a piece changes no tile of the rows before one, nor of the row
+pub stay_in_rows : (span : TileSpan) (size : Dimensions) (x : Piece) (c : CanvasOf) (row : ℕ) → StayWhere (has_tile (rows_before span row)) size x c → StayWhere (is_in_row span row) size x c → StayWhere (has_tile (rows_before span (row + 1))) size x c
+stay_in_rows span size x c row all one p h on = elim (cases_eq p.row row) [
+  | inl e ↦ one p h (and_from (nat_eq p.row row) (has_column span p.column) (eq-eqb p.row row e) (and_parts _ (has_column span p.column) on).1)
+  | inr ne ↦ all p h (ap (λ b. b && has_column span p.column) (grows_elsewhere span.first_row row p.row ne) ∙ on)
+]
+
+-- a piece that changes no tile is merged where nothing changes
+pub merged_where_stays : (test : Tile → Bool) (size : Dimensions) (x : Piece) (c : CanvasOf) → IsCanvas c → StayWhere test size x c → ChangedWhere test (λ p t. merged_tile size p x t) c c
+merged_where_stays test size x c whole stay = record { window = refl; whole = whole; tiles = λ p h. stays p h (test p) refl }
+  where
+    stays : (p : Tile) → has_tile c.window p ≡ true → (b : Bool) → test p ≡ b → tile_on c p ≡ cond (test p) (merged_tile size p x (tile_on c p)) (tile_on c p)
+    stays p h true e = sym (cond-true _ _ _ e ∙ stay p h e)
+    stays p h false e = sym (cond-false _ _ _ e)
+
+-- a span of one tile
+pub one_of_span : (span : TileSpan) (p : Tile) → span.end_column ≡ span.first_column + 1 → span.end_row ≡ span.first_row + 1 → has_tile span p ≡ true → p ≡ tile_with span.first_column span.first_row
+one_of_span span p column row h =
+    let s = stands span p h in
+    same_place p (tile_with span.first_column span.first_row) (omega (arith, column, s.column_from, s.column_before)) (omega (arith, row, s.row_from, s.row_before))
+
+-- where its tile has changed, the span has
+pub one_changed : (span : TileSpan) (f : Tile → TileOf → TileOf) (old new : CanvasOf) (n : ℕ) → span.end_column ≡ span.first_column + 1 → span.end_row ≡ span.first_row + 1 → IsCanvas old → has_tile old.window (tile_with span.first_column span.first_row) ≡ true
+    → n ≡ number_in old.window (tile_with span.first_column span.first_row) → new ≡ with_tile old n (f (tile_with span.first_column span.first_row) (tile_at old.tiles n)) → ChangedWhere (has_tile span) f old new
+one_changed span f old new n column row whole here is step =
+    one_more (λ p. false) (has_tile span) f old old new q n (none_changed (λ p. false) f old whole (λ p. refl)) here is refl
+    (has span q (record { row_from = omega arith; row_before = omega (arith, row); column_from = omega arith; column_before = omega (arith, column) }))
+    (λ p ne. sym (false_from_ne_true (has_tile span p) (λ h. ne (one_of_span span p column row h))))
+    step
+  where
+    q : Tile
+    q = tile_with span.first_column span.first_row
 
 -- a piece that stands behind tiles is merged into them where nothing changes
 pub merged_where_behind : (test : Tile → Bool) (size : Dimensions) (x : Piece) (c : CanvasOf) → IsPiece x → IsCanvas c → NoneBelowWhere (greatest_nearness x) test c → ChangedWhere test (λ p t. merged_tile size p x t) c c

@@ -34,6 +34,10 @@ MayCount test c = HoldsWhere test (λ t. t.count < 131072) c
 abbrev pub NoneBelowWhere : ℕ → (Tile → Bool) → CanvasOf → Type 0
 NoneBelowWhere nearest test c = HoldsWhere test (NoneBelow nearest) c
 
+-- the piece, merged into the tiles at the places where the test holds, would change none
+abbrev pub StayWhere : (Tile → Bool) → Dimensions → Piece → CanvasOf → Type 0
+StayWhere test size x c = (p : Tile) → has_tile c.window p ≡ true → test p ≡ true → merged_tile size p x (tile_on c p) ≡ tile_on c p
+
 -- the window stays, each tile where the test holds changes by f of its place, and the others stay
 pub record ChangedWhere (test : Tile → Bool) (f : Tile → TileOf → TileOf) (old new : CanvasOf) : Type 0 where
   pub window : new.window ≡ old.window

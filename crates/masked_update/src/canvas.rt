@@ -5,6 +5,7 @@ ghost use Rattle.cull_base.specs.Screen.{tile_columns_of, tile_rows_of};
 ghost use Rattle.cull_base.specs.Span.{has_tile, tiles_in};
 ghost use Rattle.cull_base.specs.Tiles.{PieceList};
 ghost use Rattle.masked_update.specs.Canvas.{CountsAt, IsCanvas, StandsAt, empty_canvas, with_tile, tile_on};
+ghost use Rattle.masked_update.specs.Coverage.{AreWanted};
 ghost use Rattle.masked_update.specs.Least.{NoneBelow};
 ghost use Rattle.masked_update.specs.Merged.{AreRowOf};
 ghost use Rattle.masked_update.specs.Samples.{HoldsSampled};
@@ -15,7 +16,7 @@ use crate::piece_setup::PieceDepths;
 use crate::small_piece::SmallPiece;
 use crate::sub_span::SubBox;
 use crate::tile_state::TileState;
-use cull_base::{Memory, Tile, TileSpan};
+use cull_base::{Memory, ScreenTri, Size, Tile, TileSpan};
 use edge_lanes::TileRow;
 use std::alloc::Global;
 use std::marker::Model;
@@ -161,6 +162,54 @@ impl Canvas {
             (merged_tile reached.now.size place piece.now (tile_at self.old.tiles number)) }
     {
         if self.tiles[number].merge_small(piece, reached, place) {
+            self.least[number] = self.tiles[number].least_reference();
+        }
+    }
+
+    /// The subtiles of the tile of a number, as bits, that are reached on the screen and whose reference is below a piece:
+    /// it changes no other. Conditions: there is such a tile, and what is reached on the screen has each sample that the
+    /// piece covers.
+    #[inline(always)]
+    pub(crate) fn wanted(
+        &self,
+        number: usize,
+        tri: &ScreenTri,
+        reached: &SubBox,
+        place: Tile,
+    ) -> u32
+        requires reached { HoldsSampled tri.now reached.now }
+        requires tile { number < length self.now.tiles }
+        ensures wanted { AreWanted reached.now.size place tri.now (tile_at self.now.tiles number).subs result }
+        ensures eight { length (tile_at self.now.tiles number).subs ≡ 8 }
+        ensures byte { result < 2 ^ 8 }
+    {
+        // an accessor tells how many tiles there are
+        let _tiles = self.tiles.len();
+        self.tiles[number].wanted(tri, reached, place)
+    }
+
+    /// Merges a small piece into the subtiles of the bits of the tile of a number, and counts nothing. Conditions: there
+    /// is such a tile, the column and the row are below the screen's, and the bits are eight and have each subtile on the
+    /// screen that the piece changes.
+    #[inline(always)]
+    pub(crate) fn merge_among(
+        &mut self,
+        number: usize,
+        piece: &SmallPiece,
+        size: Size,
+        place: Tile,
+        wanted: u32,
+    )
+        requires tile { number < length self.old.tiles }
+        requires wanted { AreWanted size place piece.now (tile_at self.old.tiles number).subs wanted }
+        requires byte { wanted < 2 ^ 8 }
+        requires eight { length (tile_at self.old.tiles number).subs ≡ 8 }
+        requires column { place.column < tile_columns_of size }
+        requires row { place.row < tile_rows_of size }
+        ensures { self.new ≡ with_tile self.old number
+            (merged_tile size place piece.now (tile_at self.old.tiles number)) }
+    {
+        if self.tiles[number].merge_among(piece, size, place, wanted) {
             self.least[number] = self.tiles[number].least_reference();
         }
     }

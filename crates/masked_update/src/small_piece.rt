@@ -11,7 +11,7 @@ ghost use Rattle.masked_update.specs.Small.{HaveSameReferences, IsMergedAt};
 
 use crate::sub_span::SubBox;
 use crate::tile_layers::TileLayers;
-use cull_base::{ScreenTri, Sub, Tile};
+use cull_base::{ScreenTri, Size, Sub, Tile};
 use depth_plane::SmallPlane;
 use edge_lanes::SmallEdges;
 use std::marker::Model;
@@ -121,6 +121,37 @@ impl SmallPiece {
         reached.in_tile(place).bits() & layers.below(self.nearest)
     }
 
+    /// Merges the piece into the subtiles of the bits. Says whether any reference is another then. Conditions: the column
+    /// and the row are below the screen's, and the bits are eight and have each subtile on the screen that the piece
+    /// changes.
+    #[inline(always)]
+    pub(crate) fn merge_among(
+        &self,
+        layers: &mut TileLayers,
+        size: Size,
+        place: Tile,
+        wanted: u32,
+    ) -> bool
+        requires wanted { AreWanted size place self.now layers.old wanted }
+        requires byte { wanted < 2 ^ 8 }
+        requires eight { length layers.old ≡ 8 }
+        requires column { place.column < tile_columns_of size }
+        requires row { place.row < tile_rows_of size }
+        ensures merged { layers.new ≡ merged_by size place self.now layers.old }
+        ensures same { result ≡ false → HaveSameReferences layers.old layers.new }
+    {
+        // an accessor tells what is held of a size
+        let _width = size.width();
+        let mut left = wanted;
+        let mut raised = false;
+        while left != 0 {
+            let j = left.trailing_zeros();
+            raised |= self.merge_at(layers, place, j);
+            left &= !(1 << j);
+        }
+        raised
+    }
+
     /// Merges the piece into a tile's subtiles on the screen. Says whether any reference is another then. Conditions: the
     /// column and the row are below the screen's, and what is reached on it holds each sample that the piece covers.
     #[inline(always)]
@@ -131,16 +162,7 @@ impl SmallPiece {
         ensures merged { layers.new ≡ merged_by reached.now.size place self.now layers.old }
         ensures same { result ≡ false → HaveSameReferences layers.old layers.new }
     {
-        // an accessor tells what is held of a size
-        let _width = reached.size.width();
         let wanted = self.wanted(layers, reached, place);
-        let mut left = wanted;
-        let mut raised = false;
-        while left != 0 {
-            let j = left.trailing_zeros();
-            raised |= self.merge_at(layers, place, j);
-            left &= !(1 << j);
-        }
-        raised
+        self.merge_among(layers, reached.size, place, wanted)
     }
 }

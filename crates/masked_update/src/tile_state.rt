@@ -1,5 +1,5 @@
 //! A tile: eight subtiles, and how many pieces it took.
-ghost use Rattle.std.specs.Prelude.{◌≡◌, ℕ, ◌<◌, ◌≤◌, false, length};
+ghost use Rattle.std.specs.Prelude.{◌≡◌, ℕ, ◌<◌, ◌≤◌, ◌^◌, false, length};
 ghost use Rattle.cull_base.specs.Fold.{IsLayered};
 ghost use Rattle.cull_base.specs.Piece.{IsPiece, box_of};
 ghost use Rattle.cull_base.specs.Screen.{IsSize, tile_columns_of, tile_rows_of, tile_count_of};
@@ -33,6 +33,7 @@ impl Model for TileState {
 }
 
 impl TileState {
+    ghost use Rattle.masked_update.specs.Coverage.{AreWanted};
     ghost use Rattle.masked_update.specs.TileOf.{sub_at, empty_tile};
     ghost use Rattle.masked_update.specs.Merged.{AreRowOf, IsSubBox};
     ghost use Rattle.masked_update.specs.Samples.{HoldsSampled};
@@ -189,6 +190,41 @@ impl TileState {
         ensures same { result ≡ false → HaveSameReferences self.old.subs self.new.subs }
     {
         piece.merge_into(&mut self.layers, reached, place)
+    }
+
+    /// The subtiles, as bits, that are reached on the screen and whose reference is below a piece: it changes no other.
+    /// Condition: what is reached on the screen has each sample that the piece covers.
+    #[inline(always)]
+    pub(crate) fn wanted(&self, tri: &ScreenTri, reached: &SubBox, place: Tile) -> u32
+        requires { HoldsSampled tri.now reached.now }
+        ensures wanted { AreWanted reached.now.size place tri.now self.now.subs result }
+        ensures eight { length self.now.subs ≡ 8 }
+        ensures byte { result < 2 ^ 8 }
+    {
+        reached.in_tile(place).bits() & self.layers.below(tri.greatest_nearness())
+    }
+
+    /// Merges a small piece into the subtiles of the bits, doesn't count it, and says whether any reference is another
+    /// then. Conditions: the column and the row are below the screen's, and the bits are eight and have each subtile on
+    /// the screen that the piece changes.
+    #[inline(always)]
+    pub(crate) fn merge_among(
+        &mut self,
+        piece: &SmallPiece,
+        size: Size,
+        place: Tile,
+        wanted: u32,
+    ) -> bool
+        requires wanted { AreWanted size place piece.now self.old.subs wanted }
+        requires byte { wanted < 2 ^ 8 }
+        requires eight { length self.old.subs ≡ 8 }
+        requires column { place.column < tile_columns_of size }
+        requires row { place.row < tile_rows_of size }
+        ensures merged { self.new ≡ merged_tile size place piece.now self.old }
+        ensures eight { length self.new.subs ≡ 8 }
+        ensures same { result ≡ false → HaveSameReferences self.old.subs self.new.subs }
+    {
+        piece.merge_among(&mut self.layers, size, place, wanted)
     }
 
     /// Counts a piece, and doesn't merge it.

@@ -1,5 +1,5 @@
 //! A piece is drawn into the tiles of a canvas that its box reaches.
-ghost use Rattle.std.specs.Prelude.{◌≡◌, ℕ, ◌+◌, ◌<◌, ◌≤◌, ◌^◌, true, length};
+ghost use Rattle.std.specs.Prelude.{◌≡◌, ℕ, ◌+◌, ◌<◌, ◌≤◌, ◌^◌, false, true, length, IsTrue};
 ghost use Rattle.std.specs.Int.{bit_at};
 ghost use Rattle.cull_base.specs.Screen.{IsSize, tile_rows_of};
 ghost use Rattle.cull_base.specs.Span.{IsPartOf, IsSpan, has_tile};
@@ -7,7 +7,7 @@ ghost use Rattle.masked_update.specs.Canvas.{CountedMet, IsInWindow, MergedMet, 
 ghost use Rattle.masked_update.specs.Least.{NoneBelow};
 ghost use Rattle.masked_update.specs.Merged.{AreEdgesOf, AreRowOf};
 ghost use Rattle.masked_update.specs.Samples.{HoldsSampled};
-ghost use Rattle.masked_update.specs.Walk.{CountedWhere, MayCount, MergedWhere, NoneBelowWhere, is_in_row, is_marked, rows_before};
+ghost use Rattle.masked_update.specs.Walk.{CountedWhere, MayCount, MergedWhere, NoneBelowWhere, StayWhere, is_in_row, is_marked, rows_before};
 
 use crate::canvas::Canvas;
 use crate::piece_setup::PieceDepths;
@@ -221,7 +221,61 @@ fn merge_in_span(
     }
 }
 
-// Sets a piece up, and merges it into the tiles of a span.
+// Whether a piece may change a subtile of the tiles of one row, in the columns of a span.
+#[inline(always)]
+fn is_wanted_in_row(
+    canvas: &Canvas,
+    tri: &ScreenTri,
+    reached: &SubBox,
+    span: TileSpan,
+    row: u32,
+) -> bool
+    requires part { IsPartOf canvas.now.window span }
+    requires reached { HoldsSampled tri.now reached.now }
+    requires span { IsSpan reached.now.size span }
+    requires row { (span.first_row ≤ row) × (row < span.end_row) }
+    requires small { row < 256 }
+    ensures { result ≡ false → StayWhere (is_in_row span row) reached.now.size tri.now canvas.now }
+{
+    let window = canvas.window();
+    let start = window.row_start(row);
+    // an accessor tells how many columns there may be
+    let _columns = reached.size.tile_columns();
+    let mut column = span.first_column;
+    while column < span.end_column {
+        let place = Tile {
+            column: column as u16,
+            row: row as u16,
+        };
+        let number = start + (column - window.first_column) as usize;
+        if canvas.wanted(number, tri, reached, place) != 0 {
+            return true;
+        }
+        column += 1;
+    }
+    false
+}
+
+// Whether a piece may change a subtile of the tiles of a span.
+#[inline(always)]
+fn is_wanted(canvas: &Canvas, tri: &ScreenTri, reached: &SubBox, span: TileSpan) -> bool
+    requires part { IsPartOf canvas.now.window span }
+    requires reached { HoldsSampled tri.now reached.now }
+    requires span { IsSpan reached.now.size span }
+    requires sized { IsSize reached.now.size.width reached.now.size.height }
+    ensures { result ≡ false → StayWhere (has_tile span) reached.now.size tri.now canvas.now }
+{
+    let mut row = span.first_row;
+    while row < span.end_row {
+        if is_wanted_in_row(canvas, tri, reached, span, row) {
+            return true;
+        }
+        row += 1;
+    }
+    false
+}
+
+// Sets a piece up, and merges it into the tiles of a span. One that changes no subtile there isn't set up.
 #[inline(never)]
 fn merge_set_up(canvas: &mut Canvas, tri: &ScreenTri, reached: &SubBox, span: TileSpan)
     requires part { IsPartOf canvas.old.window span }
@@ -230,15 +284,61 @@ fn merge_set_up(canvas: &mut Canvas, tri: &ScreenTri, reached: &SubBox, span: Ti
     requires sized { IsSize reached.now.size.width reached.now.size.height }
     ensures { MergedWhere (has_tile span) reached.now.size tri.now canvas.old canvas.new }
 {
-    // the edges stay where they are made: they are large to copy
-    let edges = RowEdges::of(tri);
-    let piece = PieceDepths::of(tri);
-    merge_in_span(canvas, &piece, &edges, reached, span);
+    // an accessor tells what is held of a canvas
+    let _window = canvas.window();
+    if is_wanted(canvas, tri, reached, span) {
+        // the edges stay where they are made: they are large to copy
+        let edges = RowEdges::of(tri);
+        let piece = PieceDepths::of(tri);
+        merge_in_span(canvas, &piece, &edges, reached, span);
+    }
+}
+
+// Whether a span has one tile.
+#[inline(always)]
+fn is_one(span: TileSpan) -> bool
+    requires columns { span.first_column ≤ span.end_column }
+    requires rows { span.first_row ≤ span.end_row }
+    ensures column { IsTrue result → span.end_column ≡ span.first_column + 1 }
+    ensures row { IsTrue result → span.end_row ≡ span.first_row + 1 }
+{
+    span.end_column - span.first_column == 1 && span.end_row - span.first_row == 1
+}
+
+// Merges a piece into the one tile of a span, a small one subtile by subtile. One that changes no subtile isn't set up.
+#[inline(always)]
+fn merge_in_tile(canvas: &mut Canvas, tri: &ScreenTri, reached: &SubBox, span: TileSpan)
+    requires part { IsPartOf canvas.old.window span }
+    requires reached { HoldsSampled tri.now reached.now }
+    requires span { IsSpan reached.now.size span }
+    requires sized { IsSize reached.now.size.width reached.now.size.height }
+    requires column { span.end_column ≡ span.first_column + 1 }
+    requires row { span.end_row ≡ span.first_row + 1 }
+    ensures { MergedWhere (has_tile span) reached.now.size tri.now canvas.old canvas.new }
+{
+    let window = canvas.window();
+    let start = window.row_start(span.first_row);
+    let number = start + (span.first_column - window.first_column) as usize;
+    // accessors tell how many columns and rows there may be
+    let _columns = reached.size.tile_columns();
+    let _rows = reached.size.tile_rows();
+    let place = Tile {
+        column: span.first_column as u16,
+        row: span.first_row as u16,
+    };
+    let wanted = canvas.wanted(number, tri, reached, place);
+    if wanted == 0 {
+        return;
+    }
+    match SmallPiece::of(tri, reached) {
+        Some(piece) => canvas.merge_among(number, &piece, reached.size, place, wanted),
+        None => merge_set_up(canvas, tri, reached, span),
+    }
 }
 
 // Merges a piece into the tiles of a span, a small one subtile by subtile.
-#[inline(never)]
-fn merge_piece(canvas: &mut Canvas, tri: &ScreenTri, reached: &SubBox, span: TileSpan)
+#[inline(always)]
+fn merge_in_tiles(canvas: &mut Canvas, tri: &ScreenTri, reached: &SubBox, span: TileSpan)
     requires part { IsPartOf canvas.old.window span }
     requires reached { HoldsSampled tri.now reached.now }
     requires span { IsSpan reached.now.size span }
@@ -248,6 +348,22 @@ fn merge_piece(canvas: &mut Canvas, tri: &ScreenTri, reached: &SubBox, span: Til
     match SmallPiece::of(tri, reached) {
         Some(piece) => merge_small_in_span(canvas, &piece, reached, span),
         None => merge_set_up(canvas, tri, reached, span),
+    }
+}
+
+// Merges a piece into the tiles of a span.
+#[inline(never)]
+fn merge_piece(canvas: &mut Canvas, tri: &ScreenTri, reached: &SubBox, span: TileSpan)
+    requires part { IsPartOf canvas.old.window span }
+    requires reached { HoldsSampled tri.now reached.now }
+    requires span { IsSpan reached.now.size span }
+    requires sized { IsSize reached.now.size.width reached.now.size.height }
+    ensures { MergedWhere (has_tile span) reached.now.size tri.now canvas.old canvas.new }
+{
+    if is_one(span) {
+        merge_in_tile(canvas, tri, reached, span);
+    } else {
+        merge_in_tiles(canvas, tri, reached, span);
     }
 }
 

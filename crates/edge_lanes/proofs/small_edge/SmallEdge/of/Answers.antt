@@ -28,14 +28,14 @@ pub returns : goal.returns
 returns c =
     let fax : FitsSigned w32 c.args.ax = c.ranges.ax in let fay : FitsSigned w32 c.args.ay = c.ranges.ay in
     let fbx : FitsSigned w32 c.args.bx = c.ranges.bx in let fby : FitsSigned w32 c.args.by = c.ranges.by in
-    let ff : FitsSigned w64 c.first_value.result = search rules in
+    let ff : FitsSigned w64 c.small_first.result = search rules in
     let fs : FitsSigned w64 c.sixteenth.result = search rules in
     let fc : FitsSigned w32 c.step.result = search rules in
     let fr : FitsSigned w32 c.step-2.result = search rules in
     let gc : FitsSigned w16 c.short.result = search rules in
     let gr : FitsSigned w16 c.short-2.result = search rules in
-    is_edge-sixteenths (small_line c.from_steps.result) Occluder c.first_value.result c.args.ax c.args.ay c.args.bx c.args.by
-    (simp to_z-of_z at c.first_value.ensures.value)
+    is_edge-sixteenths (small_line c.from_steps.result) Occluder c.small_first.result c.args.ax c.args.ay c.args.bx c.args.by
+    (simp to_z-of_z at c.small_first.ensures.value)
     (simp to_z-of_z at c.from_steps.ensures.start ∙ simp to_z-of_z at c.sixteenth.ensures.value)
     (simp to_z-of_z at c.from_steps.ensures.column ∙ simp to_z-of_z at c.short.ensures.value ∙ simp to_z-of_z at c.step.ensures)
     (simp to_z-of_z at c.from_steps.ensures.row ∙ simp to_z-of_z at c.short-2.ensures.value ∙ simp to_z-of_z at c.step-2.ensures)

@@ -3,7 +3,7 @@ use Rattle.cull_base.specs.Piece.{Piece}
 use Rattle.cull_base.specs.Span.{has_tile}
 use Rattle.masked_update.specs.Samples.{HoldsSampled}
 use Rattle.masked_update.specs.Walk.{MergedWhere}
-use Rattle.masked_update.proofs.walk.merge_piece.Goals as goal
+use Rattle.masked_update.proofs.walk.merge_in_tiles.Goals as goal
 
 pub merge_small_in_span-requires-clause-reached : goal.merge_small_in_span-requires-clause-reached
 merge_small_in_span-requires-clause-reached c = subst (λ (y : Piece). HoldsSampled y c.args.reached.now) (sym c.in-Some.ensures) c.requires.reached
