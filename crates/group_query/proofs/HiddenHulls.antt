@@ -1,7 +1,7 @@
 -- Why a member of a hidden group is occluded: its samples are among the hull's, and it is no nearer.
-use Rattle.std.proofs.Common.{◌≡◌, ℕ, ℤ, pos, negsuc, ◌+◌, ◌-◌, ◌<◌, ◌≤◌, ◌≤ℤ◌, ◌<ℤ◌, Bool, true, false, ◌&&◌, cond, nat_lt, length, get_or, Option, Some, None, arith, refl, sym, ap, ◌∙◌, subst, int_lt, int_le}
+use Rattle.std.proofs.Common.{◌≡◌, ℕ, ℤ, pos, negsuc, ◌+◌, ◌-◌, ◌<◌, ◌≤◌, ◌≤ℤ◌, ◌<ℤ◌, Bool, true, false, ◌&&◌, ◌||◌, not, cond, nat_lt, length, get_or, Option, Some, None, arith, refl, sym, ap, ◌∙◌, subst, int_lt, int_le}
 use Rattle.std.specs.Cmp.{both_ways}
-use Rattle.std.proofs.lemmas.Bool.{and_parts}
+use Rattle.std.proofs.lemmas.Bool.{and_parts, or_parts, false_from_ne_true, both_ways as not_both}
 use Rattle.std.proofs.lemmas.Bool.Decides.{nat_tests}
 use Rattle.std.proofs.lemmas.Int.{ints}
 use Rattle.cull_base.specs.declared.place.Sub.{Sub}
@@ -21,13 +21,15 @@ use Rattle.rect_query.proofs.Hiding.{flat_tested}
 use Rattle.scene_reader.specs.Layout.{Parts}
 use Rattle.cull_report.specs.Scene.{object_shape, object_verdict, size_of}
 use Rattle.cull_report.specs.Text.{is_occluded}
+use Rattle.cull_report.specs.declared.form.Form.{Form}
 use Rattle.cull_report.specs.declared.form.Form.TheVariants as forms
-use Rattle.group_query.specs.Hidden.{HidesMembers, IsTested, group_verdict, hull_verdict, is_hidden_group}
-use Rattle.group_query.specs.Hulls.{IsFormOf, counted, counts, hull_of, member_shapes}
+use Rattle.group_query.specs.Hidden.{HidesMembers, IsKept, IsTested, group_verdict, hull_verdict, is_hidden_group, is_shown}
+use Rattle.group_query.specs.Hulls.{IsFormOf, counted, counts, grown_hull, hull_of, member_shapes, no_members}
 use Rattle.group_query.specs.declared.grouping.Group.{Group}
 use Rattle.group_query.specs.declared.hulls.Hull.{Hull}
+use Rattle.group_query.specs.declared.tested.Kept.{Kept}
 use Rattle.group_query.specs.declared.tested.Tested.{Tested}
-use Rattle.group_query.proofs.FormHulls.{shape_at, shape_below, shape_of_flat}
+use Rattle.group_query.proofs.FormHulls.{kept_more, shape_at, shape_below, shape_of_flat}
 use Rattle.group_query.proofs.HullMembers.{IsWithin, holds_member, members_are, one_member, own}
 
 -- ---- pixels of the screen
@@ -175,3 +177,49 @@ tested_alone s frame f g t o d r q tested one from below lt own =
     let all : counted size shapes ≡ 1 = omega (arith, members_are size None shapes, tested.members, one) in
     let hull = one_member size shapes (o - g.first) r q (shape_below s frame g o from below lt) (shape_at s frame g o d AlwaysOutside from below lt ∙ is) own.seen all in
     tested.verdict ∙ ap (hull_verdict size f) hull ∙ cut_verdict size f r q own.seen ∙ ap (verdict_of size f) (flat_there size r q own.seen ∙ sym is)
+
+-- ---- what members show
+
+occluded_alike : (v w : Verdict) → v ≡ w → w ≡ Occluded → not (is_occluded v) ≡ false
+occluded_alike v w e o = ap (λ (x : Verdict). not (is_occluded x)) (e ∙ o)
+
+-- a member that counts and isn't occluded shows that its group isn't hidden
+pub shown_unhidden : (s : Parts) (frame : ℕ) (f : Sub → State) (g : Group) (o : ℕ) (d : Object) (form : Form) (v : Verdict) → is_shown form v ≡ true → IsFormOf s frame o form
+    → v ≡ object_verdict s frame f (get_or s.objects o d) → g.first ≤ o → o < g.first + g.count → o < length s.objects → is_hidden_group s frame f g ≡ false
+shown_unhidden s frame f g o d forms.Outside v e own is from below lt = absurd cc
+shown_unhidden s frame f g o d forms.Visible v e own is from below lt = absurd cc
+shown_unhidden s frame f g o d (forms.Flat r q) v e own is from below lt =
+    let there = shape_of_flat s frame o d r q own in
+    let c : counts (size_of s) (object_shape s frame (get_or s.objects o d)) ≡ true = ap (counts (size_of s)) there ∙ own.seen in
+    false_from_ne_true (is_hidden_group s frame f g)
+    (λ hidden. not_both (not (is_occluded v)) (occluded_alike v (object_verdict s frame f (get_or s.objects o d)) is (hides_members s frame f g o d hidden from below lt c)) e)
+shown_unhidden s frame f g o d (forms.Mesh first count) v e own is from below lt = absurd cc
+
+-- nothing is kept of no members
+pub kept_none : (s : Parts) (frame : ℕ) (f : Sub → State) (g : Group) (size : Dimensions) (k : Kept) → size ≡ size_of s → k.hull ≡ no_members size → k.shown ≡ false → IsKept s frame f g 0 k
+kept_none s frame f g size k e hull shown =
+    let none = ap (λ (x : Hull). x.members) hull in
+    record {
+      few = omega (arith, none);
+      hull = λ h. hull ∙ ap no_members e;
+      shown = λ h. absurd (not_both k.shown shown h);
+    }
+
+-- what is kept of one member more
+pub kept_next : (s : Parts) (frame : ℕ) (f : Sub → State) (g : Group) (count : ℕ) (d : Object) (size : Dimensions) (k next : Kept) (form : Form) (v : Verdict) → size ≡ size_of s
+    → count < g.count → g.first + g.count ≤ length s.objects → IsKept s frame f g count k → IsFormOf s frame (g.first + count) form → v ≡ object_verdict s frame f (get_or s.objects (g.first + count) d)
+    → next.shown ≡ (k.shown || is_shown form v) → (next.shown ≡ false → next.hull ≡ grown_hull size k.hull form) → next.hull.members ≤ k.hull.members + 1 → IsKept s frame f g (count + 1) next
+kept_next s frame f g count d size k next form v e lt within is own seen shown hull few =
+    let o = g.first + count in
+    let there : o < length s.objects = omega (arith, lt, within) in
+    record {
+      few = omega (arith, few, is.few);
+      hull = λ h.
+          let so = or_parts k.shown (is_shown form v) (sym shown ∙ h) in
+          hull h ∙ ap (λ (x : Dimensions). grown_hull x k.hull form) e ∙ kept_more s frame g.first count d None k.hull form there (is.hull so.0) own;
+      shown = λ h. by k.shown refl (sym shown ∙ h);
+    }
+  where
+    by : (b : Bool) → k.shown ≡ b → (b || is_shown form v) ≡ true → is_hidden_group s frame f g ≡ false
+    by true a h = is.shown a
+    by false a h = shown_unhidden s frame f g (g.first + count) d form v h own seen (omega arith) (omega (arith, lt)) (omega (arith, lt, within))

@@ -1,5 +1,5 @@
 -- Groups that are hidden, and what is counted of them.
-use Rattle.std.specs.Prelude.{ℕ, ◌≡◌, ◌+◌, ◌<◌, ◌≤◌, Bool, true, cond, nat_lt, List, [], ◌∷◌, length, Option, Some, None, slice_index_or}
+use Rattle.std.specs.Prelude.{ℕ, ◌≡◌, ◌+◌, ◌<◌, ◌≤◌, Bool, true, false, not, cond, nat_lt, List, [], ◌∷◌, length, Option, Some, None, slice_index_or}
 use Rattle.cull_base.specs.declared.place.Sub.{Sub}
 use Rattle.cull_base.specs.declared.scene_types.Object.{Object}
 use Rattle.cull_base.specs.declared.scene_types.Verdict.{Verdict}
@@ -10,10 +10,13 @@ use Rattle.cull_base.specs.State.{State}
 use Rattle.scene_reader.specs.Layout.{Parts}
 use Rattle.cull_report.specs.Scene.{object_shape, object_verdict, size_of}
 use Rattle.cull_report.specs.Text.{is_occluded}
+use Rattle.cull_report.specs.declared.form.Form.{Form}
+use Rattle.cull_report.specs.declared.form.Form.TheVariants as forms
 use Rattle.cull_report.specs.declared.tally.Tally.{Tally}
-use Rattle.group_query.specs.Hulls.{counts, hull_of, members_of}
+use Rattle.group_query.specs.Hulls.{counts, hull_from, hull_of, kept_hull, members_of, shapes_from}
 use Rattle.group_query.specs.declared.grouping.Group.{Group}
 use Rattle.group_query.specs.declared.hulls.Hull.{Hull}
+use Rattle.group_query.specs.declared.tested.Kept.{Kept}
 use Rattle.group_query.specs.declared.tested.Tested.{Tested}
 
 -- a hull is tested as a rectangle with its nearness is
@@ -65,6 +68,19 @@ told_before s frame states groups place = record {
 pub record IsTested (s : Parts) (frame : ℕ) (states : Sub → State) (g : Group) (t : Tested) : Type 0 where
   pub members : t.members ≡ members_of (hull_of s frame g)
   pub verdict : t.verdict ≡ group_verdict s frame states g
+
+-- a member shows that its group isn't hidden: it counts, and isn't occluded
+abbrev pub is_shown : Form → Verdict → Bool
+is_shown forms.Outside v = false
+is_shown forms.Visible v = false
+is_shown (forms.Flat rect q) v = not (is_occluded v)
+is_shown (forms.Mesh first count) v = false
+
+-- What is kept of the first so many members of a group: their hull, until one shows that the group isn't hidden.
+pub record IsKept (s : Parts) (frame : ℕ) (states : Sub → State) (g : Group) (count : ℕ) (k : Kept) : Type 0 where
+  pub few : k.hull.members ≤ count
+  pub hull : k.shown ≡ false → k.hull ≡ kept_hull (size_of s) (hull_from (size_of s) None (shapes_from s frame g.first count))
+  pub shown : k.shown ≡ true → is_hidden_group s frame states g ≡ false
 
 -- in a hidden group each member that counts is occluded
 abbrev pub HidesMembers : Type 0

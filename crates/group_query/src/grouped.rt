@@ -4,7 +4,7 @@ ghost use Rattle.std.specs.Prelude.{slice_index_or};
 ghost use Rattle.cull_base.specs.declared.scene_types.Object.{Object};
 ghost use Rattle.cull_report.specs.Scene.{size_of, verdict_in, verdicts_in};
 ghost use Rattle.group_query.specs.Grouping.{AreApart, AreBegun};
-ghost use Rattle.group_query.specs.Hidden.{IsTested, group_tally};
+ghost use Rattle.group_query.specs.Hidden.{IsKept, IsTested, group_tally};
 ghost use Rattle.group_query.specs.Hulls.{AreFormsFrom};
 ghost use Rattle.group_query.specs.declared.grouping.Group.{Group};
 ghost use Rattle.masked_update.specs.Views.{state_in};
@@ -12,7 +12,9 @@ ghost use Rattle.masked_update.specs.Views.{state_in};
 use crate::begun::begun_before;
 use crate::grouping::Group;
 use crate::hulls::{grown_by, hull_keeping, seen_form, told};
-use crate::tested::{Tested, tally_of, test_of, verdict_by_form};
+use crate::tested::{
+    Kept, Tested, kept_with, nothing_kept, tally_of, test_of, verdict_alone, verdict_by_form,
+};
 use cull_base::{Size, Verdict};
 use cull_report::{Answering, Asked, Form, Tally};
 use masked_update::TileView;
@@ -134,24 +136,24 @@ impl<'a, V: TileView> Grouped<'a, V> {
         )
     }
 
-    // Appends the verdicts of so many members of a group from a first on, and tells what is counted of the group.
-    fn answer_group(
+    // Appends the verdicts of the first so many members of a group by its hull, which is tested first, and tells what
+    // is counted of the group.
+    fn answer_by_hull(
         &self,
         group: Group,
-        first: u32,
         count: u32,
         forms: &mut [Form],
         verdicts: &mut Vec<Verdict>,
     ) -> Tally
         requires places { 64 ≤ length forms.old }
         requires group { group.first + group.count ≤ length self.now.asked.now.scene.now.objects }
-        requires within { first + count ≤ group.count }
+        requires within { count ≤ group.count }
         requires room { length verdicts.old.items + count ≤ vec_capacity verdicts.old }
         ensures told { let a = self.now.asked.now in
             result ≡ group_tally a.scene.now a.frame (state_in (size_of a.scene.now) (V.tile_of a.view.now)) group }
         ensures verdicts { let a = self.now.asked.now in
             let all = verdicts_in a.scene.now a.frame (V.tile_of a.view.now) in
-            verdicts.new.items ≡ verdicts.old.items ++ take count (drop (group.first + first) all) }
+            verdicts.new.items ≡ verdicts.old.items ++ take count (drop group.first all) }
         ensures room { vec_capacity verdicts.new ≡ vec_capacity verdicts.old }
         ensures places { length forms.new ≡ length forms.old }
     {
@@ -160,23 +162,104 @@ impl<'a, V: TileView> Grouped<'a, V> {
         let size = self.asked.scene.size();
         let tested = self.tested(size, group, forms);
         for k in 0..count {
-            let verdict = self.member_verdict(size, group, tested, first + k, forms);
+            let verdict = self.member_verdict(size, group, tested, k, forms);
             verdicts.push_reserved(verdict);
         }
         tally_of(self.asked, group, tested)
     }
 
-    // Of so many groups that begin before a place the last may reach behind it: appends the verdicts of its members
-    // from the place on to before an end, and tells where that ends. What is counted of it is told where it begins.
-    fn answer_cut(
+    // What is counted of a group, by what is kept of its first members. Its hull is made and tested only where each of
+    // these that counts is occluded, since a hidden group hides its members. Condition: the size is the scene's.
+    #[inline(always)]
+    fn told_by(&self, size: Size, group: Group, count: u32, kept: Kept) -> Tally
+        requires group { group.first + group.count ≤ length self.now.asked.now.scene.now.objects }
+        requires within { count ≤ group.count }
+        requires size { size ≡ size_of self.now.asked.now.scene.now }
+        requires kept { let a = self.now.asked.now in
+            IsKept a.scene.now a.frame (state_in (size_of a.scene.now) (V.tile_of a.view.now)) group count kept }
+        ensures { let a = self.now.asked.now in
+            result ≡ group_tally a.scene.now a.frame (state_in (size_of a.scene.now) (V.tile_of a.view.now)) group }
+    {
+        // it tells that the objects' numbers fit
+        let _objects = self.object_count();
+        if kept.shown {
+            return Tally {
+                hidden: 0,
+                members: 0,
+            };
+        }
+        let asked = self.asked;
+        let hull = grown_by(
+            asked.scene,
+            asked.frame,
+            size,
+            kept.hull,
+            group.first + count,
+            group.count - count,
+        );
+        let tested = test_of(asked.view, size, told(hull));
+        tally_of(asked, group, tested)
+    }
+
+    // The same by the members, each tested by itself: the hull is tested behind them, where it may be hidden.
+    fn answer_by_members(&self, group: Group, count: u32, verdicts: &mut Vec<Verdict>) -> Tally
+        requires group { group.first + group.count ≤ length self.now.asked.now.scene.now.objects }
+        requires within { count ≤ group.count }
+        requires room { length verdicts.old.items + count ≤ vec_capacity verdicts.old }
+        ensures told { let a = self.now.asked.now in
+            result ≡ group_tally a.scene.now a.frame (state_in (size_of a.scene.now) (V.tile_of a.view.now)) group }
+        ensures verdicts { let a = self.now.asked.now in
+            let all = verdicts_in a.scene.now a.frame (V.tile_of a.view.now) in
+            verdicts.new.items ≡ verdicts.old.items ++ take count (drop group.first all) }
+        ensures room { vec_capacity verdicts.new ≡ vec_capacity verdicts.old }
+    {
+        // it tells that the objects' numbers fit
+        let _objects = self.object_count();
+        let asked = self.asked;
+        let size = asked.scene.size();
+        let mut kept = nothing_kept(size);
+        for k in 0..count {
+            let object = group.first + k;
+            let form = seen_form(asked.scene, asked.frame, size, object);
+            let verdict = verdict_alone(asked, size, object, &form);
+            kept = kept_with(size, kept, &form, verdict);
+            verdicts.push_reserved(verdict);
+        }
+        self.told_by(size, group, count, kept)
+    }
+
+    // The same in one of both ways.
+    #[inline(always)]
+    fn answer_group(
         &self,
-        begun: usize,
-        place: u32,
-        end: u32,
+        group: Group,
+        count: u32,
+        by_hull: bool,
         forms: &mut [Form],
         verdicts: &mut Vec<Verdict>,
-    ) -> u32
+    ) -> Tally
         requires places { 64 ≤ length forms.old }
+        requires group { group.first + group.count ≤ length self.now.asked.now.scene.now.objects }
+        requires within { count ≤ group.count }
+        requires room { length verdicts.old.items + count ≤ vec_capacity verdicts.old }
+        ensures told { let a = self.now.asked.now in
+            result ≡ group_tally a.scene.now a.frame (state_in (size_of a.scene.now) (V.tile_of a.view.now)) group }
+        ensures verdicts { let a = self.now.asked.now in
+            let all = verdicts_in a.scene.now a.frame (V.tile_of a.view.now) in
+            verdicts.new.items ≡ verdicts.old.items ++ take count (drop group.first all) }
+        ensures room { vec_capacity verdicts.new ≡ vec_capacity verdicts.old }
+        ensures places { length forms.new ≡ length forms.old }
+    {
+        if by_hull {
+            return self.answer_by_hull(group, count, forms, verdicts);
+        }
+        self.answer_by_members(group, count, verdicts)
+    }
+
+    // Of so many groups that begin before a place the last may reach behind it: appends the verdicts of its members
+    // from the place on to before an end, each by itself, and tells where that ends. What is counted of it is told where
+    // it begins.
+    fn answer_cut(&self, begun: usize, place: u32, end: u32, verdicts: &mut Vec<Verdict>) -> u32
         requires begun { AreBegun place self.now.groups.now begun }
         requires ordered { place ≤ end }
         requires end { end ≤ length self.now.asked.now.scene.now.objects }
@@ -189,7 +272,6 @@ impl<'a, V: TileView> Grouped<'a, V> {
             let all = verdicts_in a.scene.now a.frame (V.tile_of a.view.now) in
             verdicts.new.items ≡ verdicts.old.items ++ take (result - place) (drop place all) }
         ensures room { vec_capacity verdicts.new ≡ vec_capacity verdicts.old }
-        ensures places { length forms.new ≡ length forms.old }
     {
         // it tells that the objects' numbers fit
         let _objects = self.object_count();
@@ -201,8 +283,7 @@ impl<'a, V: TileView> Grouped<'a, V> {
         if next <= place {
             return place;
         }
-        let behind = place - group.first;
-        self.answer_group(group, behind, next - place, forms, verdicts);
+        self.answer_alone(place, next - place, verdicts);
         next
     }
 
@@ -213,6 +294,7 @@ impl<'a, V: TileView> Grouped<'a, V> {
         group: Group,
         place: u32,
         end: u32,
+        by_hull: bool,
         forms: &mut [Form],
         verdicts: &mut Vec<Verdict>,
     ) -> Tally
@@ -231,7 +313,7 @@ impl<'a, V: TileView> Grouped<'a, V> {
         ensures places { length forms.new ≡ length forms.old }
     {
         self.answer_alone(place, group.first - place, verdicts);
-        self.answer_group(group, 0, end - group.first, forms, verdicts)
+        self.answer_group(group, end - group.first, by_hull, forms, verdicts)
     }
 
     // Appends the verdicts of so many objects from a place on, each by itself.
@@ -274,14 +356,17 @@ impl<'a, V: TileView> Answering for Grouped<'a, V> {
         let from = begun_before(self.groups, first, objects);
         let to = begun_before(self.groups, end, objects);
         let mut forms = [Form::Outside; KEPT];
-        let mut place = self.answer_cut(from, first, end, &mut forms, verdicts);
+        let mut place = self.answer_cut(from, first, end, verdicts);
         let (mut hidden, mut members) = (0u32, 0u32);
+        // hidden groups mostly follow one another
+        let mut by_hull = false;
         for number in from..to {
             let group = self.group_at(number);
             let next = end.min(group.first + group.count);
-            let tally = self.answer_next(group, place, next, &mut forms, verdicts);
+            let tally = self.answer_next(group, place, next, by_hull, &mut forms, verdicts);
             hidden += tally.hidden;
             members += tally.members;
+            by_hull = 0 < tally.hidden;
             place = next;
         }
         self.answer_alone(place, end - place, verdicts);

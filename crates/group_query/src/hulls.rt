@@ -119,9 +119,9 @@ pub(crate) fn seen_form(scene: &Scene, frame: u32, size: Size, object: u32) -> F
     form
 }
 
-// A hull that is kept and a member by its form.
+/// A hull that is kept and a member by its form.
 #[inline(always)]
-fn grown(size: Size, hull: Hull, form: &Form) -> Hull
+pub(crate) fn grown(size: Size, hull: Hull, form: &Form) -> Hull
     requires { hull.members + 1 < 2 ^ 32 }
     ensures { result ≡ grown_hull size hull form.now }
 {

@@ -1,7 +1,7 @@
-use Rattle.std.proofs.Common.{◌≡◌, ◌+◌, ◌-◌, arith, refl, ap}
+use Rattle.std.proofs.Common.{◌-◌, arith, ap}
 use Rattle.cull_report.specs.Scene.{verdicts_in}
 use Rattle.group_query.specs.declared.grouping.Group.{Group}
-use Rattle.group_query.proofs.Answered.{answered_as, answered_none}
+use Rattle.group_query.proofs.Answered.{answered_none}
 use Rattle.group_query.proofs.grouped.Grouped.answer_cut.Goals as goal
 
 pub returns-then-begun-eq0-clause-next : goal.returns-then-begun-eq0-clause-next
@@ -23,19 +23,11 @@ returns-then-next-place-clause-verdicts g c =
     let a = c.args.self.now.asked.now in
     answered_none (verdicts_in a.scene.now a.frame (g.V.TileView.tile_of a.view.now)) c.args.verdicts.now.items c.args.place (c.args.place - c.args.place) (omega arith)
 
-pub overflow_sub-behind : goal.overflow_sub-behind
-overflow_sub-behind g c =
-    let group = c.group_at-group.result in
-    let before = c.requires.begun.before (c.args.begun - 1) group (omega (arith, c.if-begun-eq0.false)) in
-    let at = ap (λ (x : Group). x.first) (c.group_at-group.ensures.at group) in
-    omega (arith, before, at)
+pub answer_alone-requires-clause-within : goal.answer_alone-requires-clause-within
+answer_alone-requires-clause-within g c = omega (arith, c.min-next.ensures, c.requires.end, c.if-next-place.false)
 
-pub answer_group-requires-clause-within : goal.answer_group-requires-clause-within
-answer_group-requires-clause-within g c =
-    let group = c.group_at-group.result in
-    let before = c.requires.begun.before (c.args.begun - 1) group (omega (arith, c.if-begun-eq0.false)) in
-    let at = ap (λ (x : Group). x.first) (c.group_at-group.ensures.at group) in
-    omega (arith, before, at, c.min-next.ensures, c.if-next-place.false)
+pub answer_alone-requires-clause-room : goal.answer_alone-requires-clause-room
+answer_alone-requires-clause-room g c = omega (arith, c.min-next.ensures, c.requires.room, c.if-next-place.false)
 
 pub returns-clause-next : goal.returns-clause-next
 returns-clause-next g c d lt =
@@ -44,14 +36,3 @@ returns-clause-next g c d lt =
     let first = ap (λ (x : Group). x.first) (c.group_at-group.ensures.at d) in
     let count = ap (λ (x : Group). x.count) (c.group_at-group.ensures.at d) in
     omega (arith, apart, first, count, c.min-next.ensures)
-
-pub returns-clause-verdicts : goal.returns-clause-verdicts
-returns-clause-verdicts g c =
-    let a = c.args.self.now.asked.now in
-    let all = verdicts_in a.scene.now a.frame (g.V.TileView.tile_of a.view.now) in
-    let group = c.group_at-group.result in let place = c.args.place in
-    let before = c.requires.begun.before (c.args.begun - 1) group (omega (arith, c.if-begun-eq0.false)) in
-    let at = ap (λ (x : Group). x.first) (c.group_at-group.ensures.at group) in
-    let from : group.first + (place - group.first) ≡ place = omega (arith, before, at) in
-    let count = c.min-next.result - place in
-    answered_as all c.args.verdicts.now.items c.answer_group.new.verdicts.items (group.first + (place - group.first)) count place count from refl c.answer_group.ensures.verdicts

@@ -24,7 +24,7 @@ returns-clause-verdicts g c =
     let mid = c.answer_alone.new.verdicts.items in
     let more = c.answer_group.new.verdicts.items in
     let n = first - place in let m = c.args.end - first in
-    let from : first + 0 ≡ place + n = omega (arith, c.requires.behind) in
+    let from : first ≡ place + n = omega (arith, c.requires.behind) in
     let whole : n + m ≡ c.args.end - place = omega (arith, c.requires.behind, c.requires.ordered) in
     answered_as all old more place (n + m) place (c.args.end - place) refl whole
-    (answered_more all old mid more place n m c.answer_alone.ensures.verdicts (answered_as all mid more (first + 0) m (place + n) m from refl c.answer_group.ensures.verdicts))
+    (answered_more all old mid more place n m c.answer_alone.ensures.verdicts (answered_as all mid more first m (place + n) m from refl c.answer_group.ensures.verdicts))

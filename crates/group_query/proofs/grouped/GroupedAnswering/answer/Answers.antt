@@ -30,7 +30,7 @@ pub loop-number-init : goal.loop-number-init
 loop-number-init g c = record {
   answered = c.answer_cut-place.ensures.verdicts;
   room = c.answer_cut-place.ensures.room;
-  places = omega (arith, c.answer_cut-place.ensures.places);
+  places = omega arith;
   behind = c.answer_cut-place.ensures.behind;
   before = c.answer_cut-place.ensures.before;
   next = λ d lt. c.answer_cut-place.ensures.next d lt;
