@@ -3,7 +3,7 @@ use Rattle.bin_queues.specs.Frames.{over}
 use Rattle.bin_queues.specs.QueueParts.{BatchedFrame, batches_in}
 use Rattle.bin_queues.specs.Tasks.{Submitting}
 use Rattle.bin_queues.proofs.GoingOn.{submitter_on}
-use Rattle.steal_pool.proofs.submitting.submit_all.Goals as goal
+use Rattle.steal_pool.proofs.submitting.submit_each.Goals as goal
 
 pub loop-init : goal.loop-init
 loop-init g c =
