@@ -71,9 +71,13 @@ fn submit_slot<R: Wait>(
     requires binned { IsBinned vec_items _frame.now submitter.old.batches slot }
     ensures { OnOk result (submitter.new ≡ record submitter.old { batches = submitter.old.batches + 1 }) }
 {
-    let parts = slot.ok_or(Memory)?;
-    queues.submit(rt, submitter, parts);
-    Ok(())
+    match slot {
+        Some(parts) => {
+            queues.submit(rt, submitter, parts);
+            Ok(())
+        }
+        None => Err(Memory),
+    }
 }
 
 // Submits what is in the slots, in order. Err where one is empty.
