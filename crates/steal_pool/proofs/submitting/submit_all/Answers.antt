@@ -18,7 +18,9 @@ returns-then-threads-lt2 g c =
     c.in_ok-submit_each.ensures ∙ (λ k. record c.args.submitter.now { batches = last k })
 
 pub bin_all-requires : goal.bin_all-requires
-bin_all-requires g c = ap length c.as_mut_slice.ensures.value ∙ c.in_ok-slots.ensures
+bin_all-requires g c =
+    let many = ap length c.as_mut_slice.ensures.value ∙ c.in_ok-slots.ensures in
+    search (rules, many)
 
 pub submit_slots-requires-clause-slots : goal.submit_slots-requires-clause-slots
 submit_slots-requires-clause-slots g c =
