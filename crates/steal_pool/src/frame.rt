@@ -38,13 +38,14 @@ use tile_queues::{BinQueues, BinTask, Caller, Gate, Submitter};
 
 /// The queues of a frame with their submitter, which submitted all batches, and the task of each bin, told of them. Err
 /// where memory gave out. Conditions: the cells are of the list, and the writers are those that were made with them.
-pub(crate) fn open_frame<R: Wait, G: Gate>(
+pub(crate) fn open_frame<R: Threads + Wait + Sync, G: Gate>(
     rt: &R,
     alloc: Global,
     frame: &Batched,
     _cells: &TileCells,
     writers: Vec<TileWriter>,
     gate: &G,
+    workers: u32,
 ) -> Result<(BinQueues, Submitter, Vec<BinTask>), Memory>
     requires whole { length _cells.now ≡ tile_count_of frame.now.list.now.list.size }
     requires writers { AreFresh _cells.now frame.now.list.now.list (length _cells.now) writers.items }
@@ -55,9 +56,8 @@ pub(crate) fn open_frame<R: Wait, G: Gate>(
     let (list, cut, size) = (frame.list, frame.cut, frame.size);
     // an accessor tells that there is a bin
     let _bins = cut.bins();
-    let count = frame.batches();
     let (queues, mut submitter, mut tasks) = BinQueues::make(rt, alloc, list, cut, size, writers)?;
-    submit_all(rt, alloc, &queues, &mut submitter, frame, gate, count)?;
+    submit_all(rt, alloc, &queues, &mut submitter, frame, gate, workers)?;
     tell_all(rt, &queues, &mut submitter, tasks.as_mut_slice());
     Ok((queues, submitter, tasks))
 }
@@ -226,7 +226,7 @@ pub fn draw_stolen<R: Threads + Wait + Sync, G: Gate, C: Caller>(
         cut,
         size: batch,
     };
-    let (queues, submitter, tasks) = open_frame(rt, alloc, &frame, cells, writers, gate)?;
+    let (queues, submitter, tasks) = open_frame(rt, alloc, &frame, cells, writers, gate, workers)?;
     let given = tasks.as_slice();
     let room = most_owned(given, workers as usize);
     let pool = Pool {

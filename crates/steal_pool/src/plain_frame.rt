@@ -23,20 +23,20 @@ use tile_queues::{BinQueues, Gate, PlainTask, draw_plain_frame};
 
 // The queues of a frame, to which all batches are submitted, and the task of each bin, told of them. Err where memory
 // gave out.
-fn open_plain<R: Wait, G: Gate>(
+fn open_plain<R: Threads + Wait + Sync, G: Gate>(
     rt: &R,
     alloc: Global,
     frame: &Batched,
     gate: &G,
+    workers: u32,
 ) -> Result<(BinQueues, Vec<PlainTask>), Memory>
     ensures { IfOk result (λ r. AreTold r.0 (over frame.now []) r.1.items) }
 {
     let (list, cut, size) = (frame.list, frame.cut, frame.size);
     // an accessor tells that there is a bin
     let _bins = cut.bins();
-    let count = frame.batches();
     let (queues, mut submitter, mut tasks) = BinQueues::make_plain(alloc, list, cut, size)?;
-    submit_all(rt, alloc, &queues, &mut submitter, frame, gate, count)?;
+    submit_all(rt, alloc, &queues, &mut submitter, frame, gate, workers)?;
     tell_all(rt, &queues, &mut submitter, tasks.as_mut_slice());
     Ok((queues, tasks))
 }
@@ -89,7 +89,7 @@ fn draw_by_pool<R: Threads + Wait + Sync, G: Gate>(
     let bins = frame.cut.bins();
     let slots = canvas_slots(alloc, bins)?;
     let room = Vec::with_capacity(alloc, bins as usize).map_err(|_| Memory)?;
-    let (queues, tasks) = open_plain(rt, alloc, frame, gate)?;
+    let (queues, tasks) = open_plain(rt, alloc, frame, gate, workers)?;
     let drawn = draw_all(rt, alloc, &queues, frame, tasks, workers, gate)?;
     Ok(queues.close_plain(frame, drawn, slots, room))
 }

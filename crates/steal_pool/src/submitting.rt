@@ -1,16 +1,18 @@
 //! All batches of a frame, submitted one after another, and tasks that are told of them.
-ghost use Rattle.std.specs.Prelude.{◌≡◌, ◌≤◌, ◌<◌, ◌+◌, All, OnOk};
+ghost use Rattle.std.specs.Prelude.{◌≡◌, ◌≤◌, ◌<◌, ◌+◌, All, length, vec_items, OnOk};
 ghost use Rattle.bin_queues.specs.Frames.{over};
 ghost use Rattle.bin_queues.specs.QueueParts.{batches_in};
 ghost use Rattle.bin_queues.specs.Tasks.{IsSubmitterOf, IsTaskOf};
 ghost use Rattle.tile_queues.specs.Shares.{AreChanged};
+ghost use Rattle.steal_pool.specs.Binned.{AreBinned, IsBinned};
 ghost use Rattle.steal_pool.specs.Telling.{IsToldMore};
 
+use crate::binned::{Slot, bin_all, binning_threads, empty_slots, parts_at};
 use bin_queues::Batched;
-use binning::bin_batch;
 use cull_base::Memory;
 use std::alloc::Global;
 use std::sync::Wait;
+use std::thread::Threads;
 use tile_queues::{BinQueues, BinTask, Gate, Held, Submitter};
 
 // Bins the next batch, once the gate has returned, and submits it.
@@ -27,20 +29,15 @@ fn submit_next<R: Wait, G: Gate>(
     requires short { submitter.old.batches < batches_in submitter.old.frame }
     ensures { OnOk result (submitter.new ≡ record submitter.old { batches = submitter.old.batches + 1 }) }
 {
-    let (list, size) = (frame.list, frame.size);
     let batch = submitter.batches();
-    gate.submits(batch);
-    let len = list.len();
-    let from = len.min(batch.saturating_mul(size));
-    let to = len.min((batch + 1).saturating_mul(size));
-    let parts = bin_batch(alloc, list, batch, from, to, frame.cut)?;
+    let parts = parts_at(alloc, frame, gate, batch)?;
     queues.submit(rt, submitter, parts);
     Ok(())
 }
 
-/// Bins and submits so many batches more, in order. The gate is asked before each. Err where memory gave out.
-/// Conditions: the submitter is of these queues and of this frame, which has so many more.
-pub(crate) fn submit_all<R: Wait, G: Gate>(
+// Bins and submits so many batches more, in order. The gate is asked before each. Err where memory gave out.
+// Conditions: the submitter is of these queues and of this frame, which has so many more.
+fn submit_each<R: Wait, G: Gate>(
     rt: &R,
     alloc: Global,
     queues: &BinQueues,
@@ -57,6 +54,81 @@ pub(crate) fn submit_all<R: Wait, G: Gate>(
     for _ in 0..count {
         submit_next(rt, alloc, queues, submitter, frame, gate)?;
     }
+    Ok(())
+}
+
+// Submits the parts of the next batch. Err where their slot is empty: memory gave out for them.
+fn submit_slot<R: Wait>(
+    rt: &R,
+    queues: &BinQueues,
+    submitter: &mut Submitter,
+    _frame: &Batched,
+    slot: Slot,
+) -> Result<(), Memory>
+    requires queues { IsSubmitterOf queues.now submitter.old }
+    requires frame { submitter.old.frame ≡ over _frame.now submitter.old.frame.cells }
+    requires short { submitter.old.batches < batches_in submitter.old.frame }
+    requires binned { IsBinned vec_items _frame.now submitter.old.batches slot }
+    ensures { OnOk result (submitter.new ≡ record submitter.old { batches = submitter.old.batches + 1 }) }
+{
+    match slot {
+        Some(parts) => {
+            queues.submit(rt, submitter, parts);
+            Ok(())
+        }
+        None => Err(Memory),
+    }
+}
+
+// Submits what is in the slots, in order. Err where one is empty.
+fn submit_slots<R: Wait>(
+    rt: &R,
+    queues: &BinQueues,
+    submitter: &mut Submitter,
+    frame: &Batched,
+    slots: Vec<Slot>,
+) -> Result<(), Memory>
+    requires queues { IsSubmitterOf queues.now submitter.old }
+    requires frame { submitter.old.frame ≡ over frame.now submitter.old.frame.cells }
+    requires none { submitter.old.batches ≡ 0 }
+    requires slots { length slots.items ≡ batches_in submitter.old.frame }
+    requires binned { AreBinned vec_items frame.now slots.items }
+    ensures { OnOk result (submitter.new ≡ record submitter.old { batches = batches_in submitter.old.frame }) }
+{
+    let mut done = 0usize;
+    for slot in slots {
+        submit_slot(rt, queues, submitter, frame, slot)?;
+        done += 1;
+    }
+    Ok(())
+}
+
+/// Bins all batches and submits them, in order. Where there are many pieces, so many workers bin them side by side. The
+/// gate is asked before each is binned. Err where memory gave out. Conditions: the submitter is of these queues and of
+/// this frame, and submitted nothing yet.
+pub(crate) fn submit_all<R: Threads + Wait + Sync, G: Gate>(
+    rt: &R,
+    alloc: Global,
+    queues: &BinQueues,
+    submitter: &mut Submitter,
+    frame: &Batched,
+    gate: &G,
+    workers: u32,
+) -> Result<(), Memory>
+    requires queues { IsSubmitterOf queues.now submitter.old }
+    requires frame { submitter.old.frame ≡ over frame.now submitter.old.frame.cells }
+    requires none { submitter.old.batches ≡ 0 }
+    ensures { OnOk result (submitter.new ≡ record submitter.old { batches = batches_in submitter.old.frame }) }
+{
+    let threads = binning_threads(frame, workers);
+    if threads < 2 {
+        let count = frame.batches();
+        submit_each(rt, alloc, queues, submitter, frame, gate, count)?;
+        return Ok(());
+    }
+    let mut slots = empty_slots(alloc, frame)?;
+    bin_all(rt, alloc, frame, gate, slots.as_mut_slice(), threads);
+    submit_slots(rt, queues, submitter, frame, slots)?;
     Ok(())
 }
 

@@ -1,4 +1,4 @@
-use Rattle.std.proofs.Common.{◌≡◌, ◌≤◌, ◌+◌, List, length, arith, rules, ap, sym, ◌∙◌, subst}
+use Rattle.std.proofs.Common.{◌≡◌, ◌≤◌, List, length, arith, rules, ap, sym, ◌∙◌, subst}
 use Rattle.std.proofs.lemmas.List.{with_items_is}
 use Rattle.atomic_table.specs.Seated.{TableId}
 use Rattle.binning.specs.Cut.{bin_count_of}
@@ -18,18 +18,10 @@ submit_all-requires-clause-frame g c =
     let framed = framed_is c.args.frame.now c.args._cells.now c.args.writers.items made.submitter c.requires.writers made.ensures.frame.0 in
     search (rules, framed)
 
-pub submit_all-requires-clause-left : goal.submit_all-requires-clause-left
-submit_all-requires-clause-left g c =
-    let made = c.in_ok-queues in
-    let none = made.ensures.frame.1 in
-    let all = ap batches_in (framed_is c.args.frame.now c.args._cells.now c.args.writers.items made.submitter c.requires.writers made.ensures.frame.0) in
-    let counted = c.batches-count.ensures.value in
-    omega (arith, none, all, counted)
-
 pub tell_all-requires-clause-submitter : goal.tell_all-requires-clause-submitter
 tell_all-requires-clause-submitter g c =
     let made = c.in_ok-queues in
-    submitter_on made.queues made.submitter c.submit_all.new.submitter (made.submitter.batches + c.batches-count.result) c.in_ok-submit_all.ensures made.ensures.submitter
+    submitter_on made.queues made.submitter c.submit_all.new.submitter (batches_in made.submitter.frame) c.in_ok-submit_all.ensures made.ensures.submitter
 
 pub tell_all-requires-clause-tasks : goal.tell_all-requires-clause-tasks
 tell_all-requires-clause-tasks g c =
@@ -39,7 +31,7 @@ tell_all-requires-clause-tasks g c =
 pub returns-clause-submitter : goal.returns-clause-submitter
 returns-clause-submitter g c =
     let made = c.in_ok-queues in
-    submitter_on made.queues made.submitter c.tell_all.new.submitter (made.submitter.batches + c.batches-count.result) (c.tell_all.ensures.same ∙ c.in_ok-submit_all.ensures) made.ensures.submitter
+    submitter_on made.queues made.submitter c.tell_all.new.submitter (batches_in made.submitter.frame) (c.tell_all.ensures.same ∙ c.in_ok-submit_all.ensures) made.ensures.submitter
 
 pub returns-clause-frame : goal.returns-clause-frame
 returns-clause-frame g c =
@@ -57,7 +49,6 @@ returns-clause-tasks g c =
     let is = with_items_is made.tasks new same in
     let first = subst (λ (f : BatchedFrame). AreFirstTasks made.queues f c.as_mut_slice.result.now) framed (subst (λ (ts : List Tasking). AreFirstTasks made.queues made.submitter.frame ts) (sym c.as_mut_slice.ensures.value) made.ensures.tasks) in
     let counted = ap (λ (s : Submitting). s.batches) c.in_ok-submit_all.ensures in
-    let none = made.ensures.frame.1 in
-    let all : c.submit_all.new.submitter.batches ≡ batches_in frame = omega (arith, counted, none, c.batches-count.ensures.value) in
+    let all : c.submit_all.new.submitter.batches ≡ batches_in frame = counted ∙ ap batches_in framed in
     let some : 1 ≤ bin_count_of frame.cut = omega (arith, c.bins-bins.ensures.some, c.bins-bins.ensures.value) in
     subst (λ (ts : List Tasking). AreTold made.queues frame ts) (sym is) (all_told_of made.queues frame c.submit_all.new.submitter.batches c.as_mut_slice.result.now new first all some c.tell_all.ensures.told)

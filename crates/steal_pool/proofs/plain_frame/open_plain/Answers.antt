@@ -1,4 +1,4 @@
-use Rattle.std.proofs.Common.{◌≡◌, ◌≤◌, ◌+◌, [], List, length, arith, rules, ap, sym, subst}
+use Rattle.std.proofs.Common.{◌≡◌, ◌≤◌, [], List, length, arith, rules, ap, sym, ◌∙◌, subst}
 use Rattle.std.proofs.lemmas.List.{with_items_is}
 use Rattle.binning.specs.Cut.{bin_count_of}
 use Rattle.bin_queues.specs.Frames.{over}
@@ -16,18 +16,10 @@ submit_all-requires-clause-frame g c =
     let framed = subst (λ (f : BatchedFrame). f ≡ over c.args.frame.now f.cells) (sym c.in_ok-queues.ensures.frame.0) (λ i. frame) in
     search (rules, framed)
 
-pub submit_all-requires-clause-left : goal.submit_all-requires-clause-left
-submit_all-requires-clause-left g c =
-    let made = c.in_ok-queues in
-    let none = made.ensures.frame.1 in
-    let all = ap batches_in made.ensures.frame.0 in
-    let counted = c.batches-count.ensures.value in
-    omega (arith, none, all, counted)
-
 pub tell_all-requires-clause-submitter : goal.tell_all-requires-clause-submitter
 tell_all-requires-clause-submitter g c =
     let made = c.in_ok-queues in
-    submitter_on made.queues made.submitter c.submit_all.new.submitter (made.submitter.batches + c.batches-count.result) c.in_ok-submit_all.ensures made.ensures.submitter
+    submitter_on made.queues made.submitter c.submit_all.new.submitter (batches_in made.submitter.frame) c.in_ok-submit_all.ensures made.ensures.submitter
 
 pub tell_all-requires-clause-tasks : goal.tell_all-requires-clause-tasks
 tell_all-requires-clause-tasks g c =
@@ -43,7 +35,6 @@ returns g c =
     let is = with_items_is made.tasks new same in
     let first = subst (λ (f : BatchedFrame). AreFirstTasks made.queues f c.as_mut_slice.result.now) made.ensures.frame.0 (subst (λ (ts : List Tasking). AreFirstTasks made.queues made.submitter.frame ts) (sym c.as_mut_slice.ensures.value) made.ensures.tasks) in
     let counted = ap (λ (s : Submitting). s.batches) c.in_ok-submit_all.ensures in
-    let none = made.ensures.frame.1 in
-    let all : c.submit_all.new.submitter.batches ≡ batches_in frame = omega (arith, counted, none, c.batches-count.ensures.value) in
+    let all : c.submit_all.new.submitter.batches ≡ batches_in frame = counted ∙ ap batches_in made.ensures.frame.0 in
     let some : 1 ≤ bin_count_of frame.cut = omega (arith, c.bins-bins.ensures.some, c.bins-bins.ensures.value) in
     subst (λ (ts : List Tasking). AreTold made.queues frame ts) (sym is) (all_told_of made.queues frame c.submit_all.new.submitter.batches c.as_mut_slice.result.now new first all some c.tell_all.ensures.told)

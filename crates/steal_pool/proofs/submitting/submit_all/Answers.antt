@@ -1,37 +1,40 @@
-use Rattle.std.proofs.Common.{◌≡◌, ◌+◌, arith, rules, ap, sym, subst, ◌∙◌}
-use Rattle.bin_queues.specs.Frames.{over}
-use Rattle.bin_queues.specs.QueueParts.{BatchedFrame, batches_in}
-use Rattle.bin_queues.specs.Tasks.{Submitting}
-use Rattle.bin_queues.proofs.GoingOn.{submitter_on}
+use Rattle.std.proofs.Common.{◌≡◌, ◌+◌, length, vec_items, arith, rules, ap, sym, ◌∙◌, subst}
+use Rattle.std.proofs.lemmas.List.{with_items_is}
+use Rattle.bin_queues.specs.QueueParts.{batches_in}
+use Rattle.steal_pool.specs.Binned.{AreBinned}
 use Rattle.steal_pool.proofs.submitting.submit_all.Goals as goal
 
-pub loop-init : goal.loop-init
-loop-init g c =
-    let none : c.args.submitter.now.batches ≡ c.args.submitter.now.batches + 0 = omega arith in
-    λ i. record c.args.submitter.now { batches = none i }
+pub submit_each-requires-clause-left : goal.submit_each-requires-clause-left
+submit_each-requires-clause-left g c =
+    let all = ap batches_in c.requires.frame in
+    let counted = c.batches-count.ensures.value in
+    omega (arith, c.requires.none, all, counted)
 
-pub submit_next-requires-clause-queues : goal.submit_next-requires-clause-queues
-submit_next-requires-clause-queues g c =
-    let on = submitter_on c.args.queues.now c.args.submitter.now c.loop.submitter (c.args.submitter.now.batches + c.loop.counter) c.loop.invariant c.requires.queues in
-    search (rules, on)
+pub returns-then-threads-lt2 : goal.returns-then-threads-lt2
+returns-then-threads-lt2 g c =
+    let all = ap batches_in c.requires.frame in
+    let counted = c.batches-count.ensures.value in
+    let last : c.args.submitter.now.batches + c.batches-count.result ≡ batches_in c.args.submitter.now.frame = omega (arith, c.requires.none, all, counted) in
+    c.in_ok-submit_each.ensures ∙ (λ k. record c.args.submitter.now { batches = last k })
 
-pub submit_next-requires-clause-frame : goal.submit_next-requires-clause-frame
-submit_next-requires-clause-frame g c =
-    let framed = subst (λ (f : BatchedFrame). f ≡ over c.args.frame.now f.cells) (sym (ap (λ (s : Submitting). s.frame) c.loop.invariant)) c.requires.frame in
-    search (rules, framed)
+pub bin_all-requires : goal.bin_all-requires
+bin_all-requires g c =
+    let many = ap length c.as_mut_slice.ensures.value ∙ c.in_ok-slots.ensures in
+    search (rules, many)
 
-pub submit_next-requires-clause-short : goal.submit_next-requires-clause-short
-submit_next-requires-clause-short g c =
-    let counted = ap (λ (s : Submitting). s.batches) c.loop.invariant in
-    let all : batches_in c.loop.submitter.frame ≡ batches_in c.args.submitter.now.frame = ap (λ (s : Submitting). batches_in s.frame) c.loop.invariant in
-    omega (arith, c.loop-test.true, counted, all, c.requires.left)
+pub submit_slots-requires-clause-slots : goal.submit_slots-requires-clause-slots
+submit_slots-requires-clause-slots g c =
+    let slots = c.in_ok-slots.slots in
+    let new = c.bin_all.new.slots in
+    let same : length new ≡ slots.len = search rules in
+    let is = with_items_is slots new same in
+    let all = ap batches_in c.requires.frame in
+    ap length is ∙ c.bin_all.ensures.many ∙ ap length c.as_mut_slice.ensures.value ∙ c.in_ok-slots.ensures ∙ sym all
 
-pub loop-preserved : goal.loop-preserved
-loop-preserved g c =
-    let more : c.args.submitter.now.batches + c.loop.counter + 1 ≡ c.args.submitter.now.batches + (c.loop.counter + 1) = omega arith in
-    c.in_ok-submit_next.ensures ∙ ap (λ (s : Submitting). record s { batches = s.batches + 1 }) c.loop.invariant ∙ (λ i. record c.args.submitter.now { batches = more i })
-
-pub returns : goal.returns
-returns g c =
-    let last : c.args.submitter.now.batches + c.loop.counter ≡ c.args.submitter.now.batches + c.args.count = omega (arith, c.loop-test.false, c.loop.auto.counter-end) in
-    c.loop.invariant ∙ (λ i. record c.args.submitter.now { batches = last i })
+pub submit_slots-requires-clause-binned : goal.submit_slots-requires-clause-binned
+submit_slots-requires-clause-binned g c =
+    let slots = c.in_ok-slots.slots in
+    let new = c.bin_all.new.slots in
+    let same : length new ≡ slots.len = search rules in
+    let is = with_items_is slots new same in
+    subst (λ xs. AreBinned vec_items c.args.frame.now xs) (sym is) c.bin_all.ensures.binned
