@@ -1,5 +1,5 @@
 -- What lanes compute where nothing wraps.
-use Rattle.std.proofs.Common.{ℕ, zero, suc, ◌<◌, ◌^◌, ◌+◌, negsuc, ◌*ℤ◌, ◌≤ℤ◌, ◌≡◌, ℤ, pos, ◌%◌, ◌+ℤ◌, arith, w32, w64, FitsSigned, to_z, of_z, Bool, true, false, cond, refl, ap, ◌∙◌, int_le, [], ◌∷◌}
+use Rattle.std.proofs.Common.{ℕ, ◌<◌, ◌^◌, ◌+◌, negsuc, ◌*ℤ◌, ◌≤ℤ◌, ◌≡◌, ℤ, pos, ◌%◌, ◌+ℤ◌, arith, w32, w64, FitsSigned, to_z, of_z, Bool, true, false, cond, refl, ap, ◌∙◌, int_le, [], ◌∷◌}
 use Rattle.std.specs.Cmp.{both_ways}
 use Rattle.cull_base.specs.Bounds.{Bounded}
 use Rattle.std.specs.Int.{int_div_euclid}

@@ -1,5 +1,5 @@
 -- The reciprocal of a short number by a division of 32 bits, and the quotients that a reciprocal gives.
-use Rattle.std.proofs.Common.{◌≡◌, ℕ, zero, suc, ◌+◌, ◌*◌, ◌-◌, ◌/◌, ◌%◌, ◌^◌, ◌<◌, ◌≤◌, arith, ap, refl}
+use Rattle.std.proofs.Common.{◌≡◌, ℕ, zero, suc, ◌+◌, ◌*◌, ◌-◌, ◌/◌, ◌%◌, ◌^◌, ◌<◌, ◌≤◌, arith, ap}
 use Rattle.std.proofs.Math.Nat.{mul-le-mul, mul-le-mul_left, div-add-mod, mod-lt}
 use Rattle.edge_lanes.specs.Reciprocals.{IsReciprocal}
 

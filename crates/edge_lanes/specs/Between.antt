@@ -1,5 +1,5 @@
 -- The samples of a row that lie on one side of a column.
-use Rattle.std.specs.Prelude.{ℕ, ℤ, pos, ◌≡◌, ◌^◌, ◌+◌, ◌*◌, ◌+ℤ◌, ◌*ℤ◌, Bool, ◌&&◌, ◌||◌, IsTrue, nat_eq, int_le, int_lt}
+use Rattle.std.specs.Prelude.{ℕ, ℤ, pos, ◌^◌, ◌+◌, ◌*◌, ◌+ℤ◌, ◌*ℤ◌, Bool, ◌&&◌, ◌||◌, IsTrue, nat_eq, int_le, int_lt}
 use Rattle.std.specs.Int.{int_div_euclid, int_min, int_max}
 
 -- The column before which an edge crosses a row of samples: in the first row it is `start` over `size`, each row adds

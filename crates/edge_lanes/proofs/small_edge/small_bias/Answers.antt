@@ -1,10 +1,6 @@
 use Rattle.std.proofs.Common.{◌≡◌, ◌∙◌, ◌^◌, ℤ, pos, ◌+ℤ◌, ◌-ℤ◌, ◌*ℤ◌, FitsSigned, w32, w64, arith, rules}
-use Rattle.std.specs.Int.{int_div_euclid}
 use Rattle.std.proofs.lemmas.Int.{ints, to_z-of_z}
 use Rattle.cull_base.specs.Bounds.{Bounded}
-use Rattle.cull_base.specs.Piece.{is_top_or_left, point}
-use Rattle.cull_base.specs.declared.triangle.Side.TheVariants.{Occluder}
-use Rattle.edge_lanes.specs.Lanes.{bias_of}
 use Rattle.edge_lanes.proofs.SmallBias.{bias_bounded, bias_by_sign}
 use Rattle.edge_lanes.proofs.small_edge.small_bias.Goals as goal
 

@@ -1,4 +1,4 @@
-use Rattle.std.proofs.Common.{◌≡◌, ◌+◌, ◌<◌, ◌∷◌, ℕ, drop, length, vec_items, arith, rules, ap, sym, ◌∙◌, subst}
+use Rattle.std.proofs.Common.{◌≡◌, ◌+◌, ℕ, vec_items, arith, rules, ap, sym, ◌∙◌, subst}
 use Rattle.cull_base.proofs.Lists.{turn}
 use Rattle.bin_queues.specs.Frames.{over}
 use Rattle.bin_queues.specs.QueueParts.{BatchedFrame, batches_in}

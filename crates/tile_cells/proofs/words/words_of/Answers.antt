@@ -1,4 +1,4 @@
-use Rattle.std.proofs.Common.{rules, ◌≡◌, ℕ, ◌+◌, ◌*◌, ◌^◌, [], ◌∷◌, ap, ◌∙◌}
+use Rattle.std.proofs.Common.{rules, ◌≡◌, ◌+◌, ◌*◌, ◌^◌, [], ◌∷◌, ap, ◌∙◌}
 use Rattle.masked_update.specs.Packing.{packed}
 use Rattle.tile_cells.proofs.words.words_of.Goals as goal
 
