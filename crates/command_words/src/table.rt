@@ -97,8 +97,8 @@ pub const CULL: ACommand = CommandRow {
     more: "Reads the bytes of a scene from standard input, to their end.
 Writes to standard output a header, and for each frame: how many pieces it has, whether each object is visible, occluded
 or outside the screen, and how many are. No option changes a byte of it.
-For a path of many cameras give --workers alone: without --early each thread draws frames of its own while the scene has
-as many left, and bins, batches and --steal change nothing. For a single frame, which threads share, give bins too.
+For a path of many cameras give --workers alone: without --early and --steal each thread draws frames of its own while
+the scene has as many left, and bins and batches change nothing. For a single frame, which threads share, give bins too.
 With --group boxes that follow on one another in the scene are taken in groups. Those count in a frame that have all
 corners in front of the near plane, or on it, and within the guard, and a rectangle with a pixel on the screen. Where a
 rectangle around those of a group that count, as near as the nearest of them, is hidden, each of these is occluded and
@@ -149,7 +149,7 @@ pub const DEMO: ACommand = CommandRow {
     more: "Reads nothing: the scene is made of a number, with 500 boxes as objects, and 4 frames.
 Writes to standard output a header, and for each frame: how many pieces it has, and how many boxes are visible, occluded
 or outside the screen. Of the options only --seed and --triangles change it.
-With --workers up to 4 and without --early each thread draws frames of its own, and bins, batches and --steal change
+With --workers up to 4 and without --early and --steal each thread draws frames of its own, and bins and batches change
 nothing; otherwise threads share each frame.
 Tells on standard error why a run isn't done.
 

@@ -71,12 +71,13 @@ fn slot_size(scene: &Scene, count: u32) -> u64 {
 }
 
 // How many frames each worker has of a scene's windows. None where a worker is alone, where objects are settled while a
-// frame is drawn, and where a frame for each worker would take too much memory.
+// frame is drawn, where workers take bins from each other, and where a frame for each worker would take too much
+// memory.
 fn unseen_rounds(settings: &Settings, scene: &Scene) -> u32
     ensures { result * settings.now.workers ≤ length scene.now.cameras }
 {
     let workers = settings.workers;
-    if workers < 2 || settings.early {
+    if workers < 2 || settings.early || settings.steal {
         return 0;
     }
     if frame_size(scene).saturating_mul(u64::from(workers)) > MOST {
