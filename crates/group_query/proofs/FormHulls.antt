@@ -26,7 +26,7 @@ use Rattle.cull_report.specs.declared.form.Form.TheVariants as forms
 use Rattle.group_query.specs.Hulls.{IsFormOf, grown, grown_hull, holding, hull_from, hull_of, is_seen, kept_hull, member_shapes, no_members, shapes_from, told_hull, turned, with_member}
 use Rattle.group_query.specs.declared.grouping.Group.{Group}
 use Rattle.group_query.specs.declared.hulls.Hull.{Hull}
-use Rattle.group_query.proofs.HullMembers.{hull_from-append, some_members}
+use Rattle.group_query.proofs.HullMembers.{hull_from-append, own, some_members}
 
 -- ---- a form
 
@@ -112,6 +112,20 @@ grown_kept s frame o (forms.Flat r q) e =
     first_kept size o r q e ∙ sym (ap (kept_hull size) more)
 grown_kept s frame o (forms.Mesh first count) e =
     sym (ap (kept_hull (size_of s)) (mesh_grows (top_of s.grade) s.near (size_of s) (frame_clips s frame) (range_of s.object_tris first count) o))
+
+-- what is kept of no members, and of some
+kept_nothing : (size : Dimensions) (o : Option Hull) (h : Hull) → IfSome o (λ a. 0 < a.members) → h ≡ kept_hull size o → h.members ≡ 0 → h ≡ no_members size
+kept_nothing size None h some e none = e
+kept_nothing size (Some a) h some e none = let lt : 0 < a.members = some in let same = ap (λ (x : Hull). x.members) e in absurd (omega (arith, lt, same, none))
+
+pub kept_something : (size : Dimensions) (o : Option Hull) (h : Hull) → h ≡ kept_hull size o → 0 < h.members → o ≡ Some h
+kept_something size None h e some = let same = ap (λ (x : Hull). x.members) e in absurd (omega (arith, some, same))
+kept_something size (Some a) h e some = ap Some (sym e)
+
+-- of one member that counts its area and its nearness are kept
+pub kept_alone : (size : Dimensions) (o : Option Hull) (h : Hull) (r : Rect) (q : ℕ) → IfSome o (λ a. 0 < a.members) → h ≡ kept_hull size o → h.members ≡ 0 → meets r (screen_of size) ≡ true
+    → with_member (Some h) (cut_of r (screen_of size)) q ≡ own size r q
+kept_alone size o h r q some e none m = ap (λ (x : Hull). with_member (Some x) (cut_of r (screen_of size)) q) (kept_nothing size o h some e none) ∙ first_kept size None r q m
 
 pub grown_hull_few : (size : Dimensions) (h : Hull) (form : Form) → (grown_hull size h form).members ≤ h.members + 1
 grown_hull_few size h forms.Outside = omega arith

@@ -23,14 +23,16 @@ use Rattle.cull_report.specs.Scene.{object_shape, object_verdict, size_of}
 use Rattle.cull_report.specs.Text.{is_occluded}
 use Rattle.cull_report.specs.declared.form.Form.{Form}
 use Rattle.cull_report.specs.declared.form.Form.TheVariants as forms
-use Rattle.group_query.specs.Hidden.{HidesMembers, IsKept, IsTested, group_verdict, hull_verdict, is_hidden_group, is_shown}
-use Rattle.group_query.specs.Hulls.{IsFormOf, counted, counts, grown_hull, hull_of, member_shapes, no_members}
+use Rattle.cull_report.specs.declared.tally.Tally.{Tally}
+use Rattle.group_query.specs.Hidden.{HidesMembers, IsKept, IsTested, group_tally, group_verdict, hull_verdict, is_hidden_group, is_shown, members_hidden, one_hidden}
+use Rattle.group_query.specs.Hulls.{IsFormOf, counted, counts, grown_hull, hull_from, hull_of, kept_hull, member_shapes, members_of, no_members, shapes_from}
 use Rattle.group_query.specs.declared.grouping.Group.{Group}
 use Rattle.group_query.specs.declared.hulls.Hull.{Hull}
 use Rattle.group_query.specs.declared.tested.Kept.{Kept}
 use Rattle.group_query.specs.declared.tested.Tested.{Tested}
-use Rattle.group_query.proofs.FormHulls.{kept_more, shape_at, shape_below, shape_of_flat}
-use Rattle.group_query.proofs.HullMembers.{IsWithin, holds_member, members_are, one_member, own}
+use Rattle.group_query.proofs.FormHulls.{hull_in_two, kept_alone, kept_more, kept_something, shape_at, shape_below, shape_of_flat}
+use Rattle.group_query.proofs.HullMembers.{IsWithin, holds_member, members_are, none_counted, one_member, own, some_members}
+use Rattle.group_query.proofs.Totals.{taken}
 
 -- ---- pixels of the screen
 
@@ -203,7 +205,41 @@ kept_none s frame f g size k e hull shown =
       few = omega (arith, none);
       hull = λ h. hull ∙ ap no_members e;
       shown = λ h. absurd (not_both k.shown shown h);
+      alone = λ h one. absurd (omega (arith, none, one));
     }
+
+occluded_unless : (v : Verdict) → not (is_occluded v) ≡ false → v ≡ Occluded
+occluded_unless Visible e = absurd cc
+occluded_unless Occluded e = refl
+occluded_unless Outside e = absurd cc
+
+-- the hull of one member that counts has its verdict
+own_verdict : (s : Parts) (frame : ℕ) (f : Sub → State) (o : ℕ) (d : Object) (r : Rect) (q : ℕ) → IsFormOf s frame o (forms.Flat r q)
+    → hull_verdict (size_of s) f (Some (own (size_of s) r q)) ≡ object_verdict s frame f (get_or s.objects o d)
+own_verdict s frame f o d r q form =
+    let size = size_of s in
+    cut_verdict size f r q form.seen ∙ ap (verdict_of size f) (flat_there size r q form.seen ∙ sym (shape_of_flat s frame o d r q form))
+
+same_hull : (s : Parts) (frame : ℕ) (f : Sub → State) (g : Group) (count : ℕ) (k : Kept) (next : Hull) → IsKept s frame f g count k → k.shown ≡ false → next ≡ k.hull → next.members ≡ 1
+    → hull_verdict (size_of s) f (Some next) ≡ Occluded
+same_hull s frame f g count k next is before e one =
+    let same = ap (λ (x : Hull). x.members) e in
+    ap (λ (x : Hull). hull_verdict (size_of s) f (Some x)) e ∙ is.alone before (omega (arith, same, one))
+
+-- the hull that is kept is occluded, where one member counts
+alone_next : (s : Parts) (frame : ℕ) (f : Sub → State) (g : Group) (count : ℕ) (d : Object) (k : Kept) (next : Hull) (form : Form) (v : Verdict)
+    → IsKept s frame f g count k → k.shown ≡ false → is_shown form v ≡ false → IsFormOf s frame (g.first + count) form → v ≡ object_verdict s frame f (get_or s.objects (g.first + count) d)
+    → next ≡ grown_hull (size_of s) k.hull form → next.members ≡ 1 → hull_verdict (size_of s) f (Some next) ≡ Occluded
+alone_next s frame f g count d k next forms.Outside v is before unshown form seen e one = same_hull s frame f g count k next is before e one
+alone_next s frame f g count d k next forms.Visible v is before unshown form seen e one = same_hull s frame f g count k next is before e one
+alone_next s frame f g count d k next (forms.Flat r q) v is before unshown form seen e one =
+    let size = size_of s in
+    let shapes = shapes_from s frame g.first count in
+    let more = ap (λ (x : Hull). x.members) e in
+    let none : k.hull.members ≡ 0 = omega (arith, more, one) in
+    let first = kept_alone size (hull_from size None shapes) k.hull r q (some_members size None shapes tt) (is.hull before) none form.seen in
+    ap (λ (x : Hull). hull_verdict size f (Some x)) (e ∙ first) ∙ own_verdict s frame f (g.first + count) d r q form ∙ sym seen ∙ occluded_unless v unshown
+alone_next s frame f g count d k next (forms.Mesh first n) v is before unshown form seen e one = same_hull s frame f g count k next is before e one
 
 -- what is kept of one member more
 pub kept_next : (s : Parts) (frame : ℕ) (f : Sub → State) (g : Group) (count : ℕ) (d : Object) (size : Dimensions) (k next : Kept) (form : Form) (v : Verdict) → size ≡ size_of s
@@ -218,8 +254,46 @@ kept_next s frame f g count d size k next form v e lt within is own seen shown h
           let so = or_parts k.shown (is_shown form v) (sym shown ∙ h) in
           hull h ∙ ap (λ (x : Dimensions). grown_hull x k.hull form) e ∙ kept_more s frame g.first count d None k.hull form there (is.hull so.0) own;
       shown = λ h. by k.shown refl (sym shown ∙ h);
+      alone = λ h one.
+          let so = or_parts k.shown (is_shown form v) (sym shown ∙ h) in
+          let grows = hull h ∙ ap (λ (x : Dimensions). grown_hull x k.hull form) e in
+          alone_next s frame f g count d k next.hull form v is so.0 so.1 own seen grows one;
     }
   where
     by : (b : Bool) → k.shown ≡ b → (b || is_shown form v) ≡ true → is_hidden_group s frame f g ≡ false
     by true a h = is.shown a
     by false a h = shown_unhidden s frame f g (g.first + count) d form v h own seen (omega arith) (omega (arith, lt)) (omega (arith, lt, within))
+
+-- ---- a member that alone counts
+
+abbrev pub a_tally : ℕ → ℕ → Tally
+a_tally hidden members = record { hidden = hidden; members = members }
+
+tallies_alike : (a b m n : ℕ) → a ≡ b → m ≡ n → a_tally a m ≡ a_tally b n
+tallies_alike a b m n e f = rw (e, f) refl
+
+-- the hull of a group is that of its first members, where the others add none
+same_members : (s : Parts) (frame : ℕ) (g : Group) (count : ℕ) (a b : Hull) → count ≤ g.count → hull_from (size_of s) None (shapes_from s frame g.first count) ≡ Some a
+    → hull_of s frame g ≡ Some b → a.members ≡ b.members → hull_of s frame g ≡ Some a
+same_members s frame g count a b le first all same =
+    let size = size_of s in
+    let front = hull_from size None (shapes_from s frame g.first count) in
+    let rest = shapes_from s frame (g.first + count) (g.count - count) in
+    let whole = hull_in_two s frame g.first count g.count None le in
+    let more = members_are size front rest in
+    let before = ap members_of first in let after = ap members_of (whole ∙ all) in
+    let none : counted size rest ≡ 0 = omega (arith, more, before, after, same) in
+    sym whole ∙ none_counted size front rest none ∙ first
+
+-- a group of which one member counts, and was tested and is occluded, is hidden as it is
+pub alone_told : (s : Parts) (frame : ℕ) (f : Sub → State) (g : Group) (count : ℕ) (k : Kept) (h : Hull) → count ≤ g.count → IsKept s frame f g count k → k.shown ≡ false → k.hull.members ≡ 1
+    → h ≡ kept_hull (size_of s) (hull_of s frame g) → h.members ≡ 1 → a_tally 1 1 ≡ group_tally s frame f g
+alone_told s frame f g count k h le is before one e same =
+    let size = size_of s in
+    let first = kept_something size (hull_from size None (shapes_from s frame g.first count)) k.hull (is.hull before) (omega (arith, one)) in
+    let all = kept_something size (hull_of s frame g) h e (omega (arith, same)) in
+    let hull = same_members s frame g count k.hull h le first all (omega (arith, one, same)) in
+    let yes : is_hidden_group s frame f g ≡ true = ap (λ (o : Option Hull). is_occluded (hull_verdict size f o)) hull ∙ ap is_occluded (is.alone before one) in
+    let members = ap members_of hull ∙ one in
+    tallies_alike 1 (one_hidden s frame f g) 1 (members_hidden s frame f g) (sym (taken (is_hidden_group s frame f g) 1 yes))
+    (sym (taken (is_hidden_group s frame f g) (members_of (hull_of s frame g)) yes ∙ members))

@@ -147,7 +147,7 @@ unchanged size h (Flat r q) e = by (meets r (screen_of size)) e
     by false f = refl
 unchanged size h (Pieces ps hull) e = refl
 
-none_counted : (size : Dimensions) (h : Option Hull) (shapes : List Shape) → counted size shapes ≡ 0 → hull_from size h shapes ≡ h
+pub none_counted : (size : Dimensions) (h : Option Hull) (shapes : List Shape) → counted size shapes ≡ 0 → hull_from size h shapes ≡ h
 none_counted size h [] e = refl
 none_counted size h (shape ∷ shapes) e =
     let first : ◌≡◌ {A = ℕ} (cond (counts size shape) 1 0) 0 = omega (arith, e) in

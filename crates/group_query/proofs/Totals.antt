@@ -36,7 +36,7 @@ is_true a b lt = grind (arith, nat_tests)
 is_false : (a b : ℕ) → b ≤ a → nat_lt a b ≡ false
 is_false a b le = grind (arith, nat_tests)
 
-taken : (b : Bool) (m : ℕ) → b ≡ true → cond b m 0 ≡ m
+pub taken : (b : Bool) (m : ℕ) → b ≡ true → cond b m 0 ≡ m
 taken b m e = ap (λ (x : Bool). cond x m 0) e
 
 left_out : (b : Bool) (m : ℕ) → b ≡ false → cond b m 0 ≡ 0

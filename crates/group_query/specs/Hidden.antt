@@ -76,11 +76,12 @@ is_shown forms.Visible v = false
 is_shown (forms.Flat rect q) v = not (is_occluded v)
 is_shown (forms.Mesh first count) v = false
 
--- What is kept of the first so many members of a group: their hull, until one shows that the group isn't hidden.
+-- What is kept of the first so many members of a group: their hull, until one shows that the group isn't hidden. Where one alone counts, their hull is occluded as it is.
 pub record IsKept (s : Parts) (frame : ℕ) (states : Sub → State) (g : Group) (count : ℕ) (k : Kept) : Type 0 where
   pub few : k.hull.members ≤ count
   pub hull : k.shown ≡ false → k.hull ≡ kept_hull (size_of s) (hull_from (size_of s) None (shapes_from s frame g.first count))
   pub shown : k.shown ≡ true → is_hidden_group s frame states g ≡ false
+  pub alone : k.shown ≡ false → k.hull.members ≡ 1 → hull_verdict (size_of s) states (Some k.hull) ≡ Occluded
 
 -- in a hidden group each member that counts is occluded
 abbrev pub HidesMembers : Type 0

@@ -168,8 +168,9 @@ impl<'a, V: TileView> Grouped<'a, V> {
         tally_of(self.asked, group, tested)
     }
 
-    // What is counted of a group, by what is kept of its first members. Its hull is made and tested only where each of
-    // these that counts is occluded, since a hidden group hides its members. Condition: the size is the scene's.
+    // What is counted of a group, by what is kept of its first members. Its hull is made only where each of these that
+    // counts is occluded, since a hidden group hides its members. It isn't tested where one of these alone counts, since
+    // it is that one's area then. Condition: the size is the scene's.
     #[inline(always)]
     fn told_by(&self, size: Size, group: Group, count: u32, kept: Kept) -> Tally
         requires group { group.first + group.count ≤ length self.now.asked.now.scene.now.objects }
@@ -197,6 +198,12 @@ impl<'a, V: TileView> Grouped<'a, V> {
             group.first + count,
             group.count - count,
         );
+        if kept.hull.members == 1 && hull.members == 1 {
+            return Tally {
+                hidden: 1,
+                members: 1,
+            };
+        }
         let tested = test_of(asked.view, size, told(hull));
         tally_of(asked, group, tested)
     }

@@ -5,6 +5,7 @@ use Rattle.cull_report.specs.Scene.{size_of}
 use Rattle.group_query.specs.Hidden.{hull_verdict, is_hidden_group}
 use Rattle.group_query.specs.Hulls.{hull_from, hull_of, kept_hull, members_of, shapes_from}
 use Rattle.group_query.proofs.FormHulls.{hull_in_two, told_of}
+use Rattle.group_query.proofs.HiddenHulls.{alone_told}
 use Rattle.group_query.proofs.grouped.Grouped.told_by.Goals as goal
 
 pub returns-then-kept : goal.returns-then-kept
@@ -16,6 +17,16 @@ returns-then-kept g c =
 
 pub grown_by-hull-requires-clause-few : goal.grown_by-hull-requires-clause-few
 grown_by-hull-requires-clause-few g c = omega (arith, c.requires.kept.few, c.requires.within, c.requires.group, c.object_count-objects.ensures)
+
+pub returns-then-hull-eq1 : goal.returns-then-hull-eq1
+returns-then-hull-eq1 g c =
+    let asked = c.args.self.now.asked.now in let s = asked.scene.now in
+    let group = c.args.group in let count = c.args.count in
+    let size = size_of s in
+    let first = hull_from size None (shapes_from s asked.frame group.first count) in
+    let whole : c.grown_by-hull.result ≡ kept_hull size (hull_of s asked.frame group) =
+    c.grown_by-hull.ensures first (c.requires.kept.hull c.if-kept.false) ∙ ap (kept_hull size) (hull_in_two s asked.frame group.first count group.count None c.requires.within) in
+    alone_told s asked.frame (state_in size (g.V.TileView.tile_of asked.view.now)) group count c.args.kept c.grown_by-hull.result c.requires.within c.requires.kept c.if-kept.false c.if-kept-eq1.true whole c.if-hull-eq1.true
 
 pub test_of-tested-requires : goal.test_of-tested-requires
 test_of-tested-requires g c =
