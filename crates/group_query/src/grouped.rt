@@ -169,8 +169,8 @@ impl<'a, V: TileView> Grouped<'a, V> {
     }
 
     // What is counted of a group, by what is kept of its first members. Its hull is made only where each of these that
-    // counts is occluded, since a hidden group hides its members. It isn't tested where one of these alone counts, since
-    // it is that one's area then. Condition: the size is the scene's.
+    // counts is occluded, since a hidden group hides its members. It isn't tested where one of these alone counts: it
+    // is that one's area then, and occluded as it is. Condition: the size is the scene's.
     #[inline(always)]
     fn told_by(&self, size: Size, group: Group, count: u32, kept: Kept) -> Tally
         requires group { group.first + group.count ≤ length self.now.asked.now.scene.now.objects }
@@ -264,8 +264,8 @@ impl<'a, V: TileView> Grouped<'a, V> {
     }
 
     // Of so many groups that begin before a place the last may reach behind it: appends the verdicts of its members
-    // from the place on to before an end, each by itself, and tells where that ends. What is counted of it is told where
-    // it begins.
+    // from the place on to before an end, each by itself, and tells where that ends. What is counted of it is told
+    // where it begins.
     fn answer_cut(&self, begun: usize, place: u32, end: u32, verdicts: &mut Vec<Verdict>) -> u32
         requires begun { AreBegun place self.now.groups.now begun }
         requires ordered { place ≤ end }
