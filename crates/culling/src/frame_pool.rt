@@ -172,34 +172,58 @@ fn make_some<P: Seating<Slot>, R: Threads + Wait + Sync, G: Gate>(
     window: &Window<R, G>,
     seats: &Mutex<Seats<P, Slot>>,
     next: &AtomicU64,
-    hand: &mut Hand<P>,
-    clips: &mut [ClipVertex],
+    maker: &mut Maker<P>,
 )
     requires means { let w = window.now in
         Means P.holds (IsSlotOf w.drawing.now.scene.now w.drawing.now.groups.now w.first) }
-    requires places { length clips.old ≡ length window.now.drawing.now.scene.now.vertices }
-    ensures places { length clips.new ≡ length clips.old }
+    requires places { HasPlaces window.now.drawing.now.scene.now maker.old.room }
+    ensures { HasPlaces window.now.drawing.now.scene.now maker.new.room }
 {
     // where there is no such block, a frame tells what it has no memory for
     let _ = keep_freed_memory(window.drawing.alloc, window.bytes);
     for _ in 0..window.count {
-        if make_one(window, seats, next, hand, clips).is_none() {
+        let clips = maker.room.clips.as_mut_slice();
+        if make_one(window, seats, next, &mut maker.hand, clips).is_none() {
             return;
         }
     }
 }
 
+// Takes the last room out.
+fn last_room(_scene: &Scene, rooms: &mut Vec<Room>) -> Room
+    requires some { 1 ≤ vec_len rooms.old }
+    requires places { HavePlaces _scene.now rooms.old.items }
+    ensures room { HasPlaces _scene.now result }
+    ensures places { HavePlaces _scene.now rooms.new.items }
+    ensures count { vec_len rooms.new + 1 ≡ vec_len rooms.old }
+    ensures capacity { vec_capacity rooms.new ≡ vec_capacity rooms.old }
+{
+    rooms.pop().unwrap()
+}
+
+// Puts a room behind the others, for which there is memory.
+fn put_last(room: Room, _scene: &Scene, rooms: &mut Vec<Room>)
+    requires memory { vec_len rooms.old + 1 ≤ vec_capacity rooms.old }
+    requires room { HasPlaces _scene.now room }
+    requires places { HavePlaces _scene.now rooms.old.items }
+    ensures places { HavePlaces _scene.now rooms.new.items }
+    ensures count { vec_len rooms.new ≡ vec_len rooms.old + 1 }
+    ensures capacity { vec_capacity rooms.new ≡ vec_capacity rooms.old }
+{
+    rooms.push_reserved(room);
+}
+
 // A worker of each hand and a room. Err: out of memory.
 fn makers_of<P: Ledger>(
     alloc: Global,
-    _scene: &Scene,
+    scene: &Scene,
     hands: &mut Vec<Hand<P>>,
     rooms: &mut Vec<Room>,
 ) -> Result<Vec<Maker<P>>, Memory>
     requires hands { vec_len hands.old ≡ vec_len rooms.old }
-    requires places { HavePlaces _scene.now rooms.old.items }
+    requires places { HavePlaces scene.now rooms.old.items }
     ensures count { IfOk result (λ v. vec_len v ≡ vec_len rooms.old) }
-    ensures places { IfOk result (λ v. All (λ m. HasPlaces _scene.now m.room) v.items) }
+    ensures places { IfOk result (λ v. All (λ m. HasPlaces scene.now m.room) v.items) }
     ensures no_hand { OnOk result (vec_len hands.new ≡ 0) }
     ensures no_room { OnOk result (vec_len rooms.new ≡ 0) }
     ensures back_hands { vec_capacity hands.new ≡ vec_capacity hands.old }
@@ -208,12 +232,8 @@ fn makers_of<P: Ledger>(
     let count = rooms.len();
     let mut makers = Vec::with_capacity(alloc, count).map_err(|_| Memory)?;
     for _i in 0..count {
-        let Some(hand) = hands.pop() else {
-            unreachable!()
-        };
-        let Some(room) = rooms.pop() else {
-            unreachable!()
-        };
+        let room = last_room(scene, rooms);
+        let hand = hands.pop().unwrap();
         makers.push_reserved(Maker { hand, room });
     }
     Ok(makers)
@@ -222,56 +242,55 @@ fn makers_of<P: Ledger>(
 // Takes the hands and the rooms back, for which there is memory.
 fn take_apart<P: Ledger>(
     makers: Vec<Maker<P>>,
-    _scene: &Scene,
+    scene: &Scene,
     hands: &mut Vec<Hand<P>>,
     rooms: &mut Vec<Room>,
 )
-    requires places { All (λ m. HasPlaces _scene.now m.room) makers.items }
+    requires places { All (λ m. HasPlaces scene.now m.room) makers.items }
     requires no_hand { vec_len hands.old ≡ 0 }
     requires no_room { vec_len rooms.old ≡ 0 }
     requires back_hands { vec_len makers ≤ vec_capacity hands.old }
     requires back_rooms { vec_len makers ≤ vec_capacity rooms.old }
     ensures hands { vec_len hands.new ≡ vec_len makers }
     ensures rooms { vec_len rooms.new ≡ vec_len makers }
-    ensures places { HavePlaces _scene.now rooms.new.items }
+    ensures places { HavePlaces scene.now rooms.new.items }
     ensures capacity { vec_capacity rooms.new ≡ vec_capacity rooms.old }
 {
     for maker in makers {
         let Maker { hand, room } = maker;
         hands.push_reserved(hand);
-        rooms.push_reserved(room);
+        put_last(room, scene, rooms);
     }
 }
 
-// Makes the frames of the seats that the caller picks: by a thread for each room, and by the caller, which would wait
-// for them otherwise.
+// Makes the frames of the seats that the caller picks, by a thread for each room but one, and by the caller, which would
+// wait for them otherwise.
 fn make_under<P: Seating<Slot> + Send, R: Threads + Wait + Sync, G: Gate>(
     window: &Window<R, G>,
     blank: Blank,
     slots: Vec<Option<Loan<Slot>>>,
     rooms: &mut Vec<Room>,
-    clips: &mut [ClipVertex],
 ) -> Result<Vec<Option<Loan<Slot>>>, Memory>
     requires name { blank.name ≡ P.name }
     requires parts { blank.parts ≡ P.parts }
-    requires workers { blank.parts ≡ vec_len rooms.old + 1 }
-    requires few { vec_len rooms.old < 64 }
+    requires workers { blank.parts ≡ vec_len rooms.old }
+    requires some { 1 ≤ vec_len rooms.old }
+    requires few { vec_len rooms.old ≤ 64 }
     requires means { let w = window.now in
         Means P.holds (IsSlotOf w.drawing.now.scene.now w.drawing.now.groups.now w.first) }
     requires slots { AreSeated P.holds P.names slots.items }
-    requires places { length clips.old ≡ length window.now.drawing.now.scene.now.vertices }
     requires rooms { HavePlaces window.now.drawing.now.scene.now rooms.old.items }
     ensures slots { IfOk result (λ v. AreSeated P.holds P.names v.items) }
-    ensures places { length clips.new ≡ length clips.old }
     ensures rooms { OnOk result (HavePlaces window.now.drawing.now.scene.now rooms.new.items) }
-    ensures count { OnOk result (vec_len rooms.new ≡ vec_len rooms.old) }
-    ensures capacity { vec_capacity rooms.new ≡ vec_capacity rooms.old }
+    ensures workers { OnOk result (vec_len rooms.new ≡ vec_len rooms.old) }
 {
     let (alloc, scene) = (window.drawing.alloc, window.drawing.scene);
+    let room = last_room(scene, rooms);
     let threads = rooms.len();
     let opened = Seats::<P, Slot>::open(alloc, blank, slots, threads as u32);
-    let (seats, mut hands, mut mine) = opened.map_err(|_| Memory)?;
+    let (seats, mut hands, hand) = opened.map_err(|_| Memory)?;
     let mut makers = makers_of(alloc, scene, &mut hands, rooms)?;
+    let mut own = Maker { hand, room };
     let lock = Mutex::new(seats);
     let seats = &lock;
     let numbers = AtomicU64::new(0);
@@ -285,16 +304,18 @@ fn make_under<P: Seating<Slot> + Send, R: Threads + Wait + Sync, G: Gate>(
                 Means P.holds (IsSlotOf w.drawing.now.scene.now w.drawing.now.groups.now w.first) }
             requires places { HasPlaces window.now.drawing.now.scene.now maker.old.room }
             ensures { HasPlaces window.entry.now.drawing.now.scene.now maker.new.room }
-        { make_some(window, seats, next, &mut maker.hand, maker.room.clips.as_mut_slice()) },
+        { make_some(window, seats, next, maker) },
         &mut ||
             requires means { let w = window.now in
                 Means P.holds (IsSlotOf w.drawing.now.scene.now w.drawing.now.groups.now w.first) }
-            requires places { length clips.now ≡ length window.now.drawing.now.scene.now.vertices }
-            ensures { length clips.exit.now ≡ length clips.entry.now }
-        { make_some(window, seats, next, &mut mine, clips) },
+            requires places { HasPlaces window.now.drawing.now.scene.now own.room }
+            ensures { HasPlaces window.entry.now.drawing.now.scene.now own.exit.room }
+        { make_some(window, seats, next, &mut own) },
     );
     take_apart(makers, scene, &mut hands, rooms);
-    Ok(lock.into_inner().close(hands, mine))
+    let Maker { hand, room } = own;
+    put_last(room, scene, rooms);
+    Ok(lock.into_inner().close(hands, hand))
 }
 
 // The frame of a slot, which has its seat's task.
@@ -356,14 +377,12 @@ pub fn make_window<R: Threads + Wait + Sync, G: Gate>(
     ensures rooms { OnOk result (HavePlaces window.now.drawing.now.scene.now rooms.new.items) }
     ensures workers { OnOk result (vec_len rooms.new ≡ vec_len rooms.old) }
 {
+    let scene = window.drawing.scene;
     let slots = first_slots(window)?;
-    let Some(mut own) = rooms.pop() else {
-        unreachable!()
-    };
-    let clips = own.clips.as_mut_slice();
-    let blank = Blank::new(rooms.len() as u64 + 1);
-    let slots = make_under::<Brand, R, G>(window, blank, slots, rooms, clips)?;
-    let frames = frames_of(window, slots, clips)?;
-    rooms.push_reserved(own);
+    let blank = Blank::new(rooms.len() as u64);
+    let slots = make_under::<Brand, R, G>(window, blank, slots, rooms)?;
+    let mut room = last_room(scene, rooms);
+    let frames = frames_of(window, slots, room.clips.as_mut_slice())?;
+    put_last(room, scene, rooms);
     Ok(frames)
 }

@@ -2,7 +2,7 @@ use Rattle.std.proofs.Common.{◌+◌, ◌<◌, List, Some, length, arith, ap, s
 use Rattle.std.specs.declared.option.Option.{Option}
 use Rattle.std.proofs.lemmas.List.{length_push}
 use Rattle.seats.specs.declared.seats.Loan.{Loan}
-use Rattle.seats.proofs.First.{AreFirst, BeginsWith, all_seated, first_pushed, none_first}
+use Rattle.seats.proofs.First.{AreFirst, BeginsWith, all_seated, first_pushed}
 use Rattle.culling.specs.Windows.{IsSlotOf}
 use Rattle.culling.specs.declared.frame_pool.Slot.{Slot}
 use Rattle.culling.specs.declared.frame_pool.Slot.TheVariants.{Waits}

@@ -9,7 +9,7 @@ use Rattle.culling.specs.declared.frames.Frame.{Frame}
 use Rattle.culling.proofs.frame_pool.frames_of.Goals as goal
 
 pub frame_in-frame-requires-clause-there : goal.frame_in-frame-requires-clause-there
-frame_in-frame-requires-clause-there g c =
+frame_in-frame-requires-clause-there g c κs within =
     let i = c.loop-slot.invariant in
     let t = turn c.args.slots.items c.loop-slot.number c.in-Some.slot _ (sym i.2 ∙ c.in-Some.ensures.steps.0) in
     let w = c.args.window.now in

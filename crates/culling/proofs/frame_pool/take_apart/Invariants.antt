@@ -12,5 +12,5 @@ invariant-loop-maker g l =
     (vec_len l.rooms + into_iter_len l.maker-iterator ≡ vec_len l.fn.makers) ×
     (vec_capacity l.hands ≡ vec_capacity l.fn.hands) ×
     (vec_capacity l.rooms ≡ vec_capacity l.fn.rooms) ×
-    All (λ m. HasPlaces l._scene m.room) (into_iter_items l.maker-iterator) ×
-    HavePlaces l._scene l.rooms.items
+    All (λ m. HasPlaces l.scene m.room) (into_iter_items l.maker-iterator) ×
+    HavePlaces l.scene l.rooms.items
