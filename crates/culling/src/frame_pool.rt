@@ -1,4 +1,4 @@
-//! The frames of a window, made by workers side by side: whoever comes takes the next, and each is back in its seat then.
+//! The frames of a window, made by workers side by side: who comes takes the next, and each is back in its seat then.
 ghost use Rattle.std.specs.Prelude.{◌≡◌, ◌<◌, ◌≤◌, ◌+◌, length, vec_capacity, vec_len, IfOk, IfSome, MatchOption, OnOk};
 ghost use Rattle.std.specs.List.{All};
 ghost use Rattle.cull_report.specs.Scene.{frame_clips};
@@ -109,7 +109,8 @@ fn frame_of<R: Threads + Wait + Sync, G: Gate>(
     slot: Slot,
     clips: &mut [ClipVertex],
 ) -> Option<Frame>
-    requires slot { let w = window.now in IsSlotOf w.drawing.now.scene.now w.drawing.now.groups.now w.first number slot }
+    requires slot { let w = window.now in
+        IsSlotOf w.drawing.now.scene.now w.drawing.now.groups.now w.first number slot }
     requires places { length clips.old ≡ length window.now.drawing.now.scene.now.vertices }
     ensures drawn { let w = window.now in
         IfSome result (IsDrawn w.drawing.now.scene.now w.drawing.now.groups.now (w.first + number)) }
@@ -134,9 +135,11 @@ fn made<R: Threads + Wait + Sync, G: Gate>(
     slot: Slot,
     clips: &mut [ClipVertex],
 ) -> Slot
-    requires slot { let w = window.now in IsSlotOf w.drawing.now.scene.now w.drawing.now.groups.now w.first number slot }
+    requires slot { let w = window.now in
+        IsSlotOf w.drawing.now.scene.now w.drawing.now.groups.now w.first number slot }
     requires places { length clips.old ≡ length window.now.drawing.now.scene.now.vertices }
-    ensures slot { let w = window.now in IsSlotOf w.drawing.now.scene.now w.drawing.now.groups.now w.first number result }
+    ensures slot { let w = window.now in
+        IsSlotOf w.drawing.now.scene.now w.drawing.now.groups.now w.first number result }
     ensures places { length clips.new ≡ length clips.old }
 {
     match frame_of(window, number, slot, clips) {
@@ -263,7 +266,7 @@ fn take_apart<P: Ledger>(
     }
 }
 
-// Makes the frames of the seats that the caller picks, by a thread for each room but one, and by the caller, which would
+// Makes the frames of the seats that the caller picks, by a thread for each room but one and by the caller, which would
 // wait for them otherwise.
 fn make_under<P: Seating<Slot> + Send, R: Threads + Wait + Sync, G: Gate>(
     window: &Window<R, G>,

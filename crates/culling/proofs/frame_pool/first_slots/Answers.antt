@@ -5,7 +5,6 @@ use Rattle.seats.specs.declared.seats.Loan.{Loan}
 use Rattle.seats.proofs.First.{AreFirst, BeginsWith, all_seated, first_pushed}
 use Rattle.culling.specs.Windows.{IsSlotOf}
 use Rattle.culling.specs.declared.frame_pool.Slot.{Slot}
-use Rattle.culling.specs.declared.frame_pool.Slot.TheVariants.{Waits}
 use Rattle.culling.proofs.frame_pool.first_slots.Goals as goal
 
 pub loop-number-preserved : goal.loop-number-preserved

@@ -1,4 +1,3 @@
-use Rattle.std.proofs.Props.{props}
 use Rattle.seats.specs.Seats.{seals_of}
 use Rattle.culling.specs.Windows.{IsSlotOf}
 use Rattle.culling.proofs.SlotFacts.{slot_once}
