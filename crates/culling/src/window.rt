@@ -217,7 +217,7 @@ fn report_each_window<R: Threads + Wait + Sync, W: Sink, E: Sink, G: Gate>(
     while done < rounds {
         let more = depth.min(rounds - done);
         let window = Window {
-            drawing,
+            drawing: &*drawing,
             asking,
             first: done * workers,
             count: more * workers,
