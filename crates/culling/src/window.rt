@@ -185,7 +185,14 @@ fn report_window<R: Threads + Wait + Sync, W: Sink, E: Sink, G: Gate>(
     ensures workers { OnOk result (length rooms.new.items ≡ length rooms.old.items) }
 {
     let frames = make_window(window, rooms)?;
-    write_frames(window.drawing, window.first, window.count, frames.as_slice(), report, notes)
+    write_frames(
+        window.drawing,
+        window.first,
+        window.count,
+        frames.as_slice(),
+        report,
+        notes,
+    )
 }
 
 // Makes window after window, of so many rounds at most, a frame for each room in a round, until there were as many as
