@@ -247,18 +247,18 @@ FRAMES, WORKERS, WINDOW_START, WRITE = (46, 60, 52, 58, 74, 50, 66, 55, 48, 64),
 
 def windows():
     """The bars: a worker, a frame, when it began and ended; the lines of a frame as of no worker."""
-    now = 0
-    for first in range(0, len(FRAMES) - len(FRAMES) % WORKERS, WORKERS):
-        ends = []
-        for worker in range(WORKERS):
-            begin = now + WINDOW_START * (worker + 1)
-            ends.append(begin + FRAMES[first + worker])
-            yield worker, first + worker, begin, ends[-1]
-        now = max(ends)
-        for frame in range(first, first + WORKERS):
-            yield None, frame, now, now + WRITE
-            now += WRITE
-    for frame in range(len(FRAMES) - len(FRAMES) % WORKERS, len(FRAMES)):
+    whole = len(FRAMES) - len(FRAMES) % WORKERS
+    free = [WINDOW_START * (worker + 1) for worker in range(WORKERS)]
+    for frame in range(whole):
+        # whoever comes takes the next
+        worker = min(range(WORKERS), key=free.__getitem__)
+        yield worker, frame, free[worker], free[worker] + FRAMES[frame]
+        free[worker] += FRAMES[frame]
+    now = max(free)
+    for frame in range(whole):
+        yield None, frame, now, now + WRITE
+        now += WRITE
+    for frame in range(whole, len(FRAMES)):
         share = FRAMES[frame] / WORKERS + WINDOW_START
         for worker in range(WORKERS):
             yield worker, frame, now + WINDOW_START * (worker + 1), now + WINDOW_START * (worker + 1) + share
@@ -272,7 +272,8 @@ def windows_figure():
     bars = list(windows())
     scale = 760 / max(bar[3] for bar in bars)
     yield 880, 354, "Frames side by side, over time"
-    yield text(24, 30, f"A path of {len(FRAMES)} frames by {WORKERS} workers: two windows of {WORKERS} frames, and what"
+    whole = len(FRAMES) - len(FRAMES) % WORKERS
+    yield text(24, 30, f"A path of {len(FRAMES)} frames by {WORKERS} workers: a window of {whole} frames, and what"
                " is left is shared.", "strong")
     rows = [*range(WORKERS), None]
     for place, worker in enumerate(rows):

@@ -4,7 +4,8 @@ pub mod Marks
 pub mod LiveTexts
 pub mod ScenePieces
 pub mod Shown
-pub mod Shares
+pub mod SlotFacts
+pub mod Rounds
 pub mod Fronts
 pub mod OutcomeTexts
 pub mod GroupLines

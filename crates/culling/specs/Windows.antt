@@ -1,5 +1,5 @@
--- Slots: some frames in each, side by side.
-use Rattle.std.specs.Prelude.{ℕ, ◌≡◌, ◌+◌, ◌*◌, ◌<◌, ◌≤◌, List, length, IfSome, slice_index_or}
+-- Windows: frames that are made side by side, each in a seat of its own.
+use Rattle.std.specs.Prelude.{ℕ, ◌≡◌, ◌+◌, ◌<◌, List, length, IfSome, slice_index_or}
 use Rattle.std.specs.List.{All}
 use Rattle.std.specs.declared.option.Option.{Option}
 use Rattle.cull_base.specs.Tiles.{ArePieces}
@@ -10,7 +10,9 @@ use Rattle.culling.specs.Frames.{AreCounted}
 use Rattle.culling.specs.declared.frames.Beside.{Beside}
 use Rattle.culling.specs.declared.frames.Beside.TheVariants.{Nothing, Looks, Groups}
 use Rattle.culling.specs.declared.frames.Frame.{Frame}
-use Rattle.culling.specs.declared.window.Slot.{Slot}
+use Rattle.culling.specs.declared.frame_pool.Room.{Room}
+use Rattle.culling.specs.declared.frame_pool.Slot.{Slot}
+use Rattle.culling.specs.declared.frame_pool.Slot.TheVariants.{Waits, Made, NoMemory}
 
 -- windows are of frames that aren't looked at
 abbrev pub IsUnseen : Beside → Type 0
@@ -35,19 +37,16 @@ pub record IsDrawn (s : Parts) (gs : List Group) (frame : ℕ) (drawn : Frame) :
 abbrev pub AreDrawnFrom : Parts → List Group → ℕ → ℕ → List (Option Frame) → Type 0
 AreDrawnFrom s gs first count frames = (k : ℕ) (d : Option Frame) → k < count → IfSome (slice_index_or frames k d) (IsDrawn s gs (first + k))
 
--- a slot with a place for each vertex, and for eight frames
-pub record HasPlaces (s : Parts) (slot : Slot) : Type 0 where
-  pub vertices : length slot.clips.items ≡ length s.vertices
-  pub frames : 8 ≤ length slot.drawn.items
+-- the seat of a frame, by its number from a first on: the frame waits, and the scene has it; it was drawn; or memory
+-- gave out
+abbrev pub IsSlotOf : Parts → List Group → ℕ → ℕ → Slot → Type 0
+IsSlotOf s gs first k Waits = first + k < length s.cameras
+IsSlotOf s gs first k (Made drawn) = IsDrawn s gs (first + k) drawn
+IsSlotOf s gs first k NoMemory = Unit {0}
 
-abbrev pub HavePlaces : Parts → List Slot → Type 0
-HavePlaces s slots = All (HasPlaces s) slots
+-- rooms with a place for each vertex
+abbrev pub HasPlaces : Parts → Room → Type 0
+HasPlaces s room = length room.clips.items ≡ length s.vertices
 
--- a slot in which so many frames from a first on were made
-pub record IsMade (s : Parts) (gs : List Group) (first count : ℕ) (slot : Slot) : Type 0 where
-  pub places : HasPlaces s slot
-  pub drawn : AreDrawnFrom s gs first count slot.drawn.items
-
--- the frames from a first on, so many in each slot
-abbrev pub AreMadeFrom : Parts → List Group → ℕ → ℕ → List Slot → Type 0
-AreMadeFrom s gs first count slots = (k : ℕ) (d : Slot) → k < length slots → IsMade s gs (first + k * count) count (slice_index_or slots k d)
+abbrev pub HavePlaces : Parts → List Room → Type 0
+HavePlaces s rooms = All (HasPlaces s) rooms

@@ -6,6 +6,7 @@ mod commands;
 mod drawing;
 mod failure;
 mod frame_by_frame;
+mod frame_pool;
 mod frames;
 mod heap;
 mod live_caller;

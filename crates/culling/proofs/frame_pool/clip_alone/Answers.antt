@@ -4,7 +4,7 @@ use Rattle.cull_base.specs.declared.clip.ClipVertex.{ClipVertex}
 use Rattle.camera_path.specs.Clip.{clip_of}
 use Rattle.tile_cells.proofs.Lists.{set_each}
 use Rattle.cull_report.specs.Scene.{frame_clips}
-use Rattle.culling.proofs.window.clip_alone.Goals as goal
+use Rattle.culling.proofs.frame_pool.clip_alone.Goals as goal
 
 nowhere : ClipVertex
 nowhere = record { x = pos 0; y = pos 0; w = pos 0 }

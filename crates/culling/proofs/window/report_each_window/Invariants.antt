@@ -2,14 +2,15 @@ use Rattle.std.proofs.Common.{◌≡◌, [], ◌*◌, ◌-◌, ◌≤◌, length
 use Rattle.culling.specs.Windows.{HavePlaces}
 use Rattle.culling.specs.declared.frames.Beside.TheVariants.{Nothing}
 use Rattle.culling.proofs.FrameByFrame.{Wrote}
-use Rattle.culling.proofs.window.report_in_slots.Given as goal
+use Rattle.culling.proofs.window.report_each_window.Given as goal
 
 abbrev pub invariant-loop-done : goal.invariant-loop-done
 invariant-loop-done g l = record {
-  wrote : Wrote [] l.drawing.plan.now.lines l.drawing.plan.now.beside l.drawing.scene.now 0 (l.done * length l.fn.slots)
+  wrote : Wrote [] l.drawing.plan.now.lines l.drawing.plan.now.beside l.drawing.scene.now 0 (l.done * l.workers)
       (g.W.Sink.says l.fn.report) (g.W.Sink.says l.report) (g.E.Sink.says l.fn.notes) (g.E.Sink.says l.notes);
   quiet : l.drawing.plan.now.beside ≡ Nothing → l.notes ≡ l.fn.notes;
-  places : HavePlaces l.drawing.scene.now l.slots;
+  places : HavePlaces l.drawing.scene.now l.rooms.items;
+  size : length l.rooms.items ≡ l.workers;
   within : l.done ≤ l.rounds;
 }
 
