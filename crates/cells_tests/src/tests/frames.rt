@@ -469,12 +469,14 @@ fn bins_of_a_held_worker_are_stolen(rt: HostRuntime) -> Result<(), Fail> {
     Ok(())
 }
 
-// Holds the first batch up until another is asked for, or it looked very often. Counts the questions for each batch.
+// Holds the first batch up until another is asked for, or it looked very often. Counts the questions for each batch,
+// and those for pieces before the last batch.
 #[derive(Drop)]
 struct Pairing {
     asked: Vec<AtomicU32>,
     questions: AtomicU32,
     saw_another: AtomicU32,
+    early: AtomicU32,
 }
 
 impl Pairing {
@@ -487,6 +489,7 @@ impl Pairing {
             asked,
             questions: AtomicU32::new(0),
             saw_another: AtomicU32::new(0),
+            early: AtomicU32::new(0),
         })
     }
 
@@ -500,16 +503,27 @@ impl Pairing {
         }
     }
 
-    // Whether another batch was asked for while one was held up, and each was asked for once.
+    fn has_all(&self) -> bool {
+        self.questions.load(Ordering::SeqCst) as usize == self.asked.len()
+    }
+
+    // Whether another batch was asked for while one was held up, and each was asked for once, before all pieces.
     fn is_met(&self) -> bool {
-        let batches = self.asked.len();
         self.saw_another.load(Ordering::SeqCst) == 1
-            && self.questions.load(Ordering::SeqCst) as usize == batches
-            && (0..batches).all(|batch| self.asked[batch].load(Ordering::SeqCst) == 1)
+            && self.early.load(Ordering::SeqCst) == 0
+            && self.has_all()
+            && (0..self.asked.len()).all(|batch| self.asked[batch].load(Ordering::SeqCst) == 1)
     }
 }
 
 impl Gate for Pairing {
+    fn before(&self, bin: u32, taken: u32) {
+        let _ = (bin, taken);
+        if !self.has_all() {
+            self.early.fetch_add(1, Ordering::SeqCst);
+        }
+    }
+
     fn submits(&self, batch: u32) {
         if let Some(count) = self.asked.get(batch as usize) {
             count.fetch_add(1, Ordering::SeqCst);
