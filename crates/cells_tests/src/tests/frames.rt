@@ -512,8 +512,17 @@ impl Pairing {
         self.saw_another.load(Ordering::SeqCst) == 1
             && self.early.load(Ordering::SeqCst) == 0
             && self.has_all()
-            && (0..self.asked.len()).all(|batch| self.asked[batch].load(Ordering::SeqCst) == 1)
+            && are_ones(&self.asked)
     }
+}
+
+fn are_ones(counts: &[AtomicU32]) -> bool {
+    for k in 0..counts.len() {
+        if counts[k].load(Ordering::SeqCst) != 1 {
+            return false;
+        }
+    }
+    true
 }
 
 impl Gate for Pairing {
