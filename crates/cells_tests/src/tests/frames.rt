@@ -468,3 +468,103 @@ fn bins_of_a_held_worker_are_stolen(rt: HostRuntime) -> Result<(), Fail> {
     assert!(rt; are_alike(held.as_slice(), states.as_slice()));
     Ok(())
 }
+
+// Holds the first batch up until another is asked for, or it looked very often. Counts the questions for each batch,
+// and those for pieces before the last batch.
+#[derive(Drop)]
+struct Pairing {
+    asked: Vec<AtomicU32>,
+    questions: AtomicU32,
+    saw_another: AtomicU32,
+    early: AtomicU32,
+}
+
+impl Pairing {
+    fn of(alloc: Global, batches: u32) -> Result<Pairing, Fail> {
+        let mut asked = Vec::new(alloc);
+        for _ in 0..batches {
+            asked.push(AtomicU32::new(0))?;
+        }
+        Ok(Pairing {
+            asked,
+            questions: AtomicU32::new(0),
+            saw_another: AtomicU32::new(0),
+            early: AtomicU32::new(0),
+        })
+    }
+
+    fn hold(&self) {
+        for _ in 0..20_000_000u32 {
+            if self.questions.load(Ordering::SeqCst) > 1 {
+                self.saw_another.store(1, Ordering::SeqCst);
+                return;
+            }
+            yield_now();
+        }
+    }
+
+    fn has_all(&self) -> bool {
+        self.questions.load(Ordering::SeqCst) as usize == self.asked.len()
+    }
+
+    // Whether another batch was asked for while one was held up, and each was asked for once, before all pieces.
+    fn is_met(&self) -> bool {
+        self.saw_another.load(Ordering::SeqCst) == 1
+            && self.early.load(Ordering::SeqCst) == 0
+            && self.has_all()
+            && are_ones(&self.asked)
+    }
+}
+
+fn are_ones(counts: &[AtomicU32]) -> bool {
+    for k in 0..counts.len() {
+        if counts[k].load(Ordering::SeqCst) != 1 {
+            return false;
+        }
+    }
+    true
+}
+
+impl Gate for Pairing {
+    fn before(&self, bin: u32, taken: u32) {
+        let _ = (bin, taken);
+        if !self.has_all() {
+            self.early.fetch_add(1, Ordering::SeqCst);
+        }
+    }
+
+    fn submits(&self, batch: u32) {
+        if let Some(count) = self.asked.get(batch as usize) {
+            count.fetch_add(1, Ordering::SeqCst);
+        }
+        if self.questions.fetch_add(1, Ordering::SeqCst) == 0 {
+            self.hold();
+        }
+    }
+}
+
+// So many pieces are binned by two workers before they are drawn: while one is held up in its first batch, the other
+// bins.
+#[test]
+fn batches_are_binned_side_by_side(rt: HostRuntime) -> Result<(), Fail> {
+    let list = columns(&rt, 64, &THREE, 700)?;
+    assert_eq!(rt; list.len(), 2100);
+    let cut = Cut::new(2, 1).ok_or("a cut")?;
+    let states = draw_plain(rt.alloc(), &list)?;
+    let batch = batch_size(list.len(), 64);
+    let frame = Batched {
+        list: &list,
+        cut: &cut,
+        size: batch,
+    };
+    assert_eq!(rt; frame.batches(), 33);
+    let gate = Pairing::of(rt.alloc(), 33)?;
+    let bins = draw_stolen_plain(&rt, rt.alloc(), &list, &cut, 2, batch, &gate)?;
+    assert!(rt; gate.is_met());
+    assert!(rt; bins_show(rt.alloc(), bins.as_slice(), &list, &cut, states.as_slice())?);
+    let gate = Pairing::of(rt.alloc(), 33)?;
+    let (held, _) = stolen_in_cells(&rt, rt.alloc(), &frame, 2, &gate)?;
+    assert!(rt; gate.is_met());
+    assert!(rt; are_alike(held.as_slice(), states.as_slice()));
+    Ok(())
+}
