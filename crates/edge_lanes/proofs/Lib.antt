@@ -7,8 +7,10 @@ pub mod Extremes
 pub mod Sharing
 pub mod Subtiles
 pub mod SubStarts
+pub mod Around
 pub mod SmallLanes
 pub mod SmallBias
+pub mod SmallEdges
 pub mod Tiles
 pub mod EightColumns
 pub mod SpanLanes

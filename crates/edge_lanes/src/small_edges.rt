@@ -1,96 +1,134 @@
 //! The edges of a piece of a few pixels, which are asked only for the subtiles that its box reaches: nothing is divided.
-ghost use Rattle.std.specs.Prelude.{◌≡◌, ℕ, ◌<◌, ◌^◌, ◌-ℤ◌, IfSome, IsTrue};
+ghost use Rattle.std.specs.Prelude.{◌≡◌, ℕ, pos, ◌<◌, ◌^◌, ◌*◌, ◌-ℤ◌, ◌+ℤ◌, ◌*ℤ◌, IfSome, IsTrue};
+ghost use Rattle.std.specs.Int.{int_div_euclid};
 ghost use Rattle.std.specs.Simd.Lanes.{mask_l};
 ghost use Rattle.cull_base.specs.Bounds.{Bounded};
-ghost use Rattle.cull_base.specs.Piece.{IsCoordinate, covered, each_sample, vertex};
+ghost use Rattle.cull_base.specs.Piece.{covered, each_sample, point};
 ghost use Rattle.cull_base.specs.State.{samples_of};
 ghost use Rattle.cull_base.specs.declared.place.Sub.{Sub};
 ghost use Rattle.cull_base.specs.declared.triangle.Side.{Side};
-ghost use Rattle.edge_lanes.specs.Inside.{small_line, small_lines};
-ghost use Rattle.edge_lanes.specs.Lines.{AreEdges, AreFew, IsEdge, IsFew, inside_all};
+ghost use Rattle.edge_lanes.specs.Around.{AreBounded, AreClose, around, lane, steps_around, steps_back};
+ghost use Rattle.edge_lanes.specs.Inside.{slopes, small_lines};
+ghost use Rattle.edge_lanes.specs.Lines.{IsEdge, held_few, inside_all, sub_value};
 
-use crate::narrow_edge::step;
 use crate::narrow_edges::{in_each, mask_of_rows};
-use crate::small_edge::SmallEdge;
+use crate::small_edge::{SmallEdge, short};
+use crate::small_lanes::{are_few, biases, held, moved, past, sixteenths, steps_around, steps_back, values};
 use cull_base::{ScreenTri, Sub};
+use std::simd::prelude::*;
 
-/// A piece whose box has sides below this many sixteenths of a pixel takes lanes of 16 bits.
-const FEW: i32 = 0x400;
+/// A piece whose first vertex lies less than this many sixteenths of a pixel from the screen's corner each way.
+const NEAR: i32 = 0x40_0000;
 
 /// The edges of a piece, for the samples that it covers.
 #[derive(Clone, Copy)]
 pub struct SmallEdges {
+    // the first vertex's pixel
+    right: i32,
+    below: i32,
+    // the edges' values at its sample, and what a pixel to the right adds to each, and one below
+    start: i32x4,
+    column: i32x4,
+    row: i32x4,
     first: SmallEdge,
     second: SmallEdge,
     third: SmallEdge,
+    ghost right_bounded: { Bounded (2 ^ 18) right },
+    ghost below_bounded: { Bounded (2 ^ 18) below },
+    ghost start_bounded: { AreBounded (2 ^ 20) start },
+    ghost are_columns: { column ≡ around first.column second.column third.column },
+    ghost are_rows: { row ≡ around first.row second.row third.row },
 }
 
-// Whether an edge of a little piece may pass so many sixteenths.
+// Whether a coordinate lies near the screen, as that of a piece that reaches it does.
 #[inline(always)]
-fn is_little_step(step: i32) -> bool
-    ensures { IsTrue result → Bounded (2 ^ 10) step }
+fn is_near(place: i32) -> bool
+    ensures { IsTrue result → Bounded (2 ^ 22) place }
 {
-    -FEW < step && step < FEW
+    -NEAR < place && place < NEAR
 }
 
-// Whether three coordinates lie so near to each other. Their differences are those that the edges take: no least and no
-// greatest is computed.
+// The pixel where a coordinate lies.
 #[inline(always)]
-fn are_together(a: i32, b: i32, c: i32) -> bool
-    requires a { IsCoordinate a }
-    requires b { IsCoordinate b }
-    requires c { IsCoordinate c }
-    ensures first { IsTrue result → Bounded (2 ^ 10) (b -ℤ a) }
-    ensures second { IsTrue result → Bounded (2 ^ 10) (c -ℤ b) }
-    ensures third { IsTrue result → Bounded (2 ^ 10) (a -ℤ c) }
+fn pixel(place: i32) -> i32
+    requires { Bounded (2 ^ 22) place }
+    ensures value { result ≡ int_div_euclid place (pos 16) }
+    ensures bounded { Bounded (2 ^ 18) result }
 {
-    is_little_step(step(b, a)) & is_little_step(step(c, b)) & is_little_step(step(a, c))
+    place >> 4
 }
 
+// Where the sample of a pixel stands.
 #[inline(always)]
-fn is_little(tri: &ScreenTri) -> bool
-    ensures { IsTrue result → AreFew tri.now }
+fn middle(pixel: i32) -> i32
+    requires { Bounded (2 ^ 18) pixel }
+    ensures { result ≡ (pos 16 *ℤ pixel) +ℤ pos 8 }
 {
-    let x = tri.x();
-    let y = tri.y();
-    are_together(x[0], x[1], x[2]) && are_together(y[0], y[1], y[2])
-}
-
-// The edge from one vertex of a piece to another.
-#[inline(always)]
-fn edge_between(tri: &ScreenTri, from: usize, to: usize) -> SmallEdge
-    requires from { from < 3 }
-    requires to { to < 3 }
-    requires few { IsFew (vertex tri.now from) (vertex tri.now to) }
-    ensures { IsEdge (small_line result) Side.Occluder (vertex tri.now from) (vertex tri.now to) }
-{
-    let x = tri.x();
-    let y = tri.y();
-    SmallEdge::of(x[from], y[from], x[to], y[to])
+    16 * pixel + 8
 }
 
 #[inline(always)]
-fn edges_of(tri: &ScreenTri) -> SmallEdges
-    requires { AreFew tri.now }
-    ensures { AreEdges (small_lines result) Side.Occluder tri.now }
+fn from_lanes(right: i32, below: i32, start: i32x4, column: i32x4, row: i32x4) -> SmallEdges
+    requires right { Bounded (2 ^ 18) right }
+    requires below { Bounded (2 ^ 18) below }
+    requires start { AreBounded (2 ^ 20) start }
+    requires column { AreBounded (2 ^ 10) column }
+    requires row { AreBounded (2 ^ 10) row }
+    ensures right { result.right ≡ right }
+    ensures below { result.below ≡ below }
+    ensures start { result.start ≡ start }
+    ensures column { result.column ≡ column }
+    ensures row { result.row ≡ row }
 {
+    let columns = column.to_array();
+    let rows = row.to_array();
     SmallEdges {
-        first: edge_between(tri, 0, 1),
-        second: edge_between(tri, 1, 2),
-        third: edge_between(tri, 2, 0),
+        right,
+        below,
+        start,
+        column,
+        row,
+        first: SmallEdge::of(columns[0], rows[0]),
+        second: SmallEdge::of(columns[1], rows[1]),
+        third: SmallEdge::of(columns[2], rows[2]),
     }
+}
+
+// The edges between vertices at these coordinates.
+#[inline(always)]
+fn edges_between(x: [i32; 3], y: [i32; 3], row: i32x4, column: i32x4) -> SmallEdges
+    requires x { AreClose x }
+    requires y { AreClose y }
+    requires row { row ≡ steps_around x }
+    requires column { column ≡ steps_back y }
+    ensures first { IsEdge (small_lines result).first Side.Occluder
+        (point (lane x 0) (lane y 0)) (point (lane x 1) (lane y 1)) }
+    ensures second { IsEdge (small_lines result).second Side.Occluder
+        (point (lane x 1) (lane y 1)) (point (lane x 2) (lane y 2)) }
+    ensures third { IsEdge (small_lines result).third Side.Occluder
+        (point (lane x 2) (lane y 2)) (point (lane x 0) (lane y 0)) }
+{
+    let right = pixel(x[0]);
+    let below = pixel(y[0]);
+    let there = values(row, column, past(middle(right), x), past(middle(below), y));
+    let start = sixteenths(there, biases(row, column));
+    from_lanes(right, below, start, column, row)
 }
 
 impl SmallEdges {
     ghost use Rattle.edge_lanes.specs.Inside.{inside_small};
 
-    /// None where a side of the piece's box has 2^10 sixteenths of a pixel or more.
+    /// None where a side of the piece's box has 2^10 sixteenths of a pixel or more, or it lies far from the screen.
     #[inline(always)]
     pub fn of(tri: &ScreenTri) -> Option<SmallEdges>
         ensures { IfSome result (λ e. (u : Sub) → inside_small e u ≡ covered tri.now u) }
     {
-        if is_little(tri) {
-            Some(edges_of(tri))
+        let x = tri.x();
+        let y = tri.y();
+        let row = steps_around(x);
+        let column = steps_back(y);
+        if are_few(row, column) && is_near(x[0]) && is_near(y[0]) {
+            Some(edges_between(x, y, row, column))
         } else {
             None
         }
@@ -102,7 +140,7 @@ impl SmallEdges {
         requires first { Bounded (2 ^ 14) first }
         requires second { Bounded (2 ^ 14) second }
         requires third { Bounded (2 ^ 14) third }
-        ensures { result ≡ mask_l (each_sample (inside_all (small_lines self.now) first second third)) }
+        ensures { result ≡ mask_l (each_sample (inside_all (slopes self.now) first second third)) }
     {
         let a = self.first.rows(first);
         let b = self.second.rows(second);
@@ -115,6 +153,21 @@ impl SmallEdges {
         )
     }
 
+    // The values at the first sample of a subtile.
+    #[inline(always)]
+    fn starts(&self, sub: Sub) -> i32x4
+        requires column { sub.column < 256 }
+        requires row { sub.row < 512 }
+        ensures first { lane result 0 ≡ held_few (sub_value (small_lines self.now).first sub) }
+        ensures second { lane result 1 ≡ held_few (sub_value (small_lines self.now).second sub) }
+        ensures third { lane result 2 ≡ held_few (sub_value (small_lines self.now).third sub) }
+        ensures bounded { AreBounded (2 ^ 14) result }
+    {
+        let across = 8 * i32::from(sub.column) - self.right;
+        let down = 4 * i32::from(sub.row) - self.below;
+        held(moved(self.start, self.column, self.row, across, down))
+    }
+
     /// The samples of a subtile that lie inside: bit 8r + c is column c of row r. Condition: the subtile lies within
     /// 2048 by 2048 pixels.
     #[inline(always)]
@@ -123,9 +176,7 @@ impl SmallEdges {
         requires row { sub.row < 512 }
         ensures { samples_of result ≡ inside_small self.now sub }
     {
-        let first = self.first.sub_start(sub);
-        let second = self.second.sub_start(sub);
-        let third = self.third.sub_start(sub);
-        self.rows(first, second, third)
+        let starts = self.starts(sub).to_array();
+        self.rows(short(starts[0]), short(starts[1]), short(starts[2]))
     }
 }

@@ -2,7 +2,7 @@ use Rattle.std.proofs.Common.{◌≡◌, ◌+◌, ◌*◌, ℕ, ℤ, bit_and, sy
 use Rattle.std.specs.Simd.Lanes.{mask_l}
 use Rattle.std.proofs.lemmas.Int.{to_z-of_z}
 use Rattle.cull_base.specs.Piece.{each_sample}
-use Rattle.edge_lanes.specs.Inside.{small_lines}
+use Rattle.edge_lanes.specs.Inside.{slopes}
 use Rattle.edge_lanes.specs.Lanes.{row_of}
 use Rattle.edge_lanes.specs.Lines.{Lines, inside_all, inside_from}
 use Rattle.edge_lanes.proofs.Masks.{mask_of_rows, row_of-and, row_of-lt}
@@ -32,7 +32,7 @@ joined e s t u a b c d m em ea eb ec ed = rw (em, ea, eb, ec, ed) (sym (mask_of_
 pub returns : goal.returns
 returns c =
     let fs : FitsSigned w16 c.args.first = c.ranges.first in let ft : FitsSigned w16 c.args.second = c.ranges.second in let fu : FitsSigned w16 c.args.third = c.ranges.third in
-    let e = small_lines c.args.self.now in let s = c.args.first in let t = c.args.second in let u = c.args.third in
+    let e = slopes c.args.self.now in let s = c.args.first in let t = c.args.second in let u = c.args.third in
     joined e s t u c.in_each.result c.in_each-2.result c.in_each-3.result c.in_each-4.result c.mask_of_rows.result c.mask_of_rows.ensures
     (row e s t u 0 c.rows-a.result.first c.rows-b.result.first c.rows-c.result.first c.in_each.result c.in_each.ensures.value (simp to_z-of_z at c.rows-a.ensures.first) (simp to_z-of_z at c.rows-b.ensures.first) (simp to_z-of_z at c.rows-c.ensures.first))
     (row e s t u 1 c.rows-a.result.second c.rows-b.result.second c.rows-c.result.second c.in_each-2.result c.in_each-2.ensures.value (simp to_z-of_z at c.rows-a.ensures.second) (simp to_z-of_z at c.rows-b.ensures.second) (simp to_z-of_z at c.rows-c.ensures.second))
