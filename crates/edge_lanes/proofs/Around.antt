@@ -1,5 +1,5 @@
 -- Values in four lanes of 32 bits, as lanes compute them.
-use Rattle.std.proofs.Common.{◌≡◌, ℕ, ℤ, pos, negsuc, neg_ℤ, zero, suc, ◌^◌, ◌+◌, ◌-◌, ◌*◌, ◌%◌, ◌<◌, ◌≤◌, ◌+ℤ◌, ◌-ℤ◌, ◌*ℤ◌, ◌≤ℤ◌, ◌<ℤ◌, Bool, true, false, cond, int_lt, int_le, FitsSigned, IsTrue, nat_eq, w32, to_z, of_z, refl, arith, List, [], ◌∷◌}
+use Rattle.std.proofs.Common.{◌≡◌, ℕ, ℤ, pos, negsuc, neg_ℤ, zero, suc, ◌^◌, ◌+◌, ◌-◌, ◌*◌, ◌%◌, ◌<◌, ◌≤◌, ◌+ℤ◌, ◌-ℤ◌, ◌*ℤ◌, ◌≤ℤ◌, ◌<ℤ◌, Bool, true, false, cond, int_lt, int_le, FitsSigned, IsTrue, nat_eq, w32, to_z, of_z, refl, sym, subst, arith, List, [], ◌∷◌, map}
 use Rattle.std.specs.Int.{int_div_euclid, int_max}
 use Rattle.std.specs.Simd.Lanes.{mask_l, top}
 use lib.Signed.{shr_z}
@@ -218,3 +218,25 @@ sixteenth_lane v b hv hb =
     let e = shift_is (v +ℤ b) 16 (omega arith) in
     let fk : FitsSigned w32 (int_div_euclid (v +ℤ b) (pos 16)) = fits_bounded (2 ^ 20) _ (omega arith) k in
     (simp to_z-of_z (rw e (to_z-of_z w32 _ fk)), k)
+
+-- lanes as a call passes them
+abbrev pub through : List ℤ → List ℤ
+through xs = map (to_z w32) (map (of_z w32) xs)
+
+pub lanes_back : (n : ℕ) (xs : List ℤ) → n ≤ 2147483647 → AreBounded n xs → through xs ≡ xs
+lanes_back n xs l h =
+    let e = h.are_three in
+    let fa : FitsSigned w32 (lane xs 0) = fits_bounded n (lane xs 0) l h.first in let fb : FitsSigned w32 (lane xs 1) = fits_bounded n (lane xs 1) l h.second in let fc : FitsSigned w32 (lane xs 2) = fits_bounded n (lane xs 2) l h.third in
+    rw e (around_same _ _ _ _ _ _ (to_z-of_z w32 (lane xs 0) fa) (to_z-of_z w32 (lane xs 1) fb) (to_z-of_z w32 (lane xs 2) fc))
+
+pub lanes_through : (n : ℕ) (xs : List ℤ) → n ≤ 2147483647 → AreBounded n xs → AreBounded n (through xs)
+lanes_through n xs l h = subst (AreBounded n) (sym (lanes_back n xs l h)) h
+
+pub lanes_from : (m n : ℕ) (xs : List ℤ) → n ≤ 2147483647 → AreBounded n xs → AreBounded m (through xs) → AreBounded m xs
+lanes_from m n xs l h g = subst (AreBounded m) (lanes_back n xs l h) g
+
+pub lane_passed : (n : ℕ) (xs : List ℤ) (k : ℕ) → n ≤ 2147483647 → AreBounded n xs → Bounded n (lane xs k) → to_z w32 (of_z w32 (lane (through xs) k)) ≡ lane xs k
+lane_passed n xs k l h b = let e = lanes_back n xs l h in let f : FitsSigned w32 (lane xs k) = fits_bounded n (lane xs k) l b in rw e (to_z-of_z w32 (lane xs k) f)
+
+pub lane_passed-bounded : (n : ℕ) (xs : List ℤ) (k : ℕ) → n ≤ 2147483647 → AreBounded n xs → Bounded n (lane xs k) → Bounded n (to_z w32 (of_z w32 (lane (through xs) k)))
+lane_passed-bounded n xs k l h b = subst (Bounded n) (sym (lane_passed n xs k l h b)) b

@@ -10,7 +10,7 @@ pub mod SubStarts
 pub mod Around
 pub mod SmallLanes
 pub mod SmallBias
-pub mod SmallEdges
+pub mod SmallSteps
 pub mod Tiles
 pub mod EightColumns
 pub mod SpanLanes

@@ -2,6 +2,10 @@
 use Rattle.std.specs.Prelude.{ℕ, ℤ, pos, neg_ℤ, ◌≡◌, ◌^◌, ◌+ℤ◌, ◌-ℤ◌, ◌*ℤ◌, List, [], ◌∷◌, slice_index_or}
 use Rattle.std.specs.Int.{int_div_euclid, int_max}
 use Rattle.cull_base.specs.Bounds.{Bounded}
+use Rattle.cull_base.specs.Piece.{point}
+use Rattle.cull_base.specs.declared.place.Sub.{Sub}
+use Rattle.cull_base.specs.declared.triangle.Side.TheVariants.{Occluder}
+use Rattle.edge_lanes.specs.Lines.{IsEdge, Lines, held_few, sub_value}
 
 -- three values, and the first of them again
 abbrev pub around : ℤ → ℤ → ℤ → List ℤ
@@ -46,3 +50,15 @@ sign_of row column k = int_div_euclid ((lane row k +ℤ (lane column k *ℤ pos 
 -- the value of edge k so many pixels further
 abbrev pub value_from : List ℤ → List ℤ → List ℤ → ℤ → ℤ → ℕ → ℤ
 value_from start column row across down k = (lane start k +ℤ (lane column k *ℤ across)) +ℤ (lane row k *ℤ down)
+
+-- the edges of an occluder's piece whose vertices have these coordinates
+pub record AreBetween (e : Lines) (x y : List ℤ) : Type 0 where
+  pub first : IsEdge e.first Occluder (point (lane x 0) (lane y 0)) (point (lane x 1) (lane y 1))
+  pub second : IsEdge e.second Occluder (point (lane x 1) (lane y 1)) (point (lane x 2) (lane y 2))
+  pub third : IsEdge e.third Occluder (point (lane x 2) (lane y 2)) (point (lane x 0) (lane y 0))
+
+-- the edges' values at the first sample of a subtile, as they are held in 16 bits
+pub record AreStarts (e : Lines) (u : Sub) (xs : List ℤ) : Type 0 where
+  pub first : lane xs 0 ≡ held_few (sub_value e.first u)
+  pub second : lane xs 1 ≡ held_few (sub_value e.second u)
+  pub third : lane xs 2 ≡ held_few (sub_value e.third u)

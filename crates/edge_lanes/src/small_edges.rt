@@ -3,13 +3,11 @@ ghost use Rattle.std.specs.Prelude.{◌≡◌, ℕ, pos, ◌<◌, ◌^◌, ◌*�
 ghost use Rattle.std.specs.Int.{int_div_euclid};
 ghost use Rattle.std.specs.Simd.Lanes.{mask_l};
 ghost use Rattle.cull_base.specs.Bounds.{Bounded};
-ghost use Rattle.cull_base.specs.Piece.{covered, each_sample, point};
+ghost use Rattle.cull_base.specs.Piece.{covered, each_sample};
 ghost use Rattle.cull_base.specs.State.{samples_of};
 ghost use Rattle.cull_base.specs.declared.place.Sub.{Sub};
-ghost use Rattle.cull_base.specs.declared.triangle.Side.{Side};
-ghost use Rattle.edge_lanes.specs.Around.{AreBounded, AreClose, around, lane, steps_around, steps_back};
-ghost use Rattle.edge_lanes.specs.Inside.{slopes, small_lines};
-ghost use Rattle.edge_lanes.specs.Lines.{IsEdge, held_few, inside_all, sub_value};
+ghost use Rattle.edge_lanes.specs.Around.{AreBetween, AreBounded, AreClose, AreStarts, around, steps_around, steps_back};
+ghost use Rattle.edge_lanes.specs.Lines.{inside_all};
 
 use crate::narrow_edges::{in_each, mask_of_rows};
 use crate::small_edge::{SmallEdge, short};
@@ -48,6 +46,19 @@ fn is_near(place: i32) -> bool
     -NEAR < place && place < NEAR
 }
 
+// Whether edges of these steps are short, from a vertex that lies near the screen.
+#[inline(always)]
+fn is_little(x: i32, y: i32, row: i32x4, column: i32x4) -> bool
+    requires row { AreBounded (2 ^ 30) row }
+    requires column { AreBounded (2 ^ 30) column }
+    ensures x { IsTrue result → Bounded (2 ^ 22) x }
+    ensures y { IsTrue result → Bounded (2 ^ 22) y }
+    ensures row { IsTrue result → AreBounded (2 ^ 10) row }
+    ensures column { IsTrue result → AreBounded (2 ^ 10) column }
+{
+    are_few(row, column) & is_near(x) & is_near(y)
+}
+
 // The pixel where a coordinate lies.
 #[inline(always)]
 fn pixel(place: i32) -> i32
@@ -56,6 +67,17 @@ fn pixel(place: i32) -> i32
     ensures bounded { Bounded (2 ^ 18) result }
 {
     place >> 4
+}
+
+// How far a pixel of the screen lies past another.
+#[inline(always)]
+fn pixels_past(number: u32, pixel: i32) -> i32
+    requires number { number < 2 ^ 11 }
+    requires pixel { Bounded (2 ^ 18) pixel }
+    ensures value { result ≡ pos number -ℤ pixel }
+    ensures bounded { Bounded (2 ^ 19) result }
+{
+    number as i32 - pixel
 }
 
 // Where the sample of a pixel stands.
@@ -94,29 +116,24 @@ fn from_lanes(right: i32, below: i32, start: i32x4, column: i32x4, row: i32x4) -
     }
 }
 
-// The edges between vertices at these coordinates.
-#[inline(always)]
-fn edges_between(x: [i32; 3], y: [i32; 3], row: i32x4, column: i32x4) -> SmallEdges
-    requires x { AreClose x }
-    requires y { AreClose y }
-    requires row { row ≡ steps_around x }
-    requires column { column ≡ steps_back y }
-    ensures first { IsEdge (small_lines result).first Side.Occluder
-        (point (lane x 0) (lane y 0)) (point (lane x 1) (lane y 1)) }
-    ensures second { IsEdge (small_lines result).second Side.Occluder
-        (point (lane x 1) (lane y 1)) (point (lane x 2) (lane y 2)) }
-    ensures third { IsEdge (small_lines result).third Side.Occluder
-        (point (lane x 2) (lane y 2)) (point (lane x 0) (lane y 0)) }
-{
-    let right = pixel(x[0]);
-    let below = pixel(y[0]);
-    let there = values(row, column, past(middle(right), x), past(middle(below), y));
-    let start = sixteenths(there, biases(row, column));
-    from_lanes(right, below, start, column, row)
-}
-
 impl SmallEdges {
-    ghost use Rattle.edge_lanes.specs.Inside.{inside_small};
+    ghost use Rattle.edge_lanes.specs.Inside.{inside_small, slopes, small_lines};
+
+    // The edges between vertices at these coordinates.
+    #[inline(always)]
+    fn between(x: [i32; 3], y: [i32; 3], row: i32x4, column: i32x4) -> SmallEdges
+        requires x { AreClose x }
+        requires y { AreClose y }
+        requires row { row ≡ steps_around x }
+        requires column { column ≡ steps_back y }
+        ensures { AreBetween (small_lines result) x y }
+    {
+        let right = pixel(x[0]);
+        let below = pixel(y[0]);
+        let there = values(row, column, past(middle(right), x), past(middle(below), y));
+        let start = sixteenths(there, biases(row, column));
+        from_lanes(right, below, start, column, row)
+    }
 
     /// None where a side of the piece's box has 2^10 sixteenths of a pixel or more, or it lies far from the screen.
     #[inline(always)]
@@ -127,8 +144,8 @@ impl SmallEdges {
         let y = tri.y();
         let row = steps_around(x);
         let column = steps_back(y);
-        if are_few(row, column) && is_near(x[0]) && is_near(y[0]) {
-            Some(edges_between(x, y, row, column))
+        if is_little(x[0], y[0], row, column) {
+            Some(SmallEdges::between(x, y, row, column))
         } else {
             None
         }
@@ -158,13 +175,11 @@ impl SmallEdges {
     fn starts(&self, sub: Sub) -> i32x4
         requires column { sub.column < 256 }
         requires row { sub.row < 512 }
-        ensures first { lane result 0 ≡ held_few (sub_value (small_lines self.now).first sub) }
-        ensures second { lane result 1 ≡ held_few (sub_value (small_lines self.now).second sub) }
-        ensures third { lane result 2 ≡ held_few (sub_value (small_lines self.now).third sub) }
+        ensures value { AreStarts (small_lines self.now) sub result }
         ensures bounded { AreBounded (2 ^ 14) result }
     {
-        let across = 8 * i32::from(sub.column) - self.right;
-        let down = 4 * i32::from(sub.row) - self.below;
+        let across = pixels_past(8 * u32::from(sub.column), self.right);
+        let down = pixels_past(4 * u32::from(sub.row), self.below);
         held(moved(self.start, self.column, self.row, across, down))
     }
 
