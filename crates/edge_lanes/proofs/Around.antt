@@ -140,7 +140,6 @@ product_is m n a b lm ln l p q =
     let f : FitsSigned w32 (a *ℤ b) = fits_bounded (m * n) (a *ℤ b) l (bounded-mul m n a b p q) in
     simp to_z-of_z
 
-
 -- the lanes' values
 pub value_lane : (r b c g : ℤ) → Bounded (2 ^ 10) r → Bounded (2 ^ 11) b → Bounded (2 ^ 10) c → Bounded (2 ^ 11) g →
     FitsSigned w32 (to_z w32 (of_z w32 (to_z w32 (of_z w32 r) *ℤ to_z w32 (of_z w32 b))) +ℤ to_z w32 (of_z w32 (to_z w32 (of_z w32 c) *ℤ to_z w32 (of_z w32 g))))
@@ -190,7 +189,7 @@ sixteenth_bounded (negsuc n) h = (omega (arith, ints, h), omega (arith, ints, h)
 -- a lane's bias
 pub bias_lane : (r c : ℤ) → Bounded (2 ^ 10) r → Bounded (2 ^ 10) c →
     (to_z w32 (of_z w32 (shr_z (to_z w32 (of_z w32 (to_z w32 (of_z w32 (to_z w32 (of_z w32 r) +ℤ to_z w32 (of_z w32 (to_z w32 (of_z w32 c) *ℤ pos 2048)))) -ℤ pos 1))) 2147483648))
-        ≡ int_div_euclid ((r +ℤ (c *ℤ pos 2048)) -ℤ pos 1) (pos (2 ^ 31)))
+    ≡ int_div_euclid ((r +ℤ (c *ℤ pos 2048)) -ℤ pos 1) (pos (2 ^ 31)))
     × Bounded 1 (int_div_euclid ((r +ℤ (c *ℤ pos 2048)) -ℤ pos 1) (pos (2 ^ 31)))
 bias_lane r c hr hc =
     let v : ℤ = (r +ℤ (c *ℤ pos 2048)) -ℤ pos 1 in

@@ -11,7 +11,9 @@ ghost use Rattle.edge_lanes.specs.Lines.{inside_all};
 
 use crate::narrow_edges::{in_each, mask_of_rows};
 use crate::small_edge::{SmallEdge, short};
-use crate::small_lanes::{are_few, biases, held, moved, past, sixteenths, steps_around, steps_back, values};
+use crate::small_lanes::{
+    are_few, biases, held, moved, past, sixteenths, steps_around, steps_back, values,
+};
 use cull_base::{ScreenTri, Sub};
 use std::simd::prelude::*;
 

@@ -40,7 +40,7 @@ returns-clause-value c =
     let ea : c.pixels_past-across.result ≡ pos (8 * c.args.sub.column) -ℤ e.right = simp to_z-of_z at c.pixels_past-across.ensures.value ∙ search rules in
     let ed : c.pixels_past-down.result ≡ pos (4 * c.args.sub.row) -ℤ e.below = simp to_z-of_z at c.pixels_past-down.ensures.value ∙ search rules in
     let all : AreStarts (small_lines e) c.args.sub c.held.result = starts_held e.start e.column e.row c.held.result c.moved.result e.right e.below c.pixels_past-across.result c.pixels_past-down.result e.first e.second e.third c.args.sub
-            vh vm e.are_columns e.are_rows ea ed in
+    vh vm e.are_columns e.are_rows ea ed in
     rw eh all
 
 pub returns-clause-bounded : goal.returns-clause-bounded
