@@ -1,6 +1,6 @@
 //! An edge of a piece of a few pixels, at most 2^10 sixteenths of a pixel long each way, by its values' sixteenths as
 //! in `NarrowEdge`, in lanes of 16 bits.
-ghost use Rattle.std.specs.Prelude.{◌≡◌, ℕ, pos, ◌^◌, ◌+◌, ◌*◌};
+ghost use Rattle.std.specs.Prelude.{◌≡◌, ◌^◌};
 ghost use Rattle.cull_base.specs.Bounds.{Bounded};
 ghost use Rattle.edge_lanes.specs.Lanes.{offsets_of, row_of};
 ghost use Rattle.edge_lanes.specs.Lines.{inside_from, line};

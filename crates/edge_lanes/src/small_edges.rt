@@ -1,5 +1,5 @@
 //! The edges of a piece of a few pixels, which are asked only for the subtiles that its box reaches: nothing is divided.
-ghost use Rattle.std.specs.Prelude.{◌≡◌, ℕ, pos, ◌<◌, ◌^◌, ◌*◌, ◌-ℤ◌, ◌+ℤ◌, ◌*ℤ◌, IfSome, IsTrue};
+ghost use Rattle.std.specs.Prelude.{◌≡◌, pos, ◌<◌, ◌^◌, ◌*◌, ◌-ℤ◌, ◌+ℤ◌, ◌*ℤ◌, IfSome, IsTrue};
 ghost use Rattle.std.specs.Int.{int_div_euclid};
 ghost use Rattle.std.specs.Simd.Lanes.{mask_l};
 ghost use Rattle.cull_base.specs.Bounds.{Bounded};
@@ -17,7 +17,7 @@ use crate::small_lanes::{
 use cull_base::{ScreenTri, Sub};
 use std::simd::prelude::*;
 
-/// A piece whose first vertex lies less than this many sixteenths of a pixel from the screen's corner each way.
+/// The first vertex of such a piece lies less than this many sixteenths of a pixel from the corner of the screen each way.
 const NEAR: i32 = 0x40_0000;
 
 /// The edges of a piece, for the samples that it covers.

@@ -1,6 +1,6 @@
 //! Values of the edges of a piece of a few pixels side by side: lane k is that of edge k, from vertex k to the next, and
 //! the last lane is that of the first edge again.
-ghost use Rattle.std.specs.Prelude.{◌≡◌, ℕ, ℤ, pos, ◌^◌, ◌+◌, ◌+ℤ◌, ◌-ℤ◌, IsTrue};
+ghost use Rattle.std.specs.Prelude.{◌≡◌, ℤ, pos, ◌^◌, ◌+◌, ◌+ℤ◌, ◌-ℤ◌, IsTrue};
 ghost use Rattle.std.specs.Int.{int_div_euclid};
 ghost use Rattle.cull_base.specs.Bounds.{Bounded};
 ghost use Rattle.cull_base.specs.Piece.{IsCoordinate};
