@@ -1,5 +1,6 @@
 pub mod Lanes
 pub mod Masks
+pub mod Outside
 pub mod Steps
 pub mod Sides
 pub mod Inside

@@ -3,7 +3,7 @@
 ghost use Rattle.std.specs.Prelude.{◌≡◌, ◌^◌};
 ghost use Rattle.cull_base.specs.Bounds.{Bounded};
 ghost use Rattle.edge_lanes.specs.Lanes.{offsets_of, row_of};
-ghost use Rattle.edge_lanes.specs.Lines.{inside_from, line};
+ghost use Rattle.edge_lanes.specs.Lines.{line, outside_from};
 
 use crate::narrow_edge::Rows;
 use std::simd::prelude::*;
@@ -49,14 +49,14 @@ impl SmallEdge {
         }
     }
 
-    /// The samples that are inside of a subtile that begins with this value, row by row.
+    /// The samples that are outside of a subtile that begins with this value, row by row.
     #[inline(always)]
-    pub fn rows(&self, start: i16) -> Rows
+    pub fn outside(&self, start: i16) -> Rows
         requires { Bounded (2 ^ 14) start }
-        ensures first { result.first ≡ row_of (inside_from (slope self.now) start) 0 }
-        ensures second { result.second ≡ row_of (inside_from (slope self.now) start) 1 }
-        ensures third { result.third ≡ row_of (inside_from (slope self.now) start) 2 }
-        ensures fourth { result.fourth ≡ row_of (inside_from (slope self.now) start) 3 }
+        ensures first { result.first ≡ row_of (outside_from (slope self.now) start) 0 }
+        ensures second { result.second ≡ row_of (outside_from (slope self.now) start) 1 }
+        ensures third { result.third ≡ row_of (outside_from (slope self.now) start) 2 }
+        ensures fourth { result.fourth ≡ row_of (outside_from (slope self.now) start) 3 }
     {
         let none = i16x8::splat(0);
         let row = i16x8::splat(self.row);
@@ -65,10 +65,10 @@ impl SmallEdge {
         let third = second.strict_add(row);
         let fourth = third.strict_add(row);
         Rows {
-            first: first.simd_ge(none).to_bitmask(),
-            second: second.simd_ge(none).to_bitmask(),
-            third: third.simd_ge(none).to_bitmask(),
-            fourth: fourth.simd_ge(none).to_bitmask(),
+            first: first.simd_lt(none).to_bitmask(),
+            second: second.simd_lt(none).to_bitmask(),
+            third: third.simd_lt(none).to_bitmask(),
+            fourth: fourth.simd_lt(none).to_bitmask(),
         }
     }
 }

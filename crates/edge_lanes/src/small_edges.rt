@@ -1,5 +1,5 @@
 //! The edges of a piece of a few pixels, which are asked only for the subtiles that its box reaches: nothing is divided.
-ghost use Rattle.std.specs.Prelude.{◌≡◌, pos, ◌<◌, ◌^◌, ◌*◌, ◌-ℤ◌, ◌+ℤ◌, ◌*ℤ◌, IfSome, IsTrue};
+ghost use Rattle.std.specs.Prelude.{◌≡◌, pos, bit_or, ◌-◌, ◌<◌, ◌^◌, ◌*◌, ◌-ℤ◌, ◌+ℤ◌, ◌*ℤ◌, IfSome, IsTrue};
 ghost use Rattle.std.specs.Int.{int_div_euclid};
 ghost use Rattle.std.specs.Simd.Lanes.{mask_l};
 ghost use Rattle.cull_base.specs.Bounds.{Bounded};
@@ -9,7 +9,7 @@ ghost use Rattle.cull_base.specs.declared.place.Sub.{Sub};
 ghost use Rattle.edge_lanes.specs.Around.{AreBetween, AreBounded, AreClose, AreStarts, around, steps_around, steps_back};
 ghost use Rattle.edge_lanes.specs.Lines.{inside_all};
 
-use crate::narrow_edges::{in_each, mask_of_rows};
+use crate::narrow_edges::mask_of_rows;
 use crate::small_edge::{SmallEdge, short};
 use crate::small_lanes::{
     are_few, biases, held, moved, past, sixteenths, steps_around, steps_back, values,
@@ -118,6 +118,26 @@ fn from_lanes(right: i32, below: i32, start: i32x4, column: i32x4, row: i32x4) -
     }
 }
 
+// The columns of a row that are outside one of three edges.
+#[inline(always)]
+fn in_any(first: u64, second: u64, third: u64) -> u64
+    requires first { first < 2 ^ 8 }
+    requires second { second < 2 ^ 8 }
+    requires third { third < 2 ^ 8 }
+    ensures value { result ≡ bit_or (bit_or first second) third }
+    ensures byte { result < 2 ^ 8 }
+{
+    first | second | third
+}
+
+// The samples that aren't in a mask.
+#[inline(always)]
+fn others(mask: u32) -> u32
+    ensures { result ≡ 4294967295 - mask }
+{
+    !mask
+}
+
 impl SmallEdges {
     ghost use Rattle.edge_lanes.specs.Inside.{inside_small, slopes, small_lines};
 
@@ -161,15 +181,15 @@ impl SmallEdges {
         requires third { Bounded (2 ^ 14) third }
         ensures { result ≡ mask_l (each_sample (inside_all (slopes self.now) first second third)) }
     {
-        let a = self.first.rows(first);
-        let b = self.second.rows(second);
-        let c = self.third.rows(third);
-        mask_of_rows(
-            in_each(a.first, b.first, c.first),
-            in_each(a.second, b.second, c.second),
-            in_each(a.third, b.third, c.third),
-            in_each(a.fourth, b.fourth, c.fourth),
-        )
+        let a = self.first.outside(first);
+        let b = self.second.outside(second);
+        let c = self.third.outside(third);
+        others(mask_of_rows(
+            in_any(a.first, b.first, c.first),
+            in_any(a.second, b.second, c.second),
+            in_any(a.third, b.third, c.third),
+            in_any(a.fourth, b.fourth, c.fourth),
+        ))
     }
 
     // The values at the first sample of a subtile.
