@@ -120,8 +120,20 @@ impl PieceDepths {
         Coverage::among(self.plane.floors(place), masks, wanted)
     }
 
+    // The subtiles of a tile, as bits, that are reached on the screen. The piece covers nothing elsewhere. Out of line:
+    // few tiles want it, so what it needs is computed for these alone.
+    #[cold]
+    #[inline(never)]
+    fn subtiles_reached(&self, reached: &SubBox, place: Tile) -> u32
+        requires { HoldsSampled self.now reached.now }
+        ensures wanted { (subs : List State) → AreWanted reached.now.size place self.now subs result }
+        ensures byte { result < 2 ^ 8 }
+    {
+        reached.in_tile(place).bits()
+    }
+
     // The subtiles of a tile, as bits, that are on the screen; of a tile at its right or lower end those that are
-    // reached. The piece covers nothing elsewhere.
+    // reached.
     #[inline(always)]
     fn subtiles_on_screen(&self, reached: &SubBox, place: Tile) -> u32
         requires { HoldsSampled self.now reached.now }
@@ -134,7 +146,7 @@ impl PieceDepths {
         {
             255
         } else {
-            reached.in_tile(place).bits()
+            self.subtiles_reached(reached, place)
         }
     }
 
