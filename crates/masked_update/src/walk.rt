@@ -6,6 +6,7 @@ ghost use Rattle.cull_base.specs.Piece.{IsPiece};
 ghost use Rattle.cull_base.specs.Screen.{IsSize, tile_rows_of};
 ghost use Rattle.cull_base.specs.Span.{IsPartOf, IsSpan, has_tile, number_in};
 ghost use Rattle.masked_update.specs.Canvas.{CountedMet, IsInWindow, MergedMet, tile_in, tile_on};
+ghost use Rattle.masked_update.specs.Inner.{GoesOn};
 ghost use Rattle.masked_update.specs.Least.{NoneBelow};
 ghost use Rattle.masked_update.specs.Merged.{AreEdgesOf, AreRowOf};
 ghost use Rattle.masked_update.specs.Samples.{HoldsSampled};
@@ -17,7 +18,7 @@ use crate::piece_setup::PieceDepths;
 use crate::sample_box::sampled;
 use crate::small_piece::SmallPiece;
 use crate::small_walk::merge_small_in_span;
-use crate::sub_span::{SubBox, ones_between};
+use crate::sub_span::{SubBox, goes_on, ones_between};
 use cull_base::{ScreenTri, Size, Tile, TileSpan};
 use edge_lanes::{RowEdges, TileRow};
 
@@ -119,11 +120,13 @@ fn count_in_span(canvas: &mut Canvas, span: TileSpan)
     }
 }
 
-/// A row of tiles, and the number in the canvas of the tile there that stands in a span's first column.
+/// A row of tiles, the number in the canvas of the tile there that stands in a span's first column, and whether no tile of
+/// the span stands at the screen's right or lower end.
 #[derive(Clone, Copy)]
 struct RowAt {
     row: u32,
     number: usize,
+    is_inner: bool,
 }
 
 // Merges a piece into the tiles of a row that are marked: bit i is that of the tile in the span's column i.
@@ -145,6 +148,7 @@ fn merge_marked(
     requires over { AreRowOf over.now at.row piece.now }
     requires number { at.number ≡ number_in canvas.old.window
         (record { column = span.first_column; row = at.row }) }
+    requires inner { at.is_inner ≡ true → GoesOn reached.now.size span.end_column span.end_row }
     requires within { (i : ℕ) → i < 8 → bit_at bits i ≡ 1 → span.first_column + i < span.end_column }
     requires byte { bits < 2 ^ 8 }
     ensures { MergedWhere (is_marked at.row span.first_column bits) reached.now.size piece.now
@@ -160,7 +164,8 @@ fn merge_marked(
             column: (span.first_column + j) as u16,
             row: at.row as u16,
         };
-        canvas.merge(at.number + j as usize, piece, reached, over, place);
+        let number = at.number + j as usize;
+        canvas.merge(number, piece, reached, over, place, at.is_inner);
         left &= !(1 << j);
     }
 }
@@ -184,6 +189,7 @@ fn merge_in_row(
     requires small { at.row < 256 }
     requires number { at.number ≡ number_in canvas.old.window
         (record { column = span.first_column; row = at.row }) }
+    requires inner { at.is_inner ≡ true → GoesOn reached.now.size span.end_column span.end_row }
     requires some { span.first_column < span.end_column }
     requires few { span.end_column ≤ span.first_column + 8 }
     requires nearest { nearest ≡ greatest_nearness piece.now }
@@ -225,12 +231,16 @@ fn merge_in_strip(
     let window = canvas.window();
     let columns = window.columns() as usize;
     let nearest = piece.nearest();
-    let here = *reached;
+    let is_inner = goes_on(reached.size, span.end_column, span.end_row);
     let start = window.row_start(span.first_row);
     let mut number = start + (span.first_column - window.first_column) as usize;
     for row in span.first_row..span.end_row {
-        let at = RowAt { row, number };
-        merge_in_row(canvas, piece, edges, &here, span, at, nearest);
+        let at = RowAt {
+            row,
+            number,
+            is_inner,
+        };
+        merge_in_row(canvas, piece, edges, reached, span, at, nearest);
         number += columns;
     }
 }

@@ -24,6 +24,13 @@ merge-requires-clause-column c =
     let lt = lowest_inside c.args.span.first_column c.args.span.end_column c.args.bits c.loop-left.left c.loop-left-test.true inv.byte inv.among c.requires.within in
     omega (arith, lt, c.requires.span.columns_within)
 
+pub merge-requires-clause-inner : goal.merge-requires-clause-inner
+merge-requires-clause-inner c is =
+    let inv = c.loop-left.invariant in
+    let lt = lowest_inside c.args.span.first_column c.args.span.end_column c.args.bits c.loop-left.left c.loop-left-test.true inv.byte inv.among c.requires.within in
+    let (columns, rows) = c.requires.inner is in
+    (omega (arith, lt, columns), omega (arith, c.requires.row.1, rows))
+
 pub merge-requires-clause-tile : goal.merge-requires-clause-tile
 merge-requires-clause-tile c =
     let old = c.args.canvas.now in
