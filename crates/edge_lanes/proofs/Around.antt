@@ -1,5 +1,5 @@
 -- Values in four lanes of 32 bits, as lanes compute them.
-use Rattle.std.proofs.Common.{◌≡◌, ℕ, ℤ, pos, negsuc, neg_ℤ, zero, suc, ◌^◌, ◌+◌, ◌-◌, ◌*◌, ◌%◌, ◌<◌, ◌≤◌, ◌+ℤ◌, ◌-ℤ◌, ◌*ℤ◌, ◌≤ℤ◌, ◌<ℤ◌, Bool, true, false, cond, int_lt, int_le, FitsSigned, IsTrue, nat_eq, w32, to_z, of_z, refl, sym, subst, arith, List, [], ◌∷◌, map}
+use Rattle.std.proofs.Common.{◌≡◌, ℕ, ℤ, pos, negsuc, neg_ℤ, zero, suc, ◌^◌, ◌+◌, ◌-◌, ◌*◌, ◌%◌, ◌<◌, ◌≤◌, ◌+ℤ◌, ◌-ℤ◌, ◌*ℤ◌, ◌≤ℤ◌, ◌<ℤ◌, Bool, true, false, cond, int_lt, FitsSigned, IsTrue, nat_eq, w32, to_z, of_z, refl, sym, subst, arith, List, [], ◌∷◌, map}
 use Rattle.std.specs.Int.{int_div_euclid, int_max}
 use Rattle.std.specs.Simd.Lanes.{mask_l, top}
 use lib.Signed.{shr_z}

@@ -1,5 +1,5 @@
 -- Masks of the samples outside.
-use Rattle.std.proofs.Common.{◌≡◌, ℕ, ℤ, ◌<◌, ◌*◌, ◌^◌, ◌+◌, ◌-◌, arith, Bool, true, false, ◌&&◌, ◌||◌, not, cond, refl, sym, ap, ap₂, ◌∙◌, length, List, [], ◌∷◌, map, bit_or}
+use Rattle.std.proofs.Common.{◌≡◌, ℕ, ℤ, ◌<◌, ◌*◌, ◌^◌, ◌+◌, ◌-◌, arith, Bool, true, false, ◌&&◌, ◌||◌, not, cond, refl, ◌∙◌, List, [], ◌∷◌, map, bit_or}
 use Rattle.std.specs.List.{range_with_len}
 use Rattle.std.proofs.lemmas.Nat.{or_block}
 use Rattle.std.specs.Simd.Lanes.{mask_l}

@@ -1,5 +1,5 @@
 -- What lanes of 16 bits compute of an edge of a few pixels, where nothing wraps.
-use Rattle.std.proofs.Common.{ℕ, ◌<◌, ◌≤◌, ◌^◌, ◌+◌, ◌*◌, ◌/◌, ◌%◌, ◌*ℤ◌, ◌≤ℤ◌, ◌≡◌, ℤ, pos, ◌+ℤ◌, arith, w16, FitsSigned, to_z, of_z, Bool, true, false, cond, refl, sym, ap, ◌∙◌, int_le, int_lt, negsuc, not}
+use Rattle.std.proofs.Common.{ℕ, ◌<◌, ◌≤◌, ◌^◌, ◌+◌, ◌*◌, ◌/◌, ◌%◌, ◌*ℤ◌, ◌≤ℤ◌, ◌≡◌, ℤ, pos, ◌+ℤ◌, arith, w16, FitsSigned, to_z, of_z, Bool, true, false, cond, refl, sym, ap, ◌∙◌, int_lt, negsuc, not}
 use Rattle.std.specs.Cmp.{both_ways}
 use Rattle.std.specs.Int.{int_min, int_max}
 use Rattle.std.specs.Simd.Lanes.{top}

@@ -1,4 +1,4 @@
-use Rattle.std.proofs.Common.{◌^◌, ◌+◌, ◌+ℤ◌, ◌*ℤ◌, arith}
+use Rattle.std.proofs.Common.{◌^◌, ◌+◌, arith}
 use Rattle.edge_lanes.specs.Around.{lane, value_from}
 use Rattle.edge_lanes.proofs.Around.{bounded_around, moved_lane, product_fits}
 use Rattle.edge_lanes.proofs.small_lanes.moved.Goals as goal

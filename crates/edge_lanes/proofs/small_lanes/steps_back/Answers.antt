@@ -1,8 +1,7 @@
 use Rattle.std.proofs.Common.{◌^◌, ◌-ℤ◌, FitsSigned, w32, arith, rules}
 use Rattle.std.proofs.lemmas.Int.{ints, to_z-of_z}
-use Rattle.cull_base.specs.Bounds.{Bounded}
 use Rattle.edge_lanes.specs.Around.{lane}
-use Rattle.edge_lanes.proofs.Around.{bounded_around, fits_bounded}
+use Rattle.edge_lanes.proofs.Around.{bounded_around}
 use Rattle.edge_lanes.proofs.small_lanes.steps_back.Goals as goal
 
 pub returns-clause-value : goal.returns-clause-value

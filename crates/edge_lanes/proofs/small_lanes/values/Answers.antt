@@ -1,4 +1,4 @@
-use Rattle.std.proofs.Common.{◌^◌, ◌+ℤ◌, ◌*ℤ◌, arith}
+use Rattle.std.proofs.Common.{◌^◌, arith}
 use Rattle.edge_lanes.specs.Around.{lane, value_past}
 use Rattle.edge_lanes.proofs.Around.{bounded_around, product_fits, value_lane}
 use Rattle.edge_lanes.proofs.small_lanes.values.Goals as goal

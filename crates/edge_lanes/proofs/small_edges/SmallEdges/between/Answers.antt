@@ -1,5 +1,4 @@
-use Rattle.std.proofs.Common.{◌≡◌, ◌∙◌, ◌^◌, pos, ◌+ℤ◌, ◌*ℤ◌, FitsSigned, slice_index_or, w32, arith, rules, sym}
-use Rattle.std.specs.Int.{int_div_euclid}
+use Rattle.std.proofs.Common.{◌≡◌, ◌∙◌, ◌^◌, pos, FitsSigned, slice_index_or, w32, arith, rules, sym}
 use Rattle.std.proofs.lemmas.Int.{to_z-of_z}
 use Rattle.edge_lanes.specs.Around.{lane}
 use Rattle.edge_lanes.proofs.Around.{lanes_back, lanes_through, through}

@@ -1,7 +1,6 @@
-use Rattle.std.proofs.Common.{◌≡◌, ◌∙◌, ◌^◌, pos, refl, arith, rules, FitsSigned, slice_index_or, w32}
+use Rattle.std.proofs.Common.{◌∙◌, ◌^◌, pos, refl, arith, rules, FitsSigned, slice_index_or, w32}
 use Rattle.std.proofs.lemmas.Int.{to_z-of_z}
 use Rattle.cull_base.specs.declared.triangle.Side.TheVariants.{Occluder}
-use Rattle.edge_lanes.specs.Around.{lane}
 use Rattle.edge_lanes.specs.Inside.{inside_small, small_lines}
 use Rattle.edge_lanes.proofs.Around.{lanes_back, lanes_from, lanes_through}
 use Rattle.edge_lanes.proofs.Sides.{inside_lines-covered}

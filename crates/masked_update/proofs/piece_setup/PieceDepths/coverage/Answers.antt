@@ -1,4 +1,4 @@
-use Rattle.std.proofs.Common.{rules, ◌≡◌, ◌∙◌, ◌≤◌, ℕ, List, length, max, ap, subst, slice_index_or}
+use Rattle.std.proofs.Common.{rules, ◌≡◌, ◌∙◌, length, ap, subst}
 use Rattle.cull_base.specs.Piece.{IsPiece, Piece}
 use Rattle.cull_base.specs.State.{samples_of}
 use Rattle.depth_plane.specs.Plane.{plane_of}
