@@ -101,9 +101,10 @@ For a path of many cameras give --workers alone: without --early and --steal eac
 the scene has as many left, and bins and batches change nothing. For a single frame, which threads share, give bins too.
 With --group boxes that follow on one another in the scene are taken in groups. Those count in a frame that have all
 corners in front of the near plane, or on it, and within the guard, and a rectangle with a pixel on the screen. Where a
-rectangle around those of a group that count, as near as the nearest of them, is hidden, each of these is occluded and
-none is tested by itself. After a frame's lines of the report a line on standard error tells it: groups, the frame,
-count and how many groups there are, hidden and how many of them are hidden, members and how many boxes of these count.
+rectangle around those of a group that count, as near as the nearest of them, is hidden, each of these is occluded, and
+none is tested by itself if the group before was hidden too. After a frame's lines of the report a line on standard
+error tells it: groups, the frame, count and how many groups there are, hidden and how many of them are hidden, members
+and how many boxes of these count.
 Tells on standard error why a run isn't done.
 
 Exit status:

@@ -19,8 +19,8 @@ use std::sync::Wait;
 use std::thread::Threads;
 use tile_queues::{BinTable, Gate};
 
-/// A window has at most so many frames for each worker. Whoever is done with one takes the next, and none is left for
-/// long before the window ends: so the fewer windows, the less workers wait, and the less often threads are started.
+/// A window has at most so many frames for each worker. Whoever is done with one takes the next, and waits when none is
+/// left: so the fewer windows there are, the less workers wait, and the less often threads are started.
 const DEPTH: u32 = 8;
 
 /// In bytes, at most what the frames of a window take together.
@@ -58,8 +58,8 @@ fn worker_size(scene: &Scene, count: u32) -> u64 {
     frame_size(scene).saturating_add(lines.saturating_mul(u64::from(count)))
 }
 
-// How many frames each worker has of a scene's windows. None where a worker is alone, where objects are settled while a
-// frame is drawn, where workers take bins from each other, and where a frame for each worker would take too much
+// How many frames there are for each worker in all windows. None where a worker is alone, where objects are settled
+// while a frame is drawn, where workers take bins from each other, and where a frame for each worker would take too much
 // memory.
 fn unseen_rounds(settings: &Settings, scene: &Scene) -> u32
     ensures { result * settings.now.workers ≤ length scene.now.cameras }

@@ -1,5 +1,6 @@
 pub mod Lanes
 pub mod Masks
+pub mod Outside
 pub mod Steps
 pub mod Sides
 pub mod Inside
@@ -7,8 +8,10 @@ pub mod Extremes
 pub mod Sharing
 pub mod Subtiles
 pub mod SubStarts
+pub mod Around
 pub mod SmallLanes
 pub mod SmallBias
+pub mod SmallSteps
 pub mod Tiles
 pub mod EightColumns
 pub mod SpanLanes

@@ -1,5 +1,5 @@
 -- The bias of an occluder's edge between points that lie near each other.
-use Rattle.std.proofs.Common.{◌≡◌, ℤ, pos, negsuc, neg_ℤ, ◌+◌, ◌^◌, ◌+ℤ◌, ◌-ℤ◌, ◌*ℤ◌, ◌<ℤ◌, ◌≤ℤ◌, Bool, true, false, int_lt, arith}
+use Rattle.std.proofs.Common.{◌≡◌, ℤ, pos, negsuc, neg_ℤ, ◌+◌, ◌^◌, ◌+ℤ◌, ◌-ℤ◌, ◌*ℤ◌, ◌<ℤ◌, ◌≤ℤ◌, true, false, int_lt, arith}
 use Rattle.std.specs.Int.{int_div_euclid}
 use Rattle.std.proofs.lemmas.Int.{ints, by_lt_z}
 use Rattle.cull_base.specs.Bounds.{Bounded}
@@ -22,7 +22,7 @@ one : (v : ℤ) → v <ℤ pos 0 → neg_ℤ (pos (2 ^ 31)) ≤ℤ v → int_div
 one v a b = floor_is v (negsuc 0) (2 ^ 31) (omega arith) (omega (arith, ints)) (omega (arith, ints))
 
 -- a row outweighs all columns
-pub bias_by_sign : (ax ay bx by v : ℤ) → Bounded (2 ^ 10) (bx -ℤ ax) → Bounded (2 ^ 10) (by -ℤ ay) → v ≡ ((bx -ℤ ax) +ℤ (pos 2048 *ℤ (ay -ℤ by))) -ℤ pos 1
+pub bias_by_sign : (ax ay bx by v : ℤ) → Bounded (2 ^ 10) (bx -ℤ ax) → Bounded (2 ^ 10) (by -ℤ ay) → v ≡ ((bx -ℤ ax) +ℤ ((ay -ℤ by) *ℤ pos 2048)) -ℤ pos 1
     → int_div_euclid v (pos (2 ^ 31)) ≡ bias_of Occluder (is_top_or_left (point ax ay) (point bx by))
 bias_by_sign ax ay bx by v across down e =
     by_lt_z by ay
@@ -33,10 +33,3 @@ bias_by_sign ax ay bx by v across down e =
     by_lt_z ax bx
     (λ l. let r = int_lt-true ax bx l in let s = none v (omega (arith, ints)) (omega (arith, ints)) in rw (p, q, r) s)
     (λ m. let r = int_lt-false ax bx m in let s = one v (omega (arith, ints)) (omega (arith, ints)) in rw (p, q, r) s)))
-
-bounded_of : (b : Bool) (v : ℤ) → v ≡ bias_of Occluder b → Bounded 1 v
-bounded_of true v e = let f : v ≡ pos 0 = e in omega (arith, ints, f)
-bounded_of false v e = let f : v ≡ negsuc 0 = e in omega (arith, ints, f)
-
-pub bias_bounded : (ax ay bx by v : ℤ) → v ≡ bias_of Occluder (is_top_or_left (point ax ay) (point bx by)) → Bounded 1 v
-bias_bounded ax ay bx by v e = bounded_of (is_top_or_left (point ax ay) (point bx by)) v e

@@ -1,8 +1,9 @@
 -- Which samples lie inside the three edges of a piece.
-use Rattle.std.specs.Prelude.{ℕ, ℤ, ◌≡◌, ◌+◌, ◌*◌, ◌/◌, ◌%◌, ◌^◌, List, Bool}
+use Rattle.std.specs.Prelude.{ℕ, ℤ, pos, ◌≡◌, ◌+◌, ◌*◌, ◌/◌, ◌%◌, ◌^◌, ◌-ℤ◌, ◌*ℤ◌, List, Bool}
 use Rattle.cull_base.specs.Bounds.{Bounded}
 use Rattle.cull_base.specs.declared.place.Sub.{Sub}
 use Rattle.cull_base.specs.declared.place.Tile.{Tile}
+use Rattle.edge_lanes.specs.Around.{lane}
 use Rattle.edge_lanes.specs.Lines.{Line, Lines, line, clamped, inside_lines, tile_value}
 use Rattle.edge_lanes.specs.declared.narrow_edge.NarrowEdge.{NarrowEdge}
 use Rattle.edge_lanes.specs.declared.narrow_edges.NarrowEdges.{NarrowEdges}
@@ -26,11 +27,23 @@ narrow_lines e = record { first = narrow_line e.first; second = narrow_line e.se
 abbrev pub wide_lines : WideEdges → Lines
 wide_lines e = record { first = wide_line e.first; second = wide_line e.second; third = wide_line e.third }
 
-abbrev pub small_line : SmallEdge → Line
-small_line e = line e.start e.column e.row
+-- an edge by its steps alone
+abbrev pub slope : SmallEdge → Line
+slope e = line (pos 0) e.column e.row
+
+abbrev pub slopes : SmallEdges → Lines
+slopes e = record { first = slope e.first; second = slope e.second; third = slope e.third }
+
+-- an edge that has this value at the sample of a pixel
+abbrev pub small_line : ℤ → ℤ → ℤ → SmallEdge → Line
+small_line right below start e = line ((start -ℤ (e.column *ℤ right)) -ℤ (e.row *ℤ below)) e.column e.row
 
 abbrev pub small_lines : SmallEdges → Lines
-small_lines e = record { first = small_line e.first; second = small_line e.second; third = small_line e.third }
+small_lines e = record {
+  first = small_line e.right e.below (lane e.start 0) e.first;
+  second = small_line e.right e.below (lane e.start 1) e.second;
+  third = small_line e.right e.below (lane e.start 2) e.third;
+}
 
 abbrev pub lines_of_kind : Kind → Lines
 lines_of_kind (Narrow e) = narrow_lines e

@@ -1,5 +1,6 @@
 pub mod Lanes
 pub mod Lines
+pub mod Around
 pub mod Inside
 pub mod Shared
 pub mod Tiles

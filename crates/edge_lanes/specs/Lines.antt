@@ -1,5 +1,5 @@
 -- The values of an edge at the samples of the screen's pixels.
-use Rattle.std.specs.Prelude.{ℕ, ℤ, pos, ◌≡◌, ◌+◌, ◌*◌, ◌/◌, ◌%◌, ◌^◌, ◌+ℤ◌, ◌-ℤ◌, ◌*ℤ◌, neg_ℤ, List, Bool, ◌&&◌, bit_and}
+use Rattle.std.specs.Prelude.{ℕ, ℤ, pos, ◌≡◌, ◌+◌, ◌*◌, ◌/◌, ◌%◌, ◌^◌, ◌+ℤ◌, ◌-ℤ◌, ◌*ℤ◌, neg_ℤ, List, Bool, not, ◌&&◌, ◌||◌, bit_and}
 use Rattle.std.specs.Int.{int_min, int_max}
 use Rattle.std.specs.Simd.Lanes.{mask_l}
 use Rattle.cull_base.specs.Bounds.{Bounded}
@@ -82,6 +82,13 @@ inside_from e start k = is_not_negative ((start +ℤ (e.row *ℤ pos (k / 8))) +
 
 abbrev pub inside_all : Lines → ℤ → ℤ → ℤ → ℕ → Bool
 inside_all e s t u k = inside_from e.first s k && (inside_from e.second t k && inside_from e.third u k)
+
+-- outside such an edge, and outside one of three
+abbrev pub outside_from : Line → ℤ → ℕ → Bool
+outside_from e start k = not (inside_from e start k)
+
+abbrev pub outside_any : Lines → ℤ → ℤ → ℤ → ℕ → Bool
+outside_any e s t u k = outside_from e.first s k || (outside_from e.second t k || outside_from e.third u k)
 
 -- at the first sample of a tile
 abbrev pub tile_value : Line → Tile → ℤ

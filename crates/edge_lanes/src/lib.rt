@@ -15,6 +15,7 @@ mod shared;
 mod slant;
 mod small_edge;
 mod small_edges;
+mod small_lanes;
 mod spans;
 mod tile_edges;
 mod tile_row;

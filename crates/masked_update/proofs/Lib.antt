@@ -24,6 +24,7 @@ pub mod Tiles
 pub mod Drawing
 pub mod TileLists
 pub mod Walks
+pub mod Strips
 pub mod SampleBoxes
 pub mod SampledLists
 pub mod Marks

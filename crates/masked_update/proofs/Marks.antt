@@ -20,7 +20,7 @@ use Rattle.masked_update.specs.Canvas.{CanvasOf, IsCanvas, with_tile, tile_on}
 use Rattle.masked_update.specs.Walk.{ChangedWhere, MergedWhere, NoneBelowWhere, is_in_row, is_marked}
 use Rattle.masked_update.proofs.Merging.{merged_behind, merged_uncovered}
 use Rattle.masked_update.proofs.Tiles.{same_place, tile_with}
-use Rattle.masked_update.proofs.Walks.{columns_before, none_changed, one_more}
+use Rattle.masked_update.proofs.Walks.{columns_before, none_changed, one_more, row_begins}
 
 -- the lowest bit of some of eight
 pub lowest_within : (left : ℕ) → left ≢ 0 → left < 2 ^ 8 → (trailing_zeros w32 left < 8) × (bit_at left (trailing_zeros w32 left) ≡ 1)
@@ -246,6 +246,15 @@ module _ (span : TileSpan) (size : Dimensions) (x : Piece) (row column count bit
 
   pub columns_more : MergedWhere (is_in_row (columns_before span (column + count)) row) size x old new
   columns_more = record { window = step.window ∙ inv.window; whole = step.whole; tiles = by }
+
+-- a piece is merged into the row of a span of so many columns, where those that aren't marked stay
+pub row_merged : (span : TileSpan) (size : Dimensions) (x : Piece) (row count bits : ℕ) (old new : CanvasOf) → bits < 2 ^ 8 → ((i : ℕ) → i < 8 → bit_at bits i ≡ 1 → i < count)
+    → ((i : ℕ) → i < count → bit_at bits i ≡ 0 → Stays size x old (tile_with (span.first_column + i) row))
+    → span.first_column + count ≡ span.end_column → IsCanvas old → MergedWhere (is_marked row span.first_column bits) size x old new → MergedWhere (is_in_row span row) size x old new
+row_merged span size x row count bits old new byte among stays end whole step =
+    subst (λ n. MergedWhere (is_in_row (columns_before span n) row) size x old new) end
+    (columns_more span size x row span.first_column count bits old old new byte among stays (omega arith)
+    (none_changed (is_in_row (columns_before span span.first_column) row) (λ p t. merged_tile size p x t) old whole (row_begins span row)) step)
 
 -- the lowest bit that is left is of a place before an end
 pub lowest_inside : (column end bits left : ℕ) → left ≢ 0 → left < 2 ^ 8 → ((i : ℕ) → i < 8 → bit_at left i ≡ 1 → bit_at bits i ≡ 1) → ((i : ℕ) → i < 8 → bit_at bits i ≡ 1 → column + i < end)

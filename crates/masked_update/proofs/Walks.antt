@@ -1,5 +1,5 @@
 -- Tiles of a canvas that change, one place more at a time.
-use Rattle.std.proofs.Common.{◌≡◌, inl, inr, ℕ, ◌+◌, ◌-◌, ◌<◌, ◌≤◌, ◌&&◌, Bool, true, false, nat_eq, length, set, cond, arith, refl, ap, ◌∙◌, sym, subst}
+use Rattle.std.proofs.Common.{◌≡◌, inl, inr, ℕ, suc, ◌+◌, ◌-◌, ◌*◌, ◌<◌, ◌≤◌, ◌&&◌, Bool, true, false, nat_eq, length, set, cond, arith, refl, ap, ◌∙◌, sym, subst}
 use Rattle.std.proofs.lemmas.Bool.{and_parts, and_from, and_left, and_right, cond-false, cond-true, cases_eq, cases_lt, eq-eqb, eqb-true, false_from_ne_true}
 use Rattle.std.proofs.lemmas.Bool.Decides.{eqb_tells, nat_tests}
 use Rattle.std.proofs.lemmas.List.{get_or-set_other, length-set}
@@ -9,7 +9,7 @@ use Rattle.cull_base.specs.Depth.{greatest_nearness}
 use Rattle.cull_base.specs.Rectangle.{meets}
 use Rattle.cull_base.specs.Screen.{Dimensions, tile_place, tile_rect_of}
 use Rattle.cull_base.specs.declared.rect.Rect.{Rect}
-use Rattle.cull_base.specs.Span.{IsPartOf, HasTilesOf, is_between, has_tile, has_row, has_column, number_in, row_start_in, tiles_in}
+use Rattle.cull_base.specs.Span.{IsPartOf, HasTilesOf, is_between, has_tile, has_row, has_column, columns_in, number_in, row_start_in, tiles_in}
 use Rattle.cull_base.specs.declared.place.Tile.{Tile}
 use Rattle.cull_base.specs.declared.tile_span.TileSpan.{TileSpan}
 use Rattle.masked_update.specs.TileOf.{TileOf, tile_at, no_tile}
@@ -291,6 +291,23 @@ row_number_on c now span row column start i same is whole part from_row to_row f
     let on : start + (column - now.first_column) + i ≡ start + (column + i - now.first_column) = omega (arith, first, from, part.first_column) in
     let below = number_within c.window (tile_with (column + i) row) here in
     (on ∙ row_number c.window now row (column + i) start same is, omega (arith, below, whole))
+
+-- the number of a tile so many columns on
+pub number_on : (window : TileSpan) (column row n i : ℕ) → window.first_column ≤ column → n ≡ number_in window (tile_with column row) → n + i ≡ number_in window (tile_with (column + i) row)
+number_on window column row n i le is = on (row_start_in window row) column window.first_column n i le is
+  where
+    on : (start column first n i : ℕ) → first ≤ column → n ≡ start + (column - first) → n + i ≡ start + (column + i - first)
+    on start column first n i le is = omega (arith, le, is)
+
+-- and of the one below it, as many on as the window has columns
+pub number_next_row : (window : TileSpan) (column row n columns : ℕ) → window.first_row ≤ row → columns ≡ columns_in window → n ≡ number_in window (tile_with column row) → n + columns ≡ number_in window (tile_with column (row + 1))
+number_next_row window column row n columns le same is =
+    let past = column - window.first_column in
+    let e : suc (row - window.first_row) ≡ row + 1 - window.first_row = omega (arith, le) in
+    ap (λ m. n + m) same ∙ one_more_of (row - window.first_row) (columns_in window) past n is ∙ ap (λ m. m * columns_in window + past) e
+  where
+    one_more_of : (a c d n : ℕ) → n ≡ a * c + d → n + c ≡ suc a * c + d
+    one_more_of a c d n is = omega (arith, is)
 
 -- it stands in the row, in the columns of the span
 pub row_in_span : (span : TileSpan) (row column : ℕ) → span.first_column ≤ column → column < span.end_column → is_in_row span row (tile_with column row) ≡ true

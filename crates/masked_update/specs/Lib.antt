@@ -8,6 +8,7 @@ pub mod LanesBack
 pub mod TileOf
 pub mod Views
 pub mod Grid
+pub mod Inner
 pub mod Merged
 pub mod Samples
 pub mod Reached

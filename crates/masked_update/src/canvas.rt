@@ -7,6 +7,7 @@ ghost use Rattle.cull_base.specs.Tiles.{PieceList};
 ghost use Rattle.masked_update.specs.Canvas.{CountsAt, IsCanvas, StandsAt, empty_canvas, with_tile, tile_on};
 ghost use Rattle.masked_update.specs.Coverage.{AreWanted};
 ghost use Rattle.masked_update.specs.Least.{NoneBelow};
+ghost use Rattle.masked_update.specs.Inner.{IsInner};
 ghost use Rattle.masked_update.specs.Merged.{AreRowOf};
 ghost use Rattle.masked_update.specs.Samples.{HoldsSampled};
 ghost use Rattle.masked_update.specs.Taken.{counted_tile, merged_tile};
@@ -120,8 +121,9 @@ impl Canvas {
     }
 
     /// Merges a piece into the tile of a number, and counts nothing. Conditions: there is such a tile, the column and
-    /// the row are below the screen's, what is reached on it has each sample that the piece covers, and the edges are
-    /// the piece's over the tile's row.
+    /// the row are below the screen's, what is reached on it has each sample that the piece covers, the edges are the
+    /// piece's over the tile's row, and a tile that is said to be inner stands neither at the screen's right end nor at
+    /// its lower end.
     #[inline(always)]
     pub(crate) fn merge(
         &mut self,
@@ -130,8 +132,10 @@ impl Canvas {
         reached: &SubBox,
         over: &TileRow,
         place: Tile,
+        is_inner: bool,
     )
         requires reached { HoldsSampled piece.now reached.now }
+        requires inner { is_inner ≡ true → IsInner reached.now.size place }
         requires over { AreRowOf over.now place.row piece.now }
         requires tile { number < length self.old.tiles }
         requires column { place.column < tile_columns_of reached.now.size }
@@ -139,8 +143,8 @@ impl Canvas {
         ensures { self.new ≡ with_tile self.old number
             (merged_tile reached.now.size place piece.now (tile_at self.old.tiles number)) }
     {
-        self.tiles[number].merge_over(piece, reached, over, place);
-        self.least[number] = self.tiles[number].least_reference();
+        let least = self.tiles[number].merge_over(piece, reached, over, place, is_inner);
+        self.least[number] = least;
     }
 
     /// Merges a small piece into the tile of a number, and counts nothing. Most raise no reference, and the table stays.

@@ -24,9 +24,9 @@ fn no_less(numbers: [u32; 8], least: u32) -> [u32; 8]
         .to_array()
 }
 
-// The masks of the subtiles of the bits. The others are empty.
+/// The masks of the subtiles of the bits. The others are empty. Condition: bits are 8.
 #[inline(always)]
-fn masks_among(masks: [u32; 8], bits: u32) -> [u32; 8]
+pub(crate) fn masks_among(masks: [u32; 8], bits: u32) -> [u32; 8]
     requires { bits < 2 ^ 8 }
     ensures inside { (j : ℕ) → j < 8 → bit_at bits j ≡ 1 → slice_index_or result j 0
         ≡ slice_index_or masks j 0 }
@@ -44,21 +44,6 @@ fn masks_among(masks: [u32; 8], bits: u32) -> [u32; 8]
 
 impl Coverage {
     ghost use Rattle.masked_update.specs.Coverage.{IsRaised};
-
-    /// The bounds, and the masks of the subtiles of the bits: the others get nothing. Condition: bits are 8.
-    #[inline(always)]
-    pub fn among(lows: [u32; 8], masks: [u32; 8], bits: u32) -> Coverage
-        requires { bits < 2 ^ 8 }
-        ensures lows { result.lows ≡ lows }
-        ensures inside { (j : ℕ) → j < 8 → bit_at bits j ≡ 1
-            → slice_index_or result.masks j 0 ≡ slice_index_or masks j 0 }
-        ensures others { (j : ℕ) → j < 8 → bit_at bits j ≡ 0 → slice_index_or result.masks j 0 ≡ 0 }
-    {
-        Coverage {
-            lows,
-            masks: masks_among(masks, bits),
-        }
-    }
 
     /// The same masks, with bounds that are no less than a nearness. Conditions: they are within the top that subtiles
     /// hold, and so is the nearness.

@@ -1,15 +1,17 @@
 //! A piece set up for the tiles that take it: what each subtile needs of it is computed once. The drawing keeps its edges
 //! apart, where they are made: they are large to copy.
-ghost use Rattle.std.specs.Prelude.{◌≡◌, ◌<◌, ◌^◌, false, length, List};
-ghost use Rattle.cull_base.specs.Piece.{IsPiece, box_of};
+ghost use Rattle.std.specs.Prelude.{◌≡◌, ℕ, ◌<◌, ◌^◌, false, true, length, slice_index, List};
+ghost use Rattle.cull_base.specs.Piece.{IsPiece, box_of, covered};
 ghost use Rattle.cull_base.specs.Depth.{greatest_nearness};
 ghost use Rattle.cull_base.specs.Screen.{tile_columns_of, tile_rows_of};
-ghost use Rattle.cull_base.specs.State.{State};
+ghost use Rattle.cull_base.specs.State.{State, samples_of};
+ghost use Rattle.edge_lanes.specs.Inside.{sub_of};
 ghost use Rattle.masked_update.specs.Coverage.{IsCoverage, AreWanted};
+ghost use Rattle.masked_update.specs.Inner.{IsInner};
 ghost use Rattle.masked_update.specs.Merged.{AreEdgesOf, AreRowOf, IsSubBox, merged_by};
 ghost use Rattle.masked_update.specs.Samples.{HoldsSampled};
 
-use crate::coverage::Coverage;
+use crate::coverage::{Coverage, masks_among};
 use crate::sub_span::SubBox;
 use crate::tile_layers::TileLayers;
 use cull_base::{Rect, ScreenTri, Size, Tile};
@@ -107,34 +109,46 @@ impl PieceDepths {
         edges.over_row(row)
     }
 
-    // What the piece brings to the wanted subtiles of a tile.
+    // What the piece brings to the wanted subtiles of a tile, by the masks of all that it covers there.
     #[inline(always)]
-    fn coverage(&self, over: &TileRow, place: Tile, wanted: u32) -> Coverage
+    fn coverage(&self, masks: [u32; 8], place: Tile, wanted: u32) -> Coverage
         requires column { place.column < 64 }
         requires row { place.row < 256 }
-        requires over { AreRowOf over.now place.row self.now }
+        requires masks { (j : ℕ) → j < 8 → samples_of (slice_index masks j) ≡ covered self.now (sub_of place j) }
         requires byte { wanted < 2 ^ 8 }
         ensures { IsCoverage place self.now wanted result }
     {
-        let masks = over.masks(u32::from(place.column));
-        Coverage::among(self.plane.floors(place), masks, wanted)
+        // the masks first: whether all are wanted is then one test for both
+        let masks = masks_among(masks, wanted);
+        let lows = self.plane.floors(place);
+        Coverage { lows, masks }
     }
 
-    // The subtiles of a tile, as bits, that are on the screen; of a tile at its right or lower end those that are
-    // reached. The piece covers nothing elsewhere.
-    #[inline(always)]
-    fn subtiles_on_screen(&self, reached: &SubBox, place: Tile) -> u32
+    // The subtiles of a tile, as bits, that are reached on the screen. The piece covers nothing elsewhere. Out of line:
+    // few tiles want it, so what it needs is computed for these alone.
+    #[cold]
+    #[inline(never)]
+    fn subtiles_reached(&self, reached: &SubBox, place: Tile) -> u32
         requires { HoldsSampled self.now reached.now }
         ensures wanted { (subs : List State) → AreWanted reached.now.size place self.now subs result }
         ensures byte { result < 2 ^ 8 }
     {
-        let size = reached.size;
-        if u32::from(place.column) + 1 < size.tile_columns()
-            && u32::from(place.row) + 1 < size.tile_rows()
-        {
+        reached.in_tile(place).bits()
+    }
+
+    // The subtiles of a tile, as bits, that are on the screen; of a tile that may stand at its right or lower end those
+    // that are reached.
+    #[inline(always)]
+    fn subtiles_on_screen(&self, reached: &SubBox, place: Tile, is_inner: bool) -> u32
+        requires reached { HoldsSampled self.now reached.now }
+        requires inner { is_inner ≡ true → IsInner reached.now.size place }
+        ensures wanted { (subs : List State) → AreWanted reached.now.size place self.now subs result }
+        ensures byte { result < 2 ^ 8 }
+    {
+        if is_inner {
             255
         } else {
-            reached.in_tile(place).bits()
+            self.subtiles_reached(reached, place)
         }
     }
 
@@ -150,8 +164,8 @@ impl PieceDepths {
     }
 
     /// Merges the piece into a tile's subtiles on the screen. Conditions: the column and the row are below the
-    /// screen's, what is reached on it holds each sample that the piece covers, and the edges are the piece's over the
-    /// tile's row.
+    /// screen's, what is reached on it holds each sample that the piece covers, the edges are the piece's over the
+    /// tile's row, and a tile that is said to be inner stands neither at the screen's right nor at its lower end.
     #[inline(always)]
     pub(crate) fn merge_over(
         &self,
@@ -159,8 +173,10 @@ impl PieceDepths {
         reached: &SubBox,
         over: &TileRow,
         place: Tile,
+        is_inner: bool,
     )
         requires reached { HoldsSampled self.now reached.now }
+        requires inner { is_inner ≡ true → IsInner reached.now.size place }
         requires over { AreRowOf over.now place.row self.now }
         requires column { place.column < tile_columns_of reached.now.size }
         requires row { place.row < tile_rows_of reached.now.size }
@@ -168,8 +184,9 @@ impl PieceDepths {
     {
         // an accessor tells what is held of a size
         let _width = reached.size.width();
-        let wanted = self.subtiles_on_screen(reached, place);
-        layers.merge(self.coverage(over, place, wanted).raised(self.least));
+        let masks = over.masks(u32::from(place.column));
+        let wanted = self.subtiles_on_screen(reached, place, is_inner);
+        layers.merge(self.coverage(masks, place, wanted).raised(self.least));
     }
 
     /// The same where the row's edges aren't at hand, and what is reached is what the piece reaches. Says whether any
@@ -194,7 +211,7 @@ impl PieceDepths {
             return false;
         }
         let over = self.over_row(edges, u32::from(place.row));
-        self.merge_over(layers, reached, &over, place);
+        self.merge_over(layers, reached, &over, place, reached.is_inner(place));
         true
     }
 }

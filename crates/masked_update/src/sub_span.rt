@@ -1,6 +1,7 @@
 //! The subtiles of a tile that a rectangle reaches, computed from it and not searched for.
-ghost use Rattle.std.specs.Prelude.{◌≡◌, ℕ, pos, ◌+◌, ◌-◌, ◌*◌, ◌^◌, ◌<◌, ◌≤◌, ◌≤ℤ◌, cond, min};
+ghost use Rattle.std.specs.Prelude.{◌≡◌, ℕ, pos, ◌+◌, ◌-◌, ◌*◌, ◌^◌, ◌<◌, ◌≤◌, ◌≤ℤ◌, cond, min, true};
 ghost use Rattle.std.specs.Int.{int_min, int_max, div_ceil, bit_at};
+ghost use Rattle.masked_update.specs.Inner.{GoesOn, IsInner};
 
 use cull_base::arithmetic::pixel_of;
 use cull_base::{Rect, Size, Tile, TileSpan};
@@ -22,6 +23,14 @@ pub struct SubSpan {
     pub end_column: u32,
     pub first_row: u32,
     pub end_row: u32,
+}
+
+/// Whether the screen has tiles in a column and in a row: those before them end before the screen does.
+#[inline(always)]
+pub(crate) fn goes_on(size: Size, column: u32, row: u32) -> bool
+    ensures { result ≡ true → GoesOn size column row }
+{
+    column < size.tile_columns() && row < size.tile_rows()
 }
 
 // How many of a screen's columns or rows of pixels lie before a place.
@@ -84,6 +93,18 @@ impl SubBox {
             first_row: (self.first_row / 2).max(window.first_row),
             end_row: self.end_row.div_ceil(2).min(window.end_row),
         }
+    }
+
+    /// Whether the tile at a place stands neither at the screen's right end nor at its lower end.
+    #[inline(always)]
+    pub(crate) fn is_inner(&self, place: Tile) -> bool
+        ensures { result ≡ true → IsInner self.now.size place }
+    {
+        goes_on(
+            self.size,
+            u32::from(place.column) + 1,
+            u32::from(place.row) + 1,
+        )
     }
 
     /// Those of them in the tile at a place.

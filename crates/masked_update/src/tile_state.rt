@@ -1,5 +1,5 @@
 //! A tile: eight subtiles, and how many pieces it took.
-ghost use Rattle.std.specs.Prelude.{◌≡◌, ℕ, ◌<◌, ◌≤◌, ◌^◌, false, length};
+ghost use Rattle.std.specs.Prelude.{◌≡◌, ℕ, ◌<◌, ◌≤◌, ◌^◌, false, true, length};
 ghost use Rattle.cull_base.specs.Fold.{IsLayered};
 ghost use Rattle.cull_base.specs.Piece.{IsPiece, box_of};
 ghost use Rattle.cull_base.specs.Screen.{IsSize, tile_columns_of, tile_rows_of, tile_count_of};
@@ -35,6 +35,7 @@ impl Model for TileState {
 impl TileState {
     ghost use Rattle.masked_update.specs.Coverage.{AreWanted};
     ghost use Rattle.masked_update.specs.TileOf.{sub_at, empty_tile};
+    ghost use Rattle.masked_update.specs.Inner.{IsInner};
     ghost use Rattle.masked_update.specs.Merged.{AreRowOf, IsSubBox};
     ghost use Rattle.masked_update.specs.Samples.{HoldsSampled};
     ghost use Rattle.masked_update.specs.Small.{HaveSameReferences};
@@ -124,9 +125,10 @@ impl TileState {
         piece.merge_into(&mut self.layers, reached, place)
     }
 
-    /// Merges a piece, whose edges over the tile's row are at hand, and doesn't count it. Conditions: the column and
-    /// the row are below the screen's, what is reached on it has each sample that the piece covers, and the edges are
-    /// the piece's.
+    /// Merges a piece, whose edges over the tile's row are at hand, and doesn't count it. Gives a nearness that no
+    /// reference is below then. Conditions: the column and the row are below the screen's, what is reached on it has
+    /// each sample that the piece covers, the edges are the piece's, and a tile that is said to be inner stands neither
+    /// at the screen's right end nor at its lower end.
     #[inline(always)]
     pub(crate) fn merge_over(
         &mut self,
@@ -134,15 +136,19 @@ impl TileState {
         reached: &SubBox,
         over: &TileRow,
         place: Tile,
-    )
+        is_inner: bool,
+    ) -> u32
         requires reached { HoldsSampled piece.now reached.now }
+        requires inner { is_inner ≡ true → IsInner reached.now.size place }
         requires over { AreRowOf over.now place.row piece.now }
         requires column { place.column < tile_columns_of reached.now.size }
         requires row { place.row < tile_rows_of reached.now.size }
         ensures merged { self.new ≡ merged_tile reached.now.size place piece.now self.old }
         ensures eight { length self.new.subs ≡ 8 }
+        ensures least { (j : ℕ) → j < 8 → result ≤ (sub_at self.new j).reference }
     {
-        piece.merge_over(&mut self.layers, reached, over, place);
+        piece.merge_over(&mut self.layers, reached, over, place, is_inner);
+        self.layers.least_reference()
     }
 
     /// Merges a piece, whose edges over the tile's row are at hand, and doesn't count it. A tile to which the edges
@@ -175,7 +181,7 @@ impl TileState {
         if nearest <= least {
             return;
         }
-        self.merge_over(piece, reached, over, place);
+        self.merge_over(piece, reached, over, place, reached.is_inner(place));
     }
 
     /// Merges a small piece, doesn't count it, and says whether any reference is another then. Conditions: the column and

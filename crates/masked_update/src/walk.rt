@@ -1,25 +1,45 @@
 //! A piece is drawn into the tiles of a canvas that its box reaches.
 ghost use Rattle.std.specs.Prelude.{◌≡◌, ℕ, ◌+◌, ◌<◌, ◌≤◌, ◌^◌, false, true, length, IsTrue};
 ghost use Rattle.std.specs.Int.{bit_at};
+ghost use Rattle.cull_base.specs.Depth.{greatest_nearness};
+ghost use Rattle.cull_base.specs.Piece.{IsPiece};
 ghost use Rattle.cull_base.specs.Screen.{IsSize, tile_rows_of};
-ghost use Rattle.cull_base.specs.Span.{IsPartOf, IsSpan, has_tile};
+ghost use Rattle.cull_base.specs.Span.{IsPartOf, IsSpan, has_tile, number_in};
 ghost use Rattle.masked_update.specs.Canvas.{CountedMet, IsInWindow, MergedMet, tile_in, tile_on};
+ghost use Rattle.masked_update.specs.Inner.{GoesOn};
 ghost use Rattle.masked_update.specs.Least.{NoneBelow};
 ghost use Rattle.masked_update.specs.Merged.{AreEdgesOf, AreRowOf};
 ghost use Rattle.masked_update.specs.Samples.{HoldsSampled};
-ghost use Rattle.masked_update.specs.Walk.{CountedWhere, MayCount, MergedWhere, NoneBelowWhere, StayWhere, is_in_row, is_marked, rows_before};
+ghost use Rattle.masked_update.specs.TileOf.{tile_at};
+ghost use Rattle.masked_update.specs.Walk.{CountedWhere, MayCount, MergedWhere, NoneBelowWhere, StayWhere};
+ghost use Rattle.masked_update.specs.Walk.{is_in_row, is_marked, rows_before};
 
 use crate::canvas::Canvas;
 use crate::piece_setup::PieceDepths;
 use crate::sample_box::sampled;
 use crate::small_piece::SmallPiece;
 use crate::small_walk::merge_small_in_span;
-use crate::sub_span::{SubBox, ones_between};
+use crate::sub_span::{SubBox, goes_on, ones_between};
 use cull_base::{ScreenTri, Size, Tile, TileSpan};
 use edge_lanes::{RowEdges, TileRow};
 
 /// So many tiles of a row are tested at once.
 const AT_ONCE: u32 = 8;
+
+// The tiles that a piece may change, of so many from a number on: bit i is that of tile number + i.
+#[inline(always)]
+fn marks_from(canvas: &Canvas, number: usize, count: u32, nearest: u32) -> u32
+    requires some { 1 ≤ count }
+    requires few { count ≤ 8 }
+    requires within { number + count ≤ length canvas.now.tiles }
+    ensures among { (i : ℕ) → i < 8 → bit_at result i ≡ 1 → i < count }
+    ensures behind { (i : ℕ) → i < count → bit_at result i ≡ 0
+        → NoneBelow nearest (tile_at canvas.now.tiles (number + i)) }
+    ensures eight { (i : ℕ) → i < count → length (tile_at canvas.now.tiles (number + i)).subs ≡ 8 }
+    ensures byte { result < 2 ^ 8 }
+{
+    canvas.may_change(number, nearest) & ones_between(0, count)
+}
 
 // The tiles of a row that a piece may change, of so many from a column on: bit i is that of the tile in column + i.
 #[inline(always)]
@@ -39,7 +59,7 @@ fn marks(canvas: &Canvas, span: TileSpan, row: u32, column: u32, count: u32, nea
 {
     let window = canvas.window();
     let number = window.row_start(row) + (column - window.first_column) as usize;
-    canvas.may_change(number, nearest) & ones_between(0, count)
+    marks_from(canvas, number, count, nearest)
 }
 
 // Whether a piece stands behind all tiles of one row, in the columns of a span.
@@ -101,15 +121,16 @@ fn count_in_span(canvas: &mut Canvas, span: TileSpan)
     }
 }
 
-/// Tiles of a row that are marked: bit i is that of the tile in column + i.
+/// A row of tiles, the number in the canvas of the tile there that stands in a span's first column, and whether no tile of
+/// the span stands at the screen's right or lower end.
 #[derive(Clone, Copy)]
-struct Marked {
+struct RowAt {
     row: u32,
-    column: u32,
-    bits: u32,
+    number: usize,
+    is_inner: bool,
 }
 
-// Merges a piece into the tiles of a row that are marked.
+// Merges a piece into the tiles of a row that are marked: bit i is that of the tile in the span's column i.
 #[inline(always)]
 fn merge_marked(
     canvas: &mut Canvas,
@@ -117,43 +138,40 @@ fn merge_marked(
     reached: &SubBox,
     over: &TileRow,
     span: TileSpan,
-    marked: Marked,
+    at: RowAt,
+    bits: u32,
 )
     requires part { IsPartOf canvas.old.window span }
     requires reached { HoldsSampled piece.now reached.now }
     requires span { IsSpan reached.now.size span }
-    requires row { (span.first_row ≤ marked.row) × (marked.row < span.end_row) }
-    requires small { marked.row < 256 }
-    requires over { AreRowOf over.now marked.row piece.now }
-    requires column { span.first_column ≤ marked.column }
-    requires within { (i : ℕ) → i < 8 → bit_at marked.bits i ≡ 1 → marked.column + i < span.end_column }
-    requires byte { marked.bits < 2 ^ 8 }
-    ensures { MergedWhere (is_marked marked.row marked.column marked.bits) reached.now.size piece.now
+    requires row { (span.first_row ≤ at.row) × (at.row < span.end_row) }
+    requires small { at.row < 256 }
+    requires over { AreRowOf over.now at.row piece.now }
+    requires number { at.number ≡ number_in canvas.old.window
+        (record { column = span.first_column; row = at.row }) }
+    requires inner { at.is_inner ≡ true → GoesOn reached.now.size span.end_column span.end_row }
+    requires within { (i : ℕ) → i < 8 → bit_at bits i ≡ 1 → span.first_column + i < span.end_column }
+    requires byte { bits < 2 ^ 8 }
+    ensures { MergedWhere (is_marked at.row span.first_column bits) reached.now.size piece.now
         canvas.old canvas.new }
 {
-    let window = canvas.window();
-    let start = window.row_start(marked.row);
-    // an accessor tells how many columns there may be
+    // accessors tell what is held of a canvas, and how many columns there may be
+    let _window = canvas.window();
     let _columns = reached.size.tile_columns();
-    let mut left = marked.bits;
+    let mut left = bits;
     while left != 0 {
         let j = left.trailing_zeros();
         let place = Tile {
-            column: (marked.column + j) as u16,
-            row: marked.row as u16,
+            column: (span.first_column + j) as u16,
+            row: at.row as u16,
         };
-        canvas.merge(
-            start + (marked.column + j - window.first_column) as usize,
-            piece,
-            reached,
-            over,
-            place,
-        );
+        let number = at.number + j as usize;
+        canvas.merge(number, piece, reached, over, place, at.is_inner);
         left &= !(1 << j);
     }
 }
 
-// Merges a piece into the tiles of one row, in the columns of a span. One that it stands behind stays.
+// Merges a piece into the tiles of one row of a span of at most eight columns. One that it stands behind stays.
 #[inline(always)]
 fn merge_in_row(
     canvas: &mut Canvas,
@@ -161,43 +179,75 @@ fn merge_in_row(
     edges: &RowEdges,
     reached: &SubBox,
     span: TileSpan,
-    row: u32,
+    at: RowAt,
+    nearest: u32,
 )
     requires part { IsPartOf canvas.old.window span }
     requires edges { AreEdgesOf edges.now piece.now }
     requires reached { HoldsSampled piece.now reached.now }
     requires span { IsSpan reached.now.size span }
-    requires row { (span.first_row ≤ row) × (row < span.end_row) }
-    requires small { row < 256 }
-    ensures { MergedWhere (is_in_row span row) reached.now.size piece.now canvas.old canvas.new }
+    requires row { (span.first_row ≤ at.row) × (at.row < span.end_row) }
+    requires small { at.row < 256 }
+    requires number { at.number ≡ number_in canvas.old.window
+        (record { column = span.first_column; row = at.row }) }
+    requires inner { at.is_inner ≡ true → GoesOn reached.now.size span.end_column span.end_row }
+    requires some { span.first_column < span.end_column }
+    requires few { span.end_column ≤ span.first_column + 8 }
+    requires nearest { nearest ≡ greatest_nearness piece.now }
+    requires valid { IsPiece piece.now }
+    ensures { MergedWhere (is_in_row span at.row) reached.now.size piece.now canvas.old canvas.new }
 {
-    // accessors tell what is held of a canvas and of a piece, and how many columns there may be
+    // accessors tell what is held of a canvas, and how many columns there may be
     let _window = canvas.window();
     let _columns = reached.size.tile_columns();
-    let nearest = piece.nearest();
-    let mut column = span.first_column;
-    while column < span.end_column {
-        let count = (span.end_column - column).min(AT_ONCE);
-        let marked = marks(canvas, span, row, column, count, nearest);
-        if marked != 0 {
-            // where the edges leave a tile nothing, it stays
-            let over = piece.over_row(edges, row);
-            let bits = marked & over.ahead(column);
-            merge_marked(
-                canvas,
-                piece,
-                reached,
-                &over,
-                span,
-                Marked { row, column, bits },
-            );
-        }
-        column += count;
+    let count = span.end_column - span.first_column;
+    let marked = marks_from(canvas, at.number, count, nearest);
+    if marked != 0 {
+        // where the edges leave a tile nothing, it stays
+        let over = piece.over_row(edges, at.row);
+        let bits = marked & over.ahead(span.first_column);
+        merge_marked(canvas, piece, reached, &over, span, at, bits);
     }
 }
 
-// Merges a piece into the tiles of a span. Out of line, so that the loops only read what the set-up has computed.
+// Merges a piece into the tiles of a span of at most eight columns. Out of line, so that the loop only reads what the
+// set-up has computed. What a row needs of the piece and of the window is read before it, and known to stay.
 #[inline(never)]
+fn merge_in_strip(
+    canvas: &mut Canvas,
+    piece: &PieceDepths,
+    edges: &RowEdges,
+    reached: &SubBox,
+    span: TileSpan,
+)
+    requires part { IsPartOf canvas.old.window span }
+    requires edges { AreEdgesOf edges.now piece.now }
+    requires reached { HoldsSampled piece.now reached.now }
+    requires span { IsSpan reached.now.size span }
+    requires sized { IsSize reached.now.size.width reached.now.size.height }
+    requires some { span.first_column < span.end_column }
+    requires few { span.end_column ≤ span.first_column + 8 }
+    ensures { MergedWhere (has_tile span) reached.now.size piece.now canvas.old canvas.new }
+{
+    let window = canvas.window();
+    let columns = window.columns() as usize;
+    let nearest = piece.nearest();
+    let is_inner = goes_on(reached.size, span.end_column, span.end_row);
+    let start = window.row_start(span.first_row);
+    let mut number = start + (span.first_column - window.first_column) as usize;
+    for row in span.first_row..span.end_row {
+        let at = RowAt {
+            row,
+            number,
+            is_inner,
+        };
+        merge_in_row(canvas, piece, edges, reached, span, at, nearest);
+        number += columns;
+    }
+}
+
+// Merges a piece into the tiles of a span, so many columns at a time as are tested at once.
+#[inline(always)]
 fn merge_in_span(
     canvas: &mut Canvas,
     piece: &PieceDepths,
@@ -214,10 +264,16 @@ fn merge_in_span(
 {
     // an accessor tells what is held of a canvas
     let _window = canvas.window();
-    // a copy: what is computed of it is known to stay while tiles are written
-    let here = *reached;
-    for row in span.first_row..span.end_row {
-        merge_in_row(canvas, piece, edges, &here, span, row);
+    let mut column = span.first_column;
+    while column < span.end_column {
+        let count = (span.end_column - column).min(AT_ONCE);
+        let strip = TileSpan {
+            first_column: column,
+            end_column: column + count,
+            ..span
+        };
+        merge_in_strip(canvas, piece, edges, reached, strip);
+        column += count;
     }
 }
 

@@ -182,14 +182,14 @@ fn draw_tasks<R: Threads + Wait + Sync, G: Gate, C: Caller, K: Draws>(
 
 /// A frame drawn by workers through cells, while a caller reads them, as `draw_frame` draws it: each member of a tile's
 /// list is a store in its cell, and the writers are given back in tile order, each of these cells and at the length of
-/// its tile's list, whatever the cut, the number of workers and the size of batches. All batches are binned and
-/// submitted in order first. Then each worker draws the bins of its own, bin b belonging to worker b mod workers, and
-/// when it is done with them those that are left to others; each bin is drawn whole, by one of them. The caller is lent
-/// these cells and this reader, in a thread of its own, and is done afterwards. The gate is asked before a batch is
-/// binned, and before a bin draws a member, with the number that it has drawn. Err where memory gave out: the writers
-/// are given up then. Conditions: the cells are of this list, the writers and the reader are those that were made with
-/// them, and no member is drawn; the caller is ready; 1 to 64 workers, and a batch has at least one piece, so that
-/// there are at most 2048.
+/// its tile's list, whatever the cut, the number of workers and the size of batches. All batches are binned first, of
+/// many pieces by the workers side by side, and submitted in order. Then each worker draws the bins of its own, bin b
+/// belonging to worker b mod workers, and when it is done with them those that are left to others; each bin is drawn
+/// whole, by one of them. The caller is lent these cells and this reader, in a thread of its own, and is done
+/// afterwards. The gate is asked before a batch is binned, and before a bin draws a member, with the number that it has
+/// drawn. Err where memory gave out: the writers are given up then. Conditions: the cells are of this list, the writers
+/// and the reader are those that were made with them, and no member is drawn; the caller is ready; 1 to 64 workers, and
+/// a batch has at least one piece, so that there are at most 2048.
 pub fn draw_stolen<R: Threads + Wait + Sync, G: Gate, C: Caller>(
     rt: &R,
     alloc: Global,

@@ -1,26 +1,36 @@
-use Rattle.std.proofs.Common.{◌≡◌, ◌^◌, ℕ, ℤ, pos, ◌-ℤ◌, List, FitsSigned, w32, slice_index_or, rules}
+use Rattle.std.proofs.Common.{◌≡◌, ◌^◌, ◌&&◌, Bool, true, FitsSigned, w32, arith}
+use Rattle.std.proofs.lemmas.Bool.{and_parts}
 use Rattle.std.proofs.lemmas.Int.{to_z-of_z}
-use Rattle.cull_base.specs.Bounds.{Bounded}
-use Rattle.cull_base.specs.Piece.{Piece}
-use Rattle.edge_lanes.specs.Lines.{AreFew}
+use Rattle.edge_lanes.proofs.Around.{lanes_from, lanes_through}
 use Rattle.edge_lanes.proofs.small_edges.is_little.Goals as goal
 
-abbrev at : List ℤ → ℕ → ℤ
-at xs k = slice_index_or xs k (pos 0)
+pub are_few-requires-clause-across : goal.are_few-requires-clause-across
+are_few-requires-clause-across c = lanes_through (2 ^ 30) c.args.row (omega arith) c.requires.row
 
-joined : (t : Piece) (xs ys : List ℤ) → xs ≡ t.xs → ys ≡ t.ys →
-    Bounded (2 ^ 10) (at xs 1 -ℤ at xs 0) → Bounded (2 ^ 10) (at xs 2 -ℤ at xs 1) → Bounded (2 ^ 10) (at xs 0 -ℤ at xs 2) →
-    Bounded (2 ^ 10) (at ys 1 -ℤ at ys 0) → Bounded (2 ^ 10) (at ys 2 -ℤ at ys 1) → Bounded (2 ^ 10) (at ys 0 -ℤ at ys 2) → AreFew t
-joined t xs ys ex ey a b c d e f = record {
-  first = record { across = rw ex at a; down = rw ey at d };
-  second = record { across = rw ex at b; down = rw ey at e };
-  third = record { across = rw ex at c; down = rw ey at f };
-}
+pub are_few-requires-clause-down : goal.are_few-requires-clause-down
+are_few-requires-clause-down c = lanes_through (2 ^ 30) c.args.column (omega arith) c.requires.column
 
-pub returns-then-are_together : goal.returns-then-are_together
-returns-then-are_together c h =
-    let f0 : FitsSigned w32 (at c.x-x.result 0) = search rules in let f1 : FitsSigned w32 (at c.x-x.result 1) = search rules in let f2 : FitsSigned w32 (at c.x-x.result 2) = search rules in
-    let g0 : FitsSigned w32 (at c.y-y.result 0) = search rules in let g1 : FitsSigned w32 (at c.y-y.result 1) = search rules in let g2 : FitsSigned w32 (at c.y-y.result 2) = search rules in
-    joined c.args.tri.now c.x-x.result c.y-y.result c.x-x.ensures.value c.y-y.ensures.value
-    (simp to_z-of_z at (c.are_together.ensures.first c.if-are_together.true)) (simp to_z-of_z at (c.are_together.ensures.second c.if-are_together.true)) (simp to_z-of_z at (c.are_together.ensures.third c.if-are_together.true))
-    (simp to_z-of_z at (c.are_together-then-are_together.ensures.first h)) (simp to_z-of_z at (c.are_together-then-are_together.ensures.second h)) (simp to_z-of_z at (c.are_together-then-are_together.ensures.third h))
+three : (a b c : Bool) → ((a && b) && c) ≡ true → (a ≡ true) × (b ≡ true) × (c ≡ true)
+three a b c h = let outer = and_parts (a && b) c h in let inner = and_parts a b outer.0 in (inner.0, inner.1, outer.1)
+
+pub returns-clause-x : goal.returns-clause-x
+returns-clause-x c h =
+    let f : FitsSigned w32 c.args.x = c.ranges.x in
+    let all = three c.are_few.result c.is_near.result c.is_near-2.result h in
+    simp to_z-of_z at (c.is_near.ensures all.1)
+
+pub returns-clause-y : goal.returns-clause-y
+returns-clause-y c h =
+    let f : FitsSigned w32 c.args.y = c.ranges.y in
+    let all = three c.are_few.result c.is_near.result c.is_near-2.result h in
+    simp to_z-of_z at (c.is_near-2.ensures all.2)
+
+pub returns-clause-row : goal.returns-clause-row
+returns-clause-row c h =
+    let all = three c.are_few.result c.is_near.result c.is_near-2.result h in
+    lanes_from (2 ^ 10) (2 ^ 30) c.args.row (omega arith) c.requires.row (c.are_few.ensures.across all.0)
+
+pub returns-clause-column : goal.returns-clause-column
+returns-clause-column c h =
+    let all = three c.are_few.result c.is_near.result c.is_near-2.result h in
+    lanes_from (2 ^ 10) (2 ^ 30) c.args.column (omega arith) c.requires.column (c.are_few.ensures.down all.0)
