@@ -16,4 +16,5 @@ pub mod Pixels
 pub mod HiddenObjects
 pub mod Nearer
 pub mod EightLanes
+pub mod SignedLanes
 pub mod Lists

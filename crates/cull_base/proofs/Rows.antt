@@ -88,15 +88,10 @@ above = flat 0 0 32 0 32 32 0
 abbrev below : Piece
 below = flat 0 0 32 32 0 32 0
 
--- The one above covers both samples on the diagonal and the sample (24, 8).
-above_covers : mask_l (covered above (sub_at 0 0)) ≡ 0x203
+-- The one above covers both samples on the diagonal and the sample (24, 8), the one below the sample (8, 24) alone.
+diagonal_covers : (mask_l (covered above (sub_at 0 0)) ≡ 0x203) × (mask_l (covered below (sub_at 0 0)) ≡ 0x100)
 unfolding covered each_sample covers
-above_covers = refl
-
--- The one below covers the sample (8, 24) alone.
-below_covers : mask_l (covered below (sub_at 0 0)) ≡ 0x100
-unfolding covered each_sample covers
-below_covers = refl
+diagonal_covers = (refl, refl)
 
 -- The samples on the shared diagonal belong to the one above alone, whose left edge it is, and are touched by both.
 diagonal_first : map (covers above) (at 8 8 ∷ at 24 24 ∷ []) ≡ true ∷ true ∷ []
@@ -115,24 +110,15 @@ diagonal_touched = refl
 abbrev falling : Piece
 falling = record { xs = pos 0 ∷ pos 512 ∷ pos 0 ∷ []; ys = pos 0 ∷ pos 0 ∷ pos 512 ∷ []; qs = 1000 ∷ 200 ∷ 1000 ∷ [] }
 
--- Over the first subtile, x from 8 to 120, the depth falls from 987.5 to 812.5.
-falling_low : low_of falling (sub_at 0 0) ≡ 812
+-- Over the first subtile, x from 8 to 120, the depth falls from 987.5 to 812.5. In the fourth subtile the least depth is 212.5.
+-- Past the right corner the plane falls below the least nearness, which holds the bound up.
+falling_low : map (λ c. low_of falling (sub_at c 0)) (0 ∷ 3 ∷ 4 ∷ []) ≡ 812 ∷ 212 ∷ 200 ∷ []
 unfolding low_of each_sample
 falling_low = refl
 
 falling_high : high_of falling (sub_at 0 0) ≡ 988
 unfolding high_of each_sample
 falling_high = refl
-
--- In the fourth subtile the least depth is 212.5.
-falling_low_3 : low_of falling (sub_at 3 0) ≡ 212
-unfolding low_of each_sample
-falling_low_3 = refl
-
--- Past the right corner the plane falls below the least nearness, which holds the bound up.
-falling_low_4 : low_of falling (sub_at 4 0) ≡ 200
-unfolding low_of each_sample
-falling_low_4 = refl
 
 -- The box of a piece has the pixels of its least and its greatest coordinates.
 box_of_piece : box_of (flat 0 0 159 0 159 127 0) ≡ rect 0 0 10 8
@@ -207,14 +193,13 @@ three = in_first ∷ in_both ∷ in_second ∷ []
 abbrev over : Dimensions → List Piece → PieceList
 over size members = record { size = size; members = members }
 
--- The middle piece is in the lists of both tiles.
-first_tile_list : tile_list 0 (over (record { width = 64; height = 8 }) three) ≡ in_first ∷ in_both ∷ []
-unfolding tile_list
-first_tile_list = refl
+abbrev in_tile : ℕ → List Piece
+in_tile n = tile_list n (over (record { width = 64; height = 8 }) three)
 
-second_tile_list : tile_list 1 (over (record { width = 64; height = 8 }) three) ≡ in_both ∷ in_second ∷ []
+-- The middle piece is in the lists of both tiles.
+tile_lists : (in_tile 0 ≡ in_first ∷ in_both ∷ []) × (in_tile 1 ≡ in_both ∷ in_second ∷ [])
 unfolding tile_list
-second_tile_list = refl
+tile_lists = (refl, refl)
 
 -- a quad over a screen of 32 by 8 pixels, at a nearness of 32767: the piece above its diagonal and the one below
 abbrev quad_above : Piece

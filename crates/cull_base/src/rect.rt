@@ -2,6 +2,8 @@
 ghost use Rattle.std.specs.Prelude.{◌≡◌, ℤ, IsTrue, ◌↔◌, false, int_lt};
 ghost use Rattle.std.specs.Int.{int_min, int_max};
 
+use std::simd::prelude::*;
+
 /// The pixels from (x0, y0) to before (x1, y1); none where x0 isn't below x1, or y0 isn't below y1.
 #[derive(Clone, Copy, Debug, PartialEq, Eq)]
 pub struct Rect {
@@ -48,6 +50,19 @@ impl Rect {
     {
         overlap(self.x0, self.x1, other.x0, other.x1)
             && overlap(self.y0, self.y1, other.y0, other.y1)
+    }
+
+    /// As `meets`, both axes side by side: for rectangles that are computed so.
+    #[inline(always)]
+    pub fn meets_in_lanes(&self, other: &Rect) -> bool
+        ensures { result ≡ meets self.now other.now }
+    {
+        let first = i32x2::from_array([self.x0, self.y0]);
+        let end = i32x2::from_array([self.x1, self.y1]);
+        let other_first = i32x2::from_array([other.x0, other.y0]);
+        let other_end = i32x2::from_array([other.x1, other.y1]);
+        let from = first.simd_max(other_first);
+        from.simd_lt(end.simd_min(other_end)).all()
     }
 
     /// The pixels in both; (0, 0, 0, 0) where there are none.

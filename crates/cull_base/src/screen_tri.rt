@@ -6,9 +6,9 @@ ghost use Rattle.cull_base.specs.Piece.{IsCoordinate, IsPiece, Piece, least_of, 
 ghost use Rattle.cull_base.specs.declared.nearness.TheConstants.{HELD_TOP};
 
 use crate::arithmetic::edge_value;
-use crate::extent::Extent;
 use crate::nearness::HELD_TOP;
 use crate::rect::Rect;
+use crate::sample_box::box_around;
 use std::marker::Model;
 
 /// A triangle on the screen: coordinates in sixteenths of a pixel, nearness from 0 to the top that pieces hold, and a
@@ -124,13 +124,6 @@ impl ScreenTri {
     pub fn boxed(&self) -> Rect
         ensures { result ≡ box_of self.now }
     {
-        let across = Extent::of_three(&self.x);
-        let down = Extent::of_three(&self.y);
-        Rect {
-            x0: across.first_pixel(),
-            y0: down.first_pixel(),
-            x1: across.end_pixel(),
-            y1: down.end_pixel(),
-        }
+        box_around(&self.x, &self.y)
     }
 }

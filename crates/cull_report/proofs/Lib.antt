@@ -1,4 +1,5 @@
 pub mod ReportLines
+pub mod WrittenFrames
 pub mod MadeRuns
 pub mod Agreement
 pub mod TileStates

@@ -5,7 +5,8 @@ use Rattle.std.proofs.lemmas.List.{take_all, take_min, take_more, length-append,
 use Rattle.std.proofs.lemmas.Nat.{mul-le}
 use Rattle.cull_base.specs.declared.scene_types.Object.{Object}
 use Rattle.cull_base.specs.declared.scene_types.Verdict.{Verdict}
-use Rattle.cull_report.specs.Runs.{AreRunsOf, AreToldRuns, IsMadeRun, IsRunOf, IsToldRun, IsWaitingRun, run_of}
+use Rattle.cull_report.specs.Runs.{AreRunsOf, AreToldRuns, IsMadeRun, IsRunOf, IsToldRun, IsWaitingRun, run_of, run_place}
+use Rattle.cull_report.specs.Tallies.{Adds, IsFew}
 use Rattle.cull_report.specs.Text.{verdict_lines}
 use Rattle.cull_report.specs.declared.runs.Run.{Run}
 use Rattle.cull_report.specs.declared.tally.Tally.{Tally}
@@ -93,3 +94,17 @@ run_at all size k runs run are lt is = subst (IsMadeRun all size k) (sym is) (ar
 -- and what is counted of it
 pub told_at : (objects : ℕ) (told : ℕ → Tally) (size k : ℕ) (runs : List Run) (run : Run) → AreToldRuns objects told size runs → k < length runs → run ≡ get_or runs k run → IsToldRun objects told size k run
 told_at objects told size k runs run are lt is = subst (IsToldRun objects told size k) (sym is) (are.each k run lt)
+
+-- with what is counted of the runs before it
+abbrev pub tally_and : Tally → Tally → Tally
+tally_and t more = record { hidden = t.hidden + more.hidden; members = t.members + more.members }
+
+pub told_more : (objects : ℕ) (told : ℕ → Tally) (size k : ℕ) (runs : List Run) (run : Run) (before so_far : Tally) → AreToldRuns objects told size runs → k < length runs → run ≡ get_or runs k run
+    → Adds before so_far (told (run_place objects size k)) → Adds before (tally_and so_far run.tally) (told (run_place objects size (k + 1)))
+told_more objects told size k runs run before so_far are lt is adds =
+    let here : Adds (told (run_place objects size k)) run.tally (told (run_place objects size (k + 1))) = told_at objects told size k runs run are lt is in
+    record { hidden = omega (arith, adds.hidden, here.hidden); members = omega (arith, adds.members, here.members) }
+
+-- which is no more than of all
+pub few_so_far : (before so_far after : Tally) → Adds before so_far after → IsFew after → IsFew so_far
+few_so_far before so_far after adds few = record { hidden = omega (arith, adds.hidden, few.hidden); members = omega (arith, adds.members, few.members) }

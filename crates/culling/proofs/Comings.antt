@@ -52,7 +52,7 @@ use Rattle.culling.specs.declared.frames.Beside.TheVariants.{Nothing, Looks}
 use Rattle.culling.specs.declared.frames.FrameLines.TheVariants.{Report, Summary}
 use Rattle.culling.proofs.Checking.{short_fault}
 use Rattle.culling.proofs.FrameByFrame.{are_empty, unseen, unseen_rises}
-use Rattle.culling.proofs.FrameTexts.{as_one_text, counts_same, never_done, none_at, unwritten, whole_leaves, without_notes}
+use Rattle.culling.proofs.FrameTexts.{as_one_text, counts_same, front_unnoted, never_done, none_at, unwritten, whole_leaves, without_notes}
 use Rattle.culling.proofs.Fronts.{nothing_appended, rose_later}
 use Rattle.culling.proofs.GroupLines.{group_frames_are}
 use Rattle.culling.proofs.OutcomeTexts.{ended_by, header_some, joined_is, live_frames_are, not_empty, summary_some}
@@ -111,21 +111,7 @@ comes_unread c i0 i1 r n P Q reads rose p q = record {
 
 -- memory ran out before anything was written
 early_memory : (o : OutcomeOf) (r : SinkSays) (noted : List ℕ → List ℕ → Type 0) → noted [] (status_text statuses.Memory) → Leaves o statuses.Memory r r noted
-early_memory o r noted none = inr (
-  inr (inr refl),
-  record {
-    frame = 0;
-    is_frame = λ some. some;
-    reported = nothing_front r (report_before o (0 + 1));
-    earlier = λ lt. absurd (omega arith);
-    size = 0;
-    within = omega arith;
-    whole = λ lt. absurd (omega arith);
-    noted_is = none;
-    of_report = λ is. refl;
-    of_notes = λ is. absurd cc;
-  },
-)
+early_memory o r noted none = inr (inr (inr refl), front_unnoted o statuses.Memory r r noted (nothing_front r (report_before o (0 + 1))) none (λ is. absurd cc))
 
 comes_early : (c : Command) (o : OutcomeOf) (i0 i1 : SourceSays) (r n0 n1 : SinkSays) (noted : SinkSays → SinkSays → List ℕ → List ℕ → Type 0) (P Q : Type 0) → Ends c i0 o
     → noted n0 n1 [] (status_text statuses.Memory) → P → Q → Comes c statuses.Memory (streams i0 r n0) (streams i1 r n1) noted P Q
@@ -144,22 +130,12 @@ pub failed_read : (c : Command) (i0 i1 : SourceSays) (r n : SinkSays) (e : Scene
 failed_read c i0 i1 r n errors.Read P Q reads fault rose p q = comes_unread c i0 i1 r n P Q reads (rose refl) p q
 failed_read c i0 i1 r n errors.Memory P Q reads fault rose p q =
     comes_early c (note_alone statuses.ReadFault (status_text statuses.ReadFault)) i0 i1 r n n (AwaitsNote (Err Memory)) P Q (ends_unread c i0 reads) (nothing_awaits n (Err Memory) (status_text statuses.Memory) refl) p q
-failed_read c i0 i1 r n (errors.Truncated need have) P Q reads fault rose p q = comes_refused c i0 i1 r n (errors.Truncated need have) P Q reads tt (fault tt) p q
-failed_read c i0 i1 r n errors.BadMagic P Q reads fault rose p q = comes_refused c i0 i1 r n errors.BadMagic P Q reads tt (fault tt) p q
-failed_read c i0 i1 r n (errors.BadVersion v) P Q reads fault rose p q = comes_refused c i0 i1 r n (errors.BadVersion v) P Q reads tt (fault tt) p q
-failed_read c i0 i1 r n (errors.BadSize w h) P Q reads fault rose p q = comes_refused c i0 i1 r n (errors.BadSize w h) P Q reads tt (fault tt) p q
-failed_read c i0 i1 r n (errors.BadNear near) P Q reads fault rose p q = comes_refused c i0 i1 r n (errors.BadNear near) P Q reads tt (fault tt) p q
-failed_read c i0 i1 r n (errors.BadWinding w) P Q reads fault rose p q = comes_refused c i0 i1 r n (errors.BadWinding w) P Q reads tt (fault tt) p q
-failed_read c i0 i1 r n (errors.BadReserved b) P Q reads fault rose p q = comes_refused c i0 i1 r n (errors.BadReserved b) P Q reads tt (fault tt) p q
-failed_read c i0 i1 r n (errors.BadCount f v) P Q reads fault rose p q = comes_refused c i0 i1 r n (errors.BadCount f v) P Q reads tt (fault tt) p q
-failed_read c i0 i1 r n errors.Trailing P Q reads fault rose p q = comes_refused c i0 i1 r n errors.Trailing P Q reads tt (fault tt) p q
-failed_read c i0 i1 r n (errors.BadVertex i) P Q reads fault rose p q = comes_refused c i0 i1 r n (errors.BadVertex i) P Q reads tt (fault tt) p q
-failed_read c i0 i1 r n (errors.BadIndex t i) P Q reads fault rose p q = comes_refused c i0 i1 r n (errors.BadIndex t i) P Q reads tt (fault tt) p q
-failed_read c i0 i1 r n (errors.BadKind i) P Q reads fault rose p q = comes_refused c i0 i1 r n (errors.BadKind i) P Q reads tt (fault tt) p q
-failed_read c i0 i1 r n (errors.BadObject i) P Q reads fault rose p q = comes_refused c i0 i1 r n (errors.BadObject i) P Q reads tt (fault tt) p q
-failed_read c i0 i1 r n (errors.BadCamera i) P Q reads fault rose p q = comes_refused c i0 i1 r n (errors.BadCamera i) P Q reads tt (fault tt) p q
-failed_read c i0 i1 r n (errors.BadGrade grade) P Q reads fault rose p q = comes_refused c i0 i1 r n (errors.BadGrade grade) P Q reads tt (fault tt) p q
-failed_read c i0 i1 r n (errors.BadBatch i) P Q reads fault rose p q = comes_refused c i0 i1 r n (errors.BadBatch i) P Q reads tt (fault tt) p q
+failed_read c i0 i1 r n e P Q reads fault rose p q = comes_refused c i0 i1 r n e P Q reads tt (fault tt) p q
+
+-- and so a call that asked for the scene ends
+pub read_failed : (c : Command) (i0 i1 : SourceSays) (r n : SinkSays) (e : SceneError) (f : Failure) (result : Result (Unit {0}) Failure) (P Q : Type 0) → result ≡ Err f → f ≡ failure_of e → ReadsScene c
+    → (IsRefusal e → HasFault c i0 e) → (e ≡ errors.Read → Rose i0.faults i1.faults) → P → Q → Comes c (status_by result) (streams i0 r n) (streams i1 r n) (AwaitsNote result) P Q
+read_failed c i0 i1 r n e f result P Q is came reads fault rose p q = rw (is, came) (failed_read c i0 i1 r n e P Q reads fault rose p q)
 
 -- ---- a scene's frames
 
@@ -367,18 +343,8 @@ answer_unwritten c answer e i0 i1 r0 r1 n P Q ends w q =
   where
     front_of : (f : Failure) → AppendsPrefix r0 r1 (answer_text answer ++ []) → status_text (status_of f) ≡ note_text f → (status_of f ≡ statuses.NotesFault → ⊥)
         → LeavesFront (answer_alone answer) (status_of f) r0 r1 (AwaitsNote (Err f) n n)
-    front_of f front noted not_notes = record {
-      frame = 0;
-      is_frame = λ some. some;
-      reported = front;
-      earlier = λ lt. absurd (omega arith);
-      size = 0;
-      within = omega arith;
-      whole = λ lt. absurd (omega arith);
-      noted_is = nothing_awaits n (Err f) (status_text (status_of f)) noted;
-      of_report = λ is. refl;
-      of_notes = λ is. absurd (not_notes is);
-    }
+    front_of f front noted not_notes =
+        front_unnoted (answer_alone answer) (status_of f) r0 r1 (AwaitsNote (Err f) n n) front (nothing_awaits n (Err f) (status_text (status_of f)) noted) not_notes
 
     by : (e : SinkError) → AppendsPrefix r0 r1 (answer_text answer ++ []) → (answer_text answer ++ [] ≡ [] → ⊥) → Writes r0 r1 (Err e) (answer_text answer)
         → Comes c (status_of (sink_failure e)) (streams i0 r0 n) (streams i1 r1 n) (AwaitsNote (Err (sink_failure e))) P Q

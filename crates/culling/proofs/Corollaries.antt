@@ -254,6 +254,13 @@ not_noted : (group : Option ℕ) (t : Parts) (o : OutcomeOf) (R : Type 0) → o.
 not_noted None t o R is never fault = fault.0 is
 not_noted (Some n) t o R is never fault = never n refl fault.1
 
+-- of bytes that have no fault
+without_fault : (left : Option (List ℕ)) (bytes : List ℕ) (e : SceneError) → left ≡ Some bytes → first_fault bytes ≡ None → IfSome left (λ x. first_fault x ≡ Some e) → ⊥
+without_fault left bytes e is none fault =
+    let some : first_fault bytes ≡ Some e = subst (λ (l : Option (List ℕ)). IfSome l (λ x. first_fault x ≡ Some e)) is fault in
+    let no : Some e ≡ None = sym some ∙ none in
+    cc
+
 pub complete_cull : (words : CullWords) (status : Status) (before after : Streams) (P Q : Type 0) (s : Parts) (bytes : List ℕ) → before.input.left ≡ Some bytes → bytes ≡ layout s → IsScene s
     → (Rose before.input.faults after.input.faults → ⊥) → (Rose before.report.faults after.report.faults → ⊥) → ((n : ℕ) → words.group ≡ Some n → Rose before.notes.faults after.notes.faults → ⊥)
     → Comes (Cull words) status before after IsNotedBehind P Q → (status ≡ statuses.Done) ⊎ (status ≡ statuses.Memory)
@@ -277,10 +284,7 @@ complete_cull words status before after P Q s bytes left spelled scene no_read n
           (not_noted words.group t o (Rose before.notes.faults after.notes.faults) (ap (λ (x : OutcomeOf). x.notes) same) no_notes, inl (ap (λ (x : OutcomeOf). x.status) same))
       | inr rest ↦ elim rest [
         | inl bad ↦
-            let (e, refusal, fault, same) = bad in
-            let some : first_fault b ≡ Some e = subst (λ (l : Option (List ℕ)). IfSome l (λ x. first_fault x ≡ Some e)) is fault in
-            let no : Some e ≡ None = sym some ∙ none in
-            absurd cc
+            let (e, refusal, fault, same) = bad in absurd (without_fault source.left b e is none fault)
         | inr unread ↦ ((λ fault. fault.0 (ap (λ (x : OutcomeOf). x.notes) unread)), inr (ap (λ (x : OutcomeOf). x.status) unread))
       ]
     ]
@@ -313,10 +317,7 @@ missing_picture words status before after P Q s bytes left spelled scene past no
           (ap report_of missing, ap (λ (x : OutcomeOf). x.notes) missing, inl (ap (λ (x : OutcomeOf). x.status) missing))
       | inr rest ↦ elim rest [
         | inl bad ↦
-            let (e, refusal, fault, same) = bad in
-            let some : first_fault bytes ≡ Some e = subst (λ (l : Option (List ℕ)). IfSome l (λ x. first_fault x ≡ Some e)) is fault in
-            let no : Some e ≡ None = sym some ∙ none in
-            absurd cc
+            let (e, refusal, fault, same) = bad in absurd (without_fault source.left bytes e is none fault)
         | inr unread ↦ (ap report_of unread, ap (λ (x : OutcomeOf). x.notes) unread, inr (ap (λ (x : OutcomeOf). x.status) unread))
       ]
     ]

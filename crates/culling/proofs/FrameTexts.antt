@@ -14,10 +14,11 @@ use Rattle.culling.specs.FrameRuns.{IsFrameFailure, LeavesTexts, texts_told}
 use Rattle.culling.specs.NotedLines.{CountsStay, NotesLines}
 use Rattle.culling.specs.Notes.{note_text, status_text}
 use Rattle.culling.specs.Outcome.{sink_failure, status_by, status_of}
-use Rattle.culling.specs.Outcomes.{OutcomeOf, joined, notes_at, report_of, text_alone}
+use Rattle.culling.specs.Outcomes.{OutcomeOf, joined, notes_at, report_before, report_of, text_alone}
 use Rattle.culling.specs.Runs.{AwaitsNote, IsCut, LeavesFront}
 use Rattle.culling.specs.declared.failure.Failure.{Failure}
 use Rattle.culling.specs.declared.failure.Failure.TheVariants.{Scene, ReadFault, ReportFault, NotesFault, Memory, Log, Frame}
+use Rattle.culling.specs.declared.failure.Status.{Status}
 use Rattle.culling.specs.declared.failure.Status.TheVariants as statuses
 use Rattle.culling.proofs.Fronts.{all_is_front, front_of_more, front_then, nothing_appended, rose_later}
 
@@ -358,26 +359,29 @@ report_failed Log is = absurd cc
 report_failed (Frame frame frames) is = absurd cc
 
 -- only a beginning of the report stands, up to the first frame's end, and nothing was noted
+pub front_unnoted : (o : OutcomeOf) (status : Status) (r0 r1 : SinkSays) (noted : List ℕ → List ℕ → Type 0) → AppendsPrefix r0 r1 (report_before o (0 + 1)) → noted [] (status_text status)
+    → (status ≡ statuses.NotesFault → ⊥) → LeavesFront o status r0 r1 noted
+front_unnoted o status r0 r1 noted front none other = record {
+  frame = 0;
+  is_frame = λ some. some;
+  reported = front;
+  earlier = λ lt. absurd (omega arith);
+  size = 0;
+  within = omega arith;
+  whole = λ lt. absurd (omega arith);
+  noted_is = none;
+  of_report = λ is. refl;
+  of_notes = λ is. absurd (other is);
+}
+
+-- and so of frames one behind the other
 pub unnoted : (head : List ℕ) (fs ns : List (List ℕ)) (f : Failure) (r0 r1 n : SinkSays) → AppendsPrefix r0 r1 (head ++ joined (take 1 fs)) → (f ≡ NotesFault → ⊥)
     → IsFrameFailure (texts_told head fs ns) f r0 r1 n n → r0.faults ≤ r1.faults → LeavesTexts (texts_told head fs ns) (Err f) r0 r1 n n
 unnoted head fs ns f r0 r1 n front other cause stays =
     let cut = cut_by (texts_told head fs ns) f r0 r1 n n cause in
+    let none : AwaitsNote (Err f) n n [] (status_text (status_of f)) = record { gained = nothing_appended n; note_is = cut.1; stay = counts_same n } in
     record {
-      leaves = inr (
-        cut.0,
-        record {
-          frame = 0;
-          is_frame = λ some. some;
-          reported = front;
-          earlier = λ lt. absurd (omega arith);
-          size = 0;
-          within = omega arith;
-          whole = λ lt. absurd (omega arith);
-          noted_is = record { gained = nothing_appended n; note_is = cut.1; stay = counts_same n };
-          of_report = λ is. refl;
-          of_notes = λ is. absurd (other (notes_failed f is));
-        },
-      );
+      leaves = inr (cut.0, front_unnoted (texts_told head fs ns) (status_of f) r0 r1 (AwaitsNote (Err f) n n) front none (λ is. other (notes_failed f is)));
       cause = cause;
       report_stays = stays;
     }
@@ -385,6 +389,10 @@ unnoted head fs ns f r0 r1 n front other cause stays =
 -- memory ran out before anything was written
 pub no_memory : (head : List ℕ) (fs ns : List (List ℕ)) (r n : SinkSays) → LeavesTexts (texts_told head fs ns) (Err Memory) r r n n
 no_memory head fs ns r n = unnoted head fs ns Memory r r n (0, omega arith, nothing_appended r) (λ is. absurd cc) (inl refl) (omega arith)
+
+-- and so a call ends in it that was to write one text
+pub out_of_memory : (text : List ℕ) (r n : SinkSays) (result : Result (Unit {0}) Failure) (f : Failure) → result ≡ Err f → f ≡ Memory → LeavesTexts (text_alone text) result r r n n
+out_of_memory text r n result f is memory = rw (is, memory) (no_memory text [] [] r n)
 
 -- a text of the report couldn't be written whole
 some_text : (n : ℕ) (t : List ℕ) → n < length t → t ≡ [] → ⊥

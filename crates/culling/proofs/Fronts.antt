@@ -1,17 +1,13 @@
 -- Texts on sinks, and beginnings of texts.
-use Rattle.std.proofs.Common.{◌≡◌, ℕ, ◌+◌, ◌≤◌, ◌++◌, List, [], length, take, arith, refl, sym, ap, Option, Some, None}
-use Rattle.std.specs.Option.{option_map}
-use Rattle.std.proofs.lemmas.List.{append-nil, length-append, take-append-le}
+use Rattle.std.proofs.Common.{ℕ, ◌+◌, ◌≤◌, ◌++◌, List, [], length, take, arith}
+use Rattle.std.proofs.lemmas.List.{length-append, take-append-le}
 use Rattle.std.proofs.Math.Seq.{take-append-add, take-length}
 use Rattle.cull_base.specs.Stream.{SinkSays, Appends, AppendsPrefix, Rose}
 use Rattle.cull_base.proofs.Streams.{appends_then}
+use Rattle.depth_image.proofs.Pictures.{nothing_written}
 
 pub nothing_appended : (says : SinkSays) → Appends says says []
-nothing_appended says = by says.holding
-  where
-    by : (held : Option (List ℕ)) → held ≡ option_map (λ (h : List ℕ). h ++ []) held
-    by None = refl
-    by (Some h) = ap Some (sym (append-nil h))
+nothing_appended says = nothing_written says
 
 -- a whole text is a beginning of itself
 pub all_is_front : (s0 s1 : SinkSays) (a : List ℕ) → Appends s0 s1 a → AppendsPrefix s0 s1 a

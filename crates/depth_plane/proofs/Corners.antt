@@ -11,7 +11,9 @@ use Rattle.cull_base.proofs.Ring.{diff-mul, diff-same, pos_is, over1}
 use Rattle.cull_base.specs.declared.place.Sub.{Sub}
 use Rattle.cull_base.specs.declared.place.Tile.{Tile}
 use Rattle.depth_plane.specs.Plane.{Coefficients, numerator_at, IsNarrow, least_in, sub_in}
-use Rattle.depth_plane.specs.Corner.{least_place, greatest_place}
+use Rattle.depth_plane.specs.Corner.{best_of, least_place, place_of}
+use Rattle.depth_plane.specs.declared.corner.End.{End}
+use Rattle.depth_plane.specs.declared.corner.End.TheVariants.{Least, Greatest}
 use Rattle.depth_plane.specs.Floors.{number_at}
 use Rattle.depth_plane.proofs.Products.{mul-add}
 
@@ -62,34 +64,41 @@ greatest_of-from f P h = elim (fold-int_max_reached (f 0) (rest f) (fold int_max
   | inr e ↦ from_rest f P (fold int_max (f 0) (rest f)) h e
 ]
 
-least_is : (f : ℕ → ℤ) (m : ℤ) (k : ℕ) → k < 32 → f k ≡ m → ((i : ℕ) → i < 32 → m ≤ℤ f i) → m ≡ least_of (each_sample f)
-least_is f m k lt e below =
+-- a value that another doesn't lie beyond
+abbrev AtEnd : End → ℤ → ℤ → Type 0
+AtEnd Least m v = m ≤ℤ v
+AtEnd Greatest m v = v ≤ℤ m
+
+best_is : (end : End) (f : ℕ → ℤ) (m : ℤ) (k : ℕ) → k < 32 → f k ≡ m → ((i : ℕ) → i < 32 → AtEnd end m (f i)) → m ≡ best_of end (each_sample f)
+best_is Least f m k lt e below =
     let up = least_of-le f k lt in
     let down = least_of-from f (λ v. m ≤ℤ v) below in
     omega (arith, ints)
-
-greatest_is : (f : ℕ → ℤ) (m : ℤ) (k : ℕ) → k < 32 → f k ≡ m → ((i : ℕ) → i < 32 → f i ≤ℤ m) → m ≡ greatest_of (each_sample f)
-greatest_is f m k lt e above =
+best_is Greatest f m k lt e above =
     let down = greatest_of-ge f k lt in
     let up = greatest_of-from f (λ v. v ≤ℤ m) above in
     omega (arith, ints)
 
+same_end : (end : End) (m n v w : ℤ) → m ≡ n → v ≡ w → AtEnd end n w → AtEnd end m v
+same_end Least m n v w e f h = omega (arith, ints, e, f, h)
+same_end Greatest m n v w e f h = omega (arith, ints, e, f, h)
+
+sum_end : (end : End) (a b p q l : ℤ) → AtEnd end a p → AtEnd end b q → AtEnd end ((a +ℤ b) +ℤ l) ((p +ℤ q) +ℤ l)
+sum_end Least a b p q l h k = omega (arith, ints, h, k)
+sum_end Greatest a b p q l h k = omega (arith, ints, h, k)
+
 -- along one axis, whose last place is h from the first
-least_axis : (n : ℤ) (x h i : ℕ) → i ≤ h → (n *ℤ pos (x + least_place n h)) ≤ℤ (n *ℤ pos (x + i))
-least_axis (pos n) x h i le = let l : x + 0 ≤ x + i = omega arith in omega (arith, ints, mul-le-mul_left n l)
-least_axis (negsuc n) x h i le = let l : x + i ≤ x + h = omega arith in omega (arith, ints, mul-le-mul_left (suc n) l)
+axis : (end : End) (n : ℤ) (x h i : ℕ) → i ≤ h → AtEnd end (n *ℤ pos (x + place_of end n h)) (n *ℤ pos (x + i))
+axis Least (pos n) x h i le = let l : x + 0 ≤ x + i = omega arith in omega (arith, ints, mul-le-mul_left n l)
+axis Least (negsuc n) x h i le = let l : x + i ≤ x + h = omega arith in omega (arith, ints, mul-le-mul_left (suc n) l)
+axis Greatest (pos n) x h i le = let l : x + i ≤ x + h = omega arith in omega (arith, ints, mul-le-mul_left n l)
+axis Greatest (negsuc n) x h i le = let l : x + 0 ≤ x + i = omega arith in omega (arith, ints, mul-le-mul_left (suc n) l)
 
-greatest_axis : (n : ℤ) (x h i : ℕ) → i ≤ h → (n *ℤ pos (x + i)) ≤ℤ (n *ℤ pos (x + greatest_place n h))
-greatest_axis (pos n) x h i le = let l : x + i ≤ x + h = omega arith in omega (arith, ints, mul-le-mul_left n l)
-greatest_axis (negsuc n) x h i le = let l : x + 0 ≤ x + i = omega arith in omega (arith, ints, mul-le-mul_left (suc n) l)
-
-least_place_is : (n : ℤ) (h : ℕ) → (least_place n h ≡ 0) ⊎ (least_place n h ≡ h)
-least_place_is (pos n) h = inl refl
-least_place_is (negsuc n) h = inr refl
-
-greatest_place_is : (n : ℤ) (h : ℕ) → (greatest_place n h ≡ 0) ⊎ (greatest_place n h ≡ h)
-greatest_place_is (pos n) h = inr refl
-greatest_place_is (negsuc n) h = inl refl
+place_is : (end : End) (n : ℤ) (h : ℕ) → (place_of end n h ≡ 0) ⊎ (place_of end n h ≡ h)
+place_is Least (pos n) h = inl refl
+place_is Least (negsuc n) h = inr refl
+place_is Greatest (pos n) h = inr refl
+place_is Greatest (negsuc n) h = inl refl
 
 -- the sample of a corner
 corner : (i j : ℕ) → (i ≡ 0) ⊎ (i ≡ 112) → (j ≡ 0) ⊎ (j ≡ 48) → (k : ℕ) × (k < 32) × (16 * (k % 8) ≡ i) × (16 * (k / 8) ≡ j)
@@ -111,16 +120,19 @@ sample_at c u k =
 sample_is : (c : Coefficients) (u : Sub) (k i j x y : ℕ) → 16 * (k % 8) ≡ i → 16 * (k / 8) ≡ j → x ≡ (16 * (8 * u.column) + 8) + i → y ≡ (16 * (4 * u.row) + 8) + j → numerator_at c (sample u k) ≡ numerator_at c (at x y)
 sample_is c u k i j x y ei ej ex ey = rw (ex, ey, ← ei, ← ej) (sample_at c u k)
 
-pub corner_least : (c : Coefficients) (u : Sub) (x y : ℕ) → x ≡ (16 * (8 * u.column) + 8) + least_place c.across 112 → y ≡ (16 * (4 * u.row) + 8) + least_place c.down 48 →
-    numerator_at c (at x y) ≡ least_of (each_sample (λ k. numerator_at c (sample u k)))
-corner_least c u x y ex ey =
-    let (k, lt, i, j) = corner (least_place c.across 112) (least_place c.down 48) (least_place_is c.across 112) (least_place_is c.down 48) in
-    least_is (λ k. numerator_at c (sample u k)) (numerator_at c (at x y)) k lt (sample_is c u k (least_place c.across 112) (least_place c.down 48) x y i j ex ey)
+pub corner_best : (end : End) (c : Coefficients) (u : Sub) (x y : ℕ) → x ≡ (16 * (8 * u.column) + 8) + place_of end c.across 112 → y ≡ (16 * (4 * u.row) + 8) + place_of end c.down 48 →
+    numerator_at c (at x y) ≡ best_of end (each_sample (λ k. numerator_at c (sample u k)))
+corner_best end c u x y ex ey =
+    let left = 16 * (8 * u.column) + 8 in let top = 16 * (4 * u.row) + 8 in
+    let across = place_of end c.across 112 in let down = place_of end c.down 48 in
+    let (k, lt, i, j) = corner across down (place_is end c.across 112) (place_is end c.down 48) in
+    let there : numerator_at c (at x y) ≡ numerator_at c (at (left + across) (top + down)) = rw (ex, ey) refl in
+    best_is end (λ k. numerator_at c (sample u k)) (numerator_at c (at x y)) k lt (sample_is c u k across down x y i j ex ey)
     (λ m l.
-    let s = sample_at c u m in
-    let a = least_axis c.across (16 * (8 * u.column) + 8) 112 (16 * (m % 8)) (omega arith) in
-    let b = least_axis c.down (16 * (4 * u.row) + 8) 48 (16 * (m / 8)) (omega arith) in
-    rw (s, ex, ey) (omega (arith, ints, a, b)))
+    let a = axis end c.across left 112 (16 * (m % 8)) (omega arith) in
+    let b = axis end c.down top 48 (16 * (m / 8)) (omega arith) in
+    same_end end (numerator_at c (at x y)) (numerator_at c (at (left + across) (top + down))) (numerator_at c (sample u m)) (numerator_at c (at (left + 16 * (m % 8)) (top + 16 * (m / 8)))) there (sample_at c u m)
+    (sum_end end (c.across *ℤ pos (left + across)) (c.down *ℤ pos (top + down)) (c.across *ℤ pos (left + 16 * (m % 8))) (c.down *ℤ pos (top + 16 * (m / 8))) c.level a b))
 
 -- the value of a plane so far to the right and below
 moved : (a d l f : ℤ) (x y i j p q : ℕ) → f ≡ ((a *ℤ pos x) +ℤ (d *ℤ pos y)) +ℤ l → p ≡ x + i → q ≡ y + j →
@@ -134,7 +146,7 @@ pub least_from_first : (c : Coefficients) (u : Sub) (first : ℤ) → IsNarrow c
     (first +ℤ (c.across *ℤ pos (128 * u.column))) +ℤ (c.down *ℤ pos (64 * u.row)) ≡ least_of (each_sample (λ k. numerator_at c (sample u k)))
 least_from_first c u first h =
     moved c.across c.down c.level first (8 + least_place c.across 112) (8 + least_place c.down 48) (128 * u.column) (64 * u.row) _ _ h.value (omega arith) (omega arith)
-    ∙ corner_least c u ((16 * (8 * u.column) + 8) + least_place c.across 112) ((16 * (4 * u.row) + 8) + least_place c.down 48) refl refl
+    ∙ corner_best Least c u ((16 * (8 * u.column) + 8) + least_place c.across 112) ((16 * (4 * u.row) + 8) + least_place c.down 48) refl refl
 
 -- by what it is at another subtile above and to the left
 pub least_moved : (c : Coefficients) (u v : Sub) (i j : ℕ) → v.column ≡ u.column + i → v.row ≡ u.row + j →
@@ -142,8 +154,8 @@ pub least_moved : (c : Coefficients) (u v : Sub) (i j : ℕ) → v.column ≡ u.
 least_moved c u v i j ec er =
     moved c.across c.down c.level (least_in c u) (16 * (8 * u.column) + 8 + least_place c.across 112) (16 * (4 * u.row) + 8 + least_place c.down 48) (128 * i) (64 * j)
     (16 * (8 * v.column) + 8 + least_place c.across 112) (16 * (4 * v.row) + 8 + least_place c.down 48)
-    (sym (corner_least c u _ _ refl refl)) (omega (arith, ec)) (omega (arith, er))
-    ∙ corner_least c v _ _ refl refl
+    (sym (corner_best Least c u _ _ refl refl)) (omega (arith, ec)) (omega (arith, er))
+    ∙ corner_best Least c v _ _ refl refl
 
 -- by that over a tile's first subtile
 pub least_risen : (c : Coefficients) (tile : Tile) (j : ℕ) → least_in c (sub_in tile 0) +ℤ number_at (c.across *ℤ pos 128) (c.down *ℤ pos 64) j ≡ least_in c (sub_in tile j)
@@ -151,14 +163,3 @@ least_risen c tile j = apart (least_in c (sub_in tile 0)) c.across c.down (j % 4
   where
     apart : (f a d : ℤ) (i k : ℕ) → f +ℤ (((a *ℤ pos 128) *ℤ pos i) +ℤ ((d *ℤ pos 64) *ℤ pos k)) ≡ (f +ℤ (a *ℤ pos (128 * i))) +ℤ (d *ℤ pos (64 * k))
     apart f a d i k = let e = regrouped a 128 i in let g = regrouped d 64 k in omega (arith, ints, e, g)
-
-pub corner_greatest : (c : Coefficients) (u : Sub) (x y : ℕ) → x ≡ (16 * (8 * u.column) + 8) + greatest_place c.across 112 → y ≡ (16 * (4 * u.row) + 8) + greatest_place c.down 48 →
-    numerator_at c (at x y) ≡ greatest_of (each_sample (λ k. numerator_at c (sample u k)))
-corner_greatest c u x y ex ey =
-    let (k, lt, i, j) = corner (greatest_place c.across 112) (greatest_place c.down 48) (greatest_place_is c.across 112) (greatest_place_is c.down 48) in
-    greatest_is (λ k. numerator_at c (sample u k)) (numerator_at c (at x y)) k lt (sample_is c u k (greatest_place c.across 112) (greatest_place c.down 48) x y i j ex ey)
-    (λ m l.
-    let s = sample_at c u m in
-    let a = greatest_axis c.across (16 * (8 * u.column) + 8) 112 (16 * (m % 8)) (omega arith) in
-    let b = greatest_axis c.down (16 * (4 * u.row) + 8) 48 (16 * (m / 8)) (omega arith) in
-    rw (s, ex, ey) (omega (arith, ints, a, b)))

@@ -1,7 +1,7 @@
 //! The corner of a subtile where a plane is least or greatest, picked by the slopes' signs.
 ghost use Rattle.std.specs.Prelude.{◌≡◌, ℕ, ℤ, pos, ◌+◌, ◌<◌, ◌^◌, ◌+ℤ◌, ◌*ℤ◌, IfSome, IsTrue, ◌↔◌};
 ghost use Rattle.cull_base.specs.Bounds.{Bounded};
-ghost use Rattle.depth_plane.specs.Corner.{least_place, greatest_place};
+ghost use Rattle.depth_plane.specs.Corner.{place_of};
 ghost use Rattle.depth_plane.specs.Plane.{coefficients, IsNarrow};
 
 /// From the first sample of a subtile to the last in its row, in sixteenths of a pixel.
@@ -19,26 +19,25 @@ const STEEPEST: i64 = 0x4000_0000_0000;
 /// The greatest numerator of a narrow plane at the origin.
 const GREATEST: i128 = 0x2000_0000_0000_0000;
 
-/// The place of the least value along one axis, from the first sample on.
-#[inline(always)]
-pub fn least_along(slope: i64, first: u32, span: u32) -> u32
-    requires first { first < 2 ^ 20 }
-    requires span { span < 2 ^ 10 }
-    ensures value { result ≡ first + least_place slope span }
-    ensures small { result < 2 ^ 21 }
-{
-    if slope < 0 { first + span } else { first }
+/// Which of a plane's values over a subtile is meant.
+#[derive(Clone, Copy)]
+pub enum End {
+    Least,
+    Greatest,
 }
 
-/// The place of the greatest value along one axis.
+/// The place of that value along one axis, from the first sample on.
 #[inline(always)]
-pub fn greatest_along(slope: i64, first: u32, span: u32) -> u32
+pub fn place_along(slope: i64, first: u32, span: u32, end: End) -> u32
     requires first { first < 2 ^ 20 }
     requires span { span < 2 ^ 10 }
-    ensures value { result ≡ first + greatest_place slope span }
+    ensures value { result ≡ first + place_of end slope span }
     ensures small { result < 2 ^ 21 }
 {
-    if slope < 0 { first } else { first + span }
+    match end {
+        End::Least => { if slope < 0 { first + span } else { first } }
+        End::Greatest => { if slope < 0 { first } else { first + span } }
+    }
 }
 
 #[inline(always)]
@@ -118,8 +117,8 @@ pub fn narrow_first(across: i64, down: i64, level: i128) -> Option<i64>
     ensures { (area : ℤ) → IfSome result (IsNarrow (coefficients across down level area)) }
 {
     if is_gentle(across) && is_gentle(down) && is_small(level) {
-        let x = least_along(across, FIRST, SPAN_ACROSS);
-        let y = least_along(down, FIRST, SPAN_DOWN);
+        let x = place_along(across, FIRST, SPAN_ACROSS, End::Least);
+        let y = place_along(down, FIRST, SPAN_DOWN, End::Least);
         Some(narrow_numerator(across, down, level as i64, x, y))
     } else {
         None

@@ -1,16 +1,16 @@
 //! The plane of a piece's depth.
 ghost use Rattle.std.specs.Prelude.{◌≡◌, ℕ, ℤ, pos, max, true, ◌<◌, ◌≤◌, ◌^◌, ◌<ℤ◌, IsTrue, ◌↔◌, ◌+◌, ◌*◌, ◌/◌, ◌%◌, slice_index, IfSome};
-ghost use Rattle.cull_base.specs.Piece.{least_of, greatest_of, IsPiece, Piece, Point, sample, each_sample};
+ghost use Rattle.cull_base.specs.Piece.{least_of, IsPiece, Piece, Point, sample, each_sample};
 ghost use Rattle.std.specs.Int.{int_max};
 ghost use Rattle.cull_base.specs.Depth.{floor_of, least_nearness, greatest_nearness, numerator, denominator, low_of, high_of};
 ghost use Rattle.cull_base.specs.Bounds.{Bounded};
 ghost use Rattle.cull_base.specs.declared.nearness.TheConstants.{HELD_TOP};
+ghost use Rattle.depth_plane.specs.Corner.{best_of};
 ghost use Rattle.depth_plane.specs.Plane.{IsHighBound, IsLowBound, IsNarrow, IsNearer, TellsNearerPiece};
 ghost use Rattle.depth_plane.specs.Plane.{low_from, numerator_at, plane_of, point_of, sub_in};
 
 use crate::corner::{
-    SPAN_ACROSS, SPAN_DOWN, greatest_along, least_along, narrow_first, narrow_numerator,
-    numerator_at,
+    End, SPAN_ACROSS, SPAN_DOWN, narrow_first, narrow_numerator, numerator_at, place_along,
 };
 use crate::floor_lanes::{FloorLanes, lanes_along};
 use crate::quotient::{ceiling, cut_to_range, is_greater, narrow_floor};
@@ -18,6 +18,7 @@ use crate::vertices::Vertices;
 use cull_base::{Divisor, Sample, ScreenTri, Sub, Tile};
 use std::array;
 use std::marker::Model;
+use std::simd::prelude::*;
 
 /// The depth of a piece at (x, y), in sixteenths of a pixel: `(across * x + down * y + level) / area`.
 #[derive(Drop)]
@@ -134,6 +135,16 @@ impl Plane {
         array::from_fn(|j| self.low_above(0, subtile(tile, j as u32)))
     }
 
+    // The same, read from where that call has written them: so floors in lanes needn't be written there too.
+    #[inline(always)]
+    fn floors_read(&self, tile: Tile) -> [u32; 8]
+        requires column { tile.column < 64 }
+        requires row { tile.row < 256 }
+        ensures { (j : ℕ) → j < 8 → slice_index result j ≡ low_from self.now 0 (sub_in tile j) }
+    {
+        u32x8::from_array(self.floors_in_turn(tile)).to_array()
+    }
+
     /// The floors of the least depths over a tile's eight subtiles, from 0 to the top that pieces hold. The greater of
     /// such a floor and the piece's least nearness is the low bound. Condition: the tile lies within 2048 by 2048 pixels.
     #[inline(always)]
@@ -147,7 +158,7 @@ impl Plane {
     {
         match self.floors_in_lanes(tile) {
             Some(floors) => floors,
-            None => self.floors_in_turn(tile),
+            None => self.floors_read(tile),
         }
     }
 
@@ -171,7 +182,7 @@ impl Plane {
         requires row { sub.row < 512 }
         ensures { result ≡ low_from self.now nearness sub }
     {
-        cut_to_range(self.floor_from(nearness, self.least(sub)))
+        cut_to_range(self.floor_from(nearness, self.outermost(sub, End::Least)))
     }
 
     /// The high bound of a subtile: nearness, from 0 to the top that pieces hold, that no touched sample is above.
@@ -185,7 +196,7 @@ impl Plane {
         ensures above { IsHighBound tri.now sub result }
     {
         let nearness = i128::from(tri.greatest_nearness());
-        cut_to_range(nearness.min(ceiling(self.greatest(sub), &self.area)))
+        cut_to_range(nearness.min(ceiling(self.outermost(sub, End::Greatest), &self.area)))
     }
 
     // The floor of a numerator over the area, and no less than a nearness: where the fraction is no greater than that,
@@ -218,20 +229,20 @@ impl Plane {
         )
     }
 
-    // The least numerator over the 32 samples of a subtile.
+    // The least or the greatest numerator over the 32 samples of a subtile.
     #[inline(always)]
-    fn least(&self, sub: Sub) -> i128
+    fn outermost(&self, sub: Sub, end: End) -> i128
         requires column { sub.column < 256 }
         requires row { sub.row < 512 }
-        ensures value { result ≡ least_of (each_sample (λ k. numerator_at self.now (sample sub k))) }
+        ensures value { result ≡ best_of end (each_sample (λ k. numerator_at self.now (sample sub k))) }
         ensures bounded { Bounded (2 ^ 88) result }
     {
-        let x = least_along(self.across, place(8 * sub.column), SPAN_ACROSS);
-        let y = least_along(self.down, place(4 * sub.row), SPAN_DOWN);
+        let x = place_along(self.across, place(8 * sub.column), SPAN_ACROSS, end);
+        let y = place_along(self.down, place(4 * sub.row), SPAN_DOWN, end);
         numerator_at(self.across, self.down, self.level, x, y)
     }
 
-    // The same of a narrow plane: what it is at the first subtile, and what it rises by from there.
+    // The least of a narrow plane: what it is at the first subtile, and what it rises by from there.
     #[inline(always)]
     fn narrow_least(&self, first: i64, sub: Sub) -> i64
         requires first { IsNarrow self.now first }
@@ -243,19 +254,6 @@ impl Plane {
         let right = 128 * u32::from(sub.column);
         let below = 64 * u32::from(sub.row);
         narrow_numerator(self.across, self.down, first, right, below)
-    }
-
-    // The greatest numerator over the 32 samples of a subtile.
-    #[inline(always)]
-    fn greatest(&self, sub: Sub) -> i128
-        requires column { sub.column < 256 }
-        requires row { sub.row < 512 }
-        ensures value { result ≡ greatest_of (each_sample (λ k. numerator_at self.now (sample sub k))) }
-        ensures bounded { Bounded (2 ^ 88) result }
-    {
-        let x = greatest_along(self.across, place(8 * sub.column), SPAN_ACROSS);
-        let y = greatest_along(self.down, place(4 * sub.row), SPAN_DOWN);
-        numerator_at(self.across, self.down, self.level, x, y)
     }
 
     /// Whether this depth at the sample is strictly greater than the other's.

@@ -121,11 +121,20 @@ pub sum_bounded : (m n : ℕ) (a b : ℤ) → Bounded m a → Bounded n b → Bo
 sum_bounded m n a b p q = (omega (arith, ints, p, q), omega (arith, ints, p, q))
 
 -- what sums and products of bounded lanes come to
-pub product_fits : (m n : ℕ) (a b : ℤ) → m ≤ 2147483647 → n ≤ 2147483647 → m * n ≤ 2147483647 → Bounded m a → Bounded n b → FitsSigned w32 (to_z w32 (of_z w32 a) *ℤ to_z w32 (of_z w32 b))
+product_fits : (m n : ℕ) (a b : ℤ) → m ≤ 2147483647 → n ≤ 2147483647 → m * n ≤ 2147483647 → Bounded m a → Bounded n b → FitsSigned w32 (to_z w32 (of_z w32 a) *ℤ to_z w32 (of_z w32 b))
 product_fits m n a b lm ln l p q =
     let fa : FitsSigned w32 a = fits_bounded m a lm p in let fb : FitsSigned w32 b = fits_bounded n b ln q in
     let f : FitsSigned w32 (a *ℤ b) = fits_bounded (m * n) (a *ℤ b) l (bounded-mul m n a b p q) in
     simp to_z-of_z f
+
+-- those of three such lanes and of the first again
+abbrev pub Product : ℤ → ℤ → Type 0
+Product a b = FitsSigned w32 (to_z w32 (of_z w32 a) *ℤ to_z w32 (of_z w32 b))
+
+pub products_fit : (m n : ℕ) (a b c p q r : ℤ) → m ≤ 2147483647 → n ≤ 2147483647 → m * n ≤ 2147483647 → Bounded m a → Bounded m b → Bounded m c → Bounded n p → Bounded n q → Bounded n r →
+    Product a p × (Product b q × (Product c r × (Product a p × Unit {0})))
+products_fit m n a b c p q r lm ln l ha hb hc hp hq hr =
+    let x = product_fits m n a p lm ln l ha hp in (x, (product_fits m n b q lm ln l hb hq, (product_fits m n c r lm ln l hc hr, (x, tt))))
 
 pub sum_fits : (m n : ℕ) (a b : ℤ) → m ≤ 2147483647 → n ≤ 2147483647 → m + n ≤ 2147483647 → Bounded m a → Bounded n b → FitsSigned w32 (to_z w32 (of_z w32 a) +ℤ to_z w32 (of_z w32 b))
 sum_fits m n a b lm ln l p q =

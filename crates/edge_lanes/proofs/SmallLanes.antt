@@ -1,15 +1,16 @@
 -- What lanes of 16 bits compute of an edge of a few pixels, where nothing wraps.
-use Rattle.std.proofs.Common.{ℕ, ◌<◌, ◌≤◌, ◌^◌, ◌+◌, ◌*◌, ◌/◌, ◌%◌, ◌*ℤ◌, ◌≤ℤ◌, ◌≡◌, ℤ, pos, ◌+ℤ◌, arith, w16, FitsSigned, to_z, of_z, Bool, true, false, cond, refl, sym, ap, ◌∙◌, int_lt, negsuc, not}
+use Rattle.std.proofs.Common.{ℕ, ◌<◌, ◌≤◌, ◌^◌, ◌+◌, ◌*◌, ◌/◌, ◌%◌, ◌*ℤ◌, ◌≤ℤ◌, ◌≡◌, ℤ, pos, ◌+ℤ◌, arith, w16, to_z, of_z, Bool, true, false, cond, refl, sym, ap, ◌∙◌, int_lt, negsuc, not}
 use Rattle.std.specs.Cmp.{both_ways}
 use Rattle.std.specs.Int.{int_min, int_max}
 use Rattle.std.specs.Simd.Lanes.{top}
 use Rattle.std.proofs.lemmas.Bool.Decides.{nat_tests}
-use Rattle.std.proofs.lemmas.Int.{clamps, ints, to_z-of_z}
+use Rattle.std.proofs.lemmas.Int.{clamps, ints}
 use Rattle.cull_base.specs.Bounds.{Bounded}
 use Rattle.cull_base.specs.declared.place.Sub.{Sub}
 use Rattle.edge_lanes.specs.Lanes.{is_not_negative}
 use Rattle.edge_lanes.specs.Lines.{Line, held_few, inside_from, sub_value}
 use Rattle.edge_lanes.proofs.Extremes.{step_least, step_most}
+use Rattle.edge_lanes.proofs.Lanes.{AreRows, are_rows}
 use Rattle.edge_lanes.proofs.Steps.{value-subtile}
 use Rattle.edge_lanes.proofs.SubStarts.{BeginsSub}
 
@@ -26,44 +27,26 @@ below_zero (negsuc n) = refl
 outside_lane : (x v : ℤ) → x ≡ v → top 15 (cond (int_lt x (pos 0)) 65535 0) ≡ not (is_not_negative v)
 outside_lane x v e = rw e (short_lane_top (int_lt v (pos 0)) ∙ below_zero v)
 
+short_rows : (s o r : ℤ) → Bounded (2 ^ 14) s → Bounded (2 ^ 13) o → Bounded (2 ^ 10) r → AreRows w16 s o r
+short_rows s o r bs bo br =
+    are_rows w16 s o r (omega (arith, ints)) (omega (arith, ints)) (omega (arith, ints)) (omega (arith, ints)) (omega (arith, ints)) (omega (arith, ints)) (omega (arith, ints))
+
 -- of a row of a subtile, below its first by so many steps
 pub first_short_test : (s o r : ℤ) → Bounded (2 ^ 14) s → Bounded (2 ^ 13) o → Bounded (2 ^ 10) r →
     top 15 (cond (int_lt (to_z w16 (of_z w16 (to_z w16 (of_z w16 s) +ℤ to_z w16 (of_z w16 o)))) (pos 0)) 65535 0) ≡ not (is_not_negative ((s +ℤ (r *ℤ pos 0)) +ℤ o))
-first_short_test s o r bs bo br =
-    let fs : FitsSigned w16 s = omega (arith, ints) in let fo : FitsSigned w16 o = omega (arith, ints) in let fr : FitsSigned w16 r = omega (arith, ints) in
-    let f0 : FitsSigned w16 (s +ℤ o) = omega (arith, ints) in
-    let v : to_z w16 (of_z w16 (to_z w16 (of_z w16 s) +ℤ to_z w16 (of_z w16 o))) ≡ (s +ℤ (r *ℤ pos 0)) +ℤ o = simp to_z-of_z (omega (arith, ints)) in
-    outside_lane _ _ v
+first_short_test s o r bs bo br = outside_lane _ _ (short_rows s o r bs bo br).first
 
 pub second_short_test : (s o r : ℤ) → Bounded (2 ^ 14) s → Bounded (2 ^ 13) o → Bounded (2 ^ 10) r →
     top 15 (cond (int_lt (to_z w16 (of_z w16 (to_z w16 (of_z w16 (to_z w16 (of_z w16 s) +ℤ to_z w16 (of_z w16 o))) +ℤ to_z w16 (of_z w16 r)))) (pos 0)) 65535 0) ≡ not (is_not_negative ((s +ℤ (r *ℤ pos 1)) +ℤ o))
-second_short_test s o r bs bo br =
-    let fs : FitsSigned w16 s = omega (arith, ints) in let fo : FitsSigned w16 o = omega (arith, ints) in let fr : FitsSigned w16 r = omega (arith, ints) in
-    let f0 : FitsSigned w16 (s +ℤ o) = omega (arith, ints) in
-    let f1 : FitsSigned w16 ((s +ℤ o) +ℤ r) = omega (arith, ints) in
-    let v : to_z w16 (of_z w16 (to_z w16 (of_z w16 (to_z w16 (of_z w16 s) +ℤ to_z w16 (of_z w16 o))) +ℤ to_z w16 (of_z w16 r))) ≡ (s +ℤ (r *ℤ pos 1)) +ℤ o = simp to_z-of_z (omega (arith, ints)) in
-    outside_lane _ _ v
+second_short_test s o r bs bo br = outside_lane _ _ (short_rows s o r bs bo br).second
 
 pub third_short_test : (s o r : ℤ) → Bounded (2 ^ 14) s → Bounded (2 ^ 13) o → Bounded (2 ^ 10) r →
     top 15 (cond (int_lt (to_z w16 (of_z w16 (to_z w16 (of_z w16 (to_z w16 (of_z w16 (to_z w16 (of_z w16 s) +ℤ to_z w16 (of_z w16 o))) +ℤ to_z w16 (of_z w16 r))) +ℤ to_z w16 (of_z w16 r)))) (pos 0)) 65535 0) ≡ not (is_not_negative ((s +ℤ (r *ℤ pos 2)) +ℤ o))
-third_short_test s o r bs bo br =
-    let fs : FitsSigned w16 s = omega (arith, ints) in let fo : FitsSigned w16 o = omega (arith, ints) in let fr : FitsSigned w16 r = omega (arith, ints) in
-    let f0 : FitsSigned w16 (s +ℤ o) = omega (arith, ints) in
-    let f1 : FitsSigned w16 ((s +ℤ o) +ℤ r) = omega (arith, ints) in
-    let f2 : FitsSigned w16 (((s +ℤ o) +ℤ r) +ℤ r) = omega (arith, ints) in
-    let v : to_z w16 (of_z w16 (to_z w16 (of_z w16 (to_z w16 (of_z w16 (to_z w16 (of_z w16 s) +ℤ to_z w16 (of_z w16 o))) +ℤ to_z w16 (of_z w16 r))) +ℤ to_z w16 (of_z w16 r))) ≡ (s +ℤ (r *ℤ pos 2)) +ℤ o = simp to_z-of_z (omega (arith, ints)) in
-    outside_lane _ _ v
+third_short_test s o r bs bo br = outside_lane _ _ (short_rows s o r bs bo br).third
 
 pub fourth_short_test : (s o r : ℤ) → Bounded (2 ^ 14) s → Bounded (2 ^ 13) o → Bounded (2 ^ 10) r →
     top 15 (cond (int_lt (to_z w16 (of_z w16 (to_z w16 (of_z w16 (to_z w16 (of_z w16 (to_z w16 (of_z w16 (to_z w16 (of_z w16 s) +ℤ to_z w16 (of_z w16 o))) +ℤ to_z w16 (of_z w16 r))) +ℤ to_z w16 (of_z w16 r))) +ℤ to_z w16 (of_z w16 r)))) (pos 0)) 65535 0) ≡ not (is_not_negative ((s +ℤ (r *ℤ pos 3)) +ℤ o))
-fourth_short_test s o r bs bo br =
-    let fs : FitsSigned w16 s = omega (arith, ints) in let fo : FitsSigned w16 o = omega (arith, ints) in let fr : FitsSigned w16 r = omega (arith, ints) in
-    let f0 : FitsSigned w16 (s +ℤ o) = omega (arith, ints) in
-    let f1 : FitsSigned w16 ((s +ℤ o) +ℤ r) = omega (arith, ints) in
-    let f2 : FitsSigned w16 (((s +ℤ o) +ℤ r) +ℤ r) = omega (arith, ints) in
-    let f3 : FitsSigned w16 ((((s +ℤ o) +ℤ r) +ℤ r) +ℤ r) = omega (arith, ints) in
-    let v : to_z w16 (of_z w16 (to_z w16 (of_z w16 (to_z w16 (of_z w16 (to_z w16 (of_z w16 (to_z w16 (of_z w16 s) +ℤ to_z w16 (of_z w16 o))) +ℤ to_z w16 (of_z w16 r))) +ℤ to_z w16 (of_z w16 r))) +ℤ to_z w16 (of_z w16 r))) ≡ (s +ℤ (r *ℤ pos 3)) +ℤ o = simp to_z-of_z (omega (arith, ints)) in
-    outside_lane _ _ v
+fourth_short_test s o r bs bo br = outside_lane _ _ (short_rows s o r bs bo br).fourth
 
 -- a step of at most 2^10 taken as often as a subtile's samples ask for
 pub few_steps-bounded : (s : ℤ) (k : ℕ) → k ≤ 7 → Bounded (2 ^ 10) s → Bounded (2 ^ 13) (s *ℤ pos k)

@@ -12,7 +12,7 @@ use Rattle.edge_lanes.specs.Inside.{small_line}
 use Rattle.edge_lanes.specs.Lanes.{bias_of}
 use Rattle.edge_lanes.specs.Lines.{IsEdge, Line, held_few, sub_value}
 use Rattle.edge_lanes.specs.declared.small_edge.SmallEdge.{SmallEdge}
-use Rattle.edge_lanes.proofs.Around.{bounded_around}
+use Rattle.edge_lanes.proofs.Around.{bounded_around, lanes_from, through}
 use Rattle.edge_lanes.proofs.Floors.{floor-le, floor-lt, floor_is}
 use Rattle.edge_lanes.proofs.SmallBias.{bias_by_sign}
 use Rattle.edge_lanes.proofs.Steps.{is_edge-sixteenths}
@@ -84,17 +84,20 @@ pub sub_value-past : (e : Line) (u : Sub) (right below s column row across down 
     across ≡ pos (8 * u.column) -ℤ right → down ≡ pos (4 * u.row) -ℤ below → (s +ℤ (column *ℤ across)) +ℤ (row *ℤ down) ≡ sub_value e u
 sub_value-past e u right below s column row across down es ec er ea ed = rw (es, ec, er, ea, ed) (from_middle-is (8 * u.column) (4 * u.row) s column row right below)
 
--- short steps between coordinates, of which the first lies near the screen
-pub close_around : (xs steps : List ℤ) → steps ≡ steps_around xs → AreBounded (2 ^ 10) steps → Bounded (2 ^ 22) (lane xs 0) → AreClose xs
-close_around xs steps e h n = let g : AreBounded (2 ^ 10) (steps_around xs) = subst (AreBounded (2 ^ 10)) e h in record { near = n; first = g.first; second = g.second; third = g.third }
+-- a short step, taken back
+step_back : (a b : ℤ) → Bounded (2 ^ 10) (b -ℤ a) → Bounded (2 ^ 10) (a -ℤ b)
+step_back a b h = (omega (arith, ints, h), omega (arith, ints, h))
 
-pub close_back : (xs steps : List ℤ) → steps ≡ steps_back xs → AreBounded (2 ^ 10) steps → Bounded (2 ^ 22) (lane xs 0) → AreClose xs
-close_back xs steps e h n =
-    let g : AreBounded (2 ^ 10) (steps_back xs) = subst (AreBounded (2 ^ 10)) e h in
-    record { near = n; first = turned (lane xs 1) (lane xs 0) g.first; second = turned (lane xs 2) (lane xs 1) g.second; third = turned (lane xs 0) (lane xs 2) g.third }
-  where
-    turned : (a b : ℤ) → Bounded (2 ^ 10) (b -ℤ a) → Bounded (2 ^ 10) (a -ℤ b)
-    turned a b h = (omega (arith, ints, h), omega (arith, ints, h))
+-- short steps between coordinates, of which the first lies near the screen, as a call passes the steps
+pub close_around : (xs steps : List ℤ) → steps ≡ steps_around xs → AreBounded (2 ^ 30) steps → AreBounded (2 ^ 10) (through steps) → Bounded (2 ^ 22) (lane xs 0) → AreClose xs
+close_around xs steps e all h n =
+    let g : AreBounded (2 ^ 10) (steps_around xs) = subst (AreBounded (2 ^ 10)) e (lanes_from (2 ^ 10) (2 ^ 30) steps (omega arith) all h) in
+    record { near = n; first = g.first; second = g.second; third = g.third }
+
+pub close_back : (xs steps : List ℤ) → steps ≡ steps_back xs → AreBounded (2 ^ 30) steps → AreBounded (2 ^ 10) (through steps) → Bounded (2 ^ 22) (lane xs 0) → AreClose xs
+close_back xs steps e all h n =
+    let g : AreBounded (2 ^ 10) (steps_back xs) = subst (AreBounded (2 ^ 10)) e (lanes_from (2 ^ 10) (2 ^ 30) steps (omega arith) all h) in
+    record { near = n; first = step_back (lane xs 1) (lane xs 0) g.first; second = step_back (lane xs 2) (lane xs 1) g.second; third = step_back (lane xs 0) (lane xs 2) g.third }
 
 line_same : (s t c d r q g h b k : ℤ) → s ≡ t → c ≡ d → r ≡ q → g ≡ h → b ≡ k → (s -ℤ (c *ℤ g)) -ℤ (r *ℤ b) ≡ (t -ℤ (d *ℤ h)) -ℤ (q *ℤ k)
 line_same s t c d r q g h b k es ec er eg eb = rw (es, ec, er, eg, eb) refl
@@ -109,13 +112,10 @@ is_edge-lane row column rights belows values biases start k right below g b s ax
     let lean : ℤ = (lane row k +ℤ (lane column k *ℤ pos 2048)) -ℤ pos 1 in
     let leans : lean ≡ ((bx -ℤ ax) +ℤ ((ay -ℤ by) *ℤ pos 2048)) -ℤ pos 1 = rw (er, ec) refl in
     let across : Bounded (2 ^ 10) (bx -ℤ ax) = subst (Bounded (2 ^ 10)) er hr in
-    let down : Bounded (2 ^ 10) (by -ℤ ay) = turned by ay (subst (Bounded (2 ^ 10)) ec hc) in
+    let down : Bounded (2 ^ 10) (by -ℤ ay) = step_back by ay (subst (Bounded (2 ^ 10)) ec hc) in
     is_edge-past (small_line g b s e) right below (lane start k) (lane column k) (lane row k) (lane biases k) (lane values k) ax ay bx by
     (ev ∙ rw (eg, eb) refl) (ei ∙ bias_by_sign ax ay bx by lean across down leans) es ec er
     (line_same s (lane start k) e.column (lane column k) e.row (lane row k) g right b below fs fc fr fg fb) fc fr
-  where
-    turned : (a b : ℤ) → Bounded (2 ^ 10) (b -ℤ a) → Bounded (2 ^ 10) (a -ℤ b)
-    turned a b h = (omega (arith, ints, h), omega (arith, ints, h))
 
 -- the value of such an edge at a subtile
 pub sub_value-lane : (start column row : List ℤ) (k : ℕ) (right below across down h m : ℤ) (e : SmallEdge) (u : Sub) →
@@ -137,16 +137,17 @@ around_bounded xs steps e h = bounded_around (2 ^ 10) steps (lane xs 1 -ℤ lane
 pub back_bounded : (xs steps : List ℤ) → steps ≡ steps_back xs → AreClose xs → AreBounded (2 ^ 10) steps
 back_bounded xs steps e h =
     bounded_around (2 ^ 10) steps (lane xs 0 -ℤ lane xs 1) (lane xs 1 -ℤ lane xs 2) (lane xs 2 -ℤ lane xs 0) e
-    (turned (lane xs 0) (lane xs 1) h.first) (turned (lane xs 1) (lane xs 2) h.second) (turned (lane xs 2) (lane xs 0) h.third)
-  where
-    turned : (a b : ℤ) → Bounded (2 ^ 10) (b -ℤ a) → Bounded (2 ^ 10) (a -ℤ b)
-    turned a b h = (omega (arith, ints, h), omega (arith, ints, h))
+    (step_back (lane xs 0) (lane xs 1) h.first) (step_back (lane xs 1) (lane xs 2) h.second) (step_back (lane xs 2) (lane xs 0) h.third)
 
 pub placed : (m p v : ℤ) → m ≡ (pos 16 *ℤ p) +ℤ pos 8 → p ≡ int_div_euclid v (pos 16) → Bounded (2 ^ 4) (m -ℤ v)
 placed m p v em ep = rw (em, ep) (near_middle v)
 
 past_middle : (g m p v : ℤ) → g ≡ m -ℤ v → m ≡ (pos 16 *ℤ p) +ℤ pos 8 → g ≡ ((pos 16 *ℤ p) +ℤ pos 8) -ℤ v
 past_middle g m p v e f = rw (e, f) refl
+
+-- a lane of the same lanes
+lane_same : {xs ys : List ℤ} (k : ℕ) → xs ≡ ys → lane xs k ≡ lane ys k
+lane_same k e = ap (λ (xs : List ℤ). lane xs k) e
 
 -- the three edges, by what lanes compute
 pub edges_between : (x y row column rights belows values biases start starts : List ℤ) (m n right below g b : ℤ) (e f h : SmallEdge) → AreClose x → AreClose y → row ≡ steps_around x → column ≡ steps_back y →
@@ -160,21 +161,12 @@ edges_between x y row column rights belows values biases start starts m n right 
     let hr = around_bounded x row er cx in let hc = back_bounded y column ec cy in
     record {
       first = is_edge-lane row column rights belows values biases start 0 right below g b (lane starts 0) (lane x 0) (lane y 0) (lane x 1) (lane y 1) e
-          (at0 ev) (past_middle _ m right _ (at0 eg) em) (past_middle _ n below _ (at0 eb) en) (at0 ei) (at0 es) (at0 er) (at0 ec) hr.first hc.first fg fb (at0 fs) (at0 fc) (at0 fr);
+          (lane_same 0 ev) (past_middle _ m right _ (lane_same 0 eg) em) (past_middle _ n below _ (lane_same 0 eb) en) (lane_same 0 ei) (lane_same 0 es) (lane_same 0 er) (lane_same 0 ec) hr.first hc.first fg fb (lane_same 0 fs) (lane_same 0 fc) (lane_same 0 fr);
       second = is_edge-lane row column rights belows values biases start 1 right below g b (lane starts 1) (lane x 1) (lane y 1) (lane x 2) (lane y 2) f
-          (at1 ev) (past_middle _ m right _ (at1 eg) em) (past_middle _ n below _ (at1 eb) en) (at1 ei) (at1 es) (at1 er) (at1 ec) hr.second hc.second fg fb (at1 fs) (at1 fc) (at1 fr);
+          (lane_same 1 ev) (past_middle _ m right _ (lane_same 1 eg) em) (past_middle _ n below _ (lane_same 1 eb) en) (lane_same 1 ei) (lane_same 1 es) (lane_same 1 er) (lane_same 1 ec) hr.second hc.second fg fb (lane_same 1 fs) (lane_same 1 fc) (lane_same 1 fr);
       third = is_edge-lane row column rights belows values biases start 2 right below g b (lane starts 2) (lane x 2) (lane y 2) (lane x 0) (lane y 0) h
-          (at2 ev) (past_middle _ m right _ (at2 eg) em) (past_middle _ n below _ (at2 eb) en) (at2 ei) (at2 es) (at2 er) (at2 ec) hr.third hc.third fg fb (at2 fs) (at2 fc) (at2 fr);
+          (lane_same 2 ev) (past_middle _ m right _ (lane_same 2 eg) em) (past_middle _ n below _ (lane_same 2 eb) en) (lane_same 2 ei) (lane_same 2 es) (lane_same 2 er) (lane_same 2 ec) hr.third hc.third fg fb (lane_same 2 fs) (lane_same 2 fc) (lane_same 2 fr);
     }
-  where
-    at0 : {xs ys : List ℤ} → xs ≡ ys → lane xs 0 ≡ lane ys 0
-    at0 e = ap (λ (xs : List ℤ). lane xs 0) e
-
-    at1 : {xs ys : List ℤ} → xs ≡ ys → lane xs 1 ≡ lane ys 1
-    at1 e = ap (λ (xs : List ℤ). lane xs 1) e
-
-    at2 : {xs ys : List ℤ} → xs ≡ ys → lane xs 2 ≡ lane ys 2
-    at2 e = ap (λ (xs : List ℤ). lane xs 2) e
 
 -- the three values at a subtile
 pub starts_held : (start column row held moved : List ℤ) (right below across down : ℤ) (e f h : SmallEdge) (u : Sub) →
@@ -183,16 +175,7 @@ pub starts_held : (start column row held moved : List ℤ) (right below across d
     column ≡ around e.column f.column h.column → row ≡ around e.row f.row h.row → across ≡ pos (8 * u.column) -ℤ right → down ≡ pos (4 * u.row) -ℤ below →
     AreStarts (record { first = small_line right below (lane start 0) e; second = small_line right below (lane start 1) f; third = small_line right below (lane start 2) h }) u held
 starts_held start column row held moved right below across down e f h u eh em ec er ea ed = record {
-  first = sub_value-lane start column row 0 right below across down (lane held 0) (lane moved 0) e u (at0 eh) (at0 em) (at0 ec) (at0 er) ea ed;
-  second = sub_value-lane start column row 1 right below across down (lane held 1) (lane moved 1) f u (at1 eh) (at1 em) (at1 ec) (at1 er) ea ed;
-  third = sub_value-lane start column row 2 right below across down (lane held 2) (lane moved 2) h u (at2 eh) (at2 em) (at2 ec) (at2 er) ea ed;
+  first = sub_value-lane start column row 0 right below across down (lane held 0) (lane moved 0) e u (lane_same 0 eh) (lane_same 0 em) (lane_same 0 ec) (lane_same 0 er) ea ed;
+  second = sub_value-lane start column row 1 right below across down (lane held 1) (lane moved 1) f u (lane_same 1 eh) (lane_same 1 em) (lane_same 1 ec) (lane_same 1 er) ea ed;
+  third = sub_value-lane start column row 2 right below across down (lane held 2) (lane moved 2) h u (lane_same 2 eh) (lane_same 2 em) (lane_same 2 ec) (lane_same 2 er) ea ed;
 }
-  where
-    at0 : {xs ys : List ℤ} → xs ≡ ys → lane xs 0 ≡ lane ys 0
-    at0 e = ap (λ (xs : List ℤ). lane xs 0) e
-
-    at1 : {xs ys : List ℤ} → xs ≡ ys → lane xs 1 ≡ lane ys 1
-    at1 e = ap (λ (xs : List ℤ). lane xs 1) e
-
-    at2 : {xs ys : List ℤ} → xs ≡ ys → lane xs 2 ≡ lane ys 2
-    at2 e = ap (λ (xs : List ℤ). lane xs 2) e

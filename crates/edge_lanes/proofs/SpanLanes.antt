@@ -1,8 +1,10 @@
 -- Lanes that are chosen by a comparison, and the bytes of lanes.
-use Rattle.std.proofs.Common.{◌≡◌, ℕ, ◌+◌, ◌-◌, ◌%◌, ◌^◌, ◌<◌, ◌≤◌, Bool, true, false, cond, nat_lt, min, List, map, length, get_or, replicate, refl, sym, ap, ap₂, ◌∙◌, arith, w8, w16, Fits}
-use Rattle.std.specs.Simd.Lanes.{zip2, sel_l, top, Each1, Each2}
+use Rattle.std.proofs.Common.{◌≡◌, ℕ, ◌+◌, ◌-◌, ◌%◌, ◌^◌, ◌<◌, ◌≤◌, ◌&&◌, Bool, true, false, cond, nat_le, nat_lt, min, zero, suc, List, [], ◌∷◌, map, length, get_or, slice_index_or, replicate, refl, sym, ap, ap₂, ◌∙◌, arith, w8, w16, Fits}
+use Rattle.std.specs.Int.{bit_at}
+use Rattle.std.specs.Simd.Lanes.{zip2, sel_l, top, mask_l, Each1, Each2}
 use Rattle.std.proofs.lemmas.Bool.Decides.{nat_tests}
-use Rattle.std.proofs.lemmas.Simd.{tops_compared, get_or-sel_l, length-sel_l, get_or-zip2, length-zip2, get_or-replicate, Each1-get_or, Each1-from_get_or, Each2-splat, below_from_Fits}
+use Rattle.std.proofs.lemmas.Nat.Bits.{bit_at-zero}
+use Rattle.std.proofs.lemmas.Simd.{tops_compared, bit_mask_l, mask_l-mod, get_or-sel_l, length-sel_l, get_or-zip2, length-zip2, get_or-replicate, Each1-get_or, Each1-from_get_or, Each2-splat, below_from_Fits}
 use mir.Syntax.{Width}
 use mir.Val.{bits, hbits}
 
@@ -25,11 +27,29 @@ chosen_at w t n xs ys us vs hx hy hu hv i lt =
     ∙ get_or-sel_l (zip2 t xs ys) us vs i 0 (omega arith) (omega arith) (omega arith)
     ∙ ap (λ b. cond b (get_or us i 0) (get_or vs i 0)) (get_or-zip2 t xs ys i 0 0 false (omega arith) (omega arith))
 
+-- where no number is below the one at its place in other eight, none lies from the first to before the second
+pub none_between : (xs ys : List ℕ) → length xs ≡ 8 → length ys ≡ 8 → mask_l (map (top 15) (zip2 (λ a b. cond (nat_lt a b) 65535 0) xs ys)) % 2 ^ 64 ≡ 0
+    → (i n : ℕ) → i < 8 → (nat_le (slice_index_or xs i 0) n && nat_lt n (slice_index_or ys i 0)) ≡ false
+none_between xs ys hx hy none i n lt =
+    let told : length (zip2 nat_lt xs ys) ≡ 8 = length-zip2 nat_lt xs ys (hx ∙ sym hy) ∙ hx in
+    let empty : mask_l (zip2 nat_lt xs ys) ≡ 0 =
+    sym (mask_l-mod (zip2 nat_lt xs ys) 64 (omega (arith, told))) ∙ sym (ap (λ ms. mask_l ms % 2 ^ 64) (tops_compared w16 nat_lt xs ys)) ∙ none in
+    let clear : ◌≡◌ {A = ℕ} 0 (cond (get_or (zip2 nat_lt xs ys) i false) 1 0) = sym (ap (λ m. bit_at m i) empty ∙ bit_at-zero i) ∙ bit_mask_l (zip2 nat_lt xs ys) i in
+    apart (get_or xs i 0) (get_or ys i 0) n
+    (sym (get_or-zip2 nat_lt xs ys i 0 0 false (omega (arith, hx, lt)) (omega (arith, hy, lt))) ∙ unset (get_or (zip2 nat_lt xs ys) i false) clear)
+  where
+    unset : (b : Bool) → ◌≡◌ {A = ℕ} 0 (cond b 1 0) → b ≡ false
+    unset true e = absurd (omega (arith, e))
+    unset false e = refl
+
+    apart : (a b n : ℕ) → nat_lt a b ≡ false → (nat_le a n && nat_lt n b) ≡ false
+    apart a b n e = grind (arith, nat_tests)
+
 -- the lesser of two, as the lanes choose it
 pub lesser : (x y : ℕ) → cond (nat_lt x y) x y ≡ min x y
 lesser x y = grind (arith, nat_tests)
 
--- ---- what is left of eight numbers past one, and at most 32
+-- ---- what is left of eight numbers past one, and at most so much
 
 -- each number, or c where that is greater
 abbrev pub raised : ℕ → List ℕ → List ℕ
@@ -65,20 +85,36 @@ left_at c xs long i lt =
     past : (x c : ℕ) → cond (nat_lt x c) c x - c ≡ x - c
     past x c = grind (arith, nat_tests)
 
--- at most 32 of that
-abbrev pub cut : ℕ → List ℕ → List ℕ
-cut c xs = chosen w16 nat_lt (left c xs) (replicate 8 32) (left c xs) (replicate 8 32)
+-- at most so many of that
+abbrev pub cut : ℕ → ℕ → List ℕ → List ℕ
+cut c most xs = chosen w16 nat_lt (left c xs) (replicate 8 most) (left c xs) (replicate 8 most)
 
 -- eight of them
-pub cut_long : (c : ℕ) (xs : List ℕ) → length xs ≡ 8 → length (cut c xs) ≡ 8
-cut_long c xs long = let l = left_long c xs long in chosen_long w16 nat_lt 8 (left c xs) (replicate 8 32) (left c xs) (replicate 8 32) l refl l refl
+pub cut_long : (c most : ℕ) (xs : List ℕ) → length xs ≡ 8 → length (cut c most xs) ≡ 8
+cut_long c most xs long = let l = left_long c xs long in chosen_long w16 nat_lt 8 (left c xs) (replicate 8 most) (left c xs) (replicate 8 most) l refl l refl
 
 -- each of them
-pub cut_at : (c : ℕ) (xs : List ℕ) → length xs ≡ 8 → (i : ℕ) → i < 8 → get_or (cut c xs) i 0 ≡ min (get_or xs i 0 - c) 32
-cut_at c xs long i lt =
+pub cut_at : (c most : ℕ) (xs : List ℕ) → length xs ≡ 8 → (i : ℕ) → i < 8 → get_or (cut c most xs) i 0 ≡ min (get_or xs i 0 - c) most
+cut_at c most xs long i lt =
     let l = left_long c xs long in
-    chosen_at w16 nat_lt 8 (left c xs) (replicate 8 32) (left c xs) (replicate 8 32) l refl l refl i lt
-    ∙ ap₂ (λ a b. cond (nat_lt a b) a b) (left_at c xs long i lt) (get_or-replicate 8 i 32 0 lt) ∙ lesser (get_or xs i 0 - c) 32
+    chosen_at w16 nat_lt 8 (left c xs) (replicate 8 most) (left c xs) (replicate 8 most) l refl l refl i lt
+    ∙ ap₂ (λ a b. cond (nat_lt a b) a b) (left_at c xs long i lt) (get_or-replicate 8 i most 0 lt) ∙ lesser (get_or xs i 0 - c) most
+
+-- so that as many can be taken from as much
+pub none_above : (most : ℕ) (xs : List ℕ) → length xs ≡ 8 → ((i : ℕ) → i < 8 → get_or xs i 0 ≤ most) → Each2 (λ a b. b ≤ a) (replicate 8 most) xs
+none_above most xs long le = by 8 xs long le
+  where
+    by : (n : ℕ) (xs : List ℕ) → length xs ≡ n → ((i : ℕ) → i < n → get_or xs i 0 ≤ most) → Each2 (λ a b. b ≤ a) (replicate n most) xs
+    by zero xs long le = tt
+    by (suc n) [] long le = absurd (omega (arith, long))
+    by (suc n) (x ∷ xs) long le = (le 0 (omega arith), by n xs (omega (arith, long)) (λ i lt. le (suc i) (omega (arith, lt))))
+
+pub taken_long : (most : ℕ) (xs : List ℕ) → length xs ≡ 8 → length (zip2 (λ a b. a - b) (replicate 8 most) xs) ≡ 8
+taken_long most xs long = length-zip2 (λ a b. a - b) (replicate 8 most) xs (sym long)
+
+pub taken_at : (most : ℕ) (xs : List ℕ) → length xs ≡ 8 → (i : ℕ) → i < 8 → get_or (zip2 (λ a b. a - b) (replicate 8 most) xs) i 0 ≡ most - get_or xs i 0
+taken_at most xs long i lt =
+    get_or-zip2 (λ a b. a - b) (replicate 8 most) xs i 0 0 0 (omega arith) (omega (arith, long, lt)) ∙ ap (λ a. a - get_or xs i 0) (get_or-replicate 8 i most 0 lt)
 
 -- ---- the same of bytes, past as many, and at most 8
 

@@ -61,12 +61,16 @@ bit_at-subtile_signs column row v j l =
     let test : ℕ → Bool = λ k. is_not_negative (v +ℤ subtile_step column row k) in
     bit_mask_l (map test columns) j ∙ ap (λ (b : Bool). cond b 1 0) (get_or-map-range_with_len test 0 8 j j false l (omega arith))
 
+-- a subtile's bit, by the value that is moved to the subtile first
+moved_bit : (column row s h : ℤ) (j b : ℕ) → j < 8 → bit_at (subtile_signs column row (s +ℤ h)) j ≡ b → ◌≡◌ {A = ℕ} (cond (is_not_negative ((s +ℤ subtile_step column row j) +ℤ h)) 1 0) b
+moved_bit column row s h j b l bit = ap (λ (v : ℤ). cond (is_not_negative v) 1 0) (swapped s h (subtile_step column row j)) ∙ sym (bit_at-subtile_signs column row (s +ℤ h) j l) ∙ bit
+  where
+    swapped : (s h o : ℤ) → (s +ℤ o) +ℤ h ≡ (s +ℤ h) +ℤ o
+    swapped s h o = omega (arith, ints)
+
 -- an edge without the bit of a subtile rejects it
 rejects_clear : (e : Line) (s : ℤ) (j : ℕ) → j < 8 → bit_at (candidates_of e s) j ≡ 0 → Rejects e (moved_to e s j)
-rejects_clear e s j l bit =
-    swapped s (highest_of e.column e.row) (subtile_step e.column e.row j)
-    (negative ((s +ℤ highest_of e.column e.row) +ℤ subtile_step e.column e.row j)
-    (clear _ (sym (bit_at-subtile_signs e.column e.row (s +ℤ highest_of e.column e.row) j l) ∙ bit)))
+rejects_clear e s j l bit = negative ((s +ℤ subtile_step e.column e.row j) +ℤ highest_of e.column e.row) (clear _ (moved_bit e.column e.row s (highest_of e.column e.row) j 0 l bit))
   where
     clear : (b : Bool) → ◌≡◌ {A = ℕ} (cond b 1 0) 0 → b ≡ false
     clear true h = absurd (omega arith)
@@ -75,9 +79,6 @@ rejects_clear e s j l bit =
     negative : (v : ℤ) → is_not_negative v ≡ false → v <ℤ pos 0
     negative (pos n) h = absurd (both_ways (is_not_negative (pos n)) h (not_negative (pos n) (omega (arith, ints))))
     negative (negsuc n) h = omega (arith, ints)
-
-    swapped : (s h o : ℤ) → ((s +ℤ h) +ℤ o) <ℤ pos 0 → ((s +ℤ o) +ℤ h) <ℤ pos 0
-    swapped s h o l = omega (arith, ints)
 
 -- where a bit is in none of three masks joined, one of them is without it
 one_clear : (a b c j : ℕ) → bit_at (bit_and (bit_and a b) c) j ≡ 0 → (bit_at a j ≡ 0) ⊎ ((bit_at b j ≡ 0) ⊎ (bit_at c j ≡ 0))
@@ -96,8 +97,11 @@ signs-lt a b column row v =
     let byte : subtile_signs column row v < 2 ^ 8 = mask_l-lt (map (λ j. is_not_negative (v +ℤ subtile_step column row j)) columns) in
     omega arith
 
-pub candidates_of_all-lt : (e : Lines) (s t u : ℤ) → candidates_of_all e s t u < 2 ^ 8
-candidates_of_all-lt e s t u = signs-lt (candidates_of e.first s) (candidates_of e.second t) e.third.column e.third.row (u +ℤ highest_of e.third.column e.third.row)
+pub candidates_byte : (a b c : ℕ) (e : Line) (s : ℤ) → c ≡ candidates_of e s → bit_and (bit_and a b) c < 2 ^ 8
+candidates_byte a b c e s is = rw is (signs-lt a b e.column e.row (s +ℤ highest_of e.column e.row))
+
+pub whole_byte : (a b c : ℕ) (e : Line) (s : ℤ) → c ≡ whole_of e s → bit_and (bit_and a b) c < 2 ^ 8
+whole_byte a b c e s is = rw is (signs-lt a b e.column e.row (s +ℤ lowest_of e.column e.row))
 
 pub no_samples-clear : (e : Lines) (tile : Tile) (s t v : ℤ) → Begins e.first tile s → Begins e.second tile t → Begins e.third tile v →
     (j : ℕ) → j < 8 → bit_at (candidates_of_all e s t v) j ≡ 0 → inside_lines e (sub_of tile j) ≡ no_samples
@@ -118,10 +122,7 @@ mask_of_all-begun e tile s t v j l f g h = ap mask_l (inside_all-begun e tile s 
 
 -- an edge with the bit of a subtile accepts it
 accepts_set : (e : Line) (s : ℤ) (j : ℕ) → j < 8 → bit_at (whole_of e s) j ≡ 1 → Accepts e (moved_to e s j)
-accepts_set e s j l bit =
-    swapped s (lowest_of e.column e.row) (subtile_step e.column e.row j)
-    (at_least ((s +ℤ lowest_of e.column e.row) +ℤ subtile_step e.column e.row j)
-    (set _ (sym (bit_at-subtile_signs e.column e.row (s +ℤ lowest_of e.column e.row) j l) ∙ bit)))
+accepts_set e s j l bit = at_least ((s +ℤ subtile_step e.column e.row j) +ℤ lowest_of e.column e.row) (set _ (moved_bit e.column e.row s (lowest_of e.column e.row) j 1 l bit))
   where
     set : (b : Bool) → ◌≡◌ {A = ℕ} (cond b 1 0) 1 → b ≡ true
     set true h = refl
@@ -130,9 +131,6 @@ accepts_set e s j l bit =
     at_least : (v : ℤ) → is_not_negative v ≡ true → pos 0 ≤ℤ v
     at_least (pos n) h = omega (arith, ints)
     at_least (negsuc n) h = absurd (both_ways (is_not_negative (negsuc n)) refl h)
-
-    swapped : (s h o : ℤ) → pos 0 ≤ℤ ((s +ℤ h) +ℤ o) → pos 0 ≤ℤ ((s +ℤ o) +ℤ h)
-    swapped s h o l = omega (arith, ints)
 
 -- where a bit is in three masks joined, it is in each
 each_set : (a b c j : ℕ) → bit_at (bit_and (bit_and a b) c) j ≡ 1 → (bit_at a j ≡ 1) × ((bit_at b j ≡ 1) × (bit_at c j ≡ 1))
@@ -148,6 +146,3 @@ whole-set e tile s t v f g h j lt z =
     let each = each_set (whole_of e.first s) (whole_of e.second t) (whole_of e.third v) j z in
     sym (mask_of_all-begun e tile s t v j lt f g h)
     ∙ accepted_by_all e (moved_to e.first s j) (moved_to e.second t j) (moved_to e.third v j) (accepts_set e.first s j lt each.0) (accepts_set e.second t j lt each.1.0) (accepts_set e.third v j lt each.1.1)
-
-pub whole_of_all-lt : (e : Lines) (s t u : ℤ) → whole_of_all e s t u < 2 ^ 8
-whole_of_all-lt e s t u = signs-lt (whole_of e.first s) (whole_of e.second t) e.third.column e.third.row (u +ℤ lowest_of e.third.column e.third.row)

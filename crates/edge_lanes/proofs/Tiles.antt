@@ -1,12 +1,12 @@
 -- The edges of a piece over one tile.
-use Rattle.std.proofs.Common.{◌≡◌, ◌<◌, ◌^◌, ℕ, ℤ, FitsSigned, to_z, of_z, w32, w64, arith}
+use Rattle.std.proofs.Common.{◌≡◌, ◌<◌, ◌^◌, ℕ, ℤ, FitsSigned, to_z, of_z, w32, w64, arith, ap, sym, ◌∙◌}
 use Rattle.std.specs.Simd.Lanes.{mask_l}
 use Rattle.std.proofs.lemmas.Int.{ints, to_z-of_z}
 use Rattle.cull_base.specs.Bounds.{Bounded}
 use Rattle.cull_base.specs.State.{samples_of}
 use Rattle.cull_base.specs.declared.place.Tile.{Tile}
-use Rattle.edge_lanes.specs.Lines.{Line, candidates_of_all, mask_of_all, whole_of_all}
-use Rattle.edge_lanes.specs.Inside.{StartsAt, inside_of, lines_of_kind, narrow_line, sub_of, wide_line}
+use Rattle.edge_lanes.specs.Lines.{Line, Lines, candidates_of_all, mask_of_all, whole_of_all}
+use Rattle.edge_lanes.specs.Inside.{StartsAt, inside_of, lines_of_kind, narrow_line, narrow_lines, sub_of, wide_line}
 use Rattle.edge_lanes.specs.Tiles.{AreCandidates, AreWhole, inside_at}
 use Rattle.edge_lanes.specs.declared.edges.Kind.{Kind}
 use Rattle.edge_lanes.specs.declared.edges.Kind.TheVariants.{Narrow, Wide}
@@ -59,7 +59,7 @@ narrow_start-bounded : (k : Kind) (e : NarrowEdges) (l : Line) (tile : Tile) (v 
 narrow_start-bounded k e l tile v is h = (rw is at h).1
 
 -- as 32 bits hold it
-abbrev held : ℤ → ℤ
+abbrev pub held : ℤ → ℤ
 held v = to_z w32 (of_z w32 (to_z w64 (of_z w64 v)))
 
 held_is : (v : ℤ) → Bounded (2 ^ 30) v → held v ≡ v
@@ -82,3 +82,10 @@ are_held t e is =
     let d = narrow_start-bounded k e (lines_of_kind k).third t.tile t.third is t.third_starts in
     let p = held_is t.first a in let q = held_is t.second b in let r = held_is t.third d in
     record { first_is = p; second_is = q; third_is = r; first_bounded = rw p a; second_bounded = rw q b; third_bounded = rw r d }
+
+-- so what is computed of them there is what the edges' lines say
+pub of_narrow : (t : TileEdges) (e : NarrowEdges) → t.edges.now.kind ≡ Narrow e → (f : Lines → ℤ → ℤ → ℤ → ℕ) (v : ℕ) → v ≡ f (narrow_lines e) (held t.first) (held t.second) (held t.third)
+    → v ≡ f (lines_of_kind t.edges.now.kind) t.first t.second t.third
+of_narrow t e is f v h =
+    let all = are_held t e is in let a = all.first_is in let b = all.second_is in let d = all.third_is in
+    rw (a, b, d) at h ∙ ap (λ (k : Kind). f (lines_of_kind k) t.first t.second t.third) (sym is)

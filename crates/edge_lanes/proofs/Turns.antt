@@ -1,9 +1,10 @@
 -- An edge's samples in a row, by the column where it crosses the row.
-use Rattle.std.proofs.Common.{◌≡◌, ◌≢◌, ℕ, ℤ, pos, negsuc, zero, suc, ◌<◌, ◌^◌, ◌+ℤ◌, ◌-ℤ◌, ◌*ℤ◌, ◌≤ℤ◌, ◌<ℤ◌, neg_ℤ, Bool, true, false, ◌&&◌, int_le, int_lt, arith, refl, ◌∙◌}
+use Rattle.std.proofs.Common.{◌≡◌, ◌≢◌, ℕ, ℤ, pos, negsuc, zero, suc, ◌<◌, ◌+◌, ◌^◌, ◌+ℤ◌, ◌-ℤ◌, ◌*ℤ◌, ◌≤ℤ◌, ◌<ℤ◌, neg_ℤ, Bool, true, false, ◌&&◌, int_le, int_lt, arith, refl, ◌∙◌}
 use Rattle.std.specs.Cmp.{both_ways}
 use Rattle.std.specs.Int.{int_div_euclid, int_min, int_max}
 use Rattle.std.proofs.lemmas.Int.{ints, clamps, by_lt_z}
-use Rattle.edge_lanes.specs.Between.{column_at, is_between}
+use Rattle.cull_base.specs.Bounds.{Bounded}
+use Rattle.edge_lanes.specs.Between.{IsLimit, column_at, is_between}
 use Rattle.edge_lanes.specs.Lines.{counts_at, line}
 use Rattle.edge_lanes.proofs.Floors.{add-times, below_floor, from_below_floor, le_of, lt_of, neg-times, of_le, of_lt}
 
@@ -101,7 +102,7 @@ counts_from start row p x y h l =
     back a m w x p t k = let e = one_more x p in omega (arith, ints, t, e, k)
 
 -- of a right edge, whose columns take away
-pub turned_right : (start column row first size : ℤ) (x y : ℕ) → column <ℤ pos 0 → first ≡ start -ℤ column → size ≡ neg_ℤ column →
+turned_right : (start column row first size : ℤ) (x y : ℕ) → column <ℤ pos 0 → first ≡ start -ℤ column → size ≡ neg_ℤ column →
     is_between (column_at first row size y) 0 x ≡ counts_at (line start column row) x y
 turned_right start (pos n) row first size x y h ef es = absurd (omega (arith, ints, h))
 turned_right start (negsuc n) row first size x y h ef es =
@@ -109,7 +110,7 @@ turned_right start (negsuc n) row first size x y h ef es =
     rw (f, s) (counts_before start row (suc n) x y (omega arith))
 
 -- of a left edge
-pub turned_left : (start column row first down : ℤ) (x y : ℕ) → pos 0 <ℤ column → first ≡ (column -ℤ pos 1) -ℤ start → down ≡ neg_ℤ row → x < 2 ^ 11 →
+turned_left : (start column row first down : ℤ) (x y : ℕ) → pos 0 <ℤ column → first ≡ (column -ℤ pos 1) -ℤ start → down ≡ neg_ℤ row → x < 2 ^ 11 →
     is_between (column_at first down column y) (2 ^ 11) x ≡ counts_at (line start column row) x y
 turned_left start (pos n) row first down x y h ef es l = rw (ef, es) (counts_from start row n x y (omega (arith, ints, h)) l)
 turned_left start (negsuc n) row first down x y h ef es l = absurd (omega (arith, ints, h))
@@ -122,3 +123,28 @@ pub is_right : (column : ℤ) → column ≢ pos 0 → int_lt (pos 0) column ≡
 is_right (pos zero) s h = absurd (s refl)
 is_right (pos (suc n)) s h = let t = of_lt (pos 0) (pos (suc n)) (omega (arith, ints)) in absurd (cc)
 is_right (negsuc n) s h = omega (arith, ints)
+
+-- an edge turned, by its numbers
+pub record AreTurned (start column row first down size : ℤ) (limit : ℕ) : Type 0 where
+  pub within : Bounded (2 ^ 58 + 2 ^ 21) first × Bounded (2 ^ 20) down
+  pub sized : (pos 1 ≤ℤ size) × (size ≤ℤ pos (2 ^ 20))
+  pub is_limit : IsLimit limit
+  pub counts : (x y : ℕ) → x < 2 ^ 11 → is_between (column_at first down size y) limit x ≡ counts_at (line start column row) x y
+
+pub are_turned_left : (start column row first down size : ℤ) → Bounded (2 ^ 58) start → Bounded (2 ^ 20) column → Bounded (2 ^ 20) row → pos 0 <ℤ column →
+    first ≡ (column -ℤ pos 1) -ℤ start → down ≡ pos 0 -ℤ row → size ≡ column → AreTurned start column row first down size 2048
+are_turned_left start column row first down size bs bc br l ef ed es = record {
+  within = ((omega (arith, ints, bs, bc, ef), omega (arith, ints, bs, bc, ef)), (omega (arith, ints, br, ed), omega (arith, ints, br, ed)));
+  sized = (omega (arith, ints, l, es), omega (arith, ints, bc, es));
+  is_limit = refl;
+  counts = λ x y lt. let d : down ≡ neg_ℤ row = omega (arith, ints, ed) in rw es (turned_left start column row first down x y l ef d lt);
+}
+
+pub are_turned_right : (start column row first down size : ℤ) → Bounded (2 ^ 58) start → Bounded (2 ^ 20) column → Bounded (2 ^ 20) row → column <ℤ pos 0 →
+    first ≡ start -ℤ column → down ≡ row → size ≡ pos 0 -ℤ column → AreTurned start column row first down size 0
+are_turned_right start column row first down size bs bc br l ef ed es = record {
+  within = ((omega (arith, ints, bs, bc, ef), omega (arith, ints, bs, bc, ef)), (omega (arith, ints, br, ed), omega (arith, ints, br, ed)));
+  sized = (omega (arith, ints, l, es), omega (arith, ints, bc, es));
+  is_limit = refl;
+  counts = λ x y lt. let s : size ≡ neg_ℤ column = omega (arith, ints, es) in rw ed (turned_right start column row first size x y l ef s);
+}

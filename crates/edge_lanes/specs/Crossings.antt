@@ -1,5 +1,6 @@
 -- Where the edges of a piece cross the rows of samples of a screen of 2048 by 2048 pixels.
 use Rattle.std.specs.Prelude.{ℕ, ℤ, pos, ◌≡◌, ◌+◌, ◌*◌, ◌/◌, ◌%◌, ◌^◌, ◌<◌, ◌*ℤ◌, ◌≤ℤ◌, neg_ℤ, List, Bool, ◌&&◌}
+use Rattle.std.specs.Borrow.{Bor}
 use Rattle.cull_base.specs.Piece.{each_sample}
 use Rattle.cull_base.specs.declared.place.Sub.{Sub}
 use Rattle.edge_lanes.specs.Lines.{Line, Lines, counts_at, is_inside}
@@ -15,6 +16,8 @@ use Rattle.edge_lanes.specs.declared.spans.Spans.{Spans}
 use Rattle.edge_lanes.specs.declared.row_edges.RowKind.{RowKind}
 use Rattle.edge_lanes.specs.declared.row_edges.RowKind.TheVariants.{Crossed, Plain}
 use Rattle.edge_lanes.specs.declared.row_edges.RowEdges.{RowEdges}
+use Rattle.edge_lanes.specs.declared.row_edges.EdgesView.{EdgesView}
+use Rattle.edge_lanes.specs.declared.row_edges.EdgesView.TheVariants as lent
 
 -- the column where an edge crosses a row
 abbrev pub crossed_at : Crossing → ℕ → ℤ
@@ -57,8 +60,8 @@ abbrev pub AreSpans : Crossings → ℕ → Spans → Type 0
 AreSpans c row s = (r x : ℕ) → r < 8 → x < 2 ^ 11 → in_span s r x ≡ is_within c x (8 * row + r)
 
 -- nothing is said of the spans of plain edges
-abbrev pub AreSpansOf : RowKind → ℕ → Spans → Type 0
-AreSpansOf k row s = (c : Crossings) → k ≡ Crossed c → AreSpans c row s
+abbrev pub AreSpansOf : EdgesView → ℕ → Spans → Type 0
+AreSpansOf v row s = (c : Bor Crossings) → v ≡ lent.Crossed c → AreSpans c.now row s
 
 -- which samples of a subtile lie inside
 abbrev pub crossed_in : Crossings → Sub → List Bool
@@ -70,3 +73,11 @@ inside_kind (Plain e) u = inside_of e u
 
 unfoldable pub inside_rows : RowEdges → Sub → List Bool
 inside_rows e u = inside_kind e.kind u
+
+-- and of edges that are lent
+abbrev pub inside_lent : EdgesView → Sub → List Bool
+inside_lent (lent.Crossed c) u = crossed_in c.now u
+inside_lent (lent.Plain e) u = inside_of e.now u
+
+unfoldable pub inside_view : EdgesView → Sub → List Bool
+inside_view v u = inside_lent v u

@@ -7,5 +7,6 @@ pub mod Tiles
 pub mod Between
 pub mod Spans
 pub mod Crossings
+pub mod Near
 pub mod Rows
 pub mod Reciprocals

@@ -39,17 +39,7 @@ pub record IsNarrow (t : Piece) : Type 0 where
   pub second : IsShort (vertex t 1) (vertex t 2)
   pub third : IsShort (vertex t 2) (vertex t 0)
 
--- at most 2^10 sixteenths each way
-pub record IsFew (a b : Point) : Type 0 where
-  pub across : Bounded (2 ^ 10) (b.x -ℤ a.x)
-  pub down : Bounded (2 ^ 10) (b.y -ℤ a.y)
-
-pub record AreFew (t : Piece) : Type 0 where
-  pub first : IsFew (vertex t 0) (vertex t 1)
-  pub second : IsFew (vertex t 1) (vertex t 2)
-  pub third : IsFew (vertex t 2) (vertex t 0)
-
--- a value of such an edge held in 16 bits, of the same sign
+-- a value of an edge that passes at most 2^10 sixteenths each way, held in 16 bits, of the same sign
 abbrev pub held_few : ℤ → ℤ
 held_few v = int_max (neg_ℤ (pos (2 ^ 14))) (int_min v (pos (2 ^ 14)))
 

@@ -1,5 +1,5 @@
 //! Where an edge crosses the rows of samples: columns in fixed-point numbers, of 2^32 parts a pixel.
-ghost use Rattle.std.specs.Prelude.{◌≡◌, ℕ, ℤ, pos, ◌^◌, ◌+◌, ◌*◌, ◌<◌, ◌+ℤ◌, ◌*ℤ◌, slice_index, slice_index_or};
+ghost use Rattle.std.specs.Prelude.{◌≡◌, ℕ, ℤ, pos, ◌^◌, ◌+◌, ◌*◌, ◌<◌, ◌+ℤ◌, ◌*ℤ◌, replicate, slice_index, slice_index_or};
 ghost use Rattle.std.specs.Int.{int_div_euclid};
 ghost use Rattle.cull_base.specs.Bounds.{Bounded};
 ghost use Rattle.cull_base.specs.Depth.{floor_of};
@@ -28,10 +28,13 @@ pub struct Crossing {
     pub rows: i64x8,
     // 0 where the samples before the crossing are inside, 2048 where those from it on are
     pub limit: u16,
+    // the same for each of eight rows
+    pub limits: u16x8,
     ghost start_bounded: { Bounded (2 ^ 62 + 2 ^ 12) start },
     ghost step_bounded: { Bounded (2 ^ 50) step },
     ghost are_rows: { rows ≡ offsets_of step },
     ghost is_limit: { IsLimit limit },
+    ghost are_limits: { limits ≡ replicate 8 limit },
 }
 
 // So many pixels over a size, in parts, rounded down. The sign is no branch around the division.
@@ -109,6 +112,7 @@ impl Crossing {
                 7 * step,
             ]),
             limit: edge.limit,
+            limits: u16x8::splat(edge.limit),
         }
     }
 
@@ -152,10 +156,9 @@ impl Crossing {
             → in_span result r x ≡ is_beside self.now x (8 * row + r) }
     {
         let crossed = u16x8::from_array(self.columns(row));
-        let limit = u16x8::splat(self.limit);
         Spans {
-            first: crossed.simd_min(limit),
-            end: crossed.simd_max(limit),
+            first: crossed.simd_min(self.limits),
+            end: crossed.simd_max(self.limits),
         }
     }
 }

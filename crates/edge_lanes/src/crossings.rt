@@ -37,6 +37,6 @@ impl Crossings {
         ensures { AreSpans self.now row result }
     {
         let others = self.second.spans(row).and(self.third.spans(row));
-        self.first.spans(row).and(others).tidied()
+        self.first.spans(row).and(others)
     }
 }

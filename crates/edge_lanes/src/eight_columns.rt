@@ -1,65 +1,18 @@
-//! The least and the greatest of eight columns, by pairs.
-ghost use Rattle.std.specs.Prelude.{◌≡◌, ℕ, ◌<◌, ◌≤◌, min, max, slice_index_or};
-ghost use Rattle.std.specs.Simd.Lanes.{zip2};
+//! The least of eight columns.
+ghost use Rattle.std.specs.Prelude.{◌≡◌, ℕ, ◌<◌, ◌≤◌, length, slice_index_or};
 
 use std::simd::prelude::*;
 
-// The lesser of the two columns at each place.
+/// A column that none of the eight is before: the least. Each step tells it of twice as many, in half as many places;
+/// what stands in the others is nothing to it. LLVM knows this form, and makes one instruction of it.
 #[inline(always)]
-fn least_of_pairs(a: [u16; 4], b: [u16; 4]) -> [u16; 4]
-    ensures { result ≡ zip2 min a b }
-{
-    u16x4::from_array(a)
-        .simd_min(u16x4::from_array(b))
-        .to_array()
-}
-
-// The greater of the two columns at each place.
-#[inline(always)]
-fn greatest_of_pairs(a: [u16; 4], b: [u16; 4]) -> [u16; 4]
-    ensures { result ≡ zip2 max a b }
-{
-    u16x4::from_array(a)
-        .simd_max(u16x4::from_array(b))
-        .to_array()
-}
-
-// The least of four columns.
-#[inline(always)]
-fn least_of_four(numbers: [u16; 4]) -> u16
-    ensures { (j : ℕ) → j < 4 → result ≤ slice_index_or numbers j 0 }
-{
-    let [a, b, c, d] = numbers;
-    let [least, other, ..] = least_of_pairs([a, b, c, d], [c, d, a, b]);
-    least.min(other)
-}
-
-// The greatest of four columns.
-#[inline(always)]
-fn greatest_of_four(numbers: [u16; 4]) -> u16
-    ensures { (j : ℕ) → j < 4 → slice_index_or numbers j 0 ≤ result }
-{
-    let [a, b, c, d] = numbers;
-    let [greatest, other, ..] = greatest_of_pairs([a, b, c, d], [c, d, a, b]);
-    greatest.max(other)
-}
-
-/// A column that none of the eight is before: the least.
-#[inline(always)]
-pub fn least_column(numbers: [u16; 8]) -> u32
+pub fn least_column(numbers: u16x8) -> u32
+    requires { length numbers ≡ 8 }
     ensures { (j : ℕ) → j < 8 → result ≤ slice_index_or numbers j 0 }
 {
-    let [a, b, c, d, e, f, g, h] = numbers;
-    let least = least_of_four(least_of_pairs([a, b, c, d], [e, f, g, h]));
+    let fours = numbers.simd_min(numbers.rotate_elements_left::<4>());
+    let twos = fours.simd_min(fours.rotate_elements_left::<2>());
+    let ones = twos.simd_min(twos.rotate_elements_left::<1>());
+    let [least, ..] = ones.to_array();
     u32::from(least)
-}
-
-/// A column that none of the eight is past: the greatest.
-#[inline(always)]
-pub fn greatest_column(numbers: [u16; 8]) -> u32
-    ensures { (j : ℕ) → j < 8 → slice_index_or numbers j 0 ≤ result }
-{
-    let [a, b, c, d, e, f, g, h] = numbers;
-    let greatest = greatest_of_four(greatest_of_pairs([a, b, c, d], [e, f, g, h]));
-    u32::from(greatest)
 }

@@ -2,12 +2,11 @@
 ghost use Rattle.std.specs.Prelude.{◌≡◌, ℕ, ◌<◌};
 ghost use Rattle.cull_base.specs.Piece.{covered};
 ghost use Rattle.cull_base.specs.declared.place.Sub.{Sub};
-ghost use Rattle.edge_lanes.specs.Crossings.{inside_rows};
+ghost use Rattle.edge_lanes.specs.Crossings.{inside_rows, inside_view};
 
 use crate::crossings::Crossings;
-use crate::edges::{Edges, is_narrow};
-use crate::narrow_edges::NarrowEdges;
-use crate::turned::TurnedEdges;
+use crate::edges::Edges;
+use crate::near_edges::NearEdges;
 use cull_base::{ScreenTri, Side};
 
 /// The edges of a piece, for the samples that it covers on a screen of 2048 by 2048 pixels.
@@ -21,6 +20,13 @@ pub struct RowEdges {
 pub(crate) enum RowKind {
     Crossed(Crossings),
     Plain(Edges),
+}
+
+/// The edges of a piece, lent: they themselves are large to copy. Nearly all pieces are crossed here too.
+#[derive(Clone, Copy)]
+pub enum EdgesView<'a> {
+    Crossed(&'a Crossings),
+    Plain(&'a Edges),
 }
 
 // Edges without spans. Out of line, so that what these need alone isn't computed where there are spans.
@@ -40,16 +46,25 @@ impl RowEdges {
     pub fn of(tri: &ScreenTri) -> RowEdges
         ensures { (u : Sub) → u.column < 256 → u.row < 512 → inside_rows result u ≡ covered tri.now u }
     {
-        if !is_narrow(tri) {
-            return plain(tri);
+        match NearEdges::of(tri) {
+            Some(edges) => {
+                let crossings = edges.crossings();
+                RowEdges {
+                    kind: RowKind::Crossed(crossings),
+                }
+            }
+            None => plain(tri),
         }
-        let edges = TurnedEdges::of(&NarrowEdges::of(tri, Side::Occluder));
-        if !edges.are_near() {
-            return plain(tri);
-        }
-        let crossings = Crossings::of(&edges);
-        RowEdges {
-            kind: RowKind::Crossed(crossings),
+    }
+
+    /// What the rows of tiles need of them.
+    #[inline(always)]
+    pub fn view(&self) -> EdgesView<'_>
+        ensures { (u : Sub) → inside_view result u ≡ inside_rows self.now u }
+    {
+        match &self.kind {
+            RowKind::Crossed(crossings) => EdgesView::Crossed(crossings),
+            RowKind::Plain(edges) => EdgesView::Plain(edges),
         }
     }
 }

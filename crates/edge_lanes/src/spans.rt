@@ -5,7 +5,7 @@ ghost use Rattle.std.specs.Prelude.{cond, length, min, nat_le, nat_lt, slice_ind
 ghost use Rattle.std.specs.Int.{bit_at};
 ghost use Rattle.std.specs.Simd.Lanes.{mask_l};
 
-use crate::eight_columns::{greatest_column, least_column};
+use crate::eight_columns::least_column;
 use std::simd::prelude::*;
 
 /// The columns inside in each of eight rows, from a first to before an end.
@@ -29,17 +29,28 @@ const BEFORE: [u8; 32] = [
     24, 24, 24, 24,
 ];
 
-// How many of the 32 columns from one on lie before each of eight ends.
+// How many of so many columns from one on lie before each of eight ends.
 #[inline(always)]
-fn columns_before(ends: u16x8, column: u16) -> u16x8
+fn columns_before(ends: u16x8, column: u16, count: u16) -> u16x8
     requires { length ends ≡ 8 }
     ensures eight { length result ≡ 8 }
-    ensures value { (r : ℕ) → r < 8 → slice_index_or result r 0 ≡ min (slice_index_or ends r 0 - column) 32 }
+    ensures value { (r : ℕ) → r < 8 → slice_index_or result r 0 ≡ min (slice_index_or ends r 0 - column) count }
 {
     let start = u16x8::splat(column);
     ends.simd_max(start)
         .strict_sub(start)
-        .simd_min(u16x8::splat(32))
+        .simd_min(u16x8::splat(count))
+}
+
+// How many of the 256 columns from one on don't lie before each of eight ends.
+#[inline(always)]
+fn columns_from(ends: u16x8, column: u16) -> u16x8
+    requires { length ends ≡ 8 }
+    ensures eight { length result ≡ 8 }
+    ensures value { (r : ℕ) → r < 8 → slice_index_or result r 0
+        ≡ 256 - min (slice_index_or ends r 0 - column) 256 }
+{
+    u16x8::splat(256).strict_sub(columns_before(ends, column, 256))
 }
 
 // Of eight numbers that are at most 32, that of the row of each byte of a tile's masks.
@@ -100,16 +111,16 @@ fn from_ends(ends: u16x8, column: u32) -> u8x32
     ensures value { (i : ℕ) → i < 32 → slice_index_or result i 0
         ≡ 2 ^ 8 - 2 ^ min (slice_index_or ends (4 * (i / 16) + i % 4) 0 - 8 * (4 * column + i / 4 % 4)) 8 }
 {
-    bytes_from(in_bytes(columns_before(ends, 32 * column as u16)))
+    bytes_from(in_bytes(columns_before(ends, 32 * column as u16, 32)))
 }
 
 // The ones from a first bit to before an end, of eight bits.
 #[inline(always)]
 fn ones_between(first: u32, end: u32) -> u32
+    requires { end ≤ 8 }
     ensures bits { (i : ℕ) → i < 8 → bit_at result i ≡ cond (nat_le first i && nat_lt i end) 1 0 }
     ensures byte { result < 2 ^ 8 }
 {
-    let end = end.min(8);
     (1 << end) - (1 << first.min(end))
 }
 
@@ -136,14 +147,14 @@ impl Spans {
         }
     }
 
-    /// The same columns. A row that has none begins past all screens and ends at 0, so that it tells `ahead` nothing.
+    // The same columns. A row that has none begins past all screens and ends at 0, so that it tells `ahead` nothing.
     #[inline(always)]
-    pub fn tidied(self) -> Spans
+    fn tidied(self) -> Spans
         ensures { (r x : ℕ) → r < 8 → in_span result r x ≡ in_span self r x }
     {
         let some = self.first.simd_lt(self.end);
         Spans {
-            first: some.select(self.first, u16x8::splat(4096)),
+            first: some.select(self.first, u16x8::splat(65535)),
             end: some.select(self.end, u16x8::splat(0)),
         }
     }
@@ -155,9 +166,24 @@ impl Spans {
         ensures met { AreMet self.now column result }
         ensures byte { result < 2 ^ 8 }
     {
-        let first = least_column(self.first.to_array()) / 32;
-        let end = greatest_column(self.end.to_array()).div_ceil(32);
-        ones_between(first.saturating_sub(column), end.saturating_sub(column))
+        let spans = self.tidied();
+        // of the columns of these eight tiles, how many lie before a row's span, and how many lie past it
+        let start = 32 * column as u16;
+        let before = columns_before(spans.first, start, 256);
+        let past = columns_from(spans.end, start);
+        let first = least_column(before) / 32;
+        let end = (256 + 31 - least_column(past)) / 32;
+        ones_between(first, end)
+    }
+
+    /// Eight ones, or none where no row has a column.
+    #[inline(always)]
+    pub fn all_or_none(&self) -> u32
+        ensures met { (column : ℕ) → AreMet self.now column result }
+        ensures byte { result < 2 ^ 8 }
+    {
+        let some = self.first.simd_lt(self.end).to_bitmask();
+        if some == 0 { 0 } else { 255 }
     }
 
     /// The masks of the eight subtiles of the tile in a column.

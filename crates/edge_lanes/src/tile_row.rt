@@ -4,35 +4,35 @@ ghost use Rattle.std.specs.Simd.Lanes.{mask_l};
 ghost use Rattle.cull_base.specs.State.{samples_of};
 ghost use Rattle.edge_lanes.specs.Crossings.{AreSpansOf};
 
-use crate::row_edges::{RowEdges, RowKind};
+use crate::row_edges::EdgesView;
 use crate::spans::Spans;
 use cull_base::Tile;
 
 /// The edges of a piece over one row of tiles.
 #[derive(Clone, Copy)]
 pub struct TileRow<'a> {
-    edges: &'a RowEdges,
+    edges: EdgesView<'a>,
     row: u32,
     spans: Spans,
     ghost row_within: { row < 256 },
-    ghost are_spans: { AreSpansOf edges.now.kind row spans },
+    ghost are_spans: { AreSpansOf edges row spans },
 }
 
-impl RowEdges {
+impl<'a> EdgesView<'a> {
     /// The edges over a row of tiles. Condition: the row is below 256.
     #[inline(always)]
-    pub fn over_row(&self, row: u32) -> TileRow<'_>
+    pub fn over_row(self, row: u32) -> TileRow<'a>
         requires { row < 256 }
-        ensures edges { result.edges.now ≡ self.now }
+        ensures edges { result.edges ≡ self.entry }
         ensures row { result.row ≡ row }
     {
-        match &self.kind {
-            RowKind::Crossed(crossings) => TileRow {
+        match self {
+            EdgesView::Crossed(crossings) => TileRow {
                 edges: self,
                 row,
                 spans: crossings.spans(row),
             },
-            RowKind::Plain(_) => TileRow {
+            EdgesView::Plain(_) => TileRow {
                 edges: self,
                 row,
                 spans: Spans::none(),
@@ -52,9 +52,29 @@ impl TileRow<'_> {
         ensures clear { AreAhead self.now column result }
         ensures byte { result < 2 ^ 8 }
     {
-        match &self.edges.kind {
-            RowKind::Crossed(_) => self.spans.ahead(column),
-            RowKind::Plain(_) => 255,
+        match self.edges {
+            EdgesView::Crossed(_) => self.spans.ahead(column),
+            EdgesView::Plain(_) => 255,
+        }
+    }
+
+    /// The same where no more than so many tiles count. Of one alone it is told with less: whether its rows have any
+    /// columns. Condition: the column is below 64.
+    #[inline(always)]
+    pub fn ahead_among(&self, column: u32, count: u32) -> u32
+        requires { column < 64 }
+        ensures clear { AreAhead self.now column result }
+        ensures byte { result < 2 ^ 8 }
+    {
+        match self.edges {
+            EdgesView::Crossed(_) => {
+                if count == 1 {
+                    self.spans.all_or_none()
+                } else {
+                    self.spans.ahead(column)
+                }
+            }
+            EdgesView::Plain(_) => 255,
         }
     }
 
@@ -65,9 +85,9 @@ impl TileRow<'_> {
         ensures value { (j : ℕ) → j < 8 → slice_index result j ≡ mask_l (inside_in self.now column j) }
         ensures samples { (j : ℕ) → j < 8 → samples_of (slice_index result j) ≡ inside_in self.now column j }
     {
-        match &self.edges.kind {
-            RowKind::Crossed(_) => self.spans.masks(column),
-            RowKind::Plain(edges) => edges.tile_masks(Tile {
+        match self.edges {
+            EdgesView::Crossed(_) => self.spans.masks(column),
+            EdgesView::Plain(edges) => edges.tile_masks(Tile {
                 column: column as u16,
                 row: self.row as u16,
             }),

@@ -26,19 +26,16 @@ greatest_first x y e = grind (arith, ints)
 greatest_second : (x y : ℤ) → int_lt y x ≡ false → int_max x y ≡ y
 greatest_second x y e = grind (arith, ints)
 
+-- what is the first of two where a test holds, and else the second
+picked : (b : Bool) (v x y : ℤ) → (b ≡ true → v ≡ x) → (b ≡ false → v ≡ y) → (v ≡ x) ⊎ (v ≡ y)
+picked true v x y first second = inl (first refl)
+picked false v x y first second = inr (second refl)
+
 either_least : (x y : ℤ) → (int_min x y ≡ x) ⊎ (int_min x y ≡ y)
-either_least x y = by (int_lt x y) refl
-  where
-    by : (b : Bool) → int_lt x y ≡ b → (int_min x y ≡ x) ⊎ (int_min x y ≡ y)
-    by true e = inl (least_first x y e)
-    by false e = inr (least_second x y e)
+either_least x y = picked (int_lt x y) (int_min x y) x y (least_first x y) (least_second x y)
 
 either_greatest : (x y : ℤ) → (int_max x y ≡ x) ⊎ (int_max x y ≡ y)
-either_greatest x y = by (int_lt y x) refl
-  where
-    by : (b : Bool) → int_lt y x ≡ b → (int_max x y ≡ x) ⊎ (int_max x y ≡ y)
-    by true e = inl (greatest_first x y e)
-    by false e = inr (greatest_second x y e)
+either_greatest x y = picked (int_lt y x) (int_max x y) x y (greatest_first x y) (greatest_second x y)
 
 either_nearest : (m n : ℕ) → (max m n ≡ m) ⊎ (max m n ≡ n)
 either_nearest m n = elim (cases_lt m n) [ inl less ↦ inr (omega (arith, less)) | inr no_less ↦ inl (omega (arith, no_less)) ]
@@ -90,13 +87,13 @@ first_member size r q shapes m = record { place = 0; rect = r; q = q; below = om
 
 -- ---- behind a hull
 
-picked : (A : Type 0) (f : Hull → A) → Picks A f → (size : Dimensions) (a : Hull) (r : Rect) (q : ℕ) (shapes : List Shape) (v : A) → meets r (screen_of size) ≡ true
+member_picked : (A : Type 0) (f : Hull → A) → Picks A f → (size : Dimensions) (a : Hull) (r : Rect) (q : ℕ) (shapes : List Shape) (v : A) → meets r (screen_of size) ≡ true
     → (v ≡ f (with_member (Some a) (cut_of r (screen_of size)) q)) ⊎ IsReached A f size shapes v → (v ≡ f a) ⊎ IsReached A f size (Flat r q ∷ shapes) v
-picked A f picks size a r q shapes v m (inl e) = elim (picks a (cut_of r (screen_of size)) q) [
+member_picked A f picks size a r q shapes v m (inl e) = elim (picks a (cut_of r (screen_of size)) q) [
   | inl before ↦ inl (e ∙ before)
   | inr member ↦ inr (with_member None (cut_of r (screen_of size)) q, first_member size r q shapes m, e ∙ member)
 ]
-picked A f picks size a r q shapes v m (inr behind) = inr (later A f size (Flat r q) shapes v behind)
+member_picked A f picks size a r q shapes v m (inr behind) = inr (later A f size (Flat r q) shapes v behind)
 
 flat_behind : (A : Type 0) (f : Hull → A) → Picks A f → (size : Dimensions) (a : Hull) (r : Rect) (q : ℕ) (shapes : List Shape) (h : Hull)
     → ((b : Hull) → hull_from size (Some b) shapes ≡ Some h → (f h ≡ f b) ⊎ IsReached A f size shapes (f h)) → hull_from size (Some a) (Flat r q ∷ shapes) ≡ Some h
@@ -105,7 +102,7 @@ flat_behind A f picks size a r q shapes h rest e = by (meets r (screen_of size))
   where
     by : (b : Bool) → meets r (screen_of size) ≡ b → hull_from size (cond b (Some (with_member (Some a) (cut_of r (screen_of size)) q)) (Some a)) shapes ≡ Some h
         → (f h ≡ f a) ⊎ IsReached A f size (Flat r q ∷ shapes) (f h)
-    by true m g = picked A f picks size a r q shapes (f h) m (rest (with_member (Some a) (cut_of r (screen_of size)) q) g)
+    by true m g = member_picked A f picks size a r q shapes (f h) m (rest (with_member (Some a) (cut_of r (screen_of size)) q) g)
     by false m g = or_later A f size (Flat r q) shapes (f h) (f a) (rest a g)
 
 reached_behind : (A : Type 0) (f : Hull → A) → Picks A f → (size : Dimensions) (a : Hull) (shapes : List Shape) (h : Hull) → hull_from size (Some a) shapes ≡ Some h → (f h ≡ f a) ⊎ IsReached A f size shapes (f h)

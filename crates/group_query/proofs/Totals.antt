@@ -8,8 +8,9 @@ use Rattle.scene_reader.specs.Layout.{Parts}
 use Rattle.cull_report.specs.Scene.{object_shape, size_of}
 use Rattle.cull_report.specs.Tallies.{Adds, IsFew}
 use Rattle.cull_report.specs.declared.tally.Tally.{Tally}
+use Rattle.cull_report.proofs.MadeRuns.{tally_and}
 use Rattle.group_query.specs.Grouping.{AreApart, AreBegun}
-use Rattle.group_query.specs.Hidden.{hidden_groups, hidden_members, is_hidden_group, members_hidden, one_hidden, told_before, total, total_before}
+use Rattle.group_query.specs.Hidden.{group_tally, hidden_groups, hidden_members, is_hidden_group, members_hidden, one_hidden, told_before, total, total_before}
 use Rattle.group_query.specs.Hulls.{hull_of, member_shapes, members_of}
 use Rattle.group_query.specs.declared.grouping.Group.{Group}
 use Rattle.group_query.proofs.HullMembers.{counted_few, members_are}
@@ -114,6 +115,41 @@ told_few s frame states gs n place apart small = record {
   hidden = omega (arith, small, total_within (one_hidden s frame states) place gs, hidden_fit s frame states n gs apart);
   members = omega (arith, small, total_within (members_hidden s frame states) place gs, members_fit s frame states n gs apart);
 }
+
+-- ---- from group to group
+
+-- what is counted of the groups from one number to another
+pub record CountsTo (s : Parts) (frame : ℕ) (states : Sub → State) (gs : List Group) (from to : ℕ) (t : Tally) : Type 0 where
+  pub hidden : total (one_hidden s frame states) (take from gs) + t.hidden ≡ total (one_hidden s frame states) (take to gs)
+  pub members : total (members_hidden s frame states) (take from gs) + t.members ≡ total (members_hidden s frame states) (take to gs)
+
+module _ (s : Parts) (frame : ℕ) (states : Sub → State) (gs : List Group) where
+  -- with one group more
+  pub counts_next : (from k : ℕ) (t more : Tally) (g : Group) → k < length gs → CountsTo s frame states gs from k t → more ≡ group_tally s frame states g → ((d : Group) → g ≡ get_or gs k d)
+      → CountsTo s frame states gs from (k + 1) (tally_and t more)
+  counts_next from k t more g lt so_far told at =
+      let hidden = ap (λ (x : Tally). x.hidden) told in let members = ap (λ (x : Tally). x.members) told in
+      record {
+        hidden = omega (arith, so_far.hidden, hidden, total_more (one_hidden s frame states) gs k g lt, ap (one_hidden s frame states) (at g));
+        members = omega (arith, so_far.members, members, total_more (members_hidden s frame states) gs k g lt, ap (members_hidden s frame states) (at g));
+      }
+
+  -- and then no more than there are objects
+  pub next_fits : (n from k to : ℕ) (t more : Tally) (g : Group) → AreApart n gs → k < to → to ≤ length gs → CountsTo s frame states gs from k t → more ≡ group_tally s frame states g
+      → ((d : Group) → g ≡ get_or gs k d) → (t.hidden + more.hidden ≤ n) × (t.members + more.members ≤ n)
+  next_fits n from k to t more g apart below within so_far told at =
+      let counted = counts_next from k t more g (omega (arith, below, within)) so_far told at in (
+        omega (arith, counted.hidden, total_grows (one_hidden s frame states) gs (k + 1), hidden_fit s frame states n gs apart),
+        omega (arith, counted.members, total_grows (members_hidden s frame states) gs (k + 1), members_fit s frame states n gs apart),
+      )
+
+  -- of those that begin between two places
+  pub counts_told : (first end from to : ℕ) (t : Tally) → AreBegun first gs from → AreBegun end gs to → CountsTo s frame states gs from to t
+      → Adds (told_before s frame states gs first) t (told_before s frame states gs end)
+  counts_told first end from to t begun ended counted = record {
+    hidden = omega (arith, total_begun (one_hidden s frame states) first gs from begun, total_begun (one_hidden s frame states) end gs to ended, counted.hidden);
+    members = omega (arith, total_begun (members_hidden s frame states) first gs from begun, total_begun (members_hidden s frame states) end gs to ended, counted.members);
+  }
 
 -- ---- what is told of all objects
 

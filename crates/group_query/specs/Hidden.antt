@@ -8,7 +8,9 @@ use Rattle.cull_base.specs.Screen.{Dimensions}
 use Rattle.cull_base.specs.Shape.{flat_shape, verdict_of}
 use Rattle.cull_base.specs.State.{State}
 use Rattle.scene_reader.specs.Layout.{Parts}
-use Rattle.cull_report.specs.Scene.{object_shape, object_verdict, size_of}
+use Rattle.masked_update.specs.TileOf.{TileOf}
+use Rattle.masked_update.specs.Views.{state_in}
+use Rattle.cull_report.specs.Scene.{object_shape, object_verdict, size_of, verdicts_in}
 use Rattle.cull_report.specs.Text.{is_occluded}
 use Rattle.cull_report.specs.declared.form.Form.{Form}
 use Rattle.cull_report.specs.declared.form.Form.TheVariants as forms
@@ -16,6 +18,7 @@ use Rattle.cull_report.specs.declared.tally.Tally.{Tally}
 use Rattle.group_query.specs.Hulls.{counts, hull_from, hull_of, kept_hull, members_of, shapes_from}
 use Rattle.group_query.specs.declared.grouping.Group.{Group}
 use Rattle.group_query.specs.declared.hulls.Hull.{Hull}
+use Rattle.group_query.specs.declared.report.GroupReport.{GroupReport}
 use Rattle.group_query.specs.declared.tested.Kept.{Kept}
 use Rattle.group_query.specs.declared.tested.Tested.{Tested}
 
@@ -63,6 +66,12 @@ told_before s frame states groups place = record {
   hidden = total_before (one_hidden s frame states) place groups;
   members = total_before (members_hidden s frame states) place groups;
 }
+
+-- what is reported of a frame over what tiles hold: each object's verdict, how many groups are hidden, and how many members of these count
+pub record IsReported (s : Parts) (frame : ℕ) (tile_of : ℕ → TileOf) (groups : List Group) (r : GroupReport) : Type 0 where
+  pub verdicts : r.frame ≡ verdicts_in s frame tile_of
+  pub hidden : r.hidden ≡ hidden_groups s frame (state_in (size_of s) tile_of) groups
+  pub members : r.members ≡ hidden_members s frame (state_in (size_of s) tile_of) groups
 
 -- how many members of a group count, and the verdict of its hull
 pub record IsTested (s : Parts) (frame : ℕ) (states : Sub → State) (g : Group) (t : Tested) : Type 0 where

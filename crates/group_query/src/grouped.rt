@@ -136,38 +136,6 @@ impl<'a, V: TileView> Grouped<'a, V> {
         )
     }
 
-    // Appends the verdicts of the first so many members of a group by its hull, which is tested first, and tells what
-    // is counted of the group.
-    fn answer_by_hull(
-        &self,
-        group: Group,
-        count: u32,
-        forms: &mut [Form],
-        verdicts: &mut Vec<Verdict>,
-    ) -> Tally
-        requires places { 64 ≤ length forms.old }
-        requires group { group.first + group.count ≤ length self.now.asked.now.scene.now.objects }
-        requires within { count ≤ group.count }
-        requires room { length verdicts.old.items + count ≤ vec_capacity verdicts.old }
-        ensures told { let a = self.now.asked.now in
-            result ≡ group_tally a.scene.now a.frame (state_in (size_of a.scene.now) (V.tile_of a.view.now)) group }
-        ensures verdicts { let a = self.now.asked.now in
-            let all = verdicts_in a.scene.now a.frame (V.tile_of a.view.now) in
-            verdicts.new.items ≡ verdicts.old.items ++ take count (drop group.first all) }
-        ensures room { vec_capacity verdicts.new ≡ vec_capacity verdicts.old }
-        ensures places { length forms.new ≡ length forms.old }
-    {
-        // it tells that the objects' numbers fit
-        let _objects = self.object_count();
-        let size = self.asked.scene.size();
-        let tested = self.tested(size, group, forms);
-        for k in 0..count {
-            let verdict = self.member_verdict(size, group, tested, k, forms);
-            verdicts.push_reserved(verdict);
-        }
-        tally_of(self.asked, group, tested)
-    }
-
     // What is counted of a group, by what is kept of its first members. Its hull is made only where each of these that
     // counts is occluded, since a hidden group hides its members. It isn't tested where one of these alone counts: it
     // is that one's area then, and occluded as it is. Condition: the size is the scene's.
@@ -208,35 +176,8 @@ impl<'a, V: TileView> Grouped<'a, V> {
         tally_of(asked, group, tested)
     }
 
-    // The same by the members, each tested by itself: the hull is tested behind them, where it may be hidden.
-    fn answer_by_members(&self, group: Group, count: u32, verdicts: &mut Vec<Verdict>) -> Tally
-        requires group { group.first + group.count ≤ length self.now.asked.now.scene.now.objects }
-        requires within { count ≤ group.count }
-        requires room { length verdicts.old.items + count ≤ vec_capacity verdicts.old }
-        ensures told { let a = self.now.asked.now in
-            result ≡ group_tally a.scene.now a.frame (state_in (size_of a.scene.now) (V.tile_of a.view.now)) group }
-        ensures verdicts { let a = self.now.asked.now in
-            let all = verdicts_in a.scene.now a.frame (V.tile_of a.view.now) in
-            verdicts.new.items ≡ verdicts.old.items ++ take count (drop group.first all) }
-        ensures room { vec_capacity verdicts.new ≡ vec_capacity verdicts.old }
-    {
-        // it tells that the objects' numbers fit
-        let _objects = self.object_count();
-        let asked = self.asked;
-        let size = asked.scene.size();
-        let mut kept = nothing_kept(size);
-        for k in 0..count {
-            let object = group.first + k;
-            let form = seen_form(asked.scene, asked.frame, size, object);
-            let verdict = verdict_alone(asked, size, object, &form);
-            kept = kept_with(size, kept, &form, verdict);
-            verdicts.push_reserved(verdict);
-        }
-        self.told_by(size, group, count, kept)
-    }
-
-    // The same in one of both ways.
-    #[inline(always)]
+    // Appends the verdicts of the first so many members of a group, and tells what is counted of the group. By its hull
+    // it is tested first; else each member is tested by itself, and the hull behind them, where it may be hidden.
     fn answer_group(
         &self,
         group: Group,
@@ -257,10 +198,27 @@ impl<'a, V: TileView> Grouped<'a, V> {
         ensures room { vec_capacity verdicts.new ≡ vec_capacity verdicts.old }
         ensures places { length forms.new ≡ length forms.old }
     {
+        // it tells that the objects' numbers fit
+        let _objects = self.object_count();
+        let asked = self.asked;
+        let size = asked.scene.size();
         if by_hull {
-            return self.answer_by_hull(group, count, forms, verdicts);
+            let tested = self.tested(size, group, forms);
+            for k in 0..count {
+                let verdict = self.member_verdict(size, group, tested, k, forms);
+                verdicts.push_reserved(verdict);
+            }
+            return tally_of(asked, group, tested);
         }
-        self.answer_by_members(group, count, verdicts)
+        let mut kept = nothing_kept(size);
+        for member in 0..count {
+            let object = group.first + member;
+            let form = seen_form(asked.scene, asked.frame, size, object);
+            let verdict = verdict_alone(asked, size, object, &form);
+            kept = kept_with(size, kept, &form, verdict);
+            verdicts.push_reserved(verdict);
+        }
+        self.told_by(size, group, count, kept)
     }
 
     // Of so many groups that begin before a place the last may reach behind it: appends the verdicts of its members

@@ -15,7 +15,7 @@ ghost use Rattle.live_check.specs.Waiting.{Fails, waiting};
 use crate::unread::Unread;
 use crate::words::{take_number, takes_text};
 use cull_base::{Failed, FrameList, Memory, ScreenTri, Size, Source, Tile, TileSpan};
-use masked_update::{PieceSetup, TileState};
+use masked_update::{PieceForm, PieceSetup, TileState};
 use std::alloc::Global;
 use std::marker::Model;
 use text_lines::Line;
@@ -263,7 +263,8 @@ impl Tiles {
             return false;
         }
         let tile = tile as usize;
-        self.states[tile].take_at(piece, self.size, place);
+        let form = PieceForm::Whole(piece, &piece.reached_on(self.size));
+        self.states[tile].take_form(form, self.size, place);
         self.behind[tile] = index + 1;
         self.states[tile].count() == self.stated[tile]
     }

@@ -1,6 +1,7 @@
 -- What is called occluded has at each of its samples a drawn piece strictly nearer.
 use Rattle.std.proofs.Common.{◌≡◌, ℕ, ◌/◌, ◌<◌, true, cond, List, length, get_or, arith, refl, ap, ◌∙◌, sym, subst}
 use Rattle.std.proofs.Math.Nat.{zero-add}
+use Rattle.cull_base.specs.declared.nearness.Grade.{Grade}
 use Rattle.cull_base.specs.declared.place.Sub.{Sub}
 use Rattle.cull_base.specs.declared.scene_types.Verdict.{Verdict}
 use Rattle.cull_base.specs.Fold.{IsSound, after}
@@ -58,6 +59,6 @@ after_sound size lists tiles t was lt = record {
         ∙ one_of_eight (λ k. let u = tile_sub size t k in cond (is_on_screen size u) (after u (lists t)) empty_state) j h
         ∙ ap (λ b. cond b (after (tile_sub size t j) (lists t)) empty_state) on
 
--- what is told of a size and a near distance
-pub told_at : (P : Dimensions → ℕ → Type 0) (size size' : Dimensions) (near near' : ℕ) → size ≡ size' → near ≡ near' → P size near → P size' near'
-told_at P size size' near near' e f h = subst (P size') f (subst (λ (d : Dimensions). P d near) e h)
+-- what is told of a grade, a size and a near distance
+pub told_of : (P : Grade → Dimensions → ℕ → Type 0) (grade grade' : Grade) (size size' : Dimensions) (near near' : ℕ) → grade ≡ grade' → size ≡ size' → near ≡ near' → P grade size near → P grade' size' near'
+told_of P grade grade' size size' near near' eg es en h = subst (λ (g : Grade). P g size' near') eg (subst (λ (d : Dimensions). P grade d near') es (subst (P grade size) en h))

@@ -3,6 +3,7 @@ ghost use Rattle.std.specs.Prelude.{◌≡◌, ◌<◌, ◌≤◌, true, length}
 ghost use Rattle.cull_base.specs.Piece.{IsPiece};
 ghost use Rattle.cull_base.specs.Screen.{IsSize};
 ghost use Rattle.cull_base.specs.Span.{IsPartOf, IsSpan, has_tile};
+ghost use Rattle.edge_lanes.specs.Near.{AreNearOf};
 ghost use Rattle.masked_update.specs.Canvas.{IsCanvas, MergedMet};
 ghost use Rattle.masked_update.specs.Least.{NoneBelow};
 ghost use Rattle.masked_update.specs.Merged.{AreEdgesOf};
@@ -11,8 +12,8 @@ ghost use Rattle.masked_update.specs.Walk.{MergedWhere, NoneBelowWhere, is_in_ro
 ghost use Rattle.maskcull_c.specs.Bands.{band_of};
 
 use crate::small_band::merge_small_in_span;
-use cull_base::{ScreenTri, Size, Tile, TileSpan};
-use edge_lanes::RowEdges;
+use cull_base::{ScreenTri, Side, Size, Tile, TileSpan};
+use edge_lanes::{Edges, EdgesView, NearEdges};
 use masked_update::{PieceDepths, SmallPiece, SubBox, TileState, sampled};
 
 // Whether a piece that is nowhere nearer changes nothing in a tile.
@@ -70,14 +71,14 @@ fn merge_in_row(
     tiles: &mut [TileState],
     window: TileSpan,
     piece: &PieceDepths,
-    edges: &RowEdges,
+    edges: EdgesView,
     reached: &SubBox,
     span: TileSpan,
     row: u32,
 )
     requires whole { IsCanvas (band_of window tiles.old) }
     requires part { IsPartOf window span }
-    requires edges { AreEdgesOf edges.now piece.now }
+    requires edges { AreEdgesOf edges piece.now }
     requires reached { HoldsSampled piece.now reached.now }
     requires span { IsSpan reached.now.size span }
     requires row { (span.first_row ≤ row) × (row < span.end_row) }
@@ -104,13 +105,13 @@ fn merge_in_span(
     tiles: &mut [TileState],
     window: TileSpan,
     piece: &PieceDepths,
-    edges: &RowEdges,
+    edges: EdgesView,
     reached: &SubBox,
     span: TileSpan,
 )
     requires whole { IsCanvas (band_of window tiles.old) }
     requires part { IsPartOf window span }
-    requires edges { AreEdgesOf edges.now piece.now }
+    requires edges { AreEdgesOf edges piece.now }
     requires reached { HoldsSampled piece.now reached.now }
     requires span { IsSpan reached.now.size span }
     requires sized { IsSize reached.now.size.width reached.now.size.height }
@@ -122,6 +123,75 @@ fn merge_in_span(
     for row in span.first_row..span.end_row {
         merge_in_row(tiles, window, piece, edges, &here, span, row);
     }
+}
+
+// Sets up what a piece has besides its edges, and merges it into the tiles of a span.
+#[inline(always)]
+fn merge_by_edges(
+    tiles: &mut [TileState],
+    window: TileSpan,
+    tri: &ScreenTri,
+    edges: EdgesView,
+    reached: &SubBox,
+    span: TileSpan,
+)
+    requires whole { IsCanvas (band_of window tiles.old) }
+    requires part { IsPartOf window span }
+    requires edges { AreEdgesOf edges tri.now }
+    requires reached { HoldsSampled tri.now reached.now }
+    requires span { IsSpan reached.now.size span }
+    requires sized { IsSize reached.now.size.width reached.now.size.height }
+    ensures { MergedWhere (has_tile span) reached.now.size tri.now
+        (band_of window tiles.old) (band_of window tiles.new) }
+{
+    let piece = PieceDepths::of(tri);
+    merge_in_span(tiles, window, &piece, edges, reached, span);
+}
+
+// The same for a piece whose edges are near. They stay where they are made: they are large to copy.
+#[inline(always)]
+fn merge_near(
+    tiles: &mut [TileState],
+    window: TileSpan,
+    tri: &ScreenTri,
+    edges: &NearEdges,
+    reached: &SubBox,
+    span: TileSpan,
+)
+    requires whole { IsCanvas (band_of window tiles.old) }
+    requires part { IsPartOf window span }
+    requires edges { AreNearOf edges.now tri.now }
+    requires reached { HoldsSampled tri.now reached.now }
+    requires span { IsSpan reached.now.size span }
+    requires sized { IsSize reached.now.size.width reached.now.size.height }
+    ensures { MergedWhere (has_tile span) reached.now.size tri.now
+        (band_of window tiles.old) (band_of window tiles.new) }
+{
+    let crossings = edges.crossings();
+    let edges = EdgesView::Crossed(&crossings);
+    merge_by_edges(tiles, window, tri, edges, reached, span);
+}
+
+// The same for any other piece. Out of line: hardly any piece is such a one.
+#[cold]
+#[inline(never)]
+fn merge_plain(
+    tiles: &mut [TileState],
+    window: TileSpan,
+    tri: &ScreenTri,
+    reached: &SubBox,
+    span: TileSpan,
+)
+    requires whole { IsCanvas (band_of window tiles.old) }
+    requires part { IsPartOf window span }
+    requires reached { HoldsSampled tri.now reached.now }
+    requires span { IsSpan reached.now.size span }
+    requires sized { IsSize reached.now.size.width reached.now.size.height }
+    ensures { MergedWhere (has_tile span) reached.now.size tri.now
+        (band_of window tiles.old) (band_of window tiles.new) }
+{
+    let edges = Edges::of(tri, Side::Occluder);
+    merge_by_edges(tiles, window, tri, EdgesView::Plain(&edges), reached, span);
 }
 
 // Sets a piece up, and merges it into the tiles of a span.
@@ -141,10 +211,10 @@ fn merge_set_up(
     ensures { MergedWhere (has_tile span) reached.now.size tri.now
         (band_of window tiles.old) (band_of window tiles.new) }
 {
-    // the edges stay where they are made: they are large to copy
-    let edges = RowEdges::of(tri);
-    let piece = PieceDepths::of(tri);
-    merge_in_span(tiles, window, &piece, &edges, reached, span);
+    match NearEdges::of(tri) {
+        Some(edges) => merge_near(tiles, window, tri, &edges, reached, span),
+        None => merge_plain(tiles, window, tri, reached, span),
+    }
 }
 
 // Merges a piece into the tiles of a span, a small one subtile by subtile.

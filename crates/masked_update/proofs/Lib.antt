@@ -12,6 +12,7 @@ pub mod MergeSound
 pub mod Boxes
 pub mod Grid
 pub mod SubSpans
+pub mod HeldLanes
 pub mod SubBits
 pub mod Lanes
 pub mod LaneMerge
@@ -27,6 +28,7 @@ pub mod Walks
 pub mod Strips
 pub mod SampleBoxes
 pub mod SampledLists
+pub mod LowestBit
 pub mod Marks
 pub mod SmallSteps
 pub mod EightOf

@@ -1,10 +1,9 @@
 -- Tiles of a row that are marked by bits, and change one after the other.
-use Rattle.std.proofs.Common.{◌≡◌, ◌≢◌, inl, inr, ℕ, ◌+◌, ◌-◌, ◌*◌, ◌%◌, ◌<◌, ◌≤◌, ◌^◌, ◌&&◌, Bool, true, false, not, nat_eq, nat_le, cond, min, arith, refl, ap, ◌∙◌, sym, subst, length, bit_and, w32}
-use Rattle.std.specs.Int.{bit_at, bit_not, trailing_zeros}
+use Rattle.std.proofs.Common.{◌≡◌, ◌≢◌, inl, inr, ℕ, ◌+◌, ◌-◌, ◌<◌, ◌≤◌, ◌^◌, ◌&&◌, Bool, true, false, not, nat_eq, nat_le, cond, min, arith, refl, ap, ◌∙◌, sym, subst, length, bit_and, w32}
+use Rattle.std.specs.Int.{bit_at, trailing_zeros}
 use Rattle.std.proofs.lemmas.Bool.{and_parts, and_from, and_left, and_right, cases_eq, cases_lt, cond-false, cond-true, eq-eqb, eqb-true, le-leb}
 use Rattle.std.proofs.lemmas.Bool.Decides.{nat_tests}
-use Rattle.std.proofs.lemmas.Nat.{and_le_l}
-use Rattle.std.proofs.lemmas.Nat.Bits.{bit_at_and, bit_at-lt, bit_at-zero, bit_at_above, bit_at_clear_same, bit_at_clear_other, bit_at-trailing_zeros}
+use Rattle.std.proofs.lemmas.Nat.Bits.{bit_at_and, bit_at-lt, bit_at-zero, bit_at_above, bit_at_lowest, bit_at-trailing_zeros}
 use Rattle.cull_base.specs.Piece.{Piece, IsPiece}
 use Rattle.cull_base.specs.Depth.{greatest_nearness}
 use Rattle.cull_base.specs.Screen.{Dimensions}
@@ -18,6 +17,7 @@ use Rattle.masked_update.specs.Least.{NoneBelow}
 use Rattle.masked_update.specs.Merged.{CoversNone}
 use Rattle.masked_update.specs.Canvas.{CanvasOf, IsCanvas, with_tile, tile_on}
 use Rattle.masked_update.specs.Walk.{ChangedWhere, MergedWhere, NoneBelowWhere, is_in_row, is_marked}
+use Rattle.masked_update.proofs.LowestBit.{IsWithout}
 use Rattle.masked_update.proofs.Merging.{merged_behind, merged_uncovered}
 use Rattle.masked_update.proofs.Tiles.{same_place, tile_with}
 use Rattle.masked_update.proofs.Walks.{columns_before, none_changed, one_more, row_begins}
@@ -32,18 +32,6 @@ lowest_within left some byte =
       | inr ge ↦ let none = bit_at_above left 8 j byte ge in let one = is.1 in absurd (omega (arith, none, one))
     ]
 
-abbrev pub cleared : ℕ → ℕ → ℕ
-cleared left j = bit_and left (bit_not w32 (1 * 2 ^ j % 2 ^ 32))
-
-pub cleared_less : (left j : ℕ) → j < 8 → bit_at left j ≡ 1 → cleared left j < left
-cleared_less left j lt one =
-    let le = and_le_l left (bit_not w32 (1 * 2 ^ j % 2 ^ 32)) in
-    let clear = bit_at_clear_same w32 left j (omega arith) in
-    elim (cases_eq (cleared left j) left) [
-      | inl e ↦ let same = ap (λ n. bit_at n j) e in absurd (omega (arith, same, clear, one))
-      | inr ne ↦ omega (arith, le, ne)
-    ]
-
 -- the place whose bit is set
 pub marked : (row column bits j : ℕ) → bit_at bits j ≡ 1 → is_marked row column bits (tile_with (column + j) row) ≡ true
 marked row column bits j one =
@@ -54,8 +42,8 @@ unmarked : (row column bits : ℕ) (p : Tile) → bit_at bits (p.column - column
 unmarked row column bits p none = and_right (nat_eq p.row row) _ (and_right (nat_le column p.column) _ (ap (λ n. nat_eq n 1) none))
 
 -- another place keeps its mark where one bit is cleared
-kept : (row column left j : ℕ) (p : Tile) → left < 2 ^ 8 → j < 8 → (p ≡ tile_with (column + j) row → ⊥) → is_marked row column left p ≡ is_marked row column (cleared left j) p
-kept row column left j p byte lt ne = elim (cases_eq p.row row) [
+kept : (row column left j rest : ℕ) (p : Tile) → IsWithout left j rest → (p ≡ tile_with (column + j) row → ⊥) → is_marked row column left p ≡ is_marked row column rest p
+kept row column left j rest p is ne = elim (cases_eq p.row row) [
   | inr off ↦ and_left _ _ (not_equal p.row row off) ∙ sym (and_left _ _ (not_equal p.row row off))
   | inl on ↦ elim (cases_lt p.column column) [
     | inl before ↦ and_right (nat_eq p.row row) _ (and_left _ _ (not_from column p.column before)) ∙ sym (and_right (nat_eq p.row row) _ (and_left _ _ (not_from column p.column before)))
@@ -69,13 +57,8 @@ kept row column left j p byte lt ne = elim (cases_eq p.row row) [
     not_from : (a b : ℕ) → b < a → nat_le a b ≡ false
     not_from a b h = grind (arith, nat_tests)
 
-    same : p.row ≡ row → column ≤ p.column → bit_at left (p.column - column) ≡ bit_at (cleared left j) (p.column - column)
-    same on from = elim (cases_lt (p.column - column) 8) [
-      | inl below ↦ sym (bit_at_clear_other w32 left j (omega arith) (p.column - column) (omega arith) (λ e. ne (same_place p (tile_with (column + j) row) (omega (arith, e, from)) on)))
-      | inr past ↦
-          let le = and_le_l left (bit_not w32 (1 * 2 ^ j % 2 ^ 32)) in
-          bit_at_above left 8 (p.column - column) byte past ∙ sym (bit_at_above (cleared left j) 8 (p.column - column) (omega (arith, le, byte)) past)
-    ]
+    same : p.row ≡ row → column ≤ p.column → bit_at left (p.column - column) ≡ bit_at rest (p.column - column)
+    same on from = sym (is.others (p.column - column) (λ e. ne (same_place p (tile_with (column + j) row) (omega (arith, e, from)) on)))
 
 -- the marked places but those that are left
 abbrev pub is_done : ℕ → ℕ → ℕ → ℕ → Tile → Bool
@@ -94,18 +77,19 @@ pub none_done : (row column bits : ℕ) (p : Tile) → is_done row column bits b
 none_done row column bits p = not_both (is_marked row column bits p)
 
 -- one place more
-pub one_done : (size : Dimensions) (x : Piece) (row column bits left j : ℕ) (old now new : CanvasOf) (n : ℕ) → j < 8 → bit_at left j ≡ 1 → AreDone size x row column bits left old now → has_tile old.window (tile_with (column + j) row) ≡ true
-    → n ≡ number_in old.window (tile_with (column + j) row) → new ≡ with_tile now n (merged_tile size (tile_with (column + j) row) x (tile_at now.tiles n)) → AreDone size x row column bits (cleared left j) old new
-one_done size x row column bits left j old now new n lt one done here is step = record {
-  changed = one_more (is_done row column bits left) (is_done row column bits (cleared left j)) (λ p t. merged_tile size p x t) old now new q n done.changed here is
+pub one_done : (size : Dimensions) (x : Piece) (row column bits left j rest : ℕ) (old now new : CanvasOf) (n : ℕ) → j < 8 → bit_at left j ≡ 1 → IsWithout left j rest → AreDone size x row column bits left old now
+    → has_tile old.window (tile_with (column + j) row) ≡ true → n ≡ number_in old.window (tile_with (column + j) row) → new ≡ with_tile now n (merged_tile size (tile_with (column + j) row) x (tile_at now.tiles n))
+    → AreDone size x row column bits rest old new
+one_done size x row column bits left j rest old now new n lt one without done here is step = record {
+  changed = one_more (is_done row column bits left) (is_done row column bits rest) (λ p t. merged_tile size p x t) old now new q n done.changed here is
       (and_right (is_marked row column bits q) _ (ap not (marked row column left j one)))
-      (and_from (is_marked row column bits q) _ (marked row column bits j (done.among j lt one)) (ap not (unmarked row column (cleared left j) q (ap (bit_at (cleared left j)) at ∙ clear))))
-      (λ p ne. ap (λ b. is_marked row column bits p && not b) (kept row column left j p done.byte lt ne))
+      (and_from (is_marked row column bits q) _ (marked row column bits j (done.among j lt one)) (ap not (unmarked row column rest q (ap (bit_at rest) at ∙ without.clear))))
+      (λ p ne. ap (λ b. is_marked row column bits p && not b) (kept row column left j rest p without ne))
       step;
-  byte = let le = and_le_l left (bit_not w32 (1 * 2 ^ j % 2 ^ 32)) in let byte = done.byte in omega (arith, le, byte);
+  byte = omega (arith, without.less, done.byte);
   among = λ i below set. elim (cases_eq i j) [
     | inl e ↦ subst (λ n. bit_at bits n ≡ 1) (sym e) (done.among j lt one)
-    | inr ne ↦ done.among i below (sym (bit_at_clear_other w32 left j (omega arith) i (omega arith) ne) ∙ set)
+    | inr ne ↦ done.among i below (sym (without.others i ne) ∙ set)
   ];
 }
   where
@@ -114,9 +98,6 @@ one_done size x row column bits left j old now new n lt one done here is step = 
 
     at : column + j - column ≡ j
     at = omega arith
-
-    clear : bit_at (cleared left j) j ≡ 0
-    clear = bit_at_clear_same w32 left j (omega arith)
 
 -- in the end all marked places have changed
 pub all_done : (size : Dimensions) (x : Piece) (row column bits left : ℕ) (old now : CanvasOf) → left ≡ 0 → AreDone size x row column bits left old now → MergedWhere (is_marked row column bits) size x old now
@@ -278,3 +259,13 @@ module _ (a ones count i : ℕ) (is : ones ≡ 2 ^ count - 2 ^ 0) where
 
   pub clear_first : i < count → bit_at (bit_and a ones) i ≡ 0 → bit_at a i ≡ 0
   clear_first lt clear = sym (first_bits ∙ ap (λ b. cond b (bit_at a i) 0) (between 0 count i (omega arith) lt)) ∙ clear
+
+-- a number of one bit
+pub one_first : (m i : ℕ) → m < 2 → bit_at m i ≡ 1 → i < 1
+one_first m i small one = elim (cases_lt i 1) [
+  | inl lt ↦ lt
+  | inr past ↦ (let none = bit_at_above m 1 i small past in absurd (omega (arith, none, one)))
+]
+
+pub zero_first : (m : ℕ) → m < 2 → bit_at m 0 ≡ 0 → m ≡ 0
+zero_first m small clear = let low = bit_at_lowest m in omega (arith, low, small, clear)

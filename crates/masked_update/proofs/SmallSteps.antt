@@ -1,9 +1,8 @@
 -- The subtiles of a tile take a piece one after the other.
-use Rattle.std.proofs.Common.{◌≡◌, ◌≢◌, ◌∙◌, ◌⊎◌, ◌||◌, Bool, true, false, inl, inr, ℕ, ◌*◌, ◌%◌, ◌<◌, ◌^◌, List, ap, arith, length, refl, slice_index_or, subst, sym, w32}
-use Rattle.std.specs.Int.{bit_at, bit_not}
+use Rattle.std.proofs.Common.{◌≡◌, ◌≢◌, ◌∙◌, ◌⊎◌, ◌||◌, Bool, true, false, inl, inr, ℕ, ◌<◌, ◌^◌, List, ap, arith, length, refl, slice_index_or, subst, sym}
+use Rattle.std.specs.Int.{bit_at}
 use Rattle.std.proofs.lemmas.Bool.{cases_eq, cond-true}
-use Rattle.std.proofs.lemmas.Nat.{and_le_l}
-use Rattle.std.proofs.lemmas.Nat.Bits.{bit_at-lt, bit_at-zero, bit_at_clear_same, bit_at_clear_other}
+use Rattle.std.proofs.lemmas.Nat.Bits.{bit_at-lt, bit_at-zero}
 use Rattle.cull_base.specs.Fold.{step}
 use Rattle.cull_base.specs.Piece.{Piece}
 use Rattle.cull_base.specs.Screen.{Dimensions}
@@ -13,7 +12,7 @@ use Rattle.edge_lanes.specs.Inside.{sub_of}
 use Rattle.masked_update.specs.Coverage.{AreWanted}
 use Rattle.masked_update.specs.Merged.{merged_at, merged_by}
 use Rattle.masked_update.specs.Small.{HaveSameReferences, IsMergedAt}
-use Rattle.masked_update.proofs.Marks.{cleared}
+use Rattle.masked_update.proofs.LowestBit.{IsWithout}
 use Rattle.masked_update.proofs.Merging.{eight_of, left_out}
 
 -- the wanted subtiles but those that are left took the piece
@@ -36,29 +35,26 @@ none_merged x place wanted old byte eight = record {
 }
 
 -- one subtile more
-pub one_merged : (x : Piece) (place : Tile) (wanted left j : ℕ) (old now new : List State) → j < 8 → bit_at left j ≡ 1 → AreMergedBut x place wanted left old now → IsMergedAt x place j now new
-    → AreMergedBut x place wanted (cleared left j) old new
-one_merged x place wanted left j old now new lt one inv merged = record {
+pub one_merged : (x : Piece) (place : Tile) (wanted left j rest : ℕ) (old now new : List State) → j < 8 → bit_at left j ≡ 1 → IsWithout left j rest → AreMergedBut x place wanted left old now → IsMergedAt x place j now new
+    → AreMergedBut x place wanted rest old new
+one_merged x place wanted left j rest old now new lt one without inv merged = record {
   eight = merged.eight;
-  byte = let le = and_le_l left (bit_not w32 (1 * 2 ^ j % 2 ^ 32)) in let byte = inv.byte in omega (arith, le, byte);
-  among = λ i below set. inv.among i below (was i below (apart i set) set);
-  kept = λ i below set. merged.others i (apart i set) ∙ inv.kept i below (was i below (apart i set) set);
+  byte = let le = without.less in let byte = inv.byte in omega (arith, le, byte);
+  among = λ i below set. inv.among i below (was i (apart i set) set);
+  kept = λ i below set. merged.others i (apart i set) ∙ inv.kept i below (was i (apart i set) set);
   done = λ i below none set. elim (cases_eq i j) [
     | inl e ↦ subst (λ (n : ℕ). slice_index_or new n empty_state ≡ step (sub_of place n) (slice_index_or old n empty_state) x) (sym e)
         (merged.this ∙ ap (λ (s : State). step (sub_of place j) s x) (inv.kept j lt one))
-    | inr ne ↦ merged.others i ne ∙ inv.done i below (sym (bit_at_clear_other w32 left j (omega arith) i (omega arith) ne) ∙ none) set
+    | inr ne ↦ merged.others i ne ∙ inv.done i below (sym (without.others i ne) ∙ none) set
   ];
   others = λ i below none. merged.others i (λ e. let set = inv.among j lt one in let same = ap (bit_at wanted) e in absurd (omega (arith, set, same, none))) ∙ inv.others i below none;
 }
   where
-    clear : bit_at (cleared left j) j ≡ 0
-    clear = bit_at_clear_same w32 left j (omega arith)
+    apart : (i : ℕ) → bit_at rest i ≡ 1 → i ≢ j
+    apart i set e = let same = ap (bit_at rest) e in let clear = without.clear in absurd (omega (arith, same, set, clear))
 
-    apart : (i : ℕ) → bit_at (cleared left j) i ≡ 1 → i ≢ j
-    apart i set e = let same = ap (bit_at (cleared left j)) e in absurd (omega (arith, same, set, clear))
-
-    was : (i : ℕ) → i < 8 → i ≢ j → bit_at (cleared left j) i ≡ 1 → bit_at left i ≡ 1
-    was i below ne set = sym (bit_at_clear_other w32 left j (omega arith) i (omega arith) ne) ∙ set
+    was : (i : ℕ) → i ≢ j → bit_at rest i ≡ 1 → bit_at left i ≡ 1
+    was i ne set = sym (without.others i ne) ∙ set
 
 -- where none is left, the piece is merged into the tile
 pub all_merged : (size : Dimensions) (place : Tile) (x : Piece) (wanted left : ℕ) (old now : List State) → AreWanted size place x old wanted → AreMergedBut x place wanted left old now → left ≡ 0 → now ≡ merged_by size place x old

@@ -5,7 +5,7 @@ use Rattle.std.proofs.lemmas.Int.{ints}
 use Rattle.std.proofs.lemmas.List.FromFn.{get_or-map-range_with_len}
 use Rattle.cull_base.specs.State.{State, step_with, is_none, has, samples_of}
 use Rattle.cull_base.specs.Fold.{step}
-use Rattle.cull_base.specs.Piece.{Piece, IsPiece, covered, covers, sample, each_sample, nearness}
+use Rattle.cull_base.specs.Piece.{Piece, IsPiece, Point, covered, covers, sample, each_sample, nearness}
 use Rattle.cull_base.specs.Depth.{low_of, greatest_nearness, denominator, DepthAtLeast}
 use Rattle.cull_base.specs.declared.place.Sub.{Sub}
 use Rattle.cull_base.proofs.Bits.{one_of, none-no_samples}
@@ -33,12 +33,12 @@ step_not_nearer u s t h = cond-true _ _ _ (or_right _ _ (le-leb _ _ h))
 pub low_reached : (t : Piece) (u : Sub) (k : ℕ) → IsPiece t → k < 32 → covers t (sample u k) ≡ true → DepthAtLeast t (sample u k) (low_of t u)
 low_reached t u k piece h c = low_of-below t u k piece h (touches_covered t (sample u k) c)
 
-pub low_le_greatest : (t : Piece) (u : Sub) (k : ℕ) → IsPiece t → k < 32 → covers t (sample u k) ≡ true → low_of t u ≤ greatest_nearness t
-low_le_greatest t u k piece h c =
+-- where a piece covers a point, its depth there is at most its greatest nearness
+pub depth_within : (t : Piece) (p : Point) (v : ℕ) → IsPiece t → covers t p ≡ true → DepthAtLeast t p v → v ≤ greatest_nearness t
+depth_within t p v piece c deep =
     let a = nearness t 0 in let b = nearness t 1 in let d = nearness t 2 in
-    let x = low_reached t u k piece h c in
-    let y = numerator_below t (sample u k) (greatest_nearness t) (weights_of t (sample u k) (touches_covered t (sample u k) c)) (first a b d) (second a b d) (third a b d) in
-    let z = le_from_times (pos (low_of t u)) (pos (greatest_nearness t)) (denominator t) piece.positive_area (omega (arith, ints, x, y)) in
+    let y = numerator_below t p (greatest_nearness t) (weights_of t p (touches_covered t p c)) (first a b d) (second a b d) (third a b d) in
+    let z = le_from_times (pos v) (pos (greatest_nearness t)) (denominator t) piece.positive_area (omega (arith, ints, deep, y)) in
     omega (arith, ints, z)
   where
     first : (a b c : ℕ) → a ≤ max a (max b c)
@@ -49,6 +49,9 @@ low_le_greatest t u k piece h c =
 
     third : (a b c : ℕ) → c ≤ max a (max b c)
     third a b c = omega arith
+
+pub low_le_greatest : (t : Piece) (u : Sub) (k : ℕ) → IsPiece t → k < 32 → covers t (sample u k) ≡ true → low_of t u ≤ greatest_nearness t
+low_le_greatest t u k piece h c = depth_within t (sample u k) (low_of t u) piece c (low_reached t u k piece h c)
 
 -- a step changes nothing if it changes nothing wherever a sample is covered
 pub step_unless_covered : (u : Sub) (s : State) (t : Piece) → ((k : ℕ) → k < 32 → covers t (sample u k) ≡ true → step u s t ≡ s) → step u s t ≡ s

@@ -281,6 +281,15 @@ row_here window span row column part from_row to_row from to = has window (tile_
 pub row_number : (window now : TileSpan) (row column start : ℕ) → now ≡ window → start ≡ row_start_in now row → start + (column - now.first_column) ≡ number_in window (tile_with column row)
 row_number window now row column start same is = ap (λ n. n + (column - now.first_column)) is ∙ ap (λ (w : TileSpan). number_in w (tile_with column row)) same
 
+-- the place of a walk, which is in the window, and its number
+pub record IsAt (window : TileSpan) (place : Tile) (number : ℕ) : Type 0 where
+  pub here : has_tile window place ≡ true
+  pub is : number ≡ number_in window place
+
+pub walk_at : (window now span : TileSpan) (row column start : ℕ) → now ≡ window → start ≡ row_start_in now row → IsPartOf window span → span.first_row ≤ row → row < span.end_row → span.first_column ≤ column → column < span.end_column
+    → IsAt window (tile_with column row) (start + (column - now.first_column))
+walk_at window now span row column start same is part from_row to_row from to = record { here = row_here window span row column part from_row to_row from to; is = row_number window now row column start same is }
+
 -- and that of a place so many columns on, which is one of the canvas's
 pub row_number_on : (c : CanvasOf) (now span : TileSpan) (row column start i : ℕ) → now ≡ c.window → start ≡ row_start_in now row → IsCanvas c → IsPartOf c.window span
     → span.first_row ≤ row → row < span.end_row → span.first_column ≤ column → column + i < span.end_column

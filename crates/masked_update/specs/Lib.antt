@@ -13,6 +13,7 @@ pub mod Merged
 pub mod Samples
 pub mod Reached
 pub mod Small
+pub mod Forms
 pub mod Coverage
 pub mod Taken
 pub mod Least

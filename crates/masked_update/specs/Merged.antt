@@ -10,8 +10,8 @@ use Rattle.cull_base.specs.declared.place.Tile.{Tile}
 use Rattle.cull_base.specs.State.{State, empty_state, no_samples}
 use Rattle.cull_base.specs.Fold.{step}
 use Rattle.edge_lanes.specs.Inside.{sub_of}
-use Rattle.edge_lanes.specs.Crossings.{inside_rows}
-use Rattle.edge_lanes.specs.declared.row_edges.RowEdges.{RowEdges}
+use Rattle.edge_lanes.specs.Crossings.{inside_view}
+use Rattle.edge_lanes.specs.declared.row_edges.EdgesView.{EdgesView}
 use Rattle.edge_lanes.specs.declared.tile_row.TileRow.{TileRow}
 use Rattle.masked_update.specs.Grid.{is_in_rows}
 use Rattle.masked_update.specs.declared.sub_span.SubBox.{SubBox}
@@ -32,13 +32,13 @@ unfoldable pub merged_by : Dimensions → Tile → Piece → List State → List
 merged_by size place x subs = map (merged_at size place x subs) (range_with_len 0 8)
 
 -- the edges are the piece's
-abbrev pub AreEdgesOf : RowEdges → Piece → Type 0
-AreEdgesOf edges x = (u : Sub) → u.column < 256 → u.row < 512 → inside_rows edges u ≡ covered x u
+abbrev pub AreEdgesOf : EdgesView → Piece → Type 0
+AreEdgesOf edges x = (u : Sub) → u.column < 256 → u.row < 512 → inside_view edges u ≡ covered x u
 
 -- the edges over a row of tiles are the piece's
 pub record AreRowOf (over : TileRow) (row : ℕ) (x : Piece) : Type 0 where
   pub row_is : over.row ≡ row
-  pub covers : (u : Sub) → u.column < 256 → u.row < 512 → inside_rows over.edges.now u ≡ covered x u
+  pub covers : (u : Sub) → u.column < 256 → u.row < 512 → inside_view over.edges u ≡ covered x u
 
 -- the piece covers no sample of the tile
 abbrev pub CoversNone : Piece → Tile → Type 0

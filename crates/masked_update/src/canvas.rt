@@ -111,6 +111,21 @@ impl Canvas {
             .to_bitmask() as u32
     }
 
+    /// The same of the first alone: 1, or 0 where no reference of it is below the nearness. Condition: there is such a
+    /// tile.
+    #[inline(always)]
+    pub(crate) fn first_may_change(&self, number: usize, nearest: u32) -> u32
+        requires { number < length self.now.tiles }
+        ensures behind { result ≡ 0 → NoneBelow nearest (tile_at self.now.tiles number) }
+        ensures eight { length (tile_at self.now.tiles number).subs ≡ 8 }
+        ensures bit { result < 2 }
+    {
+        // an accessor tells how many tiles there are
+        let _tiles = self.tiles.len();
+        let least = self.least[number];
+        if least < nearest { 1 } else { 0 }
+    }
+
     /// Counts a piece in the tile of a number. Conditions: there is such a tile, and its count is below 131,072.
     pub(crate) fn count(&mut self, number: usize)
         requires tile { number < length self.old.tiles }

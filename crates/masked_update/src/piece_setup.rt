@@ -16,7 +16,7 @@ use crate::sub_span::SubBox;
 use crate::tile_layers::TileLayers;
 use cull_base::{Rect, ScreenTri, Size, Tile};
 use depth_plane::Plane;
-use edge_lanes::{RowEdges, TileRow};
+use edge_lanes::{EdgesView, RowEdges, TileRow};
 use std::marker::Model;
 
 /// A piece with what each tile needs of it besides its edges: its plane, its greatest and its least nearness.
@@ -101,8 +101,8 @@ impl PieceDepths {
 
     /// Its edges over a row of tiles. Conditions: they are the piece's, and the row is below 256.
     #[inline(always)]
-    pub fn over_row<'a>(&self, edges: &'a RowEdges, row: u32) -> TileRow<'a>
-        requires edges { AreEdgesOf edges.now self.now }
+    pub fn over_row<'a>(&self, edges: EdgesView<'a>, row: u32) -> TileRow<'a>
+        requires edges { AreEdgesOf edges self.now }
         requires row { row < 256 }
         ensures { AreRowOf result row self.now }
     {
@@ -193,12 +193,12 @@ impl PieceDepths {
     /// subtile may have changed.
     pub(crate) fn merge_into(
         &self,
-        edges: &RowEdges,
+        edges: EdgesView,
         layers: &mut TileLayers,
         reached: &SubBox,
         place: Tile,
     ) -> bool
-        requires edges { AreEdgesOf edges.now self.now }
+        requires edges { AreEdgesOf edges self.now }
         requires reached { IsSubBox (box_of self.now) reached.now }
         requires column { place.column < tile_columns_of reached.now.size }
         requires row { place.row < tile_rows_of reached.now.size }
@@ -244,6 +244,7 @@ impl PieceSetup {
         ensures merged { layers.new ≡ merged_by reached.now.size place self.now layers.old }
         ensures same { result ≡ false → layers.new ≡ layers.old }
     {
-        self.depths.merge_into(&self.edges, layers, reached, place)
+        self.depths
+            .merge_into(self.edges.view(), layers, reached, place)
     }
 }

@@ -147,7 +147,7 @@ impl SmallPiece {
         while left != 0 {
             let j = left.trailing_zeros();
             raised |= self.merge_at(layers, place, j);
-            left &= !(1 << j);
+            left &= left - 1;
         }
         raised
     }

@@ -1,18 +1,20 @@
 //! The subtiles of a tile that a rectangle reaches, computed from it and not searched for.
-ghost use Rattle.std.specs.Prelude.{◌≡◌, ℕ, pos, ◌+◌, ◌-◌, ◌*◌, ◌^◌, ◌<◌, ◌≤◌, ◌≤ℤ◌, cond, min, true};
+ghost use Rattle.std.specs.Prelude.{◌≡◌, ℕ, pos, ◌+◌, ◌-◌, ◌*◌, ◌/◌, ◌^◌, ◌<◌, ◌≤◌, ◌≤ℤ◌, ◌∷◌, [], cond, max, min, true};
+ghost use Rattle.std.specs.Prelude.{slice_index};
 ghost use Rattle.std.specs.Int.{int_min, int_max, div_ceil, bit_at};
 ghost use Rattle.masked_update.specs.Inner.{GoesOn, IsInner};
 
-use cull_base::arithmetic::pixel_of;
 use cull_base::{Rect, Size, Tile, TileSpan};
+use std::simd::prelude::*;
 
-/// Columns and rows of a screen's subtiles, each from a first to before an end.
+/// Columns and rows of a screen's subtiles, each from a first to before an end; in the order in which they are computed
+/// side by side.
 #[derive(Clone, Copy)]
 pub struct SubBox {
     pub size: Size,
     pub first_column: u32,
-    pub end_column: u32,
     pub first_row: u32,
+    pub end_column: u32,
     pub end_row: u32,
 }
 
@@ -33,12 +35,58 @@ pub(crate) fn goes_on(size: Size, column: u32, row: u32) -> bool
     column < size.tile_columns() && row < size.tile_rows()
 }
 
-// How many of a screen's columns or rows of pixels lie before a place.
+// How many of a screen's columns and rows of pixels lie before a rectangle's first corner, and before its second.
 #[inline(always)]
-fn pixels_before(place: i32, count: u16) -> u32
-    ensures { pos result ≡ int_min (int_max place (pos 0)) (pos count) }
+fn pixels_before(rect: &Rect, width: u16, height: u16) -> [u32; 4]
+    ensures first_column { pos (slice_index result 0) ≡ int_min (int_max rect.now.x0 (pos 0)) (pos width) }
+    ensures first_row { pos (slice_index result 1) ≡ int_min (int_max rect.now.y0 (pos 0)) (pos height) }
+    ensures end_column { pos (slice_index result 2) ≡ int_min (int_max rect.now.x1 (pos 0)) (pos width) }
+    ensures end_row { pos (slice_index result 3) ≡ int_min (int_max rect.now.y1 (pos 0)) (pos height) }
 {
-    pixel_of(place.max(0).min(i32::from(count)))
+    let (columns, rows) = (i32::from(width), i32::from(height));
+    let places = i32x4::from_array([rect.x0, rect.y0, rect.x1, rect.y1]);
+    let counts = i32x4::from_array([columns, rows, columns, rows]);
+    let held = places.simd_max(i32x4::splat(0)).simd_min(counts);
+    held.cast::<u32>().to_array()
+}
+
+// The subtiles in which so many columns and rows of pixels end, and those past which the others do. Condition: the others
+// are few.
+#[inline(always)]
+fn subtiles(pixels: [u32; 4]) -> [u32; 4]
+    requires end_column { slice_index pixels 2 < 2 ^ 16 }
+    requires end_row { slice_index pixels 3 < 2 ^ 16 }
+    ensures { result ≡ slice_index pixels 0 / 8 ∷ slice_index pixels 1 / 4
+        ∷ div_ceil (slice_index pixels 2) 8 ∷ div_ceil (slice_index pixels 3) 4 ∷ [] }
+{
+    let rounded = u32x4::from_array(pixels).strict_add(u32x4::from_array([0, 0, 7, 3]));
+    (rounded / u32x4::from_array([8, 4, 8, 4])).to_array()
+}
+
+// The tiles in which a first column and row of subtiles stand, and the first ones past an end of both.
+#[inline(always)]
+fn tiles(subs: [u32; 4]) -> [u32; 4]
+    ensures { result ≡ slice_index subs 0 / 4 ∷ slice_index subs 1 / 2
+        ∷ div_ceil (slice_index subs 2) 4 ∷ div_ceil (slice_index subs 3) 2 ∷ [] }
+{
+    let [left, top, right, bottom] = subs;
+    let subs = u32x4::from_array([left, top, right, bottom]);
+    let begun = (subs % u32x4::from_array([1, 1, 4, 2])).simd_min(u32x4::splat(1));
+    let whole = subs / u32x4::from_array([4, 2, 4, 2]);
+    whole.strict_add(begun).to_array()
+}
+
+// Two firsts, but not before a window's, and two ends, but not past its.
+#[inline(always)]
+fn in_window(tiles: [u32; 4], window: &TileSpan) -> [u32; 4]
+    ensures { let w = window.now in result
+        ≡ max (slice_index tiles 0) w.first_column ∷ max (slice_index tiles 1) w.first_row
+        ∷ min (slice_index tiles 2) w.end_column ∷ min (slice_index tiles 3) w.end_row ∷ [] }
+{
+    let firsts = u32x4::from_array([window.first_column, window.first_row, 0, 0]);
+    let ends = u32x4::from_array([u32::MAX, u32::MAX, window.end_column, window.end_row]);
+    let tiles = u32x4::from_array(tiles);
+    tiles.simd_max(firsts).simd_min(ends).to_array()
 }
 
 // How many of some lie past a start, and at most so many.
@@ -73,12 +121,14 @@ impl SubBox {
         ensures reached { IsSubBox rect.now result }
         ensures size { result.size ≡ size }
     {
+        let pixels = pixels_before(rect, size.width(), size.height());
+        let [first_column, first_row, end_column, end_row] = subtiles(pixels);
         SubBox {
             size,
-            first_column: pixels_before(rect.x0, size.width()) / 8,
-            end_column: pixels_before(rect.x1, size.width()).div_ceil(8),
-            first_row: pixels_before(rect.y0, size.height()) / 4,
-            end_row: pixels_before(rect.y1, size.height()).div_ceil(4),
+            first_column,
+            first_row,
+            end_column,
+            end_row,
         }
     }
 
@@ -87,11 +137,18 @@ impl SubBox {
     pub(crate) fn tiles_in(&self, window: &TileSpan) -> TileSpan
         ensures { result ≡ reached_in self.now window.now }
     {
+        let reached = tiles([
+            self.first_column,
+            self.first_row,
+            self.end_column,
+            self.end_row,
+        ]);
+        let [first_column, first_row, end_column, end_row] = in_window(reached, window);
         TileSpan {
-            first_column: (self.first_column / 4).max(window.first_column),
-            end_column: self.end_column.div_ceil(4).min(window.end_column),
-            first_row: (self.first_row / 2).max(window.first_row),
-            end_row: self.end_row.div_ceil(2).min(window.end_row),
+            first_column,
+            end_column,
+            first_row,
+            end_row,
         }
     }
 

@@ -4,6 +4,7 @@ ghost use Rattle.cull_base.specs.Fold.{IsLayered};
 ghost use Rattle.cull_base.specs.Piece.{IsPiece, box_of};
 ghost use Rattle.cull_base.specs.Screen.{IsSize, tile_columns_of, tile_rows_of, tile_count_of};
 
+use crate::piece_form::PieceForm;
 use crate::piece_setup::{PieceDepths, PieceSetup};
 use crate::small_piece::SmallPiece;
 use crate::sub_span::SubBox;
@@ -34,6 +35,7 @@ impl Model for TileState {
 
 impl TileState {
     ghost use Rattle.masked_update.specs.Coverage.{AreWanted};
+    ghost use Rattle.masked_update.specs.Forms.{IsFormOn, piece_in};
     ghost use Rattle.masked_update.specs.TileOf.{sub_at, empty_tile};
     ghost use Rattle.masked_update.specs.Inner.{IsInner};
     ghost use Rattle.masked_update.specs.Merged.{AreRowOf, IsSubBox};
@@ -98,18 +100,48 @@ impl TileState {
         requires tile { tile < tile_count_of size }
         ensures { self.new ≡ taken_by size tile piece.now self.old }
     {
-        self.take_at(piece, size, size.tile_at(tile));
-    }
-
-    /// As `take_set_up`, where the tile's column and row are known. Condition: they are below the screen's.
-    pub fn take_at(&mut self, piece: &PieceSetup, size: Size, place: Tile)
-        requires count { self.old.count < 131072 }
-        requires column { place.column < tile_columns_of size }
-        requires row { place.row < tile_rows_of size }
-        ensures { self.new ≡ taken_at size place piece.now self.old }
-    {
+        let place = size.tile_at(tile);
         self.merge(piece, &piece.reached_on(size), place);
         self.count_piece();
+    }
+
+    /// As `take_set_up`, where the tile's column and row are known, of a piece in any form. Condition: they are below the
+    /// screen's, and what the piece reaches is of the screen.
+    pub fn take_form(&mut self, form: PieceForm, size: Size, place: Tile)
+        requires count { self.old.count < 131072 }
+        requires form { IsFormOn size form }
+        requires column { place.column < tile_columns_of size }
+        requires row { place.row < tile_rows_of size }
+        ensures { self.new ≡ taken_at size place (piece_in form.entry) self.old }
+    {
+        match form {
+            PieceForm::Bare(tri) => self.merge_bare(tri, size, place),
+            PieceForm::Small(piece, reached) => {
+                self.merge_small(piece, reached, place);
+            }
+            PieceForm::Whole(piece, reached) => {
+                self.merge(piece, reached, place);
+            }
+        }
+        self.count_piece();
+    }
+
+    // Merges a piece that isn't set up, and doesn't count it. One that stands behind the tile changes nothing.
+    #[inline(always)]
+    fn merge_bare(&mut self, tri: &ScreenTri, size: Size, place: Tile)
+        requires column { place.column < tile_columns_of size }
+        requires row { place.row < tile_rows_of size }
+        ensures { self.new ≡ merged_tile size place tri.now self.old }
+    {
+        // an accessor tells how many subtiles a tile has
+        let _first = self.sub(0);
+        let near = tri.greatest_nearness();
+        let least = self.least_reference();
+        if near <= least {
+            return;
+        }
+        let piece = PieceSetup::of(tri);
+        self.merge(&piece, &piece.reached_on(size), place);
     }
 
     /// Merges a piece, doesn't count it, and says whether any subtile may have changed. Conditions: the column and the

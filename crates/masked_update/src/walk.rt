@@ -5,6 +5,7 @@ ghost use Rattle.cull_base.specs.Depth.{greatest_nearness};
 ghost use Rattle.cull_base.specs.Piece.{IsPiece};
 ghost use Rattle.cull_base.specs.Screen.{IsSize, tile_rows_of};
 ghost use Rattle.cull_base.specs.Span.{IsPartOf, IsSpan, has_tile, number_in};
+ghost use Rattle.edge_lanes.specs.Near.{AreNearOf};
 ghost use Rattle.masked_update.specs.Canvas.{CountedMet, IsInWindow, MergedMet, tile_in, tile_on};
 ghost use Rattle.masked_update.specs.Inner.{GoesOn};
 ghost use Rattle.masked_update.specs.Least.{NoneBelow};
@@ -20,8 +21,8 @@ use crate::sample_box::sampled;
 use crate::small_piece::SmallPiece;
 use crate::small_walk::merge_small_in_span;
 use crate::sub_span::{SubBox, goes_on, ones_between};
-use cull_base::{ScreenTri, Size, Tile, TileSpan};
-use edge_lanes::{RowEdges, TileRow};
+use cull_base::{ScreenTri, Side, Size, Tile, TileSpan};
+use edge_lanes::{Edges, EdgesView, NearEdges, TileRow};
 
 /// So many tiles of a row are tested at once.
 const AT_ONCE: u32 = 8;
@@ -38,7 +39,11 @@ fn marks_from(canvas: &Canvas, number: usize, count: u32, nearest: u32) -> u32
     ensures eight { (i : ℕ) → i < count → length (tile_at canvas.now.tiles (number + i)).subs ≡ 8 }
     ensures byte { result < 2 ^ 8 }
 {
-    canvas.may_change(number, nearest) & ones_between(0, count)
+    if count == 1 {
+        canvas.first_may_change(number, nearest)
+    } else {
+        canvas.may_change(number, nearest) & ones_between(0, count)
+    }
 }
 
 // The tiles of a row that a piece may change, of so many from a column on: bit i is that of the tile in column + i.
@@ -167,7 +172,7 @@ fn merge_marked(
         };
         let number = at.number + j as usize;
         canvas.merge(number, piece, reached, over, place, at.is_inner);
-        left &= !(1 << j);
+        left &= left - 1;
     }
 }
 
@@ -176,14 +181,14 @@ fn merge_marked(
 fn merge_in_row(
     canvas: &mut Canvas,
     piece: &PieceDepths,
-    edges: &RowEdges,
+    edges: EdgesView,
     reached: &SubBox,
     span: TileSpan,
     at: RowAt,
     nearest: u32,
 )
     requires part { IsPartOf canvas.old.window span }
-    requires edges { AreEdgesOf edges.now piece.now }
+    requires edges { AreEdgesOf edges piece.now }
     requires reached { HoldsSampled piece.now reached.now }
     requires span { IsSpan reached.now.size span }
     requires row { (span.first_row ≤ at.row) × (at.row < span.end_row) }
@@ -205,7 +210,7 @@ fn merge_in_row(
     if marked != 0 {
         // where the edges leave a tile nothing, it stays
         let over = piece.over_row(edges, at.row);
-        let bits = marked & over.ahead(span.first_column);
+        let bits = marked & over.ahead_among(span.first_column, count);
         merge_marked(canvas, piece, reached, &over, span, at, bits);
     }
 }
@@ -216,12 +221,12 @@ fn merge_in_row(
 fn merge_in_strip(
     canvas: &mut Canvas,
     piece: &PieceDepths,
-    edges: &RowEdges,
+    edges: EdgesView,
     reached: &SubBox,
     span: TileSpan,
 )
     requires part { IsPartOf canvas.old.window span }
-    requires edges { AreEdgesOf edges.now piece.now }
+    requires edges { AreEdgesOf edges piece.now }
     requires reached { HoldsSampled piece.now reached.now }
     requires span { IsSpan reached.now.size span }
     requires sized { IsSize reached.now.size.width reached.now.size.height }
@@ -251,12 +256,12 @@ fn merge_in_strip(
 fn merge_in_span(
     canvas: &mut Canvas,
     piece: &PieceDepths,
-    edges: &RowEdges,
+    edges: EdgesView,
     reached: &SubBox,
     span: TileSpan,
 )
     requires part { IsPartOf canvas.old.window span }
-    requires edges { AreEdgesOf edges.now piece.now }
+    requires edges { AreEdgesOf edges piece.now }
     requires reached { HoldsSampled piece.now reached.now }
     requires span { IsSpan reached.now.size span }
     requires sized { IsSize reached.now.size.width reached.now.size.height }
@@ -331,6 +336,60 @@ fn is_wanted(canvas: &Canvas, tri: &ScreenTri, reached: &SubBox, span: TileSpan)
     false
 }
 
+// Sets up what a piece has besides its edges, and merges it into the tiles of a span.
+#[inline(always)]
+fn merge_by_edges(
+    canvas: &mut Canvas,
+    tri: &ScreenTri,
+    edges: EdgesView,
+    reached: &SubBox,
+    span: TileSpan,
+)
+    requires part { IsPartOf canvas.old.window span }
+    requires edges { AreEdgesOf edges tri.now }
+    requires reached { HoldsSampled tri.now reached.now }
+    requires span { IsSpan reached.now.size span }
+    requires sized { IsSize reached.now.size.width reached.now.size.height }
+    ensures { MergedWhere (has_tile span) reached.now.size tri.now canvas.old canvas.new }
+{
+    let piece = PieceDepths::of(tri);
+    merge_in_span(canvas, &piece, edges, reached, span);
+}
+
+// The same for a piece whose edges are near. They stay where they are made: they are large to copy.
+#[inline(always)]
+fn merge_near(
+    canvas: &mut Canvas,
+    tri: &ScreenTri,
+    edges: &NearEdges,
+    reached: &SubBox,
+    span: TileSpan,
+)
+    requires part { IsPartOf canvas.old.window span }
+    requires edges { AreNearOf edges.now tri.now }
+    requires reached { HoldsSampled tri.now reached.now }
+    requires span { IsSpan reached.now.size span }
+    requires sized { IsSize reached.now.size.width reached.now.size.height }
+    ensures { MergedWhere (has_tile span) reached.now.size tri.now canvas.old canvas.new }
+{
+    let crossings = edges.crossings();
+    merge_by_edges(canvas, tri, EdgesView::Crossed(&crossings), reached, span);
+}
+
+// The same for any other piece. Out of line: hardly any piece is such a one.
+#[cold]
+#[inline(never)]
+fn merge_plain(canvas: &mut Canvas, tri: &ScreenTri, reached: &SubBox, span: TileSpan)
+    requires part { IsPartOf canvas.old.window span }
+    requires reached { HoldsSampled tri.now reached.now }
+    requires span { IsSpan reached.now.size span }
+    requires sized { IsSize reached.now.size.width reached.now.size.height }
+    ensures { MergedWhere (has_tile span) reached.now.size tri.now canvas.old canvas.new }
+{
+    let edges = Edges::of(tri, Side::Occluder);
+    merge_by_edges(canvas, tri, EdgesView::Plain(&edges), reached, span);
+}
+
 // Sets a piece up, and merges it into the tiles of a span. One that changes no subtile there isn't set up.
 #[inline(never)]
 fn merge_set_up(canvas: &mut Canvas, tri: &ScreenTri, reached: &SubBox, span: TileSpan)
@@ -342,11 +401,12 @@ fn merge_set_up(canvas: &mut Canvas, tri: &ScreenTri, reached: &SubBox, span: Ti
 {
     // an accessor tells what is held of a canvas
     let _window = canvas.window();
-    if is_wanted(canvas, tri, reached, span) {
-        // the edges stay where they are made: they are large to copy
-        let edges = RowEdges::of(tri);
-        let piece = PieceDepths::of(tri);
-        merge_in_span(canvas, &piece, &edges, reached, span);
+    if !is_wanted(canvas, tri, reached, span) {
+        return;
+    }
+    match NearEdges::of(tri) {
+        Some(edges) => merge_near(canvas, tri, &edges, reached, span),
+        None => merge_plain(canvas, tri, reached, span),
     }
 }
 

@@ -1,5 +1,5 @@
 -- How far the corners of a box reach.
-use Rattle.std.proofs.Common.{◌≡◌, ℕ, ℤ, pos, ◌+◌, ◌*◌, ◌<◌, ◌≤ℤ◌, List, [], ◌∷◌, length, map, take, drop, get_or, length-drop, false, arith, refl, sym, ap, ◌∙◌}
+use Rattle.std.proofs.Common.{◌≡◌, ℕ, ℤ, pos, ◌+◌, ◌*◌, ◌<◌, ◌≤◌, ◌≤ℤ◌, List, [], ◌∷◌, length, map, take, drop, get_or, length-drop, false, arith, refl, sym, ap, ◌∙◌}
 use Rattle.std.specs.Int.{int_min, int_max}
 use Rattle.std.specs.List.{fold, All}
 use Rattle.std.proofs.lemmas.Int.{ints}
@@ -42,13 +42,22 @@ pub rest_is : (vs : List ClipVertex) → length vs ≡ 8 → take 7 (drop 1 vs) 
 rest_is vs eight = take_all 7 (drop 1 vs) (omega (arith, length-drop 1 vs))
 
 -- of all corners
-pub least_of_all : (f : ClipVertex → ℤ) (vs : List ClipVertex) (d : ClipVertex) → 0 < length vs → least_from f (get_or vs 0 d) (drop 1 vs) ≡ least_of (map f vs)
+least_of_all : (f : ClipVertex → ℤ) (vs : List ClipVertex) (d : ClipVertex) → 0 < length vs → least_from f (get_or vs 0 d) (drop 1 vs) ≡ least_of (map f vs)
 least_of_all f [] d lt = absurd (omega arith)
 least_of_all f (v ∷ vs) d lt = sym (fold-map int_min f (f v) vs)
 
-pub greatest_of_all : (f : ClipVertex → ℤ) (vs : List ClipVertex) (d : ClipVertex) → 0 < length vs → greatest_from f (get_or vs 0 d) (drop 1 vs) ≡ greatest_of (map f vs)
+greatest_of_all : (f : ClipVertex → ℤ) (vs : List ClipVertex) (d : ClipVertex) → 0 < length vs → greatest_from f (get_or vs 0 d) (drop 1 vs) ≡ greatest_of (map f vs)
 greatest_of_all f [] d lt = absurd (omega arith)
 greatest_of_all f (v ∷ vs) d lt = sym (fold-map int_max f (f v) vs)
+
+-- once all have been looked at
+pub least_reached : (f : ClipVertex → ℤ) (vs : List ClipVertex) (i : ℕ) (a : ℤ) → length vs ≡ 8 → length (take 7 (drop 1 vs)) ≤ i → a ≡ least_from f (get_or vs 0 no_vertex) (take i (take 7 (drop 1 vs))) → a ≡ least_of (map f vs)
+least_reached f vs i a eight end e =
+    e ∙ ap (λ (us : List ClipVertex). least_from f (get_or vs 0 no_vertex) us) (take_all i (take 7 (drop 1 vs)) end ∙ rest_is vs eight) ∙ least_of_all f vs no_vertex (omega (arith, eight))
+
+pub greatest_reached : (f : ClipVertex → ℤ) (vs : List ClipVertex) (i : ℕ) (a : ℤ) → length vs ≡ 8 → length (take 7 (drop 1 vs)) ≤ i → a ≡ greatest_from f (get_or vs 0 no_vertex) (take i (take 7 (drop 1 vs))) → a ≡ greatest_of (map f vs)
+greatest_reached f vs i a eight end e =
+    e ∙ ap (λ (us : List ClipVertex). greatest_from f (get_or vs 0 no_vertex) us) (take_all i (take 7 (drop 1 vs)) end ∙ rest_is vs eight) ∙ greatest_of_all f vs no_vertex (omega (arith, eight))
 
 pub rect_is : (across down : Extent) (size : Dimensions) (vs : List ClipVertex) (r : Rect) → across.least ≡ least_of (map (λ v. screen_x (whole v) size) vs) → across.greatest ≡ greatest_of (map (λ v. screen_x (whole v) size) vs)
     → down.least ≡ least_of (map (λ v. screen_y (whole v) size) vs) → down.greatest ≡ greatest_of (map (λ v. screen_y (whole v) size) vs) → r ≡ rect_between across down → r ≡ box_rect_of size vs

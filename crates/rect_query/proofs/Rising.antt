@@ -1,5 +1,5 @@
 -- A place rises with the quotient that it is of.
-use Rattle.std.proofs.Common.{◌≡◌, ℕ, ℤ, pos, negsuc, neg_ℤ, ◌*◌, ◌+◌, ◌^◌, ◌<◌, ◌≤◌, ◌≤ℤ◌, ◌<ℤ◌, ◌+ℤ◌, ◌-ℤ◌, ◌*ℤ◌, Bool, true, false, int_lt, FitsSigned, w64, arith, ap}
+use Rattle.std.proofs.Common.{◌≡◌, ℕ, ℤ, pos, negsuc, neg_ℤ, ◌*◌, ◌+◌, ◌^◌, ◌<◌, ◌≤◌, ◌≤ℤ◌, ◌<ℤ◌, ◌+ℤ◌, ◌-ℤ◌, ◌*ℤ◌, Bool, true, false, int_lt, FitsSigned, w64, arith, ap, ◌∙◌}
 use Rattle.std.specs.Int.{int_min, int_max, int_div_euclid}
 use Rattle.std.proofs.lemmas.Int.{ints, clamps}
 use Rattle.cull_base.specs.declared.clip.ClipVertex.{ClipVertex}
@@ -10,7 +10,9 @@ use Rattle.edge_lanes.proofs.Floors.{times-swap, le-times, le-from_times, floor-
 use Rattle.near_clip.specs.NearPart.{whole}
 use Rattle.snap_setup.specs.Snapping.{round_half, screen_y}
 use Rattle.rect_query.specs.declared.ratio.Ratio.{Ratio}
-use Rattle.rect_query.specs.Ratios.{place_at, down, IsRatio}
+use Rattle.rect_query.specs.declared.ratio.Way.{Way}
+use Rattle.rect_query.specs.declared.ratio.Way.TheVariants.{Across, Down}
+use Rattle.rect_query.specs.Ratios.{IsRatio, down, pixels_along, place_along, place_at, ratio_along}
 
 -- the floor of a quotient is no greater than that of one that is no less
 floors_rise : (m n : ℤ) (p q : ℕ) → 0 < p → 0 < q → (m *ℤ pos q) ≤ℤ (n *ℤ pos p) → int_div_euclid m (pos p) ≤ℤ int_div_euclid n (pos q)
@@ -96,8 +98,13 @@ place_down_is pixels r = ap (λ (z : ℤ). round_half (pos (8 * pixels) *ℤ z) 
     sum n w = omega (arith, ints)
 
 -- a corner's place down the screen
-pub screen_down : (v : ClipVertex) (size : Dimensions) → place_at size.height (down v) ≡ screen_y (whole v) size
+screen_down : (v : ClipVertex) (size : Dimensions) → place_at size.height (down v) ≡ screen_y (whole v) size
 screen_down v size = ap (λ (z : ℤ). round_half (pos (8 * size.height) *ℤ z) v.w) (sum v.y v.w)
   where
     sum : (y w : ℤ) → neg_ℤ y +ℤ w ≡ w -ℤ y
     sum y w = omega (arith, ints)
+
+-- and its place either way
+pub placed_along : (way : Way) (v : ClipVertex) (size : Dimensions) (r : Ratio) → r ≡ ratio_along way v → place_at (pixels_along way size) r ≡ place_along way size v
+placed_along Across v size r e = ap (λ (q : Ratio). place_at size.width q) e
+placed_along Down v size r e = ap (λ (q : Ratio). place_at size.height q) e ∙ screen_down v size

@@ -8,7 +8,7 @@ ghost use Rattle.cull_base.specs.Piece.{least_of};
 ghost use Rattle.rect_query.specs.Boxes.{box_answer, box_rect_of};
 ghost use Rattle.rect_query.specs.Reaches.{reach_of_all};
 
-use crate::ratio::{extent_across, extent_down};
+use crate::ratio::{Way, extent};
 use crate::reach::Reach;
 use crate::rectangle::nearness;
 use cull_base::{ClipVertex, Grade, Near, Rect, Size};
@@ -59,8 +59,8 @@ fn rect_around(corners: &[ClipVertex; 8], near: Near, size: Size) -> Rect
     requires front { All (λ v. is_behind near.distance v ≡ false) corners.now }
     ensures { result ≡ box_rect_of size corners.now }
 {
-    let across = extent_across(corners, near, size);
-    let down = extent_down(corners, near, size);
+    let across = extent(corners, near, size, Way::Across);
+    let down = extent(corners, near, size, Way::Down);
     rect_between(across, down)
 }
 

@@ -8,14 +8,19 @@ ghost use Rattle.std.specs.List.{All};
 ghost use Rattle.cull_base.specs.Guard.{is_past_guard};
 ghost use Rattle.cull_base.specs.NearPlane.{is_behind};
 ghost use Rattle.cull_base.specs.Piece.{IsCoordinate, least_of, greatest_of};
-ghost use Rattle.near_clip.specs.NearPart.{whole};
-ghost use Rattle.snap_setup.specs.Snapping.{screen_x, screen_y};
-ghost use Rattle.rect_query.specs.Ratios.{across, down, place_at, IsRatio};
+ghost use Rattle.rect_query.specs.Ratios.{IsRatio, across, down, pixels_along, place_along, place_at, ratio_along};
 
 use cull_base::arithmetic::product;
 use cull_base::{ClipVertex, Extent, Near, Size};
 use near_clip::HomPoint;
 use snap_setup::place_of;
+
+/// One of the two ways over the screen.
+#[derive(Clone, Copy)]
+pub(crate) enum Way {
+    Across,
+    Down,
+}
 
 /// A coordinate of a corner over its distance.
 #[derive(Clone, Copy)]
@@ -47,6 +52,19 @@ fn down(v: &ClipVertex, near: Near) -> Ratio
     Ratio {
         number: -v.y,
         w: v.w,
+    }
+}
+
+#[inline(always)]
+fn quotient(v: &ClipVertex, near: Near, way: Way) -> Ratio
+    requires guarded { is_past_guard v.now near.distance ≡ false }
+    requires front { is_behind near.distance v.now ≡ false }
+    ensures value { result ≡ ratio_along way v.now }
+    ensures within { IsRatio near.distance result }
+{
+    match way {
+        Way::Across => across(v, near),
+        Way::Down => down(v, near),
     }
 }
 
@@ -113,46 +131,36 @@ fn place_down(ratio: Ratio, near: Near, size: Size) -> i32
     place_of(&point, near.distance, size).y
 }
 
-/// How far the corners reach across the screen.
 #[inline(always)]
-pub(crate) fn extent_across(corners: &[ClipVertex; 8], near: Near, size: Size) -> Extent
-    requires guarded { All (λ v. is_past_guard v near.distance ≡ false) corners.now }
-    requires front { All (λ v. is_behind near.distance v ≡ false) corners.now }
-    ensures least { result.least ≡ least_of (map (λ v. screen_x (whole v) size) corners.now) }
-    ensures greatest { result.greatest ≡ greatest_of (map (λ v. screen_x (whole v) size) corners.now) }
+fn place(ratio: Ratio, near: Near, size: Size, way: Way) -> i32
+    requires { IsRatio near.distance ratio }
+    ensures value { result ≡ place_at (pixels_along way size) ratio }
+    ensures within { IsCoordinate result }
 {
-    let rest = &corners[1..];
-    let mut least = across(&corners[0], near);
-    let mut greatest = least;
-    for corner in rest {
-        let ratio = across(corner, near);
-        least = lesser(least, ratio, near);
-        greatest = greater(greatest, ratio, near);
-    }
-    Extent {
-        least: place_across(least, near, size),
-        greatest: place_across(greatest, near, size),
+    match way {
+        Way::Across => place_across(ratio, near, size),
+        Way::Down => place_down(ratio, near, size),
     }
 }
 
-/// How far the corners reach down the screen.
+/// How far the corners reach one way over the screen.
 #[inline(always)]
-pub(crate) fn extent_down(corners: &[ClipVertex; 8], near: Near, size: Size) -> Extent
+pub(crate) fn extent(corners: &[ClipVertex; 8], near: Near, size: Size, way: Way) -> Extent
     requires guarded { All (λ v. is_past_guard v near.distance ≡ false) corners.now }
     requires front { All (λ v. is_behind near.distance v ≡ false) corners.now }
-    ensures least { result.least ≡ least_of (map (λ v. screen_y (whole v) size) corners.now) }
-    ensures greatest { result.greatest ≡ greatest_of (map (λ v. screen_y (whole v) size) corners.now) }
+    ensures least { result.least ≡ least_of (map (λ v. place_along way size v) corners.now) }
+    ensures greatest { result.greatest ≡ greatest_of (map (λ v. place_along way size v) corners.now) }
 {
     let rest = &corners[1..];
-    let mut least = down(&corners[0], near);
+    let mut least = quotient(&corners[0], near, way);
     let mut greatest = least;
     for corner in rest {
-        let ratio = down(corner, near);
+        let ratio = quotient(corner, near, way);
         least = lesser(least, ratio, near);
         greatest = greater(greatest, ratio, near);
     }
     Extent {
-        least: place_down(least, near, size),
-        greatest: place_down(greatest, near, size),
+        least: place(least, near, size, way),
+        greatest: place(greatest, near, size, way),
     }
 }

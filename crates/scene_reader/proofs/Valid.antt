@@ -1,9 +1,9 @@
 -- The tests and the facts that they stand for.
-use Rattle.std.proofs.Common.{◌≡◌, ℕ, ℤ, pos, ◌+◌, ◌<◌, ◌≤◌, ◌^◌, ◌%◌, ◌∷◌, List, [], length, arith, refl, sym, ◌∙◌, false, All}
-use Rattle.std.specs.Prelude.{◌≤ℤ◌, int_lt, nat_lt, not, neg_ℤ}
+use Rattle.std.proofs.Common.{◌≡◌, ℕ, ℤ, pos, ◌+◌, ◌<◌, ◌≤◌, ◌^◌, ◌%◌, ◌∷◌, List, [], length, arith, refl, sym, ◌∙◌, false, true, inl, inr, ◌⊎◌, All}
+use Rattle.std.specs.Prelude.{◌≤ℤ◌, ◌||◌, int_lt, nat_lt, not, neg_ℤ}
 use Rattle.std.specs.List.{AllByRecursion, list_any}
 use Rattle.std.proofs.lemmas.Int.{ints}
-use Rattle.std.proofs.lemmas.Bool.{or_from, or_parts, le-ltb, lt-ltb, ltb-false, ltb-true, eqb-true, eq-eqb, not-false, not_from_true}
+use Rattle.std.proofs.lemmas.Bool.{or_from, or_left, or_parts, or_right, le-ltb, lt-ltb, ltb-false, ltb-true, eqb-true, eq-eqb, not-false, not_from_true}
 use Rattle.std.proofs.lemmas.List.Elements.{All-from_recursion, recursion_from_All}
 use Rattle.cull_base.specs.Guard.{is_beyond}
 use Rattle.cull_base.specs.Screen.{IsSize}
@@ -82,6 +82,15 @@ mesh_good m first count small h =
 
     zero_in : InLimits (pos 0)
     zero_in = in_limits 0 (omega arith)
+
+-- ---- numbers from 1 on
+
+pub off_range : (n m : ℕ) → (n ≡ 0) ⊎ ((n ≡ 0 → ⊥) × (m < n)) → (nat_lt n 1 || nat_lt m n) ≡ true
+off_range n m (inl e) = or_left _ _ (lt-ltb n 1 (omega (arith, e)))
+off_range n m (inr h) = or_right _ _ (lt-ltb m n h.1)
+
+pub in_range : (n m : ℕ) → (n ≡ 0 → ⊥) → n ≤ m → (nat_lt n 1 || nat_lt m n) ≡ false
+in_range n m some small = or_from _ _ (le-ltb n 1 (omega (arith, some))) (le-ltb m n small)
 
 -- ---- sizes
 

@@ -48,31 +48,22 @@ quad = at (minus 2) (pos 2) (pos 2) ∷ at (pos 2) (pos 2) (pos 2) ∷ at (pos 2
 abbrev tri : (a b c : ℕ) → Tri
 tri a b c = record { 0 = a ∷ b ∷ c ∷ [] }
 
+abbrev quad_pieces : List Piece
+quad_pieces = flat 0 0 512 0 512 128 32767 ∷ flat 0 0 512 128 0 128 32767 ∷ []
+
 -- Its triangles run clockwise on the screen: they are kept unless clockwise ones are dropped.
-quad_list : list_of_clips quad (tri 0 1 2 ∷ tri 0 2 3 ∷ []) grade 1 small Both ≡ flat 0 0 512 0 512 128 32767 ∷ flat 0 0 512 128 0 128 32767 ∷ []
+quad_lists : (list_of_clips quad (tri 0 1 2 ∷ tri 0 2 3 ∷ []) grade 1 small Both ≡ quad_pieces)
+    × (list_of_clips quad (tri 0 1 2 ∷ tri 0 2 3 ∷ []) grade 1 small DropCounter ≡ quad_pieces)
+    × (list_of_clips quad (tri 0 1 2 ∷ tri 0 2 3 ∷ []) grade 1 small DropClockwise ≡ [])
 unfolding list_of_clips pieces_of kept_of snapped_part snapped near_part
-quad_list = refl
-
-quad_drop_counter : list_of_clips quad (tri 0 1 2 ∷ tri 0 2 3 ∷ []) grade 1 small DropCounter ≡ flat 0 0 512 0 512 128 32767 ∷ flat 0 0 512 128 0 128 32767 ∷ []
-unfolding list_of_clips pieces_of kept_of snapped_part snapped near_part
-quad_drop_counter = refl
-
-quad_drop_clockwise : list_of_clips quad (tri 0 1 2 ∷ tri 0 2 3 ∷ []) grade 1 small DropClockwise ≡ []
-unfolding list_of_clips pieces_of kept_of snapped_part snapped near_part
-quad_drop_clockwise = refl
+quad_lists = (refl, refl, refl)
 
 -- The same triangles the other way round are turned, and kept unless counterclockwise ones are dropped.
-turned_list : list_of_clips quad (tri 0 2 1 ∷ tri 0 3 2 ∷ []) grade 1 small Both ≡ flat 0 0 512 0 512 128 32767 ∷ flat 0 0 512 128 0 128 32767 ∷ []
+turned_lists : (list_of_clips quad (tri 0 2 1 ∷ tri 0 3 2 ∷ []) grade 1 small Both ≡ quad_pieces)
+    × (list_of_clips quad (tri 0 2 1 ∷ tri 0 3 2 ∷ []) grade 1 small DropClockwise ≡ quad_pieces)
+    × (list_of_clips quad (tri 0 2 1 ∷ tri 0 3 2 ∷ []) grade 1 small DropCounter ≡ [])
 unfolding list_of_clips pieces_of kept_of snapped_part snapped near_part
-turned_list = refl
-
-turned_kept : list_of_clips quad (tri 0 2 1 ∷ tri 0 3 2 ∷ []) grade 1 small DropClockwise ≡ flat 0 0 512 0 512 128 32767 ∷ flat 0 0 512 128 0 128 32767 ∷ []
-unfolding list_of_clips pieces_of kept_of snapped_part snapped near_part
-turned_kept = refl
-
-turned_dropped : list_of_clips quad (tri 0 2 1 ∷ tri 0 3 2 ∷ []) grade 1 small DropCounter ≡ []
-unfolding list_of_clips pieces_of kept_of snapped_part snapped near_part
-turned_dropped = refl
+turned_lists = (refl, refl, refl)
 
 -- a corner at the guard is drawn, one past it isn't
 guard_drawn : pieces_of (at (minus 2) (pos 2) (pos 2)) (at (pos 16384) (pos 2) (pos 2)) (at (minus 2) (minus 16384) (pos 2)) grade 1 small Both Occluder ≡ flat 0 0 2097408 0 0 524352 32767 ∷ []

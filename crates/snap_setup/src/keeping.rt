@@ -17,7 +17,7 @@ pub(crate) enum Keeping {
 fn is_sampled(piece: &ScreenTri, size: Size) -> bool
     ensures { result ≡ is_sampled size piece.now }
 {
-    samples_between(&piece.x(), &piece.y()).meets(&size.screen())
+    samples_between(&piece.x(), &piece.y()).meets_in_lanes(&size.screen())
 }
 
 #[inline(always)]

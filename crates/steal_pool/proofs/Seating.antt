@@ -61,7 +61,7 @@ module _ {A : Type 0} where
 pub pass_at : {S A : Type 0} (f : S → RowsId × A) (c : Call) (ds : List S) (ps : List (Pass Tasking View A)) (d : ℕ) (t : S) (p : Pass Tasking View A) → ArePassesOf f c ds ps → d < length ps → t ≡ get_or ds d t → p ≡ get_or ps d p → IsPassOf (f t) p
 pass_at {S} {A} f c ds ps d t p are lt is same = subst (λ (y : S × Pass Tasking View A). IsPassOf (f y.0) y.1) (λ i. (sym is i, sym same i)) (are.of d t p lt)
 
-pub steals_as_role : (c : Call) (v u : View) → v ≡ u → u ≡ stealing c u.taken → v.role ≡ Steals
+steals_as_role : (c : Call) (v u : View) → v ≡ u → u ≡ stealing c u.taken → v.role ≡ Steals
 steals_as_role c v u same is = ap (λ (y : View). y.role) (same ∙ is)
 
 pub steals_on : (c : Call) (v u w : View) → v ≡ u → u ≡ stealing c u.taken → w ≡ with_taken v w.taken → w ≡ stealing c w.taken
@@ -71,8 +71,15 @@ steals_on c v u w same is d = d ∙ ap (λ (y : View). with_taken y w.taken) (sa
 pub room_kept : (d room l l' first before after : ℕ) → l ≤ first + d * room → l' + before ≡ l + after → after ≤ room → l' ≤ first + (d + 1) * room
 room_kept d room l l' first before after a b e = let s = suc-mul d room in let t : (d + 1) * room ≡ suc d * room = ap (λ (n : ℕ). n * room) (omega arith) in omega arith
 
-pub of_is : (c : Call) (v u : View) → v ≡ u → u ≡ stealing c u.taken → v.of ≡ c
+of_is : (c : Call) (v u : View) → v ≡ u → u ≡ stealing c u.taken → v.of ≡ c
 of_is c v u same is = ap (λ (y : View). y.of) (same ∙ is)
+
+-- a pass of a seat steals for the call
+pub stealing_at : {S A : Type 0} (f : S → RowsId × A) (c : Call) (ds : List S) (ps : List (Pass Tasking View A)) (d : ℕ) (p : Pass Tasking View A) → ArePassesOf f c ds ps → d < length ds → p ≡ get_or ps d p
+    → ((view p).role ≡ Steals) × ((view p).of ≡ c)
+stealing_at {S} {A} f c ds ps d p are lt is =
+    let at = are.steals d p (let many = are.many in omega (arith, many, lt)) in
+    (steals_as_role c (view p) (view (get_or ps d p)) (ap view is) at, of_is c (view p) (view (get_or ps d p)) (ap view is) at)
 
 -- what is left of the room of a list for one pass more
 pub pass_room : (count room i len first most cap before : ℕ) → i < count → len ≤ first + i * room → first + count * room ≤ most → most ≤ cap → len + room ≤ cap + before

@@ -34,7 +34,7 @@ use std::alloc::Global;
 use std::sync::Wait;
 use std::thread::{Threads, join_mut};
 use tile_cells::{TileCells, TileReader, TileWriter};
-use tile_queues::{BinQueues, BinTask, Caller, Gate, Submitter};
+use tile_queues::{BinQueues, BinTask, Caller, Gate, Submitter, read_cells};
 
 /// The queues of a frame with their submitter, which submitted all batches, and the task of each bin, told of them. Err
 /// where memory gave out. Conditions: the cells are of the list, and the writers are those that were made with them.
@@ -60,23 +60,6 @@ pub(crate) fn open_frame<R: Threads + Wait + Sync, G: Gate>(
     submit_all(rt, alloc, &queues, &mut submitter, frame, gate, workers)?;
     tell_all(rt, &queues, &mut submitter, tasks.as_mut_slice());
     Ok((queues, submitter, tasks))
-}
-
-// The caller reads the cells.
-fn read_cells<R: Threads + Wait + Sync, C: Caller>(
-    rt: &R,
-    cells: &TileCells,
-    reader: &mut TileReader,
-    _list: &FrameList,
-    caller: &mut C,
-)
-    requires reader { IsReading cells.now _list.now.list reader.old }
-    requires ready { C.ready caller.old _list.now.list }
-    ensures done { C.done caller.new _list.now.list reader.new }
-    ensures keeps { C.keeps caller.old caller.new }
-    ensures follows { Follows reader.old reader.new }
-{
-    caller.beside(rt, cells, reader);
 }
 
 // All tasks of all deques are drawn, while the caller reads the cells. The caller has a thread of its own.

@@ -7,6 +7,7 @@ use bin_queues::Batched;
 use binning::{Cut, batch_size};
 use cull_base::{FrameList, Memory, ScreenTri, Size};
 use std::alloc::Global;
+use std::process::Abort;
 use std::sync::Wait;
 use std::test::*;
 use std::thread::Threads;
@@ -61,37 +62,43 @@ fn counted(lists: &[Vec<BinTask>], bins: u32) -> (usize, u32, u32) {
     (tasks, pieces, batches)
 }
 
-#[test]
-fn more_workers_than_bins_have_a_list_each(rt: HostRuntime) -> Result<(), Fail> {
-    let list = three(&rt)?;
-    let cut = Cut::new(1, 1).ok_or("a cut")?;
-    let size = batch_size(list.len(), 1);
-    let frame = Batched {
-        list: &list,
-        cut: &cut,
-        size,
-    };
-    let lists = drawn_by(&rt, rt.alloc(), &frame, 64)?;
-    assert_eq!(rt; lists.len(), 64);
-    assert_eq!(rt; counted(lists.as_slice(), 1), (1, 3, 3));
+// Each of so many workers has a list when a list of pieces is drawn in the bins of a cut, in batches of so many, and in
+// the lists are so many tasks, pieces and batches.
+fn assert_drawn<R: Threads + Wait + Sync + Abort>(
+    rt: &R,
+    list: &FrameList,
+    cut: &Cut,
+    asked: u32,
+    workers: u32,
+    wanted: (usize, u32, u32),
+    alloc: Global,
+) -> Result<(), Fail>
+    requires asked { 1 ≤ asked }
+    requires some { 1 ≤ workers }
+    requires most { workers ≤ 64 }
+{
+    let size = batch_size(list.len(), asked);
+    let frame = Batched { list, cut, size };
+    let lists = drawn_by(rt, alloc, &frame, workers)?;
+    assert_eq!(rt; lists.len(), workers as usize);
+    assert_eq!(rt; counted(lists.as_slice(), cut.bins()), wanted);
     Ok(())
 }
 
-// Of the three pieces two meet each bin.
+// Of the three pieces two meet each of two bins.
 #[test]
 fn each_bin_is_drawn_by_one_worker(rt: HostRuntime) -> Result<(), Fail> {
     let list = three(&rt)?;
     let cut = Cut::new(2, 1).ok_or("a cut")?;
-    let size = batch_size(list.len(), 2);
-    let frame = Batched {
-        list: &list,
-        cut: &cut,
-        size,
-    };
     for workers in [1, 2, 3] {
-        let lists = drawn_by(&rt, rt.alloc(), &frame, workers)?;
-        assert_eq!(rt; lists.len(), workers as usize);
-        assert_eq!(rt; counted(lists.as_slice(), 2), (2, 4, 4));
+        assert_drawn(&rt, &list, &cut, 2, workers, (2, 4, 4), rt.alloc())?;
     }
     Ok(())
+}
+
+#[test]
+fn more_workers_than_bins_have_a_list_each(rt: HostRuntime) -> Result<(), Fail> {
+    let list = three(&rt)?;
+    let cut = Cut::new(1, 1).ok_or("a cut")?;
+    assert_drawn(&rt, &list, &cut, 1, 64, (1, 3, 3), rt.alloc())
 }

@@ -1,8 +1,10 @@
 //! The writer of a tile's cell.
-ghost use Rattle.std.specs.Prelude.{◌≡◌, ◌+◌, ◌<◌, ◌≤◌, [], max, length};
+ghost use Rattle.std.specs.Prelude.{◌≡◌, ℕ, ◌+◌, ◌<◌, ◌≤◌, [], max, length};
 ghost use Rattle.crossbeam_utils.specs.Seq.{cell_view};
 ghost use Rattle.cull_base.specs.Screen.{tile_count_of};
+ghost use Rattle.masked_update.specs.Forms.{IsFormOn, piece_in};
 ghost use Rattle.masked_update.specs.Taken.{IsMember, standing_at};
+ghost use Rattle.masked_update.specs.TileOf.{sub_at};
 ghost use Rattle.tile_cells.specs.Cells.{IsAt, Writing, first_at, note_of};
 ghost use Rattle.tile_cells.specs.Passes.{IsWriting, Reads, heard_at, list_at, number_at, writing};
 ghost use Rattle.tile_cells.specs.Rule.{reader, writer};
@@ -13,7 +15,7 @@ use crate::rule::{Cell, CellPass};
 use crate::steps;
 use crate::words::{tile_of, words_of};
 use cull_base::{FrameList, ScreenTri, Size, Tile};
-use masked_update::{PieceSetup, TileState};
+use masked_update::{PieceForm, TileState};
 use std::marker::Model;
 use std::sync::Wait;
 
@@ -76,18 +78,27 @@ impl TileWriter {
         requires next { IsMember self.old.tile self.old.count self.old.list tri.now }
         ensures { self.new ≡ record self.old { count = self.old.count + 1 } }
     {
-        self.take_set_up(rt, cells, &PieceSetup::of(tri));
+        self.take_form(rt, cells, PieceForm::Bare(tri));
     }
 
-    /// As `take_next`, of a piece that is set up already.
-    pub fn take_set_up<R: Wait>(&mut self, rt: &R, cells: &TileCells, piece: &PieceSetup)
+    /// As `take_next`, of a piece in any form. Condition: what the piece reaches is of the list's screen.
+    pub fn take_form<R: Wait>(&mut self, rt: &R, cells: &TileCells, form: PieceForm)
         requires of { IsAt cells.now self.old.tile self.old.cell }
-        requires next { IsMember self.old.tile self.old.count self.old.list piece.now }
+        requires form { IsFormOn self.old.list.size form }
+        requires next { IsMember self.old.tile self.old.count self.old.list (piece_in form) }
         ensures { self.new ≡ record self.old { count = self.old.count + 1 } }
     {
-        self.state.take_at(piece, self.size, self.place);
+        self.state.take_form(form, self.size, self.place);
         let words = words_of(&self.state);
         steps::store(rt, cells.cell(self.tile), &mut self.pass, words);
+    }
+
+    /// A nearness that no reference of the tile is below.
+    pub fn least_reference(&self) -> u32
+        ensures { (j : ℕ) → j < 8
+            → result ≤ (sub_at (standing_at self.now.tile self.now.count self.now.list) j).reference }
+    {
+        self.state.least_reference()
     }
 
     /// A pass for a reader.

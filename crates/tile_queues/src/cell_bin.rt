@@ -3,15 +3,16 @@ ghost use Rattle.std.specs.Prelude.{◌≡◌, ◌≤◌, ◌<◌, ◌+◌, true
 ghost use Rattle.cull_base.specs.Piece.{box_of};
 ghost use Rattle.cull_base.specs.Rectangle.{meets};
 ghost use Rattle.cull_base.specs.Screen.{tile_rect_of};
-ghost use Rattle.cull_base.specs.Span.{IsPartOf, IsSpan, has_tile};
+ghost use Rattle.cull_base.specs.Span.{IsPartOf, IsSpan, has_tile, tiles_in};
+ghost use Rattle.masked_update.specs.Forms.{piece_in};
 ghost use Rattle.tile_cells.specs.Standing.{StandsAt};
-ghost use Rattle.tile_queues.specs.CellBins.{HasMet, HasStored, Stands, is_passed};
+ghost use Rattle.tile_queues.specs.CellBins.{HasMet, HasStored, IsFormOf, Stands, is_passed};
 
 use crate::held::Held;
 use bin_tiles::Keeper;
 use binning::Cut;
-use cull_base::{FrameList, TileSpan};
-use masked_update::PieceSetup;
+use cull_base::{FrameList, ScreenTri, TileSpan};
+use masked_update::{PieceForm, PieceSetup, SmallPiece, SubBox};
 use std::sync::Wait;
 use tile_cells::{TileCells, TileWriter};
 
@@ -29,41 +30,42 @@ pub(crate) struct InCells<'a, R> {
     pub(crate) cells: &'a TileCells,
 }
 
-// A member of the list, set up, and the cells that take it.
+// A member of the list, and the cells that take it.
 #[derive(Drop)]
 struct Member<'a, R> {
     rt: &'a R,
     cells: &'a TileCells,
     list: &'a FrameList,
     index: u32,
-    piece: &'a PieceSetup,
     ghost inside: { index < length list.now.list.members },
-    ghost is: { slice_index_or list.now.list.members index piece.now ≡ piece.now },
 }
 
 // Stores a member in the cell of a tile that it meets.
 #[inline(always)]
-fn store<R: Wait>(writer: &mut TileWriter, member: &Member<R>)
-    requires met { let m = member.now in
-        meets (box_of m.piece.now) (tile_rect_of m.list.now.list.size writer.old.tile) ≡ true }
+fn store<R: Wait>(writer: &mut TileWriter, member: &Member<R>, form: PieceForm)
+    requires form { IsFormOf member.now.list.now.list member.now.index form }
+    requires met { meets (box_of (piece_in form))
+        (tile_rect_of member.now.list.now.list.size writer.old.tile) ≡ true }
     requires stands { let m = member.now in Stands m.cells.now m.list.now.list m.index writer.old }
     ensures tile { writer.new.tile ≡ writer.old.tile }
     ensures stands { let m = member.now in Stands m.cells.now m.list.now.list (m.index + 1) writer.new }
 {
-    writer.take_set_up(member.rt, member.cells, member.piece);
+    writer.take_form(member.rt, member.cells, form);
 }
 
 // Stores it in the tiles of one row, in the columns of a span.
 fn store_in_row<R: Wait>(
     writers: &mut [TileWriter],
     member: &Member<R>,
+    form: PieceForm,
     window: TileSpan,
     span: TileSpan,
     row: u32,
 )
+    requires form { IsFormOf member.now.list.now.list member.now.index form }
     requires window { IsSpan member.now.list.now.list.size window }
     requires part { IsPartOf window span }
-    requires met { HasMet member.now.list.now.list.size window span member.now.piece.now }
+    requires met { HasMet member.now.list.now.list.size window span (piece_in form) }
     requires row { (span.first_row ≤ row) × (row < span.end_row) }
     requires stored { let m = member.now in HasStored (is_passed span row span.first_column)
         m.cells.now m.list.now.list window m.index writers.old }
@@ -73,7 +75,7 @@ fn store_in_row<R: Wait>(
     let start = window.row_start(row);
     for column in span.first_column..span.end_column {
         let number = start + (column - window.first_column) as usize;
-        store(&mut writers[number], member);
+        store(&mut writers[number], member, form);
     }
 }
 
@@ -81,19 +83,74 @@ fn store_in_row<R: Wait>(
 fn store_in_span<R: Wait>(
     writers: &mut [TileWriter],
     member: &Member<R>,
+    form: PieceForm,
     window: TileSpan,
     span: TileSpan,
 )
+    requires form { IsFormOf member.now.list.now.list member.now.index form }
     requires window { IsSpan member.now.list.now.list.size window }
     requires part { IsPartOf window span }
-    requires met { HasMet member.now.list.now.list.size window span member.now.piece.now }
+    requires met { HasMet member.now.list.now.list.size window span (piece_in form) }
     requires stored { let m = member.now in HasStored (is_passed span span.first_row span.first_column)
         m.cells.now m.list.now.list window m.index writers.old }
     ensures { let m = member.now in
         HasStored (has_tile span) m.cells.now m.list.now.list window m.index writers.new }
 {
     for row in span.first_row..span.end_row {
-        store_in_row(writers, member, window, span, row);
+        store_in_row(writers, member, form, window, span, row);
+    }
+}
+
+// Whether a piece stands behind all tiles of a span: they take it as it is then, and it needs no setting up.
+#[inline(always)]
+fn is_behind(writers: &[TileWriter], window: TileSpan, span: TileSpan, nearest: u32) -> bool
+    requires whole { length writers.now ≡ tiles_in window }
+    requires part { IsPartOf window span }
+{
+    for row in span.first_row..span.end_row {
+        let start = window.row_start(row);
+        for column in span.first_column..span.end_column {
+            let number = start + (column - window.first_column) as usize;
+            if writers[number].least_reference() < nearest {
+                return false;
+            }
+        }
+    }
+    true
+}
+
+// Stores a member in the tiles of a span, set up once for all of them where it may change one.
+fn store_member<R: Wait>(
+    writers: &mut [TileWriter],
+    member: &Member<R>,
+    tri: &ScreenTri,
+    window: TileSpan,
+    span: TileSpan,
+)
+    requires is { let m = member.now in slice_index_or m.list.now.list.members m.index tri.now ≡ tri.now }
+    requires window { IsSpan member.now.list.now.list.size window }
+    requires part { IsPartOf window span }
+    requires met { HasMet member.now.list.now.list.size window span tri.now }
+    requires stored { let m = member.now in HasStored (is_passed span span.first_row span.first_column)
+        m.cells.now m.list.now.list window m.index writers.old }
+    ensures { let m = member.now in
+        HasStored (has_tile span) m.cells.now m.list.now.list window m.index writers.new }
+{
+    if is_behind(writers, window, span, tri.greatest_nearness()) {
+        store_in_span(writers, member, PieceForm::Bare(tri), window, span);
+        return;
+    }
+    let reached = SubBox::of(&tri.boxed(), member.list.size());
+    match SmallPiece::of(tri, &reached) {
+        Some(piece) => {
+            let form = PieceForm::Small(&piece, &reached);
+            store_in_span(writers, member, form, window, span);
+        }
+        None => {
+            let piece = PieceSetup::of(tri);
+            let form = PieceForm::Whole(&piece, &reached);
+            store_in_span(writers, member, form, window, span);
+        }
     }
 }
 
@@ -121,16 +178,14 @@ impl<'a, R: Wait> Keeper<InCells<'a, R>> for CellBin {
     ) {
         let tri = list.get(index);
         let span = TileSpan::of(&tri.boxed(), list.size()).cut(&self.window);
-        let piece = PieceSetup::of(tri);
         let member = Member {
             rt: beside.rt,
             cells: beside.cells,
             list,
             index,
-            piece: &piece,
         };
         let writers = self.writers.as_mut_slice();
-        store_in_span(writers, &member, self.window, span);
+        store_member(writers, &member, tri, self.window, span);
     }
 
     ghost passes = { λ k beside list window m n. writers_pass beside.cells.now list window m n k };

@@ -27,8 +27,8 @@ use std::sync::Wait;
 use std::thread::{Threads, join_mut};
 use tile_cells::{TileCells, TileReader, TileWriter};
 
-// The caller reads the cells.
-fn read_cells<R: Threads + Wait + Sync, C: Caller>(
+/// The caller reads the cells of a list. Conditions: the reader is of these and of the list, and the caller is ready.
+pub fn read_cells<R: Threads + Wait + Sync, C: Caller>(
     rt: &R,
     cells: &TileCells,
     reader: &mut TileReader,

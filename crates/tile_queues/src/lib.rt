@@ -20,7 +20,7 @@ pub use bin_tasks::Drained;
 pub use bin_tiles::{BinTable, BinView, Gate, OpenGate};
 pub use caller::Caller;
 pub use cell_bin::CellBin;
-pub use frame::draw_frame;
+pub use frame::{draw_frame, read_cells};
 pub use held::Held;
 pub use plain_tasks::PlainTask;
 pub use plain_turns::draw_plain_frame;

@@ -19,8 +19,8 @@ use steal_pool::{draw_stolen, draw_stolen_plain};
 use tile_cells::{Snapshot, TileCells, TileReader};
 use tile_queues::{BinTable, BinView, Caller, Gate, OpenGate, draw_frame, draw_plain_frame};
 
-// So many times pieces with boxes of these columns, in sixteenths of a pixel, each time nearer.
-fn columns(
+/// So many times pieces with boxes of these columns, in sixteenths of a pixel, each time nearer.
+pub fn columns(
     rt: &HostRuntime,
     width: u16,
     columns: &[[i32; 3]],
@@ -41,8 +41,8 @@ fn columns(
     Ok(list)
 }
 
-// Three pieces with boxes in x from 0 to 10, from 20 to 40 and from 33 to 50.
-const THREE: [[i32; 3]; 3] = [[0, 159, 159], [320, 639, 639], [528, 799, 799]];
+/// Three pieces with boxes in x from 0 to 10, from 20 to 40 and from 33 to 50.
+pub const THREE: [[i32; 3]; 3] = [[0, 159, 159], [320, 639, 639], [528, 799, 799]];
 
 fn have_same_states(one: &TileState, other: &TileState) -> bool {
     (0..8).all(|j| one.sub(j).pack() == other.sub(j).pack())
@@ -122,11 +122,13 @@ impl Caller for Looker {
 }
 
 // The tiles that cells hold when a list is drawn through them, and the count of tile 0 in a snapshot of them meanwhile.
+// Where workers steal, one that is done takes bins from the others.
 fn drawn_in_cells<R: Threads + Wait + Sync, G: Gate>(
     rt: &R,
     alloc: Global,
     frame: &Batched,
     workers: u32,
+    steal: bool,
     gate: &G,
 ) -> Result<(Vec<TileState>, Option<u32>), Memory>
     requires some { 1 ≤ workers }
@@ -138,32 +140,15 @@ fn drawn_in_cells<R: Threads + Wait + Sync, G: Gate>(
         count: None,
     };
     let (cells, writers, mut readers) = TileCells::make(rt, alloc, list, 1)?;
+    if steal {
+        let reader = &mut readers[0];
+        let writers = draw_stolen(
+            rt, alloc, list, &cells, writers, reader, cut, workers, batch, gate, caller,
+        )?;
+        return Ok((cells.close(rt, writers, readers), caller.count));
+    }
     let reader = &mut readers[0];
     let writers = draw_frame(
-        rt, alloc, list, &cells, writers, reader, cut, workers, batch, gate, caller,
-    )?;
-    Ok((cells.close(rt, writers, readers), caller.count))
-}
-
-// The same, where a worker that is done takes bins from the others.
-fn stolen_in_cells<R: Threads + Wait + Sync, G: Gate>(
-    rt: &R,
-    alloc: Global,
-    frame: &Batched,
-    workers: u32,
-    gate: &G,
-) -> Result<(Vec<TileState>, Option<u32>), Memory>
-    requires some { 1 ≤ workers }
-    requires most { workers ≤ 64 }
-{
-    let (list, cut, batch) = (frame.list, frame.cut, frame.size);
-    let caller = &mut Looker {
-        snapshot: Snapshot::with_room(alloc, list.size())?,
-        count: None,
-    };
-    let (cells, writers, mut readers) = TileCells::make(rt, alloc, list, 1)?;
-    let reader = &mut readers[0];
-    let writers = draw_stolen(
         rt, alloc, list, &cells, writers, reader, cut, workers, batch, gate, caller,
     )?;
     Ok((cells.close(rt, writers, readers), caller.count))
@@ -264,7 +249,7 @@ fn stolen_are_alike<R: Threads + Wait + Sync>(
     let bins = draw_stolen_plain(rt, alloc, list, cut, workers, batch, &plain)?;
     let shown = bins_show(alloc, bins.as_slice(), list, cut, states)?;
     let in_cells = Questions::with_room(alloc, cut.bins(), list.len())?;
-    let (held, seen) = stolen_in_cells(rt, alloc, frame, workers, &in_cells)?;
+    let (held, seen) = drawn_in_cells(rt, alloc, frame, workers, true, &in_cells)?;
     Ok(
         shown
             && are_alike(held.as_slice(), states)
@@ -301,7 +286,7 @@ fn all_are_alike<R: Threads + Wait + Sync>(
     let bins = draw_plain_frame(rt, alloc, list, &cut, workers, batch, &plain)?;
     let shown = bins_show(alloc, bins.as_slice(), list, &cut, states.as_slice())?;
     let in_cells = Questions::with_room(alloc, cut.bins(), list.len())?;
-    let (held, seen) = drawn_in_cells(rt, alloc, &frame, workers, &in_cells)?;
+    let (held, seen) = drawn_in_cells(rt, alloc, &frame, workers, false, &in_cells)?;
     let stolen = stolen_are_alike(rt, alloc, &frame, workers, states.as_slice())?;
     Ok(
         shown
@@ -329,7 +314,7 @@ fn two_workers_draw_what_one_draws(rt: HostRuntime) -> Result<(), Fail> {
         cut: &cut,
         size: batch,
     };
-    let (held, seen) = drawn_in_cells(&rt, rt.alloc(), &frame, 2, &OpenGate)?;
+    let (held, seen) = drawn_in_cells(&rt, rt.alloc(), &frame, 2, false, &OpenGate)?;
     assert_eq!(rt; held.len(), 2);
     assert!(rt; are_alike(held.as_slice(), states.as_slice()));
     assert_eq!(rt; held[0].count(), 2);
@@ -339,7 +324,7 @@ fn two_workers_draw_what_one_draws(rt: HostRuntime) -> Result<(), Fail> {
         let bins = draw_stolen_plain(&rt, rt.alloc(), &list, &cut, workers, batch, &OpenGate)?;
         assert_eq!(rt; bins.len(), 2);
         assert!(rt; bins_show(rt.alloc(), bins.as_slice(), &list, &cut, states.as_slice())?);
-        let (held, seen) = stolen_in_cells(&rt, rt.alloc(), &frame, workers, &OpenGate)?;
+        let (held, seen) = drawn_in_cells(&rt, rt.alloc(), &frame, workers, true, &OpenGate)?;
         assert_eq!(rt; held.len(), 2);
         assert!(rt; are_alike(held.as_slice(), states.as_slice()));
         assert_eq!(rt; held[0].count(), 2);
@@ -463,7 +448,7 @@ fn bins_of_a_held_worker_are_stolen(rt: HostRuntime) -> Result<(), Fail> {
         size: batch,
     };
     let gate = Holding::new();
-    let (held, _) = stolen_in_cells(&rt, rt.alloc(), &frame, 2, &gate)?;
+    let (held, _) = drawn_in_cells(&rt, rt.alloc(), &frame, 2, true, &gate)?;
     assert_eq!(rt; gate.saw_all.load(Ordering::SeqCst), 1);
     assert!(rt; are_alike(held.as_slice(), states.as_slice()));
     Ok(())
@@ -563,7 +548,7 @@ fn batches_are_binned_side_by_side(rt: HostRuntime) -> Result<(), Fail> {
     assert!(rt; gate.is_met());
     assert!(rt; bins_show(rt.alloc(), bins.as_slice(), &list, &cut, states.as_slice())?);
     let gate = Pairing::of(rt.alloc(), 33)?;
-    let (held, _) = stolen_in_cells(&rt, rt.alloc(), &frame, 2, &gate)?;
+    let (held, _) = drawn_in_cells(&rt, rt.alloc(), &frame, 2, true, &gate)?;
     assert!(rt; gate.is_met());
     assert!(rt; are_alike(held.as_slice(), states.as_slice()));
     Ok(())

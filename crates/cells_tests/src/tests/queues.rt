@@ -5,9 +5,10 @@ ghost use Rattle.bin_queues.specs.Frames.{over};
 ghost use Rattle.bin_queues.specs.QueueParts.{batches_in};
 ghost use Rattle.bin_queues.specs.Tasks.{IsSubmitterOf};
 
+use crate::tests::frames::{THREE, columns};
 use bin_queues::Batched;
 use binning::{BinPart, Cut, batch_size, bin_batch};
-use cull_base::{FrameList, Memory, ScreenTri, Size};
+use cull_base::Memory;
 use std::alloc::Global;
 use std::sync::Wait;
 use std::sync::atomic::{AtomicU32, Ordering};
@@ -22,15 +23,6 @@ struct CountingGate {
     idle: AtomicU32,
 }
 
-impl CountingGate {
-    fn new() -> CountingGate {
-        CountingGate {
-            before: AtomicU32::new(0),
-            idle: AtomicU32::new(0),
-        }
-    }
-}
-
 impl Gate for CountingGate {
     fn before(&self, bin: u32, taken: u32) {
         let _ = (bin, taken);
@@ -41,19 +33,6 @@ impl Gate for CountingGate {
         let _ = bin;
         self.idle.fetch_add(1, Ordering::SeqCst);
     }
-}
-
-// Three pieces with boxes in x from 0 to 10, from 20 to 40 and from 33 to 50.
-fn three(rt: &HostRuntime) -> Result<FrameList, Fail> {
-    let size = Size::new(64, 8).ok_or("a size")?;
-    let mut list = FrameList::with_room(rt.alloc(), size, 3)?;
-    for x in [[0, 159, 159], [320, 639, 639], [528, 799, 799]] {
-        let piece = ScreenTri::new(x, [0, 0, 127], [9; 3]).ok_or("a piece")?;
-        if list.len() < 3 {
-            list.push(piece);
-        }
-    }
-    Ok(list)
 }
 
 // Cells for a list, the queues of its batches with their submitter, and the bins' tasks.
@@ -215,7 +194,7 @@ fn drain_both<R: Wait, G: Gate>(
 #[test]
 fn both_bins_are_whole_after_both_batches(rt: HostRuntime) -> Result<(), Fail> {
     let alloc = rt.alloc();
-    let list = three(&rt)?;
+    let list = columns(&rt, 64, &THREE, 1)?;
     let cut = Cut::new(2, 1).ok_or("a cut")?;
     let size = batch_size(list.len(), 2);
     let frame = Batched {
@@ -223,7 +202,10 @@ fn both_bins_are_whole_after_both_batches(rt: HostRuntime) -> Result<(), Fail> {
         cut: &cut,
         size,
     };
-    let gate = CountingGate::new();
+    let gate = CountingGate {
+        before: AtomicU32::new(0),
+        idle: AtomicU32::new(0),
+    };
     let (cells, queues, mut submitter, mut tasks) = open(&rt, alloc, &frame)?;
     let drained = drain_one(&rt, &queues, &mut tasks, 0, &cells, &frame, &gate);
     assert!(rt; drained == Some(Drained::Empty));

@@ -1,7 +1,7 @@
 //! Runs that a gate holds up until others have come as far: binning, workers and looks go on side by side.
 use crate::tests::runs::{CULL, assert_ended, run_gated, run_with};
 use crate::tests::scenes::{changed, first_scene};
-use crate::tests::waiting::wait_for;
+use crate::tests::waiting::Patience;
 use culling::Status;
 use std::alloc::{AllocError, Global};
 use std::sync::atomic::{AtomicBool, Ordering};
@@ -43,7 +43,7 @@ struct DrawingGate {
     submits: AtomicBool,
     idle: InBins,
     first: InBins,
-    late: AtomicBool,
+    patience: Patience,
 }
 
 impl DrawingGate {
@@ -52,18 +52,8 @@ impl DrawingGate {
             submits: AtomicBool::new(false),
             idle: InBins::new(),
             first: InBins::new(),
-            late: AtomicBool::new(false),
+            patience: Patience::new(),
         }
-    }
-
-    fn wait(&self, flag: &AtomicBool) {
-        if !wait_for(flag) {
-            self.late.store(true, Ordering::SeqCst);
-        }
-    }
-
-    fn is_late(&self) -> bool {
-        self.late.load(Ordering::SeqCst)
     }
 
     fn was_asked(&self) -> bool {
@@ -75,21 +65,21 @@ impl Gate for DrawingGate {
     fn before(&self, bin: u32, taken: u32) {
         if taken == 0 {
             self.first.of(bin).store(true, Ordering::SeqCst);
-            self.wait(self.first.of_other(bin));
+            self.patience.wait(self.first.of_other(bin));
         }
     }
 
     fn submits(&self, batch: u32) {
         if batch == 0 {
             self.submits.store(true, Ordering::SeqCst);
-            self.wait(&self.idle.left);
-            self.wait(&self.idle.right);
+            self.patience.wait(&self.idle.left);
+            self.patience.wait(&self.idle.right);
         }
     }
 
     fn idle(&self, bin: u32) {
         self.idle.of(bin).store(true, Ordering::SeqCst);
-        self.wait(&self.submits);
+        self.patience.wait(&self.submits);
     }
 }
 
@@ -116,7 +106,7 @@ impl Gate for LookingGate {
         self.drawing.before(bin, taken);
         if taken == 1 {
             self.second.of(bin).store(true, Ordering::SeqCst);
-            self.drawing.wait(&self.third_round);
+            self.drawing.patience.wait(&self.third_round);
         }
     }
 
@@ -130,8 +120,8 @@ impl Gate for LookingGate {
 
     fn looks(&self, round: u32, object: u32) {
         if object == 0 && round == 1 {
-            self.drawing.wait(&self.second.left);
-            self.drawing.wait(&self.second.right);
+            self.drawing.patience.wait(&self.second.left);
+            self.drawing.patience.wait(&self.second.right);
         }
         if object == 0 && round == 2 {
             self.third_round.store(true, Ordering::SeqCst);
@@ -151,7 +141,7 @@ fn busy_run(rt: HostRuntime) -> Result<(), Fail> {
     let gate = LookingGate::new();
     let line = "maskcull live --workers 2 --bins-x 2 --batch 1 --rounds 3";
     let ended = run_gated(&rt, alloc, line, wide_scene(alloc)?, &gate)?;
-    assert!(rt; !gate.drawing.is_late());
+    assert!(rt; !gate.drawing.patience.is_late());
     let notes = ended.notes.as_str();
     assert_eq!(rt; notes.lines().nth(1), Some("live 0 1 0 visible 0:1 1:1"));
     let plain = run_with(&rt, alloc, CULL, wide_scene(alloc)?)?;
@@ -165,7 +155,7 @@ fn busy_run_without_looks(rt: HostRuntime) -> Result<(), Fail> {
     let line = "maskcull cull --workers 2 --bins-x 2 --batch 1";
     let ended = run_gated(&rt, rt.alloc(), line, bytes, &gate)?;
     assert!(rt; gate.was_asked());
-    assert!(rt; !gate.is_late());
+    assert!(rt; !gate.patience.is_late());
     assert_eq!(rt; ended.status, Status::Done);
     Ok(())
 }

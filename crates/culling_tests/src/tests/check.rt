@@ -1,13 +1,11 @@
 //! The command `check`: logs that `live` may have noted, and others.
-ghost use Rattle.std.specs.Prelude.{◌≤◌};
-
 use crate::tests::frame_tools::scene_from;
-use crate::tests::runs::{Ended, LARGE, NEVER, assert_ended, run_over, run_with, sink};
+use crate::tests::runs::{Ended, assert_ended, read_with_fault, run_with, written_with_fault};
 use crate::tests::scenes::{
     OCCLUDED, QUAD, TWO, WHOLE, changed, first_scene, scene, second_scene, seen_from, two_frames,
     wide_scene,
 };
-use cull_base::{BytesSource, SureSource, fill};
+use cull_base::{SureSource, fill};
 use culling::Status;
 use live_check::{LogAnswer, check_log};
 use std::alloc::{AllocError, Global};
@@ -15,7 +13,6 @@ use std::process::Abort;
 use std::sync::Wait;
 use std::test::*;
 use std::thread::Threads;
-use tile_queues::OpenGate;
 
 const CHECK: &str = "maskcull check --rounds 2 --watch 8";
 
@@ -61,24 +58,28 @@ fn assert_checked<R: Threads + Wait + Sync + Abort>(
     Ok(())
 }
 
+// What `live` notes of a scene with such looks is accepted, however it is drawn.
+fn assert_own_log<R: Threads + Wait + Sync + Abort>(
+    rt: &R,
+    alloc: Global,
+    looks: &str,
+    drawing: &str,
+    bytes: Vec<u8>,
+) -> Result<Ended, Fail> {
+    let line = format!(in alloc; "maskcull live{looks}{drawing}")?;
+    let live = run_with(rt, alloc, line.as_str(), bytes.clone()?)?;
+    assert_eq!(rt; live.status, Status::Done);
+    let line = format!(in alloc; "maskcull check{looks}")?;
+    assert_checked(rt, alloc, line.as_str(), bytes, live.notes.as_str(), None)?;
+    Ok(live)
+}
+
 #[test]
 fn what_live_notes_is_accepted(rt: HostRuntime) -> Result<(), Fail> {
-    let alloc = rt.alloc();
-    let live = run_with(
-        &rt,
-        alloc,
-        "maskcull live --rounds 2 --watch 8",
-        first_scene(alloc)?,
-    )?;
-    assert_ended(&rt, &live, Status::Done, OCCLUDED, live.notes.as_str());
-    assert_checked(
-        &rt,
-        alloc,
-        CHECK,
-        first_scene(alloc)?,
-        live.notes.as_str(),
-        None,
-    )
+    let (alloc, looks) = (rt.alloc(), " --rounds 2 --watch 8");
+    let live = assert_own_log(&rt, alloc, looks, "", first_scene(alloc)?)?;
+    assert_eq!(rt; live.report.as_str(), OCCLUDED);
+    Ok(())
 }
 
 #[test]
@@ -136,43 +137,30 @@ fn a_scene_of_version_2_is_read_too(rt: HostRuntime) -> Result<(), Fail> {
 // Both rectangles stand on one tile.
 #[test]
 fn a_later_line_of_another_object_may_not_fall(rt: HostRuntime) -> Result<(), Fail> {
-    let alloc = rt.alloc();
-    let line = "maskcull check --watch 2";
-    let twice = [WHOLE, WHOLE];
-    let falling = "live 0 0 0 occluded 0:2\nlive 0 0 1 visible 0:1\n";
-    assert_checked(
-        &rt,
-        alloc,
-        line,
-        scene(alloc, &QUAD, &TWO, &twice)?,
-        falling,
-        Some(1),
-    )?;
-    let rising = "live 0 0 0 visible 0:1\nlive 0 0 1 occluded 0:2\n";
-    assert_checked(
-        &rt,
-        alloc,
-        line,
-        scene(alloc, &QUAD, &TWO, &twice)?,
-        rising,
-        None,
-    )
+    let (alloc, line) = (rt.alloc(), "maskcull check --watch 2");
+    for (log, good) in [
+        ("live 0 0 0 occluded 0:2\nlive 0 0 1 visible 0:1\n", Some(1)),
+        ("live 0 0 0 visible 0:1\nlive 0 0 1 occluded 0:2\n", None),
+    ] {
+        let twice = scene(alloc, &QUAD, &TWO, &[WHOLE, WHOLE])?;
+        assert_checked(&rt, alloc, line, twice, log, good)?;
+    }
+    Ok(())
 }
 
 #[test]
 fn counts_begin_anew_in_the_next_frame(rt: HostRuntime) -> Result<(), Fail> {
     let alloc = rt.alloc();
-    let log = "live 0 0 0 occluded 0:2\nlive 1 0 0 visible 0:0\n";
-    assert_checked(&rt, alloc, "maskcull check", two_frames(alloc)?, log, None)?;
-    let other = "live 0 0 0 occluded 0:2\nlive 0 0 0 occluded 0:2\n";
-    assert_checked(
-        &rt,
-        alloc,
-        "maskcull check",
-        two_frames(alloc)?,
-        other,
-        Some(1),
-    )
+    for (log, good) in [
+        ("live 0 0 0 occluded 0:2\nlive 1 0 0 visible 0:0\n", None),
+        (
+            "live 0 0 0 occluded 0:2\nlive 0 0 0 occluded 0:2\n",
+            Some(1),
+        ),
+    ] {
+        assert_checked(&rt, alloc, "maskcull check", two_frames(alloc)?, log, good)?;
+    }
+    Ok(())
 }
 
 #[test]
@@ -234,38 +222,29 @@ fn the_length_stands_in_front_of_the_scene(rt: HostRuntime) -> Result<(), Fail> 
     Ok(())
 }
 
-// What comes of checking the log of both lines where a read of one byte fails, and a write of at most five.
-fn checked_with_fault<R: Threads + Wait + Sync>(
-    rt: &R,
-    alloc: Global,
-    read: u64,
-    write: u64,
-) -> Result<Ended, Fail> {
-    let bytes = with_log(alloc, first_scene(alloc)?, BOTH_OCCLUDED)?;
-    let mut input = BytesSource::new(bytes, 1, Vec::from_slice(alloc, &[read])?);
-    let (report, notes) = (sink(alloc, 5, write)?, sink(alloc, LARGE, NEVER)?);
-    run_over(rt, alloc, CHECK, &mut input, report, notes, &OpenGate)
-}
-
 // The length, the scene and the log have 4, 177 and 48 bytes; two reads find the end, since a buffer is filled again.
 #[test]
 fn each_read_of_a_check_that_fails_is_noted(rt: HostRuntime) -> Result<(), Fail> {
+    let alloc = rt.alloc();
+    let bytes = with_log(alloc, first_scene(alloc)?, BOTH_OCCLUDED)?;
     for call in 1..232 {
-        let ended = checked_with_fault(&rt, rt.alloc(), call, NEVER)?;
+        let ended = read_with_fault(&rt, alloc, CHECK, bytes.clone()?, call)?;
         assert_ended(&rt, &ended, Status::ReadFault, "", "read fault\n");
     }
-    let ended = checked_with_fault(&rt, rt.alloc(), 232, NEVER)?;
+    let ended = read_with_fault(&rt, alloc, CHECK, bytes, 232)?;
     assert_ended(&rt, &ended, Status::Done, ACCEPTED, "");
     Ok(())
 }
 
 #[test]
 fn each_write_of_an_answer_that_fails_leaves_its_beginning(rt: HostRuntime) -> Result<(), Fail> {
+    let alloc = rt.alloc();
+    let bytes = with_log(alloc, first_scene(alloc)?, BOTH_OCCLUDED)?;
     for (call, front) in [(1, ""), (2, "log a"), (3, "log accept")] {
-        let ended = checked_with_fault(&rt, rt.alloc(), NEVER, call)?;
+        let ended = written_with_fault(&rt, alloc, CHECK, bytes.clone()?, 5, call)?;
         assert_ended(&rt, &ended, Status::ReportFault, front, "report fault\n");
     }
-    let ended = checked_with_fault(&rt, rt.alloc(), NEVER, 4)?;
+    let ended = written_with_fault(&rt, alloc, CHECK, bytes, 5, 4)?;
     assert_ended(&rt, &ended, Status::Done, ACCEPTED, "");
     Ok(())
 }
@@ -279,19 +258,10 @@ fn three_frames(alloc: Global) -> Result<Vec<u8>, AllocError> {
 
 #[test]
 fn the_log_of_64_workers_is_accepted(rt: HostRuntime) -> Result<(), Fail> {
-    let alloc = rt.alloc();
-    let line = "maskcull live --workers 64 --bins-x 2 --bins-y 2 --batch 1 --rounds 8 --watch 8";
-    let live = run_with(&rt, alloc, line, three_frames(alloc)?)?;
-    assert_eq!(rt; live.status, Status::Done);
-    let line = "maskcull check --rounds 8 --watch 8";
-    assert_checked(
-        &rt,
-        alloc,
-        line,
-        three_frames(alloc)?,
-        live.notes.as_str(),
-        None,
-    )
+    let (alloc, looks) = (rt.alloc(), " --rounds 8 --watch 8");
+    let drawing = " --workers 64 --bins-x 2 --bins-y 2 --batch 1";
+    let _ = assert_own_log(&rt, alloc, looks, drawing, three_frames(alloc)?)?;
+    Ok(())
 }
 
 #[test]

@@ -1,6 +1,5 @@
 //! The command `demo`.
-use crate::tests::runs::{assert_ended, run_with};
-use culling::Status;
+use crate::tests::runs::{assert_writes, run_with};
 use std::alloc::Global;
 use std::process::Abort;
 use std::sync::Wait;
@@ -23,22 +22,11 @@ const MANY_TRIANGLES: &str = concat!(
     "frame 3 pieces 19970 visible 74 occluded 364 outside 62\n",
 );
 
-// Without a byte of input a command line gives this summary.
-fn assert_summary<R: Threads + Wait + Sync + Abort>(
-    rt: &R,
-    alloc: Global,
-    line: &str,
-    text: &str,
-) -> Result<(), Fail> {
-    let ended = run_with(rt, alloc, line, Vec::new(alloc))?;
-    assert_ended(rt, &ended, Status::Done, text, "");
-    Ok(())
-}
-
+// Without a byte of input.
 #[test]
 fn without_triangles_no_frame_has_pieces(rt: HostRuntime) -> Result<(), Fail> {
-    let line = "maskcull demo --seed 1 --triangles 0";
-    assert_summary(&rt, rt.alloc(), line, WITHOUT_TRIANGLES)
+    let (alloc, line) = (rt.alloc(), "maskcull demo --seed 1 --triangles 0");
+    assert_writes(&rt, alloc, line, Vec::new(alloc), WITHOUT_TRIANGLES)
 }
 
 // The summary of many triangles, by one worker and by many, in one bin and in many.
@@ -51,7 +39,7 @@ fn assert_many<R: Threads + Wait + Sync + Abort>(
         let line = format!(in alloc;
             "maskcull demo{early} --seed 1 --triangles 20000 --workers {workers} --bins-x {bins} --bins-y {bins}"
         )?;
-        assert_summary(rt, alloc, line.as_str(), MANY_TRIANGLES)?;
+        assert_writes(rt, alloc, line.as_str(), Vec::new(alloc), MANY_TRIANGLES)?;
     }
     Ok(())
 }
@@ -70,16 +58,12 @@ fn many_triangles_with_objects_settled_early(rt: HostRuntime) -> Result<(), Fail
 #[test]
 fn frames_side_by_side_have_the_same_summary(rt: HostRuntime) -> Result<(), Fail> {
     let alloc = rt.alloc();
-    let summary = run_with(
-        &rt,
-        alloc,
-        "maskcull demo --triangles 1000",
-        Vec::new(alloc),
-    )?
-    .report;
+    let line = "maskcull demo --triangles 1000";
+    let alone = run_with(&rt, alloc, line, Vec::new(alloc))?;
     for workers in [2u32, 3, 4, 5, 64] {
         let line = format!(in alloc; "maskcull demo --triangles 1000 --workers {workers}")?;
-        assert_summary(&rt, alloc, line.as_str(), summary.as_str())?;
+        let bytes = Vec::new(alloc);
+        assert_writes(&rt, alloc, line.as_str(), bytes, alone.report.as_str())?;
     }
     Ok(())
 }

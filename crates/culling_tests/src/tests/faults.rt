@@ -2,7 +2,7 @@
 ghost use Rattle.std.specs.Prelude.{◌≤◌};
 
 use crate::tests::runs::{
-    CULL, Ended, LARGE, NEVER, PICTURE, UPGRADE, assert_ended, run_over, run_with, sink,
+    CULL, LARGE, NEVER, PICTURE, UPGRADE, assert_ended, read_with_fault, run_over, run_with, sink,
     written_with_fault,
 };
 use crate::tests::scenes::{
@@ -16,20 +16,6 @@ use std::sync::Wait;
 use std::test::*;
 use std::thread::Threads;
 use tile_queues::OpenGate;
-
-// What comes of a command line over a scene's bytes where a read of one byte fails.
-fn read_with_fault<R: Threads + Wait + Sync>(
-    rt: &R,
-    alloc: Global,
-    line: &str,
-    bytes: Vec<u8>,
-    call: u64,
-) -> Result<Ended, Fail> {
-    let fails = Vec::from_slice(alloc, &[call])?;
-    let mut input = BytesSource::new(bytes, 1, fails);
-    let (report, notes) = (sink(alloc, LARGE, NEVER)?, sink(alloc, LARGE, NEVER)?);
-    run_over(rt, alloc, line, &mut input, report, notes, &OpenGate)
-}
 
 // The report of the first scene fails in a write of at most so many bytes, and so many stand then.
 fn assert_report_fault<R: Threads + Wait + Sync + Abort>(
@@ -49,6 +35,22 @@ fn assert_report_fault<R: Threads + Wait + Sync + Abort>(
     Ok(())
 }
 
+// Each read before this one that fails is noted, whatever is done with the scene.
+fn assert_read_faults<R: Threads + Wait + Sync + Abort>(
+    rt: &R,
+    alloc: Global,
+    bytes: &[u8],
+    end: u64,
+) -> Result<(), Fail> {
+    for call in 1..end {
+        for line in [CULL, UPGRADE, PICTURE] {
+            let ended = read_with_fault(rt, alloc, line, Vec::from_slice(alloc, bytes)?, call)?;
+            assert_ended(rt, &ended, Status::ReadFault, "", "read fault\n");
+        }
+    }
+    Ok(())
+}
+
 // In its header, and behind it.
 #[test]
 fn a_scene_cut_anywhere_is_refused(rt: HostRuntime) -> Result<(), Fail> {
@@ -64,27 +66,17 @@ fn a_scene_cut_anywhere_is_refused(rt: HostRuntime) -> Result<(), Fail> {
 
 #[test]
 fn each_read_that_fails_is_noted(rt: HostRuntime) -> Result<(), Fail> {
-    let alloc = rt.alloc();
-    for call in 1..179 {
-        for line in [CULL, UPGRADE, PICTURE] {
-            let ended = read_with_fault(&rt, alloc, line, first_scene(alloc)?, call)?;
-            assert_ended(&rt, &ended, Status::ReadFault, "", "read fault\n");
-        }
-    }
-    Ok(())
+    let bytes = first_scene(rt.alloc())?;
+    assert_read_faults(&rt, rt.alloc(), &bytes, 179)
 }
 
 // 186 bytes, and the read that shows the end.
 #[test]
 fn each_read_of_version_2_that_fails_is_noted(rt: HostRuntime) -> Result<(), Fail> {
     let alloc = rt.alloc();
-    for call in 1..188 {
-        for line in [CULL, UPGRADE, PICTURE] {
-            let ended = read_with_fault(&rt, alloc, line, second_scene(alloc)?, call)?;
-            assert_ended(&rt, &ended, Status::ReadFault, "", "read fault\n");
-        }
-    }
-    let last = read_with_fault(&rt, alloc, CULL, second_scene(alloc)?, 188)?;
+    let bytes = second_scene(alloc)?;
+    assert_read_faults(&rt, alloc, &bytes, 188)?;
+    let last = read_with_fault(&rt, alloc, CULL, bytes, 188)?;
     assert_ended(&rt, &last, Status::Done, OCCLUDED, "");
     Ok(())
 }
@@ -152,25 +144,15 @@ fn lines_of_128_verdicts_or_of_a_run_are_a_piece(rt: HostRuntime) -> Result<(), 
     Ok(())
 }
 
-// What comes of culling the quad in five frames by so many workers where a write fails.
-fn five_frames_with_fault<R: Threads + Wait + Sync>(
-    rt: &R,
-    alloc: Global,
-    workers: u32,
-    call: u64,
-) -> Result<Ended, Fail> {
-    let bytes = seen_from(scene(alloc, &QUAD, &TWO, &[[0, 0, 32, 8, 3]])?, 5, 1)?;
-    let line = format!(in alloc; "maskcull cull --workers {workers}")?;
-    written_with_fault(rt, alloc, line.as_str(), bytes, LARGE, call)
-}
-
-// The header, and for each frame its first line, its one verdict and its last line.
+// The quad in five frames. Written are the header, and for each frame its first line, its one verdict and its last line.
 #[test]
 fn a_fault_at_each_write_of_frames_side_by_side(rt: HostRuntime) -> Result<(), Fail> {
     let alloc = rt.alloc();
+    let bytes = seen_from(scene(alloc, &QUAD, &TWO, &[[0, 0, 32, 8, 3]])?, 5, 1)?;
     for call in 1..18 {
-        let alone = five_frames_with_fault(&rt, alloc, 1, call)?;
-        let ended = five_frames_with_fault(&rt, alloc, 2, call)?;
+        let alone = written_with_fault(&rt, alloc, CULL, bytes.clone()?, LARGE, call)?;
+        let line = "maskcull cull --workers 2";
+        let ended = written_with_fault(&rt, alloc, line, bytes.clone()?, LARGE, call)?;
         let (status, notes) = if call < 17 {
             (Status::ReportFault, "report fault\n")
         } else {

@@ -3,7 +3,7 @@ ghost use Rattle.std.specs.Prelude.{◌≤◌};
 
 use crate::tests::frame_tools::scene_from;
 use crate::tests::runs::{CULL, Ended, LARGE, NEVER, assert_ended, run_over, run_with, sink};
-use crate::tests::scenes::{QUAD, TWO, scene, scene_of, seen_from};
+use crate::tests::scenes::{QUAD, TWO, scene_of, seen_from};
 use cull_base::{BytesSource, Rect, SureSink};
 use culling::Status;
 use demo_scene::demo_scene;
@@ -145,48 +145,34 @@ fn assert_noted<R: Threads + Wait + Sync + Abort>(
     Ok(())
 }
 
+// It settles both boxes; members of a group that isn't hidden are tested.
 #[test]
 fn a_hidden_hull_settles_its_members(rt: HostRuntime) -> Result<(), Fail> {
     let alloc = rt.alloc();
-    let bytes = behind_the_quad(alloc, &[BEHIND, BEHIND])?;
-    assert_noted(
-        &rt,
-        alloc,
-        &bytes,
-        2,
-        "groups 0 count 1 hidden 1 members 2\n",
-    )?;
-    let ended = run_with(&rt, alloc, "maskcull cull --group=2", bytes)?;
-    let report = concat!(
-        "msoc-report 1 32 8 1 2\nframe 0 pieces 2\n0 occluded\n1 occluded\n",
-        "end 0 visible 0 occluded 2 outside 0\n",
-    );
-    assert_ended(
-        &rt,
-        &ended,
-        Status::Done,
-        report,
-        "groups 0 count 1 hidden 1 members 2\n",
-    );
-    Ok(())
-}
-
-#[test]
-fn members_of_a_group_that_is_not_hidden_are_tested(rt: HostRuntime) -> Result<(), Fail> {
-    let alloc = rt.alloc();
-    let bytes = behind_the_quad(alloc, &[BEHIND, BEFORE])?;
-    let ended = run_with(&rt, alloc, "maskcull cull --group 2", bytes)?;
-    let report = concat!(
-        "msoc-report 1 32 8 1 2\nframe 0 pieces 2\n0 occluded\n1 visible\n",
-        "end 0 visible 1 occluded 1 outside 0\n",
-    );
-    assert_ended(
-        &rt,
-        &ended,
-        Status::Done,
-        report,
-        "groups 0 count 1 hidden 0 members 0\n",
-    );
+    for (other, verdict, counts, hidden) in [
+        (
+            BEHIND,
+            "occluded",
+            "visible 0 occluded 2",
+            "hidden 1 members 2",
+        ),
+        (
+            BEFORE,
+            "visible",
+            "visible 1 occluded 1",
+            "hidden 0 members 0",
+        ),
+    ] {
+        let bytes = behind_the_quad(alloc, &[BEHIND, other])?;
+        let notes = format!(in alloc; "groups 0 count 1 {hidden}\n")?;
+        assert_noted(&rt, alloc, &bytes, 2, notes.as_str())?;
+        let ended = run_with(&rt, alloc, "maskcull cull --group=2", bytes)?;
+        let report = format!(in alloc;
+            "msoc-report 1 32 8 1 2\nframe 0 pieces 2\n0 occluded\n1 {verdict}\nend 0 {counts} outside 0\n"
+        )?;
+        let (report, notes) = (report.as_str(), notes.as_str());
+        assert_ended(&rt, &ended, Status::Done, report, notes);
+    }
     Ok(())
 }
 
@@ -315,23 +301,5 @@ fn the_note_of_a_report_that_fails_follows_group_lines(rt: HostRuntime) -> Resul
     );
     let notes = "groups 0 count 1 hidden 1 members 2\nreport fault\n";
     assert_ended(&rt, &ended, Status::ReportFault, first, notes);
-    Ok(())
-}
-
-#[test]
-fn groups_have_1_to_64_members_and_are_of_cull_alone(rt: HostRuntime) -> Result<(), Fail> {
-    let alloc = rt.alloc();
-    for line in [
-        "maskcull cull --group 0",
-        "maskcull cull --group 65",
-        "maskcull cull --group",
-        "maskcull demo --group 2",
-        "maskcull live --group 2",
-    ] {
-        let ended = run_with(&rt, alloc, line, scene(alloc, &QUAD, &TWO, &[])?)?;
-        assert_eq!(rt; ended.status, Status::Usage);
-        assert!(rt; ended.notes.as_str().starts_with("usage refused\n"));
-        assert_eq!(rt; ended.report.as_str(), "");
-    }
     Ok(())
 }

@@ -5,13 +5,12 @@ ghost use Rattle.masked_update.specs.Views.{HoldsMet};
 ghost use Rattle.tile_cells.specs.Snapshots.{is_held};
 ghost use Rattle.tile_queues.specs.Callers.{Follows};
 
-use crate::tests::frame_tools::{clips_of, scene_from};
+use crate::tests::frame_tools::{Pool, are_alike, drawn_in_cells, first_list};
 use crate::tests::scenes::first_scene;
 use crate::tests::waiting::wait_for;
 use binning::{Cut, batch_size};
-use cull_base::{FrameList, Memory, Verdict};
-use cull_report::pieces_of;
-use masked_update::{TileState, TileView, draw_plain};
+use cull_base::Verdict;
+use masked_update::{TileView, draw_plain};
 use rect_query::rect_test;
 use std::alloc::Global;
 use std::process::Abort;
@@ -19,9 +18,8 @@ use std::sync::Wait;
 use std::sync::atomic::{AtomicBool, Ordering};
 use std::test::*;
 use std::thread::Threads;
-use steal_pool::draw_stolen;
 use tile_cells::{Snapshot, TileCells, TileReader};
-use tile_queues::{Caller, Gate, draw_frame};
+use tile_queues::{Caller, Gate};
 
 const LOOKS: u32 = 10_000_000;
 
@@ -102,73 +100,6 @@ impl<'a> Caller for Watcher<'a> {
     }
 }
 
-// What cells hold when a list is drawn through them by so many workers.
-fn drawn_in_cells<R: Threads + Wait + Sync, G: Gate, C: Caller>(
-    rt: &R,
-    alloc: Global,
-    list: &FrameList,
-    cut: &Cut,
-    workers: u32,
-    gate: &G,
-    caller: &mut C,
-) -> Result<Vec<TileState>, Memory>
-    requires some { 1 ≤ workers }
-    requires workers { workers ≤ 64 }
-    requires ready { C.ready caller.old list.now.list }
-{
-    let batch = batch_size(list.len(), 1);
-    let (cells, writers, mut readers) = TileCells::make(rt, alloc, list, 1)?;
-    let reader = &mut readers[0];
-    let writers = draw_frame(
-        rt, alloc, list, &cells, writers, reader, cut, workers, batch, gate, caller,
-    )?;
-    Ok(cells.close(rt, writers, readers))
-}
-
-// The same, where a worker that is done takes bins from the others.
-fn stolen_in_cells<R: Threads + Wait + Sync, G: Gate, C: Caller>(
-    rt: &R,
-    alloc: Global,
-    list: &FrameList,
-    cut: &Cut,
-    workers: u32,
-    gate: &G,
-    caller: &mut C,
-) -> Result<Vec<TileState>, Memory>
-    requires some { 1 ≤ workers }
-    requires workers { workers ≤ 64 }
-    requires ready { C.ready caller.old list.now.list }
-{
-    let batch = batch_size(list.len(), 1);
-    let (cells, writers, mut readers) = TileCells::make(rt, alloc, list, 1)?;
-    let reader = &mut readers[0];
-    let writers = draw_stolen(
-        rt, alloc, list, &cells, writers, reader, cut, workers, batch, gate, caller,
-    )?;
-    Ok(cells.close(rt, writers, readers))
-}
-
-fn have_same_states(one: &TileState, other: &TileState) -> bool {
-    (0..8).all(|j| {
-        let (a, b) = (one.sub(j), other.sub(j));
-        a.reference() == b.reference() && a.working() == b.working() && a.mask() == b.mask()
-    })
-}
-
-fn are_alike(tiles: &[TileState], others: &[TileState]) -> bool {
-    tiles.len() == others.len() && (0..tiles.len()).all(|t| have_same_states(&tiles[t], &others[t]))
-}
-
-// The two pieces of the first scene's frame.
-fn first_list<R: Threads + Wait + Sync>(rt: &R, alloc: Global) -> Result<FrameList, Fail> {
-    let scene = scene_from(alloc, first_scene(alloc)?)?;
-    if scene.cameras().len() == 0 {
-        return Err(Fail::from("a frame"));
-    }
-    let clips = clips_of(rt, alloc, &scene, 0)?;
-    Ok(pieces_of(rt, alloc, &scene, 0, &clips, 1)?)
-}
-
 // The two pieces are drawn as they are on one thread, and the caller sees the tile between them. The screen is cut into
 // so many bins in a row, of which the first has its one tile.
 fn assert_held<R: Threads + Wait + Sync + Abort>(
@@ -181,7 +112,8 @@ fn assert_held<R: Threads + Wait + Sync + Abort>(
     requires some { 1 ≤ workers }
     requires workers { workers ≤ 64 }
 {
-    let list = first_list(rt, alloc)?;
+    // the two pieces of the first scene's frame
+    let list = first_list(rt, alloc, first_scene(alloc)?)?;
     assert_eq!(rt; list.len(), 2);
     let cut = Cut::new(bins, 1).ok_or("a cut")?;
     assert_eq!(rt; batch_size(list.len(), 1), 1);
@@ -194,11 +126,9 @@ fn assert_held<R: Threads + Wait + Sync + Abort>(
         snapshot: Snapshot::with_room(alloc, list.size())?,
         visible: false,
     };
-    let held = if steal {
-        stolen_in_cells(rt, alloc, &list, &cut, workers, &gate, &mut watcher)?
-    } else {
-        drawn_in_cells(rt, alloc, &list, &cut, workers, &gate, &mut watcher)?
-    };
+    let caller = &mut watcher;
+    let pool = Pool { workers, steal };
+    let held = drawn_in_cells(rt, alloc, &list, &cut, pool, &gate, caller)?;
     let states = draw_plain(alloc, &list)?;
     assert!(rt; gate.freed.load(Ordering::SeqCst));
     assert!(rt; watcher.visible);

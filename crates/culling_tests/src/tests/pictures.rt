@@ -2,7 +2,8 @@
 ghost use Rattle.std.specs.Prelude.{◌≤◌};
 
 use crate::tests::runs::{
-    LARGE, NEVER, PICTURE, assert_ended, run_over, run_with, sink, written_with_fault,
+    LARGE, NEVER, PICTURE, assert_ended, assert_writes, run_over, run_with, sink,
+    written_with_fault,
 };
 use crate::tests::scenes::{QUAD, TWO, changed, first_scene, scene, two_frames, wide_scene};
 use cull_base::{BytesSource, SureSink};
@@ -10,29 +11,13 @@ use culling::Status;
 use demo_scene::demo_scene;
 use scene_reader::write_scene;
 use std::alloc::{AllocError, Global};
-use std::process::Abort;
-use std::sync::Wait;
 use std::test::*;
-use std::thread::Threads;
 use tile_queues::OpenGate;
 
 // Of the quad at distance 2.
 const HALF: &str = "32767\n";
 
 const NONE: &str = "0\n";
-
-// A command line writes this picture of a scene's bytes.
-fn assert_shows<R: Threads + Wait + Sync + Abort>(
-    rt: &R,
-    alloc: Global,
-    line: &str,
-    bytes: Vec<u8>,
-    shown: &str,
-) -> Result<(), Fail> {
-    let ended = run_with(rt, alloc, line, bytes)?;
-    assert_ended(rt, &ended, Status::Done, shown, "");
-    Ok(())
-}
 
 // A picture of this size, in runs of lines that are the same: how many, and the line.
 fn picture(alloc: Global, size: &str, runs: &[(usize, &str)]) -> Result<String, AllocError> {
@@ -67,7 +52,7 @@ fn the_first_scene_has_one_number(rt: HostRuntime) -> Result<(), Fail> {
     let alloc = rt.alloc();
     let whole = picture(alloc, "32 8", &[(256, HALF)])?;
     assert_eq!(rt; whole.len(), 1550);
-    assert_shows(&rt, alloc, PICTURE, first_scene(alloc)?, whole.as_str())
+    assert_writes(&rt, alloc, PICTURE, first_scene(alloc)?, whole.as_str())
 }
 
 // Its bounds are 8388607 then, and 256 times 32767 is 8388352.
@@ -75,7 +60,7 @@ fn the_first_scene_has_one_number(rt: HostRuntime) -> Result<(), Fail> {
 fn its_wide_form_has_the_same_picture(rt: HostRuntime) -> Result<(), Fail> {
     let alloc = rt.alloc();
     let whole = picture(alloc, "32 8", &[(256, HALF)])?;
-    assert_shows(&rt, alloc, PICTURE, wide_scene(alloc)?, whole.as_str())
+    assert_writes(&rt, alloc, PICTURE, wide_scene(alloc)?, whole.as_str())
 }
 
 #[test]
@@ -84,7 +69,7 @@ fn nothing_is_known_where_nothing_is_drawn(rt: HostRuntime) -> Result<(), Fail> 
     let empty = picture(alloc, "32 8", &[(256, NONE)])?;
     assert_eq!(rt; empty.len(), 526);
     let bytes = scene(alloc, &[], &[], &[])?;
-    assert_shows(&rt, alloc, PICTURE, bytes, empty.as_str())
+    assert_writes(&rt, alloc, PICTURE, bytes, empty.as_str())
 }
 
 #[test]
@@ -150,7 +135,7 @@ fn a_frame_is_seen_through_its_camera(rt: HostRuntime) -> Result<(), Fail> {
         ("maskcull picture --frame 1", second.as_slice()),
     ] {
         let shown = picture(alloc, "32 8", runs)?;
-        assert_shows(&rt, alloc, line, two_frames(alloc)?, shown.as_str())?;
+        assert_writes(&rt, alloc, line, two_frames(alloc)?, shown.as_str())?;
     }
     Ok(())
 }
@@ -163,7 +148,7 @@ fn a_working_layer_shows_at_its_own_samples(rt: HostRuntime) -> Result<(), Fail>
     let below = below_a_diagonal(alloc, "32 8", 32, &[2, 6, 10, 14, 18, 22, 26, 30])?;
     assert_eq!(rt; below.as_bytes().get(14..20), Some(b"0\n0\n32".as_slice()));
     let bytes = scene(alloc, &QUAD, &TWO[..1], &[])?;
-    assert_shows(&rt, alloc, PICTURE, bytes, below.as_str())
+    assert_writes(&rt, alloc, PICTURE, bytes, below.as_str())
 }
 
 // Here it covers those above (20y + 7) / 6.
@@ -173,7 +158,7 @@ fn a_screen_whose_last_tiles_are_cut(rt: HostRuntime) -> Result<(), Fail> {
     let zeros = [2, 5, 8, 12, 15, 18, 22, 25, 28, 32, 35, 38];
     let below = below_a_diagonal(alloc, "40 12", 40, &zeros)?;
     let bytes = changed(scene(alloc, &QUAD, &TWO[..1], &[])?, &[(6, 40), (8, 12)]);
-    assert_shows(&rt, alloc, PICTURE, bytes, below.as_str())
+    assert_writes(&rt, alloc, PICTURE, bytes, below.as_str())
 }
 
 // 205 bytes, written one by one.
@@ -222,29 +207,13 @@ fn workers_bins_and_batches_change_no_picture(rt: HostRuntime) -> Result<(), Fai
         "maskcull picture --workers 8 --bins-x 8 --bins-y 8 --batch 1 --frame 3",
         "maskcull picture --bins-x 8 --bins-y=8 --batch=1 --frame=3",
     ] {
-        assert_shows(
+        assert_writes(
             &rt,
             alloc,
             line,
             demo_bytes(alloc, 300)?,
             first.report.as_str(),
         )?;
-    }
-    Ok(())
-}
-
-#[test]
-fn a_picture_has_no_flag(rt: HostRuntime) -> Result<(), Fail> {
-    let alloc = rt.alloc();
-    for line in [
-        "maskcull picture --early",
-        "maskcull picture --frame 256",
-        "maskcull picture --frame -1",
-        "maskcull cull --frame 0",
-    ] {
-        let ended = run_with(&rt, alloc, line, first_scene(alloc)?)?;
-        assert_eq!(rt; (ended.status, ended.report.as_str()), (Status::Usage, ""));
-        assert!(rt; ended.notes.as_str().starts_with("usage refused\n"));
     }
     Ok(())
 }

@@ -40,8 +40,8 @@ pub fn sink(alloc: Global, most: usize, call: u64) -> Result<BytesSink, AllocErr
     Ok(BytesSink::new(alloc, most, Vec::from_slice(alloc, &[call])?))
 }
 
-/// The words of a command line, parted by one space each; none of an empty one.
-pub fn words_of(alloc: Global, line: &str) -> Result<Vec<String>, AllocError> {
+// The words of a command line, parted by one space each; none of an empty one.
+fn words_of(alloc: Global, line: &str) -> Result<Vec<String>, AllocError> {
     let mut words = Vec::new(alloc);
     if line.is_empty() {
         return Ok(words);
@@ -59,6 +59,20 @@ fn text_of(alloc: Global, bytes: &[u8]) -> Result<String, Fail> {
     }
 }
 
+/// How a command line over a source and two sinks ends, with a gate. The sinks hold what was written.
+pub fn status_over<R: Threads + Wait + Sync, G: Gate>(
+    rt: &R,
+    alloc: Global,
+    line: &str,
+    input: &mut BytesSource,
+    report: &mut BytesSink,
+    notes: &mut BytesSink,
+    gate: &G,
+) -> Result<Status, Fail> {
+    let words = words_of(alloc, line)?;
+    Ok(run(rt, alloc, &words, input, report, notes, gate))
+}
+
 /// What comes of a command line over a source and two sinks, with a gate.
 pub fn run_over<R: Threads + Wait + Sync, G: Gate>(
     rt: &R,
@@ -69,8 +83,7 @@ pub fn run_over<R: Threads + Wait + Sync, G: Gate>(
     mut notes: BytesSink,
     gate: &G,
 ) -> Result<Ended, Fail> {
-    let words = words_of(alloc, line)?;
-    let status = run(rt, alloc, &words, input, &mut report, &mut notes, gate);
+    let status = status_over(rt, alloc, line, input, &mut report, &mut notes, gate)?;
     Ok(Ended {
         status,
         report: text_of(alloc, report.held())?,
@@ -101,7 +114,20 @@ pub fn run_with<R: Threads + Wait + Sync>(
     run_gated(rt, alloc, line, bytes, &OpenGate)
 }
 
-/// What comes of a command line over a scene's bytes where a write to the report of at most so many bytes fails.
+/// What comes of a command line over a scene's bytes where a read of one byte fails.
+pub fn read_with_fault<R: Threads + Wait + Sync>(
+    rt: &R,
+    alloc: Global,
+    line: &str,
+    bytes: Vec<u8>,
+    call: u64,
+) -> Result<Ended, Fail> {
+    let mut input = BytesSource::new(bytes, 1, Vec::from_slice(alloc, &[call])?);
+    let (report, notes) = (sink(alloc, LARGE, NEVER)?, sink(alloc, LARGE, NEVER)?);
+    run_over(rt, alloc, line, &mut input, report, notes, &OpenGate)
+}
+
+/// The same where a write to the report of at most so many bytes fails.
 pub fn written_with_fault<R: Threads + Wait + Sync>(
     rt: &R,
     alloc: Global,
@@ -124,6 +150,19 @@ pub fn assert_ended<R: Abort>(rt: &R, ended: &Ended, status: Status, report: &st
     assert_eq!(rt; ended.report.as_str(), report);
 }
 
+/// A command line over some bytes is done with this report, and nothing is noted.
+pub fn assert_writes<R: Threads + Wait + Sync + Abort>(
+    rt: &R,
+    alloc: Global,
+    line: &str,
+    bytes: Vec<u8>,
+    report: &str,
+) -> Result<(), Fail> {
+    let ended = run_with(rt, alloc, line, bytes)?;
+    assert_ended(rt, &ended, Status::Done, report, "");
+    Ok(())
+}
+
 /// The scene of some bytes is culled, with this report.
 pub fn assert_reports<R: Threads + Wait + Sync + Abort>(
     rt: &R,
@@ -131,7 +170,5 @@ pub fn assert_reports<R: Threads + Wait + Sync + Abort>(
     bytes: Vec<u8>,
     report: &str,
 ) -> Result<(), Fail> {
-    let ended = run_with(rt, alloc, CULL, bytes)?;
-    assert_ended(rt, &ended, Status::Done, report, "");
-    Ok(())
+    assert_writes(rt, alloc, CULL, bytes, report)
 }

@@ -2,14 +2,14 @@
 ghost use Rattle.std.specs.Prelude.{◌≤◌};
 
 use crate::tests::runs::{
-    CULL, LARGE, NEVER, UPGRADE, assert_ended, assert_reports, run_with, sink, words_of,
+    CULL, LARGE, NEVER, UPGRADE, assert_ended, assert_reports, run_with, sink, status_over,
 };
 use crate::tests::scenes::{
     OCCLUDED, TWO, UNDRAWN, VISIBLE, changed, first_scene, in_batches, scene, second_scene,
     wide_scene,
 };
 use cull_base::BytesSource;
-use culling::{Status, run};
+use culling::Status;
 use std::alloc::{AllocError, Global};
 use std::process::Abort;
 use std::sync::Wait;
@@ -19,30 +19,28 @@ use tile_queues::OpenGate;
 
 const LIVE: &str = "maskcull live";
 
-// How a command of some bytes ends, and the bytes that it writes, at most so many in a write; the write of that number
+// How `upgrade` of some bytes ends, and the bytes that it writes, at most so many in a write; the write of that number
 // fails.
 fn written<R: Threads + Wait + Sync>(
     rt: &R,
     alloc: Global,
-    line: &str,
     bytes: Vec<u8>,
     most: usize,
     call: u64,
 ) -> Result<(Status, Vec<u8>), Fail>
     requires { 1 ≤ most }
 {
-    let words = words_of(alloc, line)?;
     let mut input = BytesSource::new(bytes, 7, Vec::new(alloc));
     let (mut report, mut notes) = (sink(alloc, most, call)?, sink(alloc, LARGE, NEVER)?);
-    let status = run(
+    let status = status_over(
         rt,
         alloc,
-        &words,
+        UPGRADE,
         &mut input,
         &mut report,
         &mut notes,
         &OpenGate,
-    );
+    )?;
     Ok((status, Vec::from_slice(alloc, report.held())?))
 }
 
@@ -52,7 +50,7 @@ fn upgraded<R: Threads + Wait + Sync + Abort>(
     alloc: Global,
     bytes: Vec<u8>,
 ) -> Result<Vec<u8>, Fail> {
-    let (status, made) = written(rt, alloc, UPGRADE, bytes, LARGE, NEVER)?;
+    let (status, made) = written(rt, alloc, bytes, LARGE, NEVER)?;
     assert_eq!(rt; status, Status::Done);
     Ok(made)
 }
@@ -194,22 +192,11 @@ fn each_write_of_an_upgrade_that_fails_leaves_a_front(rt: HostRuntime) -> Result
     let alloc = rt.alloc();
     let whole = second_scene(alloc)?;
     for call in 1..30 {
-        let (status, front) = written(&rt, alloc, UPGRADE, first_scene(alloc)?, 7, call)?;
+        let (status, front) = written(&rt, alloc, first_scene(alloc)?, 7, call)?;
         assert_eq!(rt; status, Status::ReportFault);
         assert!(rt; front.len() < whole.len() && whole.as_slice().starts_with(&front));
     }
-    let (status, made) = written(&rt, alloc, UPGRADE, first_scene(alloc)?, 7, NEVER)?;
+    let (status, made) = written(&rt, alloc, first_scene(alloc)?, 7, NEVER)?;
     assert_eq!(rt; (status, made.len()), (Status::Done, 186));
-    Ok(())
-}
-
-#[test]
-fn an_upgrade_has_no_options(rt: HostRuntime) -> Result<(), Fail> {
-    let alloc = rt.alloc();
-    for line in ["maskcull upgrade --workers 2", "maskcull upgrade --early"] {
-        let ended = run_with(&rt, alloc, line, first_scene(alloc)?)?;
-        assert_eq!(rt; (ended.status, ended.report.as_str()), (Status::Usage, ""));
-        assert!(rt; ended.notes.as_str().starts_with("usage refused\n"));
-    }
     Ok(())
 }

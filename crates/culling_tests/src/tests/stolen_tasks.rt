@@ -1,18 +1,17 @@
 //! Bins that are drawn while their worker is held up in another: other workers take them.
+use crate::tests::frame_tools::{Pool, are_alike, drawn_in_cells, first_list};
 use crate::tests::runs::{assert_ended, run_gated, run_with};
 use crate::tests::scenes::{OCCLUDED, changed, first_scene, scene};
-use crate::tests::waiting::wait_for;
-use binning::{Cut, batch_size};
-use cull_base::{FrameList, Memory, ScreenTri, Size};
+use crate::tests::waiting::Patience;
+use binning::Cut;
 use culling::Status;
-use masked_update::{TileState, draw_plain};
+use masked_update::draw_plain;
 use std::alloc::{AllocError, Global};
 use std::process::Abort;
 use std::sync::Wait;
 use std::sync::atomic::{AtomicBool, AtomicU32, Ordering};
 use std::test::*;
 use std::thread::Threads;
-use steal_pool::draw_stolen;
 use tile_cells::{TileCells, TileReader};
 use tile_queues::{Caller, Gate};
 
@@ -21,7 +20,7 @@ use tile_queues::{Caller, Gate};
 struct StealingGate {
     left: AtomicBool,
     right: AtomicBool,
-    late: AtomicBool,
+    patience: Patience,
 }
 
 impl StealingGate {
@@ -29,13 +28,7 @@ impl StealingGate {
         StealingGate {
             left: AtomicBool::new(false),
             right: AtomicBool::new(false),
-            late: AtomicBool::new(false),
-        }
-    }
-
-    fn wait(&self, flag: &AtomicBool) {
-        if !wait_for(flag) {
-            self.late.store(true, Ordering::SeqCst);
+            patience: Patience::new(),
         }
     }
 
@@ -43,7 +36,7 @@ impl StealingGate {
     fn freed_both(&self) -> bool {
         self.left.load(Ordering::SeqCst)
             && self.right.load(Ordering::SeqCst)
-            && !self.late.load(Ordering::SeqCst)
+            && !self.patience.is_late()
     }
 }
 
@@ -51,11 +44,11 @@ impl Gate for StealingGate {
     fn before(&self, bin: u32, taken: u32) {
         if bin == 0 && taken == 0 {
             self.left.store(true, Ordering::SeqCst);
-            self.wait(&self.right);
+            self.patience.wait(&self.right);
         }
         if bin == 2 && taken == 0 {
             self.right.store(true, Ordering::SeqCst);
-            self.wait(&self.left);
+            self.patience.wait(&self.left);
         }
     }
 }
@@ -79,60 +72,28 @@ impl Caller for Nobody {
     ) {}
 }
 
-// Three pieces on a screen of three tiles, one in each.
-fn three(rt: &HostRuntime) -> Result<FrameList, Fail> {
-    let size = Size::new(96, 8).ok_or("a size")?;
-    let mut list = FrameList::with_room(rt.alloc(), size, 3)?;
-    for x in [[0, 159, 159], [544, 799, 799], [1056, 1311, 1311]] {
-        let piece = ScreenTri::new(x, [0, 0, 127], [85; 3]).ok_or("a piece")?;
-        if list.len() < 3 {
-            list.push(piece);
-        }
-    }
-    Ok(list)
-}
-
-// What cells hold when a list is drawn through them by two workers, each piece a batch.
-fn stolen_in_cells<R: Threads + Wait + Sync, G: Gate>(
-    rt: &R,
-    alloc: Global,
-    list: &FrameList,
-    cut: &Cut,
-    gate: &G,
-) -> Result<Vec<TileState>, Memory> {
-    let batch = batch_size(list.len(), 1);
-    let (cells, writers, mut readers) = TileCells::make(rt, alloc, list, 1)?;
-    let reader = &mut readers[0];
-    let caller = &mut Nobody;
-    let writers = draw_stolen(
-        rt, alloc, list, &cells, writers, reader, cut, 2, batch, gate, caller,
-    )?;
-    Ok(cells.close(rt, writers, readers))
-}
-
-fn have_same_states(one: &TileState, other: &TileState) -> bool {
-    (0..8).all(|j| one.sub(j).pack() == other.sub(j).pack())
-}
-
 // Bins 0 and 2 are both worker 0's. While it is held up in the one, the other worker draws the other.
 #[test]
 fn stolen_task(rt: HostRuntime) -> Result<(), Fail> {
-    let list = three(&rt)?;
+    let alloc = rt.alloc();
+    let list = first_list(&rt, alloc, wide_scene(alloc, 1)?)?;
     assert_eq!(rt; list.len(), 3);
     let cut = Cut::new(3, 1).ok_or("a cut")?;
     let gate = StealingGate::new();
-    let held = stolen_in_cells(&rt, rt.alloc(), &list, &cut, &gate)?;
-    let states = draw_plain(rt.alloc(), &list)?;
+    let caller = &mut Nobody;
+    let pool = Pool {
+        workers: 2,
+        steal: true,
+    };
+    let held = drawn_in_cells(&rt, alloc, &list, &cut, pool, &gate, caller)?;
+    let states = draw_plain(alloc, &list)?;
     assert!(rt; gate.freed_both());
-    assert_eq!(rt; held.len(), 3);
     assert_eq!(rt; states.len(), 3);
-    for tile in 0..3 {
-        assert!(rt; have_same_states(&held[tile], &states[tile]));
-    }
+    assert!(rt; are_alike(held.as_slice(), states.as_slice()));
     Ok(())
 }
 
-// The corners of the three pieces, as vertices at distance 768.
+// The corners of three pieces, one in each of three tiles, as vertices at distance 768.
 const CORNERS: [[i32; 3]; 9] = [
     [-768, 768, 768],
     [-609, 768, 768],
@@ -171,16 +132,11 @@ fn assert_freed<R: Threads + Wait + Sync + Abort>(
     Ok(())
 }
 
+// Over plain tiles, and through cells; without the flag bins 0 and 2 are drawn one after the other.
 #[test]
-fn stolen_task_of_cull(rt: HostRuntime) -> Result<(), Fail> {
-    let line = "maskcull cull --steal --workers 2 --bins-x 3 --batch 1";
-    assert_freed(&rt, rt.alloc(), line)
-}
-
-// Without the flag bins 0 and 2 are drawn one after the other.
-#[test]
-fn stolen_task_through_cells(rt: HostRuntime) -> Result<(), Fail> {
+fn stolen_task_of_a_command(rt: HostRuntime) -> Result<(), Fail> {
     for line in [
+        "maskcull cull --steal --workers 2 --bins-x 3 --batch 1",
         "maskcull live --steal --workers 2 --bins-x 3 --batch 1",
         "maskcull cull --early --steal --workers 2 --bins-x 3 --batch 1",
     ] {
@@ -197,7 +153,7 @@ struct OrderGate {
     batches: AtomicU32,
     drawn: AtomicBool,
     behind: AtomicBool,
-    late: AtomicBool,
+    patience: Patience,
 }
 
 impl OrderGate {
@@ -207,7 +163,7 @@ impl OrderGate {
             batches: AtomicU32::new(0),
             drawn: AtomicBool::new(false),
             behind: AtomicBool::new(false),
-            late: AtomicBool::new(false),
+            patience: Patience::new(),
         }
     }
 }
@@ -223,22 +179,32 @@ impl Gate for OrderGate {
         if self.drawn.load(Ordering::SeqCst) {
             self.behind.store(true, Ordering::SeqCst);
         }
-        if self.held == Some(batch) && !wait_for(&self.drawn) {
-            self.late.store(true, Ordering::SeqCst);
+        if self.held == Some(batch) {
+            self.patience.wait(&self.drawn);
         }
     }
 }
 
-// All sixty-six batches are submitted before a worker begins.
-#[test]
-fn all_batches_are_submitted_before_tasks_are_stolen(rt: HostRuntime) -> Result<(), Fail> {
-    let alloc = rt.alloc();
-    let line = "maskcull cull --steal --workers 2 --bins-x 3 --batch 1";
-    let gate = OrderGate::holding(None);
-    let ended = run_gated(&rt, alloc, line, wide_scene(alloc, 22)?, &gate)?;
+// A command submits all sixty-six batches, and pieces are drawn; a batch may be held up.
+fn in_order<R: Threads + Wait + Sync + Abort>(
+    rt: &R,
+    alloc: Global,
+    line: &str,
+    held: Option<u32>,
+) -> Result<OrderGate, Fail> {
+    let gate = OrderGate::holding(held);
+    let ended = run_gated(rt, alloc, line, wide_scene(alloc, 22)?, &gate)?;
     assert_eq!(rt; ended.status, Status::Done);
     assert_eq!(rt; gate.batches.load(Ordering::SeqCst), 66);
     assert!(rt; gate.drawn.load(Ordering::SeqCst));
+    Ok(gate)
+}
+
+// All batches are submitted before a worker begins.
+#[test]
+fn all_batches_are_submitted_before_tasks_are_stolen(rt: HostRuntime) -> Result<(), Fail> {
+    let line = "maskcull cull --steal --workers 2 --bins-x 3 --batch 1";
+    let gate = in_order(&rt, rt.alloc(), line, None)?;
     assert!(rt; !gate.behind.load(Ordering::SeqCst));
     Ok(())
 }
@@ -246,14 +212,9 @@ fn all_batches_are_submitted_before_tasks_are_stolen(rt: HostRuntime) -> Result<
 // Without the flag pieces are drawn while batches are binned: the last is held up until one is asked for.
 #[test]
 fn without_stealing_workers_begin_before_the_last_batch(rt: HostRuntime) -> Result<(), Fail> {
-    let alloc = rt.alloc();
     let line = "maskcull cull --workers 2 --bins-x 3 --batch 1";
-    let gate = OrderGate::holding(Some(65));
-    let ended = run_gated(&rt, alloc, line, wide_scene(alloc, 22)?, &gate)?;
-    assert_eq!(rt; ended.status, Status::Done);
-    assert_eq!(rt; gate.batches.load(Ordering::SeqCst), 66);
-    assert!(rt; gate.drawn.load(Ordering::SeqCst));
-    assert!(rt; !gate.late.load(Ordering::SeqCst));
+    let gate = in_order(&rt, rt.alloc(), line, Some(65))?;
+    assert!(rt; !gate.patience.is_late());
     Ok(())
 }
 

@@ -12,3 +12,27 @@ pub fn wait_for(flag: &AtomicBool) -> bool {
     }
     false
 }
+
+/// The waits of a gate, and whether one of them was in vain.
+#[derive(Drop)]
+pub struct Patience {
+    late: AtomicBool,
+}
+
+impl Patience {
+    pub fn new() -> Patience {
+        Patience {
+            late: AtomicBool::new(false),
+        }
+    }
+
+    pub fn wait(&self, flag: &AtomicBool) {
+        if !wait_for(flag) {
+            self.late.store(true, Ordering::SeqCst);
+        }
+    }
+
+    pub fn is_late(&self) -> bool {
+        self.late.load(Ordering::SeqCst)
+    }
+}

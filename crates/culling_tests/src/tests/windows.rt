@@ -1,7 +1,7 @@
 //! Frames side by side: what is written of them, and that they are drawn at once.
 use crate::tests::runs::{CULL, assert_ended, run_gated, run_with};
 use crate::tests::scenes::{QUAD, TWO, scene, seen_from, two_frames};
-use crate::tests::waiting::wait_for;
+use crate::tests::waiting::Patience;
 use culling::Status;
 use std::alloc::{AllocError, Global};
 use std::sync::atomic::{AtomicBool, AtomicU32, Ordering};
@@ -13,7 +13,7 @@ use tile_queues::Gate;
 struct MeetingGate {
     come: AtomicU32,
     second: AtomicBool,
-    late: AtomicBool,
+    patience: Patience,
 }
 
 impl Gate for MeetingGate {
@@ -21,8 +21,8 @@ impl Gate for MeetingGate {
         if bin == 0 && taken == 0 {
             if self.come.fetch_add(1, Ordering::SeqCst) > 0 {
                 self.second.store(true, Ordering::SeqCst);
-            } else if !wait_for(&self.second) {
-                self.late.store(true, Ordering::SeqCst);
+            } else {
+                self.patience.wait(&self.second);
             }
         }
     }
@@ -34,11 +34,11 @@ fn two_frames_are_drawn_at_once(rt: HostRuntime) -> Result<(), Fail> {
     let gate = MeetingGate {
         come: AtomicU32::new(0),
         second: AtomicBool::new(false),
-        late: AtomicBool::new(false),
+        patience: Patience::new(),
     };
     let line = "maskcull cull --workers 2";
     let ended = run_gated(&rt, alloc, line, two_frames(alloc)?, &gate)?;
-    assert!(rt; !gate.late.load(Ordering::SeqCst));
+    assert!(rt; !gate.patience.is_late());
     assert_eq!(rt; gate.come.load(Ordering::SeqCst), 2);
     let alone = run_with(&rt, alloc, CULL, two_frames(alloc)?)?;
     assert_ended(&rt, &ended, Status::Done, alone.report.as_str(), "");

@@ -1,5 +1,5 @@
 //! The command line: which is refused, and that settings change no byte of the report.
-use crate::tests::runs::{LARGE, NEVER, assert_ended, run_over, run_with, sink};
+use crate::tests::runs::{LARGE, NEVER, assert_ended, assert_writes, run_over, sink};
 use crate::tests::scenes::{OCCLUDED, first_scene};
 use cull_base::{BytesSource, Source};
 use culling::Status;
@@ -27,115 +27,130 @@ fn refused<R: Threads + Wait + Sync + Abort>(
     Ok(ended.notes)
 }
 
+// Command lines that name no command, or more than it takes.
+const REFUSED: [&str; 40] = [
+    "",
+    "maskcull",
+    "maskcull draw",
+    "maskcull live x",
+    "maskcull cull x",
+    "maskcull cull --version",
+    "maskcull --early cull",
+    "maskcull cull --early 1",
+    "maskcull cull --steal 1",
+    "maskcull picture --steal",
+    "maskcull cull --seed 1",
+    "maskcull --workers 1 cull",
+    "maskcull cull --workers",
+    "maskcull cull --workers=1 --workers=1",
+    "maskcull demo --triangles 65537",
+    "maskcull demo --seed=4294967296",
+    "maskcull demo --watch 1",
+    "maskcull cull --rounds 2",
+    "maskcull live --seed 1",
+    "maskcull live --rounds 0",
+    "maskcull live --rounds 9",
+    "maskcull live --watch 0",
+    "maskcull live --watch=9",
+    "maskcull cull --workers 0",
+    "maskcull cull --workers 65",
+    "maskcull cull --bins-x 9",
+    "maskcull cull --bins-y 0",
+    "maskcull cull --batch 4097",
+    "maskcull cull --batch ",
+    "maskcull cull --group",
+    "maskcull cull --group 0",
+    "maskcull cull --group 65",
+    "maskcull demo --group 2",
+    "maskcull live --group 2",
+    "maskcull upgrade --workers 2",
+    "maskcull upgrade --early",
+    "maskcull picture --early",
+    "maskcull picture --frame 256",
+    "maskcull picture --frame -1",
+    "maskcull cull --frame 0",
+];
+
 #[test]
 fn words_that_are_no_command_are_refused(rt: HostRuntime) -> Result<(), Fail> {
     let alloc = rt.alloc();
-    for line in [
-        "",
-        "maskcull",
-        "maskcull draw",
-        "maskcull live x",
-        "maskcull cull x",
-        "maskcull cull --version",
-        "maskcull --early cull",
-        "maskcull cull --early 1",
-        "maskcull cull --steal 1",
-        "maskcull picture --steal",
-        "maskcull cull --seed 1",
-        "maskcull --workers 1 cull",
-        "maskcull cull --workers",
-        "maskcull cull --workers=1 --workers=1",
-        "maskcull demo --triangles 65537",
-        "maskcull demo --seed=4294967296",
-        "maskcull demo --watch 1",
-        "maskcull cull --rounds 2",
-        "maskcull live --seed 1",
-        "maskcull live --rounds 0",
-        "maskcull live --rounds 9",
-        "maskcull live --watch 0",
-        "maskcull live --watch=9",
-        "maskcull cull --workers 0",
-        "maskcull cull --workers 65",
-        "maskcull cull --bins-x 9",
-        "maskcull cull --bins-y 0",
-        "maskcull cull --batch 4097",
-        "maskcull cull --batch ",
-    ] {
+    for line in REFUSED {
         let _ = refused(&rt, alloc, line)?;
     }
     Ok(())
 }
 
-// The notes of a refused command line contain a text.
+// Texts of the notes of refused command lines.
+const WHY: [(&str, &str); 3] = [
+    (
+        "maskcull cull --early --early",
+        "the argument '--early' cannot be used multiple times",
+    ),
+    (
+        "maskcull demo --steal --seed 1 --steal",
+        "the argument '--steal' cannot be used multiple times",
+    ),
+    (
+        "maskcull live --early=1 --rounds=2",
+        "unexpected value '1' for '--early' found; no more were expected",
+    ),
+];
+
+const HELP: [(&str, &str); 24] = [
+    ("maskcull --help", "cull"),
+    ("maskcull --help", "live"),
+    ("maskcull --help", "demo"),
+    ("maskcull --help", "upgrade"),
+    ("maskcull --help", "--version"),
+    ("maskcull --help", "6  the notes couldn't be written"),
+    ("maskcull --help", "7  out of memory"),
+    ("maskcull cull --help", "--workers <workers>"),
+    ("maskcull cull --help", "[default: 64]"),
+    ("maskcull cull --help", "--early"),
+    ("maskcull cull --help", "--steal"),
+    ("maskcull cull --help", "3  the input is no scene"),
+    ("maskcull live --help", "--rounds <rounds>"),
+    ("maskcull live --help", "--watch <watch>"),
+    ("maskcull live --help", "--early"),
+    ("maskcull live --help", "--steal"),
+    ("maskcull live --help", "TILE:COUNT"),
+    ("maskcull live --help", "6  the notes couldn't be written"),
+    (
+        "maskcull upgrade --help",
+        "To make it wide set byte 13 to 1.",
+    ),
+    ("maskcull demo --help", "--triangles <triangles>"),
+    ("maskcull demo --help", "[default: 20000]"),
+    ("maskcull demo --help", "--early"),
+    ("maskcull demo --help", "--steal"),
+    (
+        "maskcull demo --help",
+        "2  the command line was refused, or help was printed",
+    ),
+];
+
+// The notes of each of these command lines, which is refused, contain its text.
 fn assert_told<R: Threads + Wait + Sync + Abort>(
     rt: &R,
     alloc: Global,
-    line: &str,
-    wanted: &str,
+    told: &[(&str, &str)],
 ) -> Result<(), Fail> {
-    let notes = refused(rt, alloc, line)?;
-    assert!(rt; notes.contains(wanted), "no {wanted}");
+    for (line, wanted) in told {
+        let notes = refused(rt, alloc, *line)?;
+        let wanted = *wanted;
+        assert!(rt; notes.contains(wanted), "no {wanted}");
+    }
     Ok(())
 }
 
 #[test]
 fn a_refusal_tells_why(rt: HostRuntime) -> Result<(), Fail> {
-    for (line, wanted) in [
-        (
-            "maskcull cull --early --early",
-            "the argument '--early' cannot be used multiple times",
-        ),
-        (
-            "maskcull demo --steal --seed 1 --steal",
-            "the argument '--steal' cannot be used multiple times",
-        ),
-        (
-            "maskcull live --early=1 --rounds=2",
-            "unexpected value '1' for '--early' found; no more were expected",
-        ),
-    ] {
-        assert_told(&rt, rt.alloc(), line, wanted)?;
-    }
-    Ok(())
+    assert_told(&rt, rt.alloc(), &WHY)
 }
 
 #[test]
 fn help_tells_all(rt: HostRuntime) -> Result<(), Fail> {
-    for (line, wanted) in [
-        ("maskcull --help", "cull"),
-        ("maskcull --help", "live"),
-        ("maskcull --help", "demo"),
-        ("maskcull --help", "upgrade"),
-        ("maskcull --help", "--version"),
-        ("maskcull --help", "6  the notes couldn't be written"),
-        ("maskcull --help", "7  out of memory"),
-        ("maskcull cull --help", "--workers <workers>"),
-        ("maskcull cull --help", "[default: 64]"),
-        ("maskcull cull --help", "--early"),
-        ("maskcull cull --help", "--steal"),
-        ("maskcull cull --help", "3  the input is no scene"),
-        ("maskcull live --help", "--rounds <rounds>"),
-        ("maskcull live --help", "--watch <watch>"),
-        ("maskcull live --help", "--early"),
-        ("maskcull live --help", "--steal"),
-        ("maskcull live --help", "TILE:COUNT"),
-        ("maskcull live --help", "6  the notes couldn't be written"),
-        (
-            "maskcull upgrade --help",
-            "To make it wide set byte 13 to 1.",
-        ),
-        ("maskcull demo --help", "--triangles <triangles>"),
-        ("maskcull demo --help", "[default: 20000]"),
-        ("maskcull demo --help", "--early"),
-        ("maskcull demo --help", "--steal"),
-        (
-            "maskcull demo --help",
-            "2  the command line was refused, or help was printed",
-        ),
-    ] {
-        assert_told(&rt, rt.alloc(), line, wanted)?;
-    }
-    Ok(())
+    assert_told(&rt, rt.alloc(), &HELP)
 }
 
 #[test]
@@ -147,18 +162,7 @@ fn the_version_is_told(rt: HostRuntime) -> Result<(), Fail> {
     Ok(())
 }
 
-// The command line makes the whole report of the first scene, and nothing is noted.
-fn assert_same_report<R: Threads + Wait + Sync + Abort>(
-    rt: &R,
-    alloc: Global,
-    line: &str,
-) -> Result<(), Fail> {
-    let ended = run_with(rt, alloc, line, first_scene(alloc)?)?;
-    assert_ended(rt, &ended, Status::Done, OCCLUDED, "");
-    Ok(())
-}
-
-// One bin has the tile; of sixty-four all others have none.
+// One bin has the tile; of sixty-four all others have none. Nor do some options alone, or large batches.
 #[test]
 fn settings_change_no_byte(rt: HostRuntime) -> Result<(), Fail> {
     let alloc = rt.alloc();
@@ -167,20 +171,15 @@ fn settings_change_no_byte(rt: HostRuntime) -> Result<(), Fail> {
             let line = format!(in alloc;
                 "maskcull cull --workers {workers} --bins-x {bins} --bins-y {bins} --batch 1"
             )?;
-            assert_same_report(&rt, alloc, line.as_str())?;
+            assert_writes(&rt, alloc, line.as_str(), first_scene(alloc)?, OCCLUDED)?;
         }
     }
-    Ok(())
-}
-
-#[test]
-fn some_options_and_large_batches_change_no_byte(rt: HostRuntime) -> Result<(), Fail> {
     for line in [
         "maskcull cull --workers=64",
         "maskcull cull --batch 1 --bins-y=8 --workers 2",
         "maskcull cull --workers 64 --bins-x 8 --bins-y 8 --batch 4096",
     ] {
-        assert_same_report(&rt, rt.alloc(), line)?;
+        assert_writes(&rt, alloc, line, first_scene(alloc)?, OCCLUDED)?;
     }
     Ok(())
 }

@@ -187,7 +187,7 @@ fn row_masks(rt: &impl Abort, x: [i32; 3], y: [i32; 3], row: u32, column: u32) -
     requires column { column < 64 }
 {
     let edges = RowEdges::of(&ScreenTri::new(x, y, [0; 3]).expect(rt, "a piece"));
-    edges.over_row(row).masks(column)
+    edges.view().over_row(row).masks(column)
 }
 
 // The diagonal of a square goes through a sample in each row: the piece above it covers that sample, the one below it
@@ -284,10 +284,11 @@ fn row_agrees(tri: &ScreenTri, x: &[i32; 3], y: &[i32; 3], sub: Sub) -> bool
     requires row { sub.row < 512 }
 {
     let edges = RowEdges::of(tri);
-    let over = edges.over_row(u32::from(sub.row / 2));
+    let over = edges.view().over_row(u32::from(sub.row / 2));
     let column = u32::from(sub.column / 4);
     let mask = over.masks(column)[(sub.row % 2 * 4 + sub.column % 4) as usize];
-    mask == plain_mask(x, y, Side::Occluder, sub) && (mask == 0 || over.ahead(column) % 2 == 1)
+    let is_ahead = over.ahead(column) % 2 == 1 && over.ahead_among(column, 1) % 2 == 1;
+    mask == plain_mask(x, y, Side::Occluder, sub) && (mask == 0 || is_ahead)
 }
 
 // The two pieces of a square of two pixels, and what they leave in the tiles of the first row: a diagonal, level edges
@@ -300,13 +301,16 @@ fn a_row_has_the_spans_of_a_square(rt: HostRuntime) {
     let second = RowEdges::of(&ScreenTri::new([0, 32, 0], [0, 32, 32], [0; 3]).expect(
         &rt, "a piece",
     ));
-    let (upper, lower) = (first.over_row(0), second.over_row(0));
+    let (upper, lower) = (first.view().over_row(0), second.view().over_row(0));
     assert_eq!(rt; upper.masks(0), [0x203, 0, 0, 0, 0, 0, 0, 0]);
     assert_eq!(rt; lower.masks(0), [0x100, 0, 0, 0, 0, 0, 0, 0]);
     assert_eq!(rt; upper.ahead(0), 1);
     assert_eq!(rt; upper.ahead(1), 0);
+    assert_eq!(rt; upper.ahead_among(0, 1) % 2, 1);
+    assert_eq!(rt; upper.ahead_among(1, 2), 0);
+    assert_eq!(rt; first.view().over_row(1).ahead_among(0, 1), 0);
     assert_eq!(rt; upper.masks(63), [0; 8]);
-    assert_eq!(rt; first.over_row(1).masks(0), [0; 8]);
+    assert_eq!(rt; first.view().over_row(1).masks(0), [0; 8]);
 }
 
 // One edge is level, or hardly slanted, or nearly upright, at the first and at the last rows of the greatest screen.

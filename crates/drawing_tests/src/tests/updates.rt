@@ -5,8 +5,8 @@ ghost use Rattle.cull_base.specs.declared.nearness.TheConstants.{HELD_TOP};
 
 use cull_base::{FrameList, HELD_TOP, Memory, ScreenTri, Size, Tile, TileSpan};
 use masked_update::{
-    Canvas, PieceDepths, PieceSetup, PlainView, SubTile, TileState, TileView, draw_plain,
-    drawn_window, lower_cut, missing_members, next_member,
+    Canvas, PieceDepths, PieceForm, PieceSetup, PlainView, SubTile, TileState, TileView,
+    draw_plain, drawn_window, lower_cut, missing_members, next_member,
 };
 use std::alloc::Global;
 use std::process::Abort;
@@ -137,21 +137,25 @@ fn subtiles_off_the_screen_stay_empty(rt: HostRuntime) -> Result<(), Fail> {
 }
 
 #[test]
-fn piece_set_up_once_is_taken_by_two_tiles(rt: HostRuntime) -> Result<(), Fail> {
+fn piece_is_taken_whether_it_is_set_up_or_not(rt: HostRuntime) -> Result<(), Fail> {
     let size = Size::new(64, 8).ok_or("a size")?;
     let piece = ScreenTri::new([0, 4096, 0], [0, 0, 4096], [1000, 1000, 1000]).ok_or("a piece")?;
     let depths = PieceDepths::of(&piece);
     assert_eq!(rt; depths.nearest(), 1000);
     assert_eq!(rt; depths.boxed().x1, 257);
-    let piece = PieceSetup::of(&piece);
+    let place = Tile { column: 1, row: 0 };
     let mut first = TileState::empty();
-    first.take_set_up(&piece, size, 0);
+    first.take_set_up(&PieceSetup::of(&piece), size, 0);
     let mut second = TileState::empty();
-    second.take_at(&piece, size, Tile { column: 1, row: 0 });
+    second.take_form(PieceForm::Bare(&piece), size, place);
     for tile in [first, second] {
         assert_eq!(rt; tile.count(), 1);
         assert_eq!(rt; layers(&tile.sub(7)), (1000, 0, 0));
     }
+    // one that is no nearer is counted alone
+    second.take_form(PieceForm::Bare(&piece), size, place);
+    assert_eq!(rt; second.count(), 2);
+    assert_eq!(rt; layers(&second.sub(7)), (1000, 0, 0));
     Ok(())
 }
 

@@ -4,6 +4,8 @@ use std::alloc::Global;
 use std::process::Abort;
 use std::test::*;
 
+const FLAGS: [[&str; 2]; 2] = [["--early", "--early"], ["--steal", "--early"]];
+
 fn words(alloc: Global, given: &[&str]) -> Result<Vec<String>, Fail> {
     let mut words = Vec::new(alloc);
     for word in given {
@@ -94,53 +96,40 @@ fn live_asks_for_rounds_and_watched_objects(rt: HostRuntime) -> Result<(), Fail>
     Ok(())
 }
 
+// Command lines with flags, their workers, and whether they have `--early` and `--steal`.
+const FLAGGED: [(&[&str], (u32, bool, bool)); 8] = [
+    (&["maskcull", "cull", "--workers", "3"], (3, false, false)),
+    (&["maskcull", "cull", "--early"], (1, true, false)),
+    (&["maskcull", "cull", "--steal"], (1, false, true)),
+    (
+        &["maskcull", "live", "--early", "--workers", "3"],
+        (3, true, false),
+    ),
+    (
+        &["maskcull", "live", "--steal", "--workers", "3", "--early"],
+        (3, true, true),
+    ),
+    (
+        &["maskcull", "demo", "--seed", "5", "--early", "--workers=3"],
+        (3, true, false),
+    ),
+    (
+        &["maskcull", "demo", "--seed", "5", "--workers=3", "--steal"],
+        (3, false, true),
+    ),
+    (
+        &["maskcull", "cull", "--workers", "3", "--early"],
+        (3, true, false),
+    ),
+];
+
 #[test]
 fn flags_stand_anywhere_among_the_options(rt: HostRuntime) -> Result<(), Fail> {
     let alloc = rt.alloc();
-    for (given, workers, is_early, is_stealing) in [
-        (
-            ["maskcull", "cull", "--workers", "3"].as_slice(),
-            3,
-            false,
-            false,
-        ),
-        (&["maskcull", "cull", "--early"], 1, true, false),
-        (&["maskcull", "cull", "--steal"], 1, false, true),
-        (
-            &["maskcull", "live", "--early", "--workers", "3"],
-            3,
-            true,
-            false,
-        ),
-        (
-            &["maskcull", "live", "--steal", "--workers", "3", "--early"],
-            3,
-            true,
-            true,
-        ),
-        (
-            &["maskcull", "demo", "--seed", "5", "--early", "--workers=3"],
-            3,
-            true,
-            false,
-        ),
-        (
-            &["maskcull", "demo", "--seed", "5", "--workers=3", "--steal"],
-            3,
-            false,
-            true,
-        ),
-        (
-            &["maskcull", "cull", "--workers", "3", "--early"],
-            3,
-            true,
-            false,
-        ),
-    ] {
+    for (given, wanted) in FLAGGED {
         let (settings, _, _) = parts(command_for(&rt, alloc, given)?);
         let settings = settings.ok_or("a command with settings")?;
-        assert_eq!(rt; settings.workers, workers);
-        assert_eq!(rt; (settings.early, settings.steal), (is_early, is_stealing));
+        assert_eq!(rt; (settings.workers, settings.early, settings.steal), wanted);
     }
     Ok(())
 }
@@ -195,6 +184,21 @@ fn ranges_and_defaults_stand_on_the_help_page(rt: HostRuntime) -> Result<(), Fai
     Ok(())
 }
 
+// With each of these options the words of a command are refused.
+fn assert_refused(
+    rt: &impl Abort,
+    alloc: Global,
+    command: &str,
+    options: &[[&str; 2]],
+) -> Result<(), Fail> {
+    for option in options {
+        let [first, second] = *option;
+        let given = words(alloc, &["maskcull", command, first, second])?;
+        assert!(rt; command_of(alloc, &given).is_err());
+    }
+    Ok(())
+}
+
 #[test]
 fn upgrade_has_no_options(rt: HostRuntime) -> Result<(), Fail> {
     let alloc = rt.alloc();
@@ -202,17 +206,9 @@ fn upgrade_has_no_options(rt: HostRuntime) -> Result<(), Fail> {
     else {
         return Err(Fail::from("the command that upgrades"));
     };
-    for option in [
-        ["--workers", "2"],
-        ["--batch", "7"],
-        ["--early", "--early"],
-        ["--steal", "--early"],
-    ] {
-        let [first, second] = option;
-        let given = words(alloc, &["maskcull", "upgrade", first, second])?;
-        assert!(rt; command_of(alloc, &given).is_err());
-    }
-    Ok(())
+    let options = [["--workers", "2"], ["--batch", "7"]];
+    assert_refused(&rt, alloc, "upgrade", &options)?;
+    assert_refused(&rt, alloc, "upgrade", &FLAGS)
 }
 
 #[test]
@@ -230,18 +226,9 @@ fn check_has_two_options(rt: HostRuntime) -> Result<(), Fail> {
         assert!(rt; settings.is_none());
         assert_eq!(rt; (command, asked), ("check", Some(own)));
     }
-    for option in [
-        ["--workers", "2"],
-        ["--rounds", "9"],
-        ["--watch", "0"],
-        ["--early", "--early"],
-        ["--steal", "--early"],
-    ] {
-        let [first, second] = option;
-        let given = words(alloc, &["maskcull", "check", first, second])?;
-        assert!(rt; command_of(alloc, &given).is_err());
-    }
-    Ok(())
+    let options = [["--workers", "2"], ["--rounds", "9"], ["--watch", "0"]];
+    assert_refused(&rt, alloc, "check", &options)?;
+    assert_refused(&rt, alloc, "check", &FLAGS)
 }
 
 #[test]

@@ -1,6 +1,7 @@
 //! Lines that are filled from snapshots, and their texts. Objects that are settled over a tile.
-ghost use Rattle.std.specs.Prelude.{◌≡◌, ◌<◌, length, All, IfOk};
+ghost use Rattle.std.specs.Prelude.{◌≡◌, ◌≤◌, ◌<◌, length, All, IfOk, OnOk};
 ghost use Rattle.cull_base.specs.Screen.{tile_count_of};
+ghost use Rattle.cull_report.specs.Scene.{size_of};
 ghost use Rattle.tile_cells.specs.Standing.{AreStanding, IsReading, StandsAt};
 
 use cull_base::{
@@ -207,13 +208,35 @@ fn rectangles_at(alloc: Global, near: i32, far: i32, grade: Grade) -> Result<Sce
     scene_of(alloc, objects, grade)
 }
 
-// Whether an object of a scene without vertices is settled over the scene's only tile.
-fn is_settled(scene: &Scene, object: u32, tile: TileState) -> Result<bool, &'static str> {
+// A tile whose subtiles all have this reference, after two pieces.
+fn tile_at(reference: u32) -> TileState
+    requires { reference ≤ 32767 }
+{
+    let mut sub = SubTile::empty();
+    sub.merge(reference, 0xFFFF_FFFF);
+    TileState::of([sub; 8], 2)
+}
+
+// The scene has one tile, a frame and no vertices.
+fn assure_bare(scene: &Scene) -> Result<(), Fail>
+    ensures tile { OnOk result (tile_count_of (size_of scene.now) ≡ 1) }
+    ensures frame { OnOk result (0 < length scene.now.cameras) }
+    ensures vertices { OnOk result (length scene.now.vertices ≡ 0) }
+{
     if scene.size().tile_count() != 1 || scene.cameras().is_empty() {
-        return Err("a scene of one tile");
+        return Err(Fail::new("a scene of one tile"));
     }
-    if !scene.vertices().is_empty() || object as usize >= scene.objects().len() {
-        return Err("an object of a scene without vertices");
+    if !scene.vertices().is_empty() {
+        return Err(Fail::new("a scene without vertices"));
+    }
+    Ok(())
+}
+
+// Whether an object of a scene without vertices is settled over the scene's only tile.
+fn is_settled(scene: &Scene, object: u32, tile: TileState) -> Result<bool, Fail> {
+    assure_bare(scene)?;
+    if object as usize >= scene.objects().len() {
+        return Err(Fail::new("an object of the scene"));
     }
     let tiles = [tile];
     Ok(object_settled(scene, 0, &[], object, &PlainView::new(&tiles)))
@@ -224,9 +247,7 @@ fn is_settled(scene: &Scene, object: u32, tile: TileState) -> Result<bool, &'sta
 fn rectangle_behind_the_quad_is_settled_and_one_at_its_distance_is_not(
     rt: HostRuntime,
 ) -> Result<(), Fail> {
-    let mut sub = SubTile::empty();
-    sub.merge(32767, 0xFFFF_FFFF);
-    let tile = TileState::of([sub; 8], 2);
+    let tile = tile_at(32767);
     let scene = rectangles_at(rt.alloc(), 2, 3, Grade::Narrow)?;
     assert!(rt; !is_settled(&scene, 0, tile)?);
     assert!(rt; is_settled(&scene, 1, tile)?);
@@ -236,9 +257,7 @@ fn rectangle_behind_the_quad_is_settled_and_one_at_its_distance_is_not(
 // At distances 1000 and 1001 a rectangle has 16778 and 16761 in the wide grade, 66 twice in the narrow one.
 #[test]
 fn wide_rectangles_differ_where_narrow_ones_are_alike(rt: HostRuntime) -> Result<(), Fail> {
-    let mut sub = SubTile::empty();
-    sub.merge(16777, 0xFFFF_FFFF);
-    let tile = TileState::of([sub; 8], 2);
+    let tile = tile_at(16777);
     let wide = rectangles_at(rt.alloc(), 1000, 1001, Grade::Wide)?;
     assert!(rt; !is_settled(&wide, 0, tile)?);
     assert!(rt; is_settled(&wide, 1, tile)?);
@@ -264,73 +283,52 @@ fn many_rectangles(alloc: Global, count: u32, near: i32, far: i32) -> Result<Sce
     scene_of(alloc, objects, Grade::Narrow)
 }
 
-// A frame's lines, by so many workers, of a scene without vertices over the scene's only tile.
-fn lines_by<R: Threads + Wait + Sync>(
+// A frame's lines, by so many workers, and its report with boxes in groups of two, of a scene without vertices over the
+// scene's only tile.
+fn reported<R: Threads + Wait + Sync>(
     rt: &R,
     alloc: Global,
     scene: &Scene,
     tile: TileState,
     workers: u32,
-) -> Result<SureSink, Fail> {
-    if scene.size().tile_count() != 1 || scene.cameras().is_empty() {
-        return Err(Fail::new("a scene of one tile"));
-    }
-    if !scene.vertices().is_empty() {
-        return Err(Fail::new("a scene without vertices"));
-    }
+) -> Result<(SureSink, GroupReport), Fail> {
+    assure_bare(scene)?;
     let tiles = [tile];
     let view = PlainView::new(&tiles);
     let settled = vec![in alloc; false; scene.objects().len()]?;
+    let marks = settled.as_slice();
     let asked = Asked {
         scene,
         frame: 0,
         clips: &[],
         view: &view,
-        settled: settled.as_slice(),
+        settled: marks,
     };
+    let list = groups(alloc, scene, 2)?;
+    let given = list.as_slice();
+    let report = group_verdicts(alloc, &asked, given)?;
     let verdicts = verdicts_by_workers(rt, alloc, &asked, workers)?;
     let mut sink = SureSink::new(alloc);
     verdicts.write_frame(&mut sink, 0, 2)?;
-    Ok(sink)
+    Ok((sink, report))
 }
 
 #[test]
 fn lines_of_two_workers_are_those_of_one(rt: HostRuntime) -> Result<(), Fail> {
-    let mut sub = SubTile::empty();
-    sub.merge(32767, 0xFFFF_FFFF);
-    let tile = TileState::of([sub; 8], 2);
+    let tile = tile_at(32767);
     let scene = many_rectangles(rt.alloc(), 1500, 2, 3)?;
-    let one = lines_by(&rt, rt.alloc(), &scene, tile, 1)?;
-    let two = lines_by(&rt, rt.alloc(), &scene, tile, 2)?;
+    let (one, _) = reported(&rt, rt.alloc(), &scene, tile, 1)?;
+    let (two, _) = reported(&rt, rt.alloc(), &scene, tile, 2)?;
     assert!(rt; one.held() == two.held());
     let last = b"end 0 visible 1000 occluded 500 outside 0\n".as_slice();
     assert!(rt; two.held().ends_with(last));
     Ok(())
 }
 
-// The verdicts of a scene without vertices over its only tile, with boxes in groups of two.
-fn report_by_groups(alloc: Global, scene: &Scene, tile: TileState) -> Result<GroupReport, Fail> {
-    if scene.size().tile_count() != 1 || scene.cameras().is_empty() {
-        return Err(Fail::new("a scene of one tile"));
-    }
-    if !scene.vertices().is_empty() {
-        return Err(Fail::new("a scene without vertices"));
-    }
-    let tiles = [tile];
-    let view = PlainView::new(&tiles);
-    let settled = vec![in alloc; false; scene.objects().len()]?;
-    let list = groups(alloc, scene, 2)?;
-    let marks = settled.as_slice();
-    let report = group_verdicts(alloc, scene, 0, &[], &view, marks, list.as_slice())?;
-    Ok(report)
-}
-
 // Of six boxes the first two are hidden behind the tile, and of the others each second one.
 #[test]
 fn groups_of_two_over_a_tile(rt: HostRuntime) -> Result<(), Fail> {
-    let mut sub = SubTile::empty();
-    sub.merge(32767, 0xFFFF_FFFF);
-    let tile = TileState::of([sub; 8], 2);
+    let tile = tile_at(32767);
     let mut objects = Vec::new(rt.alloc());
     for z in [3, 4, 3, 2, 2, 3] {
         objects.push(Object::Block {
@@ -340,7 +338,7 @@ fn groups_of_two_over_a_tile(rt: HostRuntime) -> Result<(), Fail> {
     }
     let camera = [65536, 0, 0, 0, 0, 65536, 0, 0, 0, 0, 65536, 0];
     let scene = scene_through(rt.alloc(), objects, Grade::Narrow, camera)?;
-    let report = report_by_groups(rt.alloc(), &scene, tile)?;
+    let (_, report) = reported(&rt, rt.alloc(), &scene, tile, 1)?;
     assert_eq!(rt; (report.hidden(), report.members()), (1, 2));
     let (hidden, shown) = (Verdict::Occluded, Verdict::Visible);
     let wanted = [hidden, hidden, hidden, shown, shown, hidden];

@@ -56,6 +56,12 @@ fn refusal_of(alloc: Global, bytes: Vec<u8>) -> Option<SceneError> {
     read_scene(alloc, &mut BytesSource::new(bytes, 7, Vec::new(alloc))).err()
 }
 
+// The same with one byte more.
+fn refusal_of_more(alloc: Global, mut bytes: Vec<u8>) -> Result<Option<SceneError>, AllocError> {
+    bytes.push(0)?;
+    Ok(refusal_of(alloc, bytes))
+}
+
 #[test]
 fn the_first_scene_is_read_and_written_back(rt: HostRuntime) -> Result<(), Fail> {
     let alloc = rt.alloc();
@@ -186,10 +192,14 @@ fn each_entry_holds_from_its_edge_on(rt: HostRuntime) -> Result<(), Fail> {
     Ok(())
 }
 
+// The refusal of a scene that is cut.
+fn cut(need: u32, have: u32) -> Option<SceneError> {
+    Some(SceneError::Truncated { need, have })
+}
+
 #[test]
 fn the_length_is_that_of_the_counts(rt: HostRuntime) -> Result<(), Fail> {
     let alloc = rt.alloc();
-    let cut = |need, have| Some(SceneError::Truncated { need, have });
     let table = [
         (0, cut(32, 0)),
         (31, cut(32, 31)),
@@ -201,9 +211,8 @@ fn the_length_is_that_of_the_counts(rt: HostRuntime) -> Result<(), Fail> {
         let bytes = Vec::from_slice(alloc, &FIRST_SCENE[..length])?;
         assert_eq!(rt; refusal_of(alloc, bytes), want, "of {length} bytes");
     }
-    let mut longer = Vec::from_slice(alloc, &FIRST_SCENE)?;
-    longer.push(0)?;
-    assert_eq!(rt; refusal_of(alloc, longer), Some(SceneError::Trailing));
+    let longer = refusal_of_more(alloc, Vec::from_slice(alloc, &FIRST_SCENE)?)?;
+    assert_eq!(rt; longer, Some(SceneError::Trailing));
     Ok(())
 }
 
@@ -365,7 +374,6 @@ fn a_wide_scene_in_batches_is_written_back(rt: HostRuntime) -> Result<(), Fail> 
 #[test]
 fn each_step_of_version_2_holds_in_its_turn(rt: HostRuntime) -> Result<(), Fail> {
     let alloc = rt.alloc();
-    let cut = |need, have| Some(SceneError::Truncated { need, have });
     // The batch begins at 108; the last index of the second triangle is at 104, the kind of the object at 113.
     let table: [(usize, &[(usize, u8)], Option<SceneError>); 17] = [
         (186, &[], None),
@@ -400,9 +408,8 @@ fn each_step_of_version_2_holds_in_its_turn(rt: HostRuntime) -> Result<(), Fail>
             "of {length} bytes after {edits:?}"
         );
     }
-    let mut longer = in_batches(alloc, &[(2, 3)])?;
-    longer.push(0)?;
-    assert_eq!(rt; refusal_of(alloc, longer), Some(SceneError::Trailing));
+    let longer = refusal_of_more(alloc, in_batches(alloc, &[(2, 3)])?)?;
+    assert_eq!(rt; longer, Some(SceneError::Trailing));
     Ok(())
 }
 
@@ -524,11 +531,10 @@ fn a_refusal_reads_as_a_sentence(rt: HostRuntime) -> Result<(), Fail> {
 #[test]
 fn a_part_ends_where_it_is_told(rt: HostRuntime) -> Result<(), Fail> {
     let alloc = rt.alloc();
-    let short = |need, have| Some(SceneError::Truncated { need, have });
     let table = [
-        (0, short(32, 0), 179),
-        (31, short(32, 31), 148),
-        (176, short(177, 176), 3),
+        (0, cut(32, 0), 179),
+        (31, cut(32, 31), 148),
+        (176, cut(177, 176), 3),
         (177, None, 2),
         (178, Some(SceneError::Trailing), 1),
         (200, Some(SceneError::Trailing), 1),

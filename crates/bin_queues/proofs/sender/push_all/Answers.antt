@@ -6,7 +6,9 @@ use Rattle.bin_queues.specs.QueueRule.{submitter}
 use Rattle.bin_queues.specs.QueueParts.{BatchedFrame}
 use Rattle.bin_queues.specs.Submitters.{HavePushed, frame_of}
 use Rattle.bin_queues.proofs.Submitting.{frame_kept, has_place, map_kept, may_push, parts_length, pushed_all, pushed_one}
+use Rattle.bin_queues.proofs.sender.push_all.Given as given
 use Rattle.bin_queues.proofs.sender.push_all.Goals as goal
+use Rattle.bin_queues.proofs.sender.push_all.Goals.{In-None}
 
 pub offset_bounds-queues-bin : goal.offset_bounds-queues-bin
 offset_bounds-queues-bin g c =
@@ -53,23 +55,21 @@ loop-part-preserved g c =
       pushed_one (frame_of c.args.passes.now.items) c.args._batch b c.loop-part.passes.items c.push.new.pass p i.5 place.pass (subst (λ (z : QueueToken). Rattle.crossbeam_queue.specs.Passes.IsSamePass z c.push.new.pass) is c.push.ensures.own) pushed,
     )
 
-pub returns-clause-frame : goal.returns-clause-frame
-returns-clause-frame g c =
+-- once each part is pushed
+all_pushed : (g : given.Over) (c : In-None g) → HavePushed (frame_of c.args.passes.now.items) (c.args._batch + 1) 0 c.loop-part.passes.items
+all_pushed g c =
     let i = c.loop-part.invariant in
     let frame = frame_of c.args.passes.now.items in
     let none = c.in-None.ensures.steps.0 in
     let whole = parts_length frame c.args._batch c.args.parts.items c.requires.parts in
     let count = i.5.count in
-    let pushed = pushed_all frame c.args._batch c.loop-part.bin c.loop-part.passes.items i.5 (omega (arith, i.3, none, whole, count)) in
-    frame_kept frame (c.args._batch + 1) 0 c.loop-part.passes.items c.requires.batched.is_cut pushed
+    pushed_all frame c.args._batch c.loop-part.bin c.loop-part.passes.items i.5 (omega (arith, i.3, none, whole, count))
+
+pub returns-clause-frame : goal.returns-clause-frame
+returns-clause-frame g c = frame_kept (frame_of c.args.passes.now.items) (c.args._batch + 1) 0 c.loop-part.passes.items c.requires.batched.is_cut (all_pushed g (goal.at.returns-clause-frame g c).In-None)
 
 pub returns-clause-pushed : goal.returns-clause-pushed
 returns-clause-pushed g c =
-    let i = c.loop-part.invariant in
-    let frame = frame_of c.args.passes.now.items in
-    let none = c.in-None.ensures.steps.0 in
-    let whole = parts_length frame c.args._batch c.args.parts.items c.requires.parts in
-    let count = i.5.count in
-    let pushed = pushed_all frame c.args._batch c.loop-part.bin c.loop-part.passes.items i.5 (omega (arith, i.3, none, whole, count)) in
-    let same = frame_kept frame (c.args._batch + 1) 0 c.loop-part.passes.items c.requires.batched.is_cut pushed in
+    let pushed = all_pushed g (goal.at.returns-clause-pushed g c).In-None in
+    let same = frame_kept (frame_of c.args.passes.now.items) (c.args._batch + 1) 0 c.loop-part.passes.items c.requires.batched.is_cut pushed in
     subst (λ (f : BatchedFrame). HavePushed f (c.args._batch + 1) 0 c.loop-part.passes.items) (sym same) pushed

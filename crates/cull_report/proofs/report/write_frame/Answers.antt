@@ -1,48 +1,21 @@
-use Rattle.std.proofs.Common.{◌≡◌, ℕ, ◌++◌, List, Err}
-use Rattle.std.specs.Prelude.{count_by}
+use Rattle.std.proofs.Common.{◌≡◌}
 use Rattle.std.proofs.lemmas.Result.{err_from_is_err_and}
-use Rattle.cull_report.specs.Text.{frame_line, verdict_lines, end_line, frame_text, is_visible, is_occluded, is_outside}
-use Rattle.cull_base.specs.Stream.{Writes}
-use Rattle.cull_base.proofs.Streams.{writes_then, writes_no_more}
+use Rattle.cull_report.proofs.WrittenFrames.{frame_ends, last_line, line_failed, verdicts_failed}
 use Rattle.cull_report.proofs.report.write_frame.Goals as goal
 
 pub returns-in_err-write_to : goal.returns-in_err-write_to
-unfolding frame_text
-returns-in_err-write_to g c =
-    let verdicts = c.args.verdicts.now in
-    let e = c.in_err-write_to.field-0.0 in
-    let p = err_from_is_err_and c.from_residual.result c.from_residual.ensures.1 in
-    let s0 = g.W.Sink.says c.args.sink.now in
-    let s1 = g.W.Sink.says c.write_to.new.sink in
-    let failed : Writes s0 s1 (Err e) (frame_line c.args.frame c.args.pieces) = rw (← c.frame_line.ensures) c.in_err-write_to.ensures in
-    rw (p.1, p.2) (writes_no_more s0 s1 e (frame_line c.args.frame c.args.pieces)
-    (verdict_lines 0 verdicts ++ end_line c.args.frame (count_by is_visible verdicts) (count_by is_occluded verdicts) (count_by is_outside verdicts)) failed)
+returns-in_err-write_to g c = let p = err_from_is_err_and c.from_residual.result c.from_residual.ensures.1 in
+    rw (p.1, p.2) (line_failed c.args.frame c.args.pieces c.args.verdicts.now (g.W.Sink.says c.args.sink.now) (g.W.Sink.says c.write_to.new.sink) c.in_err-write_to.field-0.0 (rw (← c.frame_line.ensures) c.in_err-write_to.ensures))
 
 pub returns-in_err-write_verdicts : goal.returns-in_err-write_verdicts
-unfolding frame_text
 returns-in_err-write_verdicts g c =
-    let verdicts = c.args.verdicts.now in
-    let e = c.in_err-write_verdicts.field-0.0 in
     let p = err_from_is_err_and c.from_residual-in_err-write_verdicts.result c.from_residual-in_err-write_verdicts.ensures.1 in
-    let s0 = g.W.Sink.says c.args.sink.now in
-    let s1 = g.W.Sink.says c.write_to.new.sink in
-    let s2 = g.W.Sink.says c.write_verdicts.new.sink in
-    let first : Writes s0 s1 c.write_to.result (frame_line c.args.frame c.args.pieces) = rw (← c.frame_line.ensures) c.write_to.ensures in
-    rw (p.1, p.2) (writes_then s0 s1 s2 (Err e) (frame_line c.args.frame c.args.pieces) _ (rw (← c.frame_line.ensures) c.in_ok-write_to.ensures.ok) first.faults_stay first.refusals_stay
-    (writes_no_more s1 s2 e (verdict_lines 0 verdicts) (end_line c.args.frame (count_by is_visible verdicts) (count_by is_occluded verdicts) (count_by is_outside verdicts)) c.in_err-write_verdicts.ensures))
+    rw (p.1, p.2) (verdicts_failed c.args.frame c.args.pieces c.args.verdicts.now (g.W.Sink.says c.args.sink.now) (g.W.Sink.says c.write_to.new.sink) (g.W.Sink.says c.write_verdicts.new.sink) c.in_err-write_verdicts.field-0.0 c.write_to.result
+    (rw (← c.frame_line.ensures) c.write_to.ensures) (rw (← c.frame_line.ensures) c.in_ok-write_to.ensures.ok) c.in_err-write_verdicts.ensures)
 
 pub returns : goal.returns
-unfolding frame_text
 returns g c =
-    let verdicts = c.args.verdicts.now in
-    let s0 = g.W.Sink.says c.args.sink.now in
-    let s1 = g.W.Sink.says c.write_to.new.sink in
-    let s2 = g.W.Sink.says c.write_verdicts.new.sink in
-    let s3 = g.W.Sink.says c.write_to-2.new.sink in
-    let last : List ℕ = end_line c.args.frame (count_by is_visible verdicts) (count_by is_occluded verdicts) (count_by is_outside verdicts) in
-    let is : c.end_line.result ≡ last = rw (← c.of.ensures.visible, ← c.of.ensures.occluded, ← c.of.ensures.outside) c.end_line.ensures in
-    let first : Writes s0 s1 c.write_to.result (frame_line c.args.frame c.args.pieces) = rw (← c.frame_line.ensures) c.write_to.ensures in
-    let ended : Writes s2 s3 c.write_to-2.result last = rw (← is) c.write_to-2.ensures in
-    writes_then s0 s1 s3 c.write_to-2.result (frame_line c.args.frame c.args.pieces) (verdict_lines 0 verdicts ++ last)
-    (rw (← c.frame_line.ensures) c.in_ok-write_to.ensures.ok) first.faults_stay first.refusals_stay
-    (writes_then s1 s2 s3 c.write_to-2.result (verdict_lines 0 verdicts) last c.in_ok-write_verdicts.ensures.ok c.write_verdicts.ensures.faults_stay c.write_verdicts.ensures.refusals_stay ended)
+    let is : c.end_line.result ≡ last_line c.args.frame c.args.verdicts.now = rw (← c.of.ensures.visible, ← c.of.ensures.occluded, ← c.of.ensures.outside) c.end_line.ensures in
+    frame_ends c.args.frame c.args.pieces c.args.verdicts.now (g.W.Sink.says c.args.sink.now) (g.W.Sink.says c.write_to.new.sink) (g.W.Sink.says c.write_verdicts.new.sink) (g.W.Sink.says c.write_to-2.new.sink) c.write_to.result c.write_to-2.result
+    (rw (← c.frame_line.ensures) c.write_to.ensures) (rw (← c.frame_line.ensures) c.in_ok-write_to.ensures.ok) c.write_verdicts.ensures.faults_stay c.write_verdicts.ensures.refusals_stay c.in_ok-write_verdicts.ensures.ok
+    (rw (← is) c.write_to-2.ensures)

@@ -1,17 +1,15 @@
 use Rattle.std.proofs.Common.{◌≡◌, ℕ, ◌<◌, true, false, List, length, replicate, rules, subst, sym, ap, ◌∙◌}
 use Rattle.binning.specs.Cut.{CutOf}
 use Rattle.cull_base.specs.Screen.{Dimensions, tile_count_of}
-use Rattle.cull_base.specs.Tiles.{tile_after}
-use Rattle.cull_report.specs.Scene.{frame_list, frame_pieces, size_of}
+use Rattle.cull_report.specs.Scene.{frame_list, size_of}
 use Rattle.masked_update.specs.Canvas.{CanvasOf}
 use Rattle.bin_tiles.specs.Bins.{AreBinsAt}
 use Rattle.bin_tiles.specs.BinViews.{TableOf, holds_in, tile_in_bins}
 use Rattle.bin_tiles.specs.Plain.{StandsPlain}
-use Rattle.group_query.specs.Grouping.{AreApart}
-use Rattle.group_query.specs.declared.grouping.Group.{Group}
-use Rattle.culling.proofs.GroupLines.{beside_apart}
+use Rattle.culling.proofs.GroupLines.{groups_are_apart}
 use Rattle.culling.proofs.Marks.{none_settled, settled_over}
 use Rattle.culling.proofs.ScenePieces.{frame_pieces_are}
+use Rattle.culling.proofs.Shown.{took_drawn}
 use Rattle.culling.proofs.drawing.draw_plainly.Goals as goal
 
 pub of-view-requires-clause-size : goal.of-view-requires-clause-size
@@ -38,27 +36,20 @@ unfolding frame_list
 invariant_of-asked-clause-right g c =
     let s = c.args.drawing.now.scene.now in
     let v = c.of-view.result in
-    let d = c.in_ok-drawn.ensures.tiles in
-    let states : (t : ℕ) → t < tile_count_of (size_of s) → (tile_in_bins v.table.now v.bins.now t).subs ≡ tile_after (size_of s) t (frame_pieces s c.args.frame) =
-    λ t lt. c.of-view.ensures.states t (subst (λ (n : Dimensions). t < tile_count_of n) (sym d.size) lt) ∙ d.tiles t lt in
+    let states = took_drawn s c.args.frame c.in_ok-drawn.drawn.list.list (tile_in_bins v.table.now v.bins.now) c.in_ok-drawn.ensures.tiles c.of-view.ensures.states in
     let marks = c.deref-2.result.now in
     let unset : marks ≡ replicate (length s.objects) false = search rules in
     settled_over s c.args.frame (tile_in_bins v.table.now v.bins.now) marks states (none_settled s c.args.frame marks unset)
 
 pub invariant_of-grouped : goal.invariant_of-grouped
-invariant_of-grouped g c =
-    let drawing = c.args.drawing.now in
-    let apart = beside_apart drawing.plan.now.beside drawing.scene.now drawing.plan.now.members in
-    record { apart = subst (λ (gs : List Group). AreApart (length drawing.scene.now.objects) gs) (sym drawing.are_groups) apart }
+invariant_of-grouped g c = let drawing = c.args.drawing.now in record { apart = groups_are_apart drawing.plan.now.beside drawing.scene.now _ drawing.plan.now.members drawing.are_groups }
 
 pub verdicts_by-requires-after_bounds : goal.verdicts_by-requires-after_bounds
 unfolding frame_list
 verdicts_by-requires-after_bounds g c =
     let v = c.of-view.result in
     let s = c.args.drawing.now.scene.now in
-    let d = c.in_ok-drawn.ensures.tiles in
-    let states : (t : ℕ) → t < tile_count_of (size_of s) → (tile_in_bins v.table.now v.bins.now t).subs ≡ tile_after (size_of s) t (frame_pieces s c.args.frame) =
-    λ t lt. c.of-view.ensures.states t (subst (λ (n : Dimensions). t < tile_count_of n) (sym d.size) lt) ∙ d.tiles t lt in
+    let states = took_drawn s c.args.frame c.in_ok-drawn.drawn.list.list (tile_in_bins v.table.now v.bins.now) c.in_ok-drawn.ensures.tiles c.of-view.ensures.states in
     λ lifetimes within t lt. states t lt
 
 pub returns-clause-valid : goal.returns-clause-valid

@@ -6,9 +6,7 @@ use Rattle.tile_queues.specs.Frames.{HaveStates}
 use Rattle.masked_update.specs.TileOf.{TileOf, tile_at}
 use Rattle.cull_report.specs.Scene.{frame_list, size_of}
 use Rattle.culling.proofs.LiveTexts.{kept_is_live}
-use Rattle.group_query.specs.Grouping.{AreApart}
-use Rattle.group_query.specs.declared.grouping.Group.{Group}
-use Rattle.culling.proofs.GroupLines.{beside_apart}
+use Rattle.culling.proofs.GroupLines.{groups_are_apart}
 use Rattle.culling.proofs.Marks.{settled_in_end, settled_over}
 use Rattle.culling.proofs.live_frame.draw_live.Goals as goal
 
@@ -29,10 +27,7 @@ invariant_of-asked-clause-holds g c =
     λ t lt. let e : nat_lt t (tile_count_of (size_of s)) ≡ true = grind (arith, nat_tests) in subst (λ n. nat_lt t n ≡ true) (sym count) e
 
 pub invariant_of-grouped : goal.invariant_of-grouped
-invariant_of-grouped g c =
-    let drawing = c.args.drawing.now in
-    let apart = beside_apart drawing.plan.now.beside drawing.scene.now drawing.plan.now.members in
-    record { apart = subst (λ (gs : List Group). AreApart (length drawing.scene.now.objects) gs) (sym drawing.are_groups) apart }
+invariant_of-grouped g c = let drawing = c.args.drawing.now in record { apart = groups_are_apart drawing.plan.now.beside drawing.scene.now _ drawing.plan.now.members drawing.are_groups }
 
 pub verdicts_by-requires-after_bounds : goal.verdicts_by-requires-after_bounds
 unfolding frame_list

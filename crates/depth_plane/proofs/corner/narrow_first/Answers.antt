@@ -48,5 +48,5 @@ returns-then-is_small c area =
     let bd = told c.is_gentle-then-is_gentle.result (2 ^ 46) c.args.down (simp to_z-of_z at c.is_gentle-then-is_gentle.ensures).0 c.if-is_gentle-2.true in
     let bl = told c.is_small.result (2 ^ 61) c.args.level (simp to_z-of_z at c.is_small.ensures).0 c.if-is_small.true in
     let gl : FitsSigned w64 c.args.level = omega (arith, ints, bl) in
-    simp to_z-of_z (narrow c.args.across c.args.down c.args.level area c.narrow_numerator.result c.least_along-x.result c.least_along-y.result ba bd bl
-    (simp to_z-of_z at c.narrow_numerator.ensures.value) (simp to_z-of_z at c.least_along-x.ensures.value) (simp to_z-of_z at c.least_along-y.ensures.value))
+    simp to_z-of_z (narrow c.args.across c.args.down c.args.level area c.narrow_numerator.result c.place_along-x.result c.place_along-y.result ba bd bl
+    (simp to_z-of_z at c.narrow_numerator.ensures.value) (simp to_z-of_z at c.place_along-x.ensures.value) (simp to_z-of_z at c.place_along-y.ensures.value))

@@ -1,6 +1,12 @@
-use Rattle.std.proofs.Common.{arith, rules, FitsSigned, w32, w64, ◌*ℤ◌, pos}
+use Rattle.std.proofs.Common.{arith, rules, ℤ, ◌^◌, FitsSigned, w32, w64, ◌*ℤ◌, pos}
 use Rattle.std.proofs.lemmas.Int.{ints, to_z-of_z}
+use Rattle.cull_base.specs.Bounds.{Bounded}
+use Rattle.edge_lanes.proofs.Inside.{step-bounded}
+use Rattle.edge_lanes.proofs.Lanes.{Eight, all_of_eight}
 use Rattle.edge_lanes.proofs.narrow_edge.from_steps.Goals as goal
+
+columns_fit : (t : ℤ) → Bounded (2 ^ 20) t → Eight (λ k. FitsSigned w32 (t *ℤ pos k))
+columns_fit t near = all_of_eight (λ k. FitsSigned w32 (t *ℤ pos k)) (λ k l. let b = step-bounded t k (omega arith) near in omega (arith, ints, b))
 
 pub invariant_of-result : goal.invariant_of-result
 invariant_of-result c =
@@ -9,14 +15,7 @@ invariant_of-result c =
     let fs : FitsSigned w64 c.args.start = c.ranges.start in
     let ft : FitsSigned w32 t = c.ranges.column in
     let fr : FitsSigned w32 c.args.row = c.ranges.row in
-    let p0 : FitsSigned w32 (t *ℤ pos 0) = omega (arith, ints, near) in
-    let p1 : FitsSigned w32 (t *ℤ pos 1) = omega (arith, ints, near) in
-    let p2 : FitsSigned w32 (t *ℤ pos 2) = omega (arith, ints, near) in
-    let p3 : FitsSigned w32 (t *ℤ pos 3) = omega (arith, ints, near) in
-    let p4 : FitsSigned w32 (t *ℤ pos 4) = omega (arith, ints, near) in
-    let p5 : FitsSigned w32 (t *ℤ pos 5) = omega (arith, ints, near) in
-    let p6 : FitsSigned w32 (t *ℤ pos 6) = omega (arith, ints, near) in
-    let p7 : FitsSigned w32 (t *ℤ pos 7) = omega (arith, ints, near) in
+    let (p0, (p1, (p2, (p3, (p4, (p5, (p6, (p7, u)))))))) = columns_fit t near in
     let fh : FitsSigned w32 c.narrow_highest.result = search rules in
     let fl : FitsSigned w32 c.narrow_lowest.result = search rules in
     record {

@@ -1,23 +1,17 @@
 use Rattle.std.proofs.Common.{◌^◌, ◌+◌, arith}
 use Rattle.edge_lanes.specs.Around.{lane, value_from}
-use Rattle.edge_lanes.proofs.Around.{bounded_around, moved_lane, product_fits}
+use Rattle.edge_lanes.proofs.Around.{bounded_around, moved_lane, products_fit}
 use Rattle.edge_lanes.proofs.small_lanes.moved.Goals as goal
 
 pub overflow_mul-columns : goal.overflow_mul-columns
 overflow_mul-columns c =
-    let h = c.requires.column in let e = h.are_three in
-    let a = product_fits (2 ^ 10) (2 ^ 19) (lane c.args.column 0) c.args.across (omega arith) (omega arith) (omega arith) h.first c.requires.across in
-    let b = product_fits (2 ^ 10) (2 ^ 19) (lane c.args.column 1) c.args.across (omega arith) (omega arith) (omega arith) h.second c.requires.across in
-    let d = product_fits (2 ^ 10) (2 ^ 19) (lane c.args.column 2) c.args.across (omega arith) (omega arith) (omega arith) h.third c.requires.across in
-    rw e (a, (b, (d, (a, tt))))
+    let h = c.requires.column in let e = h.are_three in let v = c.args.column in let x = c.args.across in let k = c.requires.across in
+    rw e (products_fit (2 ^ 10) (2 ^ 19) (lane v 0) (lane v 1) (lane v 2) x x x (omega arith) (omega arith) (omega arith) h.first h.second h.third k k k)
 
 pub overflow_mul-rows : goal.overflow_mul-rows
 overflow_mul-rows c =
-    let h = c.requires.row in let e = h.are_three in
-    let a = product_fits (2 ^ 10) (2 ^ 19) (lane c.args.row 0) c.args.down (omega arith) (omega arith) (omega arith) h.first c.requires.down in
-    let b = product_fits (2 ^ 10) (2 ^ 19) (lane c.args.row 1) c.args.down (omega arith) (omega arith) (omega arith) h.second c.requires.down in
-    let d = product_fits (2 ^ 10) (2 ^ 19) (lane c.args.row 2) c.args.down (omega arith) (omega arith) (omega arith) h.third c.requires.down in
-    rw e (a, (b, (d, (a, tt))))
+    let h = c.requires.row in let e = h.are_three in let v = c.args.row in let x = c.args.down in let k = c.requires.down in
+    rw e (products_fit (2 ^ 10) (2 ^ 19) (lane v 0) (lane v 1) (lane v 2) x x x (omega arith) (omega arith) (omega arith) h.first h.second h.third k k k)
 
 pub overflow_add-beside : goal.overflow_add-beside
 overflow_add-beside c =

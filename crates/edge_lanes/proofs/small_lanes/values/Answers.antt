@@ -1,23 +1,17 @@
 use Rattle.std.proofs.Common.{◌^◌, arith}
 use Rattle.edge_lanes.specs.Around.{lane, value_past}
-use Rattle.edge_lanes.proofs.Around.{bounded_around, product_fits, value_lane}
+use Rattle.edge_lanes.proofs.Around.{bounded_around, products_fit, value_lane}
 use Rattle.edge_lanes.proofs.small_lanes.values.Goals as goal
 
 pub overflow_mul-down : goal.overflow_mul-down
 overflow_mul-down c =
-    let h = c.requires.row in let k = c.requires.below in let e = h.are_three in let f = k.are_three in
-    let a = product_fits (2 ^ 10) (2 ^ 11) (lane c.args.row 0) (lane c.args.below 0) (omega arith) (omega arith) (omega arith) h.first k.first in
-    let b = product_fits (2 ^ 10) (2 ^ 11) (lane c.args.row 1) (lane c.args.below 1) (omega arith) (omega arith) (omega arith) h.second k.second in
-    let d = product_fits (2 ^ 10) (2 ^ 11) (lane c.args.row 2) (lane c.args.below 2) (omega arith) (omega arith) (omega arith) h.third k.third in
-    rw (e, f) (a, (b, (d, (a, tt))))
+    let h = c.requires.row in let k = c.requires.below in let e = h.are_three in let f = k.are_three in let v = c.args.row in let w = c.args.below in
+    rw (e, f) (products_fit (2 ^ 10) (2 ^ 11) (lane v 0) (lane v 1) (lane v 2) (lane w 0) (lane w 1) (lane w 2) (omega arith) (omega arith) (omega arith) h.first h.second h.third k.first k.second k.third)
 
 pub overflow_mul-across : goal.overflow_mul-across
 overflow_mul-across c =
-    let h = c.requires.column in let k = c.requires.right in let e = h.are_three in let f = k.are_three in
-    let a = product_fits (2 ^ 10) (2 ^ 11) (lane c.args.column 0) (lane c.args.right 0) (omega arith) (omega arith) (omega arith) h.first k.first in
-    let b = product_fits (2 ^ 10) (2 ^ 11) (lane c.args.column 1) (lane c.args.right 1) (omega arith) (omega arith) (omega arith) h.second k.second in
-    let d = product_fits (2 ^ 10) (2 ^ 11) (lane c.args.column 2) (lane c.args.right 2) (omega arith) (omega arith) (omega arith) h.third k.third in
-    rw (e, f) (a, (b, (d, (a, tt))))
+    let h = c.requires.column in let k = c.requires.right in let e = h.are_three in let f = k.are_three in let v = c.args.column in let w = c.args.right in
+    rw (e, f) (products_fit (2 ^ 10) (2 ^ 11) (lane v 0) (lane v 1) (lane v 2) (lane w 0) (lane w 1) (lane w 2) (omega arith) (omega arith) (omega arith) h.first h.second h.third k.first k.second k.third)
 
 pub overflow_add-result : goal.overflow_add-result
 overflow_add-result c =

@@ -13,16 +13,15 @@ one_shifted n le =
 
 pub overflow_sub-result : goal.overflow_sub-result
 overflow_sub-result c =
-    let first = one_shifted c.min.result (omega arith) in
-    let end = one_shifted c.min-end.result (omega arith) in
-    let le : 2 ^ c.min.result ≤ 2 ^ c.min-end.result = pow-le-pow_right (omega arith) (omega arith) in
+    let within = c.requires in
+    let first = one_shifted c.min.result (omega (arith, within)) in
+    let end = one_shifted c.args.end within in
+    let le : 2 ^ c.min.result ≤ 2 ^ c.args.end = pow-le-pow_right (omega arith) (omega arith) in
     omega (arith, first.0, end.0, le)
 
 pub returns-clause-bits : goal.returns-clause-bits
 returns-clause-bits c i lt =
-    let first = one_shifted c.min.result (omega arith) in
-    let end = one_shifted c.min-end.result (omega arith) in
-    ap₂ (λ a b. bit_at (b - a) i)
-    (first.0 ∙ ap (λ n. 2 ^ n) (c.min.ensures ∙ ap (min c.args.first) c.min-end.ensures))
-    (end.0 ∙ ap (λ n. 2 ^ n) c.min-end.ensures)
-    ∙ ones_cut c.args.first c.args.end i lt
+    let within = c.requires in
+    let first = one_shifted c.min.result (omega (arith, within)) in
+    let end = one_shifted c.args.end within in
+    ap₂ (λ a b. bit_at (b - a) i) (first.0 ∙ ap (λ n. 2 ^ n) c.min.ensures) end.0 ∙ ones_cut c.args.first c.args.end i

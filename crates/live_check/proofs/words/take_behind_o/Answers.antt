@@ -6,9 +6,7 @@ use Rattle.live_check.proofs.LineParts.{never_longer}
 use Rattle.live_check.proofs.words.take_behind_o.Goals as goal
 
 pub returns-then-branch-clause-came : goal.returns-then-branch-clause-came
-returns-then-branch-clause-came g c =
-    let came = c.in_ok-takes_byte.ensures.came c.if-branch.true in
-    IfOk-weaker c.if_text.result _ _ (λ o some. came_occluded _ _ _ o came some) c.if_text.ensures.some
+returns-then-branch-clause-came g c = IfOk-weaker c.if_text.result _ _ (λ o some. came_occluded _ _ _ o (c.in_ok-takes_byte.ensures.came c.if-branch.true) some) c.if_text.ensures.some
 
 pub returns-then-branch-clause-only : goal.returns-then-branch-clause-only
 returns-then-branch-clause-only g c =
@@ -18,9 +16,7 @@ returns-then-branch-clause-only g c =
     (inr (never_apart _ _ 99 117 [] (codes "tside") came (λ e. omega (arith, e))))) c.if_text.ensures.some c.if_text.ensures.none
 
 pub returns-clause-came : goal.returns-clause-came
-returns-clause-came g c =
-    let stays = c.in_ok-takes_byte.ensures.stays c.if-branch.false in
-    IfOk-weaker c.if_text-2.result _ _ (λ o some. came_outside _ _ _ o stays some) c.if_text-2.ensures.some
+returns-clause-came g c = IfOk-weaker c.if_text-2.result _ _ (λ o some. came_outside _ _ _ o (c.in_ok-takes_byte.ensures.stays c.if-branch.false) some) c.if_text-2.ensures.some
 
 pub returns-clause-only : goal.returns-clause-only
 returns-clause-only g c =

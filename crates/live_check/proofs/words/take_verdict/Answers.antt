@@ -5,9 +5,7 @@ use Rattle.live_check.proofs.ByBytes.{came_behind_o, came_visible, found_from, f
 use Rattle.live_check.proofs.words.take_verdict.Goals as goal
 
 pub returns-then-branch-clause-came : goal.returns-then-branch-clause-came
-returns-then-branch-clause-came g c =
-    let came = c.in_ok-takes_byte.ensures.came c.if-branch.true in
-    IfOk-weaker c.take_behind_o.result _ _ (λ o behind. came_behind_o _ _ _ o came behind) c.take_behind_o.ensures.came
+returns-then-branch-clause-came g c = IfOk-weaker c.take_behind_o.result _ _ (λ o behind. came_behind_o _ _ _ o (c.in_ok-takes_byte.ensures.came c.if-branch.true) behind) c.take_behind_o.ensures.came
 
 pub returns-then-branch-clause-only : goal.returns-then-branch-clause-only
 returns-then-branch-clause-only g c =
@@ -15,9 +13,7 @@ returns-then-branch-clause-only g c =
     IfOk-weaker c.take_behind_o.result _ _ (λ o only. word_behind_o _ _ o came only) c.take_behind_o.ensures.only
 
 pub returns-clause-came : goal.returns-clause-came
-returns-clause-came g c =
-    let stays = c.in_ok-takes_byte.ensures.stays c.if-branch.false in
-    IfOk-weaker c.if_text.result _ _ (λ o some. came_visible _ _ _ o stays some) c.if_text.ensures.some
+returns-clause-came g c = IfOk-weaker c.if_text.result _ _ (λ o some. came_visible _ _ _ o (c.in_ok-takes_byte.ensures.stays c.if-branch.false) some) c.if_text.ensures.some
 
 pub returns-clause-only : goal.returns-clause-only
 returns-clause-only g c =

@@ -1,29 +1,25 @@
-use Rattle.std.proofs.Common.{◌≡◌, ℕ, map, ap, subst, ◌∙◌}
-use Rattle.cull_base.specs.declared.nearness.Grade.{Grade}
+use Rattle.std.proofs.Common.{◌≡◌, map, ap, ◌∙◌}
 use Rattle.cull_base.specs.Grade.{top_of}
-use Rattle.cull_base.specs.Screen.{Dimensions}
 use Rattle.rect_query.specs.Boxes.{box_answer, box_shape}
 use Rattle.cull_report.proofs.Occluders.{answer_has_pieces}
 use Rattle.maskcull_c.specs.Asked.{shape_of_box, verdict_over}
 use Rattle.maskcull_c.specs.Given.{clip_of, grade_of, size_of}
 use Rattle.maskcull_c.specs.Tiles.{code_of}
-use Rattle.maskcull_c.proofs.Hiding.{hides_by_verdict, told_at}
+use Rattle.maskcull_c.proofs.Hiding.{hides_by_verdict, told_of}
 use Rattle.maskcull_c.proofs.ask.maskcull_test_box.Goals as goal
+use Rattle.maskcull_c.proofs.ask.maskcull_test_box.Goals.{After-box_verdict}
+
+-- the verdict over the size and by the numbers of the set-up that was passed
+told : (c : After-box_verdict) → let s = c.args.setup.now in
+    c.box_verdict.result ≡ verdict_over (size_of s) c.args.tiles.now (box_shape (top_of (grade_of s)) s.near (size_of s) (map clip_of c.args.corners.now.corners))
+told c =
+    let s = c.args.setup.now in
+    told_of (λ g size near. c.box_verdict.result ≡ verdict_over size c.args.tiles.now (box_shape (top_of g) near size (map clip_of c.args.corners.now.corners))) c.in-Some.checked.grade (grade_of s) c.in-Some.checked.size (size_of s) c.in-Some.checked.near s.near c.in-Some.ensures.grade c.in-Some.ensures.size c.in-Some.ensures.near c.box_verdict.ensures
 
 pub returns-clause-value : goal.returns-clause-value
-returns-clause-value c setup all =
-    let s = c.args.setup.now in
-    let P : Dimensions → ℕ → Type 0 = λ size near. c.box_verdict.result ≡ verdict_over size c.args.tiles.now (box_shape (top_of (grade_of s)) near size (map clip_of c.args.corners.now.corners)) in
-    let by_grade : P c.in-Some.checked.size c.in-Some.checked.near =
-    subst (λ (g : Grade). c.box_verdict.result ≡ verdict_over c.in-Some.checked.size c.args.tiles.now (box_shape (top_of g) c.in-Some.checked.near c.in-Some.checked.size (map clip_of c.args.corners.now.corners))) c.in-Some.ensures.grade c.box_verdict.ensures in
-    c.code.ensures.value ∙ ap code_of (told_at P c.in-Some.checked.size (size_of s) c.in-Some.checked.near s.near c.in-Some.ensures.size c.in-Some.ensures.near by_grade)
+returns-clause-value c setup all = c.code.ensures.value ∙ ap code_of (told (goal.at.returns-clause-value c).After-box_verdict)
 
 pub returns-clause-hides : goal.returns-clause-hides
 returns-clause-hides c =
-    let s = c.args.setup.now in
-    let P : Dimensions → ℕ → Type 0 = λ size near. c.box_verdict.result ≡ verdict_over size c.args.tiles.now (box_shape (top_of (grade_of s)) near size (map clip_of c.args.corners.now.corners)) in
-    let by_grade : P c.in-Some.checked.size c.in-Some.checked.near =
-    subst (λ (g : Grade). c.box_verdict.result ≡ verdict_over c.in-Some.checked.size c.args.tiles.now (box_shape (top_of g) c.in-Some.checked.near c.in-Some.checked.size (map clip_of c.args.corners.now.corners))) c.in-Some.ensures.grade c.box_verdict.ensures in
-    hides_by_verdict (size_of s) c.args.tiles.now (shape_of_box s c.args.corners.now) c.box_verdict.result c.code.result
-    (answer_has_pieces (size_of s) (box_answer (top_of (grade_of s)) s.near (size_of s) (map clip_of c.args.corners.now.corners)))
-    (told_at P c.in-Some.checked.size (size_of s) c.in-Some.checked.near s.near c.in-Some.ensures.size c.in-Some.ensures.near by_grade) c.code.ensures.value
+    hides_by_verdict (size_of c.args.setup.now) c.args.tiles.now (shape_of_box c.args.setup.now c.args.corners.now) c.box_verdict.result c.code.result
+    (answer_has_pieces (size_of c.args.setup.now) (box_answer (top_of (grade_of c.args.setup.now)) c.args.setup.now.near (size_of c.args.setup.now) (map clip_of c.args.corners.now.corners))) (told (goal.at.returns-clause-hides c).After-box_verdict) c.code.ensures.value

@@ -32,7 +32,7 @@ marks_from-marked-requires-clause-within c =
 
 pub merge_marked-requires-clause-within : goal.merge_marked-requires-clause-within
 merge_marked-requires-clause-within c i lt one =
-    let below = c.marks_from-marked.ensures.among i lt (first_set c.marks_from-marked.result c.ahead.result i one) in
+    let below = c.marks_from-marked.ensures.among i lt (first_set c.marks_from-marked.result c.ahead_among.result i one) in
     omega (arith, below, c.requires.some)
 
 pub returns-then-marked-ne0 : goal.returns-then-marked-ne0
@@ -46,7 +46,7 @@ returns-then-marked-ne0 c =
     let count = span.end_column - span.first_column in
     let marked = c.marks_from-marked.result in
     let marks = c.marks_from-marked.ensures in
-    let ahead = c.ahead.result in
+    let ahead = c.ahead_among.result in
     let on = λ (i : ℕ). number_on old.window column row c.args.at.number i c.requires.part.first_column c.requires.number in
     let behind = λ (i : ℕ) (below : i < count) (clear : bit_at marked i ≡ 0). subst (λ q. NoneBelow q (tile_on old (tile_with (column + i) row))) c.requires.nearest (subst (λ n. NoneBelow c.args.nearest (tile_at old.tiles n)) (on i) (marks.behind i below clear)) in
     let eight = λ (i : ℕ) (below : i < count). subst (λ n. length (tile_at old.tiles n).subs ≡ 8) (on i) (marks.eight i below) in
@@ -57,7 +57,7 @@ returns-then-marked-ne0 c =
     (λ i below one clear.
     let inside = marks.among i below one in
     let within : column + i < 64 = omega (arith, inside, c.requires.span.columns_within, c.tile_columns-columns.ensures.value, c.tile_columns-columns.ensures.small) in
-    covers_none c.over_row-over.result row x column ahead i c.over_row-over.ensures c.requires.small c.ahead.ensures.clear below within (second_clear marked ahead i one clear)))
+    covers_none c.over_row-over.result row x column ahead i c.over_row-over.ensures c.requires.small c.ahead_among.ensures.clear below within (second_clear marked ahead i one clear)))
     (omega (arith, c.requires.some)) c.window-window.ensures.whole c.merge_marked.ensures
 
 pub returns-else-marked-ne0 : goal.returns-else-marked-ne0

@@ -1,7 +1,9 @@
-use Rattle.std.proofs.Common.{◌+◌, arith, w32}
+use Rattle.std.proofs.Common.{◌+◌, ◌-◌, arith, w32}
+use Rattle.std.proofs.lemmas.Nat.{and_le_r}
 use Rattle.std.specs.Int.{trailing_zeros}
 use Rattle.masked_update.specs.Taken.{merged_tile}
-use Rattle.masked_update.proofs.Marks.{all_done, cleared_less, is_done, lowest_inside, lowest_within, none_done, one_done}
+use Rattle.masked_update.proofs.LowestBit.{without_lowest}
+use Rattle.masked_update.proofs.Marks.{all_done, is_done, lowest_inside, lowest_within, none_done, one_done}
 use Rattle.masked_update.proofs.Tiles.{tile_with}
 use Rattle.masked_update.proofs.Walks.{none_changed, number_inside, number_on, row_here}
 use Rattle.masked_update.proofs.walk.merge_marked.Goals as goal
@@ -51,9 +53,7 @@ loop-left-init c = record {
 }
 
 pub loop-left-smaller : goal.loop-left-smaller
-loop-left-smaller c =
-    let lowest = lowest_within c.loop-left.left c.loop-left-test.true c.loop-left.invariant.byte in
-    cleared_less c.loop-left.left _ lowest.0 lowest.1
+loop-left-smaller c = let less = and_le_r c.loop-left.left (c.loop-left.left - 1) in omega (arith, less, c.loop-left-test.true)
 
 pub loop-left-preserved : goal.loop-left-preserved
 loop-left-preserved c =
@@ -65,7 +65,8 @@ loop-left-preserved c =
     let lt = lowest_inside c.args.span.first_column span.end_column c.args.bits c.loop-left.left c.loop-left-test.true inv.byte inv.among c.requires.within in
     let here = row_here old.window span c.args.at.row (c.args.span.first_column + j) c.requires.part c.requires.row.0 c.requires.row.1 (omega arith) lt in
     let number = number_on old.window span.first_column c.args.at.row c.args.at.number j c.requires.part.first_column c.requires.number in
-    one_done c.args.reached.now.size c.args.piece.now c.args.at.row c.args.span.first_column c.args.bits c.loop-left.left j old c.loop-left.canvas c.merge.new.self _ lowest.0 lowest.1 inv here number c.merge.ensures
+    one_done c.args.reached.now.size c.args.piece.now c.args.at.row c.args.span.first_column c.args.bits c.loop-left.left j _ old c.loop-left.canvas c.merge.new.self _ lowest.0 lowest.1
+    (without_lowest c.loop-left.left c.loop-left-test.true (omega (arith, inv.byte))) inv here number c.merge.ensures
 
 pub returns : goal.returns
 returns c =

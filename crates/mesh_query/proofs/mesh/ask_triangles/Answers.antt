@@ -32,8 +32,7 @@ pub returns-in_err-now : goal.returns-in_err-now
 unfolding no_triangle
 returns-in_err-now g c =
     let f = state_in c.args.size (g.V.TileView.tile_of c.args.view.now) in let size = c.args.size in let near = c.args.near.distance in let clips = c.args.clips.now in let tris = c.args.tris.now in
-    let i = c.loop-tri.tri-index in
-    let t = get_or tris i no_triangle in
+    let i = c.loop-tri.tri-index in let t = get_or tris i no_triangle in
     let shows = subst (λ (vs : List ClipVertex). SomeShows f (TouchedBy size (pieces_of_triangle vs (top_of c.args.grade) near size Both Object))) c.corners.ensures.whole c.in_err-now.ensures in
     rw (c.from_residual.ensures)
     (shows_among f size (object_pieces_at (top_of c.args.grade) near size clips t) (object_pieces (top_of c.args.grade) near size clips tris)
@@ -43,8 +42,7 @@ pub loop-tri-preserved : goal.loop-tri-preserved
 unfolding no_triangle
 loop-tri-preserved g c =
     let f = state_in c.args.size (g.V.TileView.tile_of c.args.view.now) in let size = c.args.size in let near = c.args.near.distance in let clips = c.args.clips.now in let tris = c.args.tris.now in
-    let i = c.loop-tri.tri-index in
-    let t = get_or tris i no_triangle in
+    let i = c.loop-tri.tri-index in let t = get_or tris i no_triangle in
     let now = c.in_ok-now.now in
     let asked : HasAsked f size (object_pieces_at (top_of c.args.grade) near size clips t) (option_to_list (near_box_at near size clips t)) c.loop-tri.now now =
     subst (λ (vs : List ClipVertex). HasAsked f size (pieces_of_triangle vs (top_of c.args.grade) near size Both Object) (option_to_list (near_box_of_triangle vs near size)) c.loop-tri.now now) c.corners.ensures.whole c.in_ok-now.ensures in

@@ -3,5 +3,5 @@ use Rattle.rect_query.proofs.boxes.rect_around.Goals as goal
 
 pub returns : goal.returns
 returns c =
-    let a = c.extent_across-across.ensures in let d = c.extent_down-down.ensures in
-    rect_is c.extent_across-across.result c.extent_down-down.result c.args.size c.args.corners.now c.rect_between.result a.least a.greatest d.least d.greatest c.rect_between.ensures
+    let a = c.extent-across.ensures in let d = c.extent-down.ensures in
+    rect_is c.extent-across.result c.extent-down.result c.args.size c.args.corners.now c.rect_between.result a.least a.greatest d.least d.greatest c.rect_between.ensures

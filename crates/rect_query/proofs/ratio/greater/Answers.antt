@@ -1,14 +1,8 @@
 use Rattle.rect_query.proofs.Rising.{greater_first, greater_second}
 use Rattle.rect_query.proofs.ratio.greater.Goals as goal
 
-pub returns-then-is_less : goal.returns-then-is_less
-returns-then-is_less c = record {
-  within = c.requires.b;
-  place = greater_second c.args.near.distance c.args.a c.args.b c.is_less.result c.args.near.least c.requires.a c.requires.b c.is_less.ensures c.if-is_less.true;
-}
+pub returns-then-is_less-clause-place : goal.returns-then-is_less-clause-place
+returns-then-is_less-clause-place c = greater_second c.args.near.distance c.args.a c.args.b c.is_less.result c.args.near.least c.requires.a c.requires.b c.is_less.ensures c.if-is_less.true
 
-pub returns-else-is_less : goal.returns-else-is_less
-returns-else-is_less c = record {
-  within = c.requires.a;
-  place = greater_first c.args.near.distance c.args.a c.args.b c.is_less.result c.args.near.least c.requires.a c.requires.b c.is_less.ensures c.if-is_less.false;
-}
+pub returns-else-is_less-clause-place : goal.returns-else-is_less-clause-place
+returns-else-is_less-clause-place c = greater_first c.args.near.distance c.args.a c.args.b c.is_less.result c.args.near.least c.requires.a c.requires.b c.is_less.ensures c.if-is_less.false

@@ -4,11 +4,8 @@ use Rattle.scene_reader.specs.declared.error.SceneError.TheVariants.{BadCamera}
 use Rattle.scene_reader.proofs.First.{first_of_rows, rows_within}
 use Rattle.scene_reader.proofs.checks.camera_fault.Goals as goal
 
-pub returns-in_err-i-clause-value : goal.returns-in_err-i-clause-value
-returns-in_err-i-clause-value c = rw c.from_residual.ensures (ap (option_map BadCamera) (sym (c.in_err-i.was) ∙ c.first_bad_row.ensures) ∙ first_of_rows BadCamera 0 c.args.cameras.now)
-
-pub returns-in_err-i-clause-valid : goal.returns-in_err-i-clause-valid
-returns-in_err-i-clause-valid c = λ _. rows_within 12 c.args.cameras.now c.told-cameras (sym c.first_bad_row.ensures ∙ c.in_err-i.was)
+pub returns-in_err-i : goal.returns-in_err-i
+returns-in_err-i c = record { value = rw c.from_residual.ensures (ap (option_map BadCamera) (sym (c.in_err-i.was) ∙ c.first_bad_row.ensures) ∙ first_of_rows BadCamera 0 c.args.cameras.now); valid = λ _. rows_within 12 c.args.cameras.now c.told-cameras (sym c.first_bad_row.ensures ∙ c.in_err-i.was) }
 
 pub returns-clause-value : goal.returns-clause-value
 returns-clause-value c = ap (option_map BadCamera) (sym (c.in_ok-i.was) ∙ c.first_bad_row.ensures) ∙ first_of_rows BadCamera 0 c.args.cameras.now

@@ -39,9 +39,7 @@ returns-in_err-fetch-clause-reads g c =
     rw (p.1, p.2) (reads_failed (progress_none _) (omega arith) (omega arith) c.in_err-fetch.ensures.fetches.reads)
 
 pub returns-in_err-fetch-clause-second : goal.returns-in_err-fetch-clause-second
-returns-in_err-fetch-clause-second g c =
-    let p = err_from_is_err_and c.from_residual.result c.from_residual.ensures.1 in
-    rw p.1 c.if-version-eq1.false
+returns-in_err-fetch-clause-second g c = let p = err_from_is_err_and c.from_residual.result c.from_residual.ensures.1 in rw p.1 c.if-version-eq1.false
 
 pub returns-clause-taken : goal.returns-clause-taken
 returns-clause-taken g c =

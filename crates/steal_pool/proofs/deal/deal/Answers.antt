@@ -10,33 +10,14 @@ use Rattle.steal_pool.proofs.deal.deal.Goals as goal
 pub loop-task-init : goal.loop-task-init
 loop-task-init g c = (tt, tt, search rules, search rules, refl, none_dealt (call_of c.args._pool.now) c.args.seats.now c.args.tasks.items c.requires.empty c.requires.told c.requires.room)
 
-pub push-requires-clause-owns : goal.push-requires-clause-owns
-push-requires-clause-owns g c =
+pub push-requires : goal.push-requires
+push-requires g c =
     let i = c.loop-task.invariant in
     let x = c.in-Some.task in
     let e = sym i.2 ∙ c.in-Some.ensures.steps.0 in
-    (may_push (call_of c.args._pool.now) c.args.seats.now c.loop-task.seats c.args.tasks.items _ _ x c.worker_of-worker.result c.index-seats-worker.result i.5 e (omega (arith, c.worker_of-worker.ensures.within, i.4, c.requires.many)) (c.worker_of-worker.ensures.value ∙ ap (λ (n : ℕ). x.of.bin % n) (sym c.requires.many))).owns
-
-pub push-requires-clause-told : goal.push-requires-clause-told
-push-requires-clause-told g c =
-    let i = c.loop-task.invariant in
-    let x = c.in-Some.task in
-    let e = sym i.2 ∙ c.in-Some.ensures.steps.0 in
-    (may_push (call_of c.args._pool.now) c.args.seats.now c.loop-task.seats c.args.tasks.items _ _ x c.worker_of-worker.result c.index-seats-worker.result i.5 e (omega (arith, c.worker_of-worker.ensures.within, i.4, c.requires.many)) (c.worker_of-worker.ensures.value ∙ ap (λ (n : ℕ). x.of.bin % n) (sym c.requires.many))).told
-
-pub push-requires-clause-short : goal.push-requires-clause-short
-push-requires-clause-short g c =
-    let i = c.loop-task.invariant in
-    let x = c.in-Some.task in
-    let e = sym i.2 ∙ c.in-Some.ensures.steps.0 in
-    (may_push (call_of c.args._pool.now) c.args.seats.now c.loop-task.seats c.args.tasks.items _ _ x c.worker_of-worker.result c.index-seats-worker.result i.5 e (omega (arith, c.worker_of-worker.ensures.within, i.4, c.requires.many)) (c.worker_of-worker.ensures.value ∙ ap (λ (n : ℕ). x.of.bin % n) (sym c.requires.many))).short
-
-pub push-requires-clause-room : goal.push-requires-clause-room
-push-requires-clause-room g c =
-    let i = c.loop-task.invariant in
-    let x = c.in-Some.task in
-    let e = sym i.2 ∙ c.in-Some.ensures.steps.0 in
-    (may_push (call_of c.args._pool.now) c.args.seats.now c.loop-task.seats c.args.tasks.items _ _ x c.worker_of-worker.result c.index-seats-worker.result i.5 e (omega (arith, c.worker_of-worker.ensures.within, i.4, c.requires.many)) (c.worker_of-worker.ensures.value ∙ ap (λ (n : ℕ). x.of.bin % n) (sym c.requires.many))).room
+    let may = may_push (call_of c.args._pool.now) c.args.seats.now c.loop-task.seats c.args.tasks.items _ _ x c.worker_of-worker.result c.index-seats-worker.result i.5 e (omega (arith, c.worker_of-worker.ensures.within, i.4, c.requires.many))
+    (c.worker_of-worker.ensures.value ∙ ap (λ (n : ℕ). x.of.bin % n) (sym c.requires.many)) in
+    record { owns = may.owns; told = may.told; short = may.short; room = may.room }
 
 pub loop-task-preserved : goal.loop-task-preserved
 loop-task-preserved g c =

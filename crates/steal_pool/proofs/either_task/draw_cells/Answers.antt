@@ -13,12 +13,7 @@ drain-requires-clause-cells g c =
     search (rules, is)
 
 pub drain-requires-clause-list : goal.drain-requires-clause-list
-drain-requires-clause-list g c =
-    let is = ap (λ (f : BatchedFrame). f.list) c.requires.over.frame_is in
-    search (rules, is)
+drain-requires-clause-list g c = let is = ap (λ (f : BatchedFrame). f.list) c.requires.over.frame_is in search (rules, is)
 
-pub returns-clause-bin : goal.returns-clause-bin
-returns-clause-bin g c = ap (λ (b : BinOfFrame). b.bin) c.drain.ensures.on.of
-
-pub returns-clause-whole : goal.returns-clause-whole
-returns-clause-whole g c = is_whole (call_of c.args.pool.now) c.drain.result c.args.task c.drain.new.task c.requires c.drain.ensures.on c.drain.ensures.answer c.drain.ensures.told
+pub returns : goal.returns
+returns g c = record { bin = ap (λ (b : BinOfFrame). b.bin) c.drain.ensures.on.of; whole = is_whole (call_of c.args.pool.now) c.drain.result c.args.task c.drain.new.task c.requires c.drain.ensures.on c.drain.ensures.answer c.drain.ensures.told }

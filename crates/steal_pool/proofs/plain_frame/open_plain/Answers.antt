@@ -17,14 +17,10 @@ submit_all-requires-clause-frame g c =
     search (rules, framed)
 
 pub tell_all-requires-clause-submitter : goal.tell_all-requires-clause-submitter
-tell_all-requires-clause-submitter g c =
-    let made = c.in_ok-queues in
-    submitter_on made.queues made.submitter c.submit_all.new.submitter (batches_in made.submitter.frame) c.in_ok-submit_all.ensures made.ensures.submitter
+tell_all-requires-clause-submitter g c = let made = c.in_ok-queues in submitter_on made.queues made.submitter c.submit_all.new.submitter (batches_in made.submitter.frame) c.in_ok-submit_all.ensures made.ensures.submitter
 
 pub tell_all-requires-clause-tasks : goal.tell_all-requires-clause-tasks
-tell_all-requires-clause-tasks g c =
-    let made = c.in_ok-queues in
-    are_tasks_of made.queues made.submitter.frame made.tasks.items c.as_mut_slice.result.now made.ensures.tasks c.as_mut_slice.ensures.value
+tell_all-requires-clause-tasks g c = let made = c.in_ok-queues in are_tasks_of made.queues made.submitter.frame made.tasks.items c.as_mut_slice.result.now made.ensures.tasks c.as_mut_slice.ensures.value
 
 pub returns : goal.returns
 returns g c =

@@ -1,7 +1,7 @@
-use Rattle.std.proofs.Common.{◌+◌, ◌*◌, ◌≤◌, ◌<◌, length, get_or, ap, arith, refl, rules, subst, vec_len, vec_capacity}
+use Rattle.std.proofs.Common.{◌+◌, ◌*◌, ◌≤◌, ◌<◌, length, ap, arith, refl, rules, subst, vec_len, vec_capacity}
 use Rattle.crossbeam_deque.specs.Handles.{view, stealer_deque}
 use Rattle.steal_pool.specs.Pools.{call_of}
-use Rattle.steal_pool.proofs.Seating.{of_is, pass_at, pass_room, passes_of_set, passes_set, room_kept, steals_as_role, steals_on}
+use Rattle.steal_pool.proofs.Seating.{pass_at, pass_room, passes_of_set, passes_set, room_kept, stealing_at, steals_on}
 use Rattle.steal_pool.proofs.seat.steal_round.Goals as goal
 
 pub loop-init : goal.loop-init
@@ -19,22 +19,10 @@ steal_all-requires-clause-own g c =
     search (rules, own)
 
 pub steal_all-requires-clause-steals : goal.steal_all-requires-clause-steals
-steal_all-requires-clause-steals g c =
-    let inv = c.loop.invariant in
-    let d = c.next_place-next.result in
-    let p = c.index_mut.result.now in
-    let lt : d < length c.loop.passes.items = let m = inv.0.many in let t = c.next_place-next.ensures in omega (arith, m, t) in
-    let steals = steals_as_role (call_of c.args.pool.now) (view p) (view (get_or c.loop.passes.items d p)) (ap view c.index_mut.ensures.value) (inv.0.steals d p lt) in
-    search (rules, steals)
+steal_all-requires-clause-steals g c = let here = (stealing_at stealer_deque (call_of c.args.pool.now) c.args.thieves.now c.loop.passes.items c.next_place-next.result c.index_mut.result.now c.loop.invariant.0 c.next_place-next.ensures c.index_mut.ensures.value).0 in search (rules, here)
 
 pub steal_all-requires-clause-of : goal.steal_all-requires-clause-of
-steal_all-requires-clause-of g c =
-    let inv = c.loop.invariant in
-    let d = c.next_place-next.result in
-    let p = c.index_mut.result.now in
-    let lt : d < length c.loop.passes.items = let m = inv.0.many in let t = c.next_place-next.ensures in omega (arith, m, t) in
-    let here = of_is _ (view p) _ (ap view c.index_mut.ensures.value) (inv.0.steals d p lt) in
-    search (rules, here)
+steal_all-requires-clause-of g c = let here = (stealing_at stealer_deque (call_of c.args.pool.now) c.args.thieves.now c.loop.passes.items c.next_place-next.result c.index_mut.result.now c.loop.invariant.0 c.next_place-next.ensures c.index_mut.ensures.value).1 in search (rules, here)
 
 pub steal_all-requires-clause-room : goal.steal_all-requires-clause-room
 steal_all-requires-clause-room g c =

@@ -24,17 +24,11 @@ bin_all-requires g c =
 
 pub submit_slots-requires-clause-slots : goal.submit_slots-requires-clause-slots
 submit_slots-requires-clause-slots g c =
-    let slots = c.in_ok-slots.slots in
-    let new = c.bin_all.new.slots in
-    let same : length new ≡ slots.len = search rules in
-    let is = with_items_is slots new same in
+    let is = with_items_is c.in_ok-slots.slots c.bin_all.new.slots (search rules) in
     let all = ap batches_in c.requires.frame in
     ap length is ∙ c.bin_all.ensures.many ∙ ap length c.as_mut_slice.ensures.value ∙ c.in_ok-slots.ensures ∙ sym all
 
 pub submit_slots-requires-clause-binned : goal.submit_slots-requires-clause-binned
 submit_slots-requires-clause-binned g c =
-    let slots = c.in_ok-slots.slots in
-    let new = c.bin_all.new.slots in
-    let same : length new ≡ slots.len = search rules in
-    let is = with_items_is slots new same in
+    let is = with_items_is c.in_ok-slots.slots c.bin_all.new.slots (search rules) in
     subst (λ xs. AreBinned vec_items c.args.frame.now xs) (sym is) c.bin_all.ensures.binned

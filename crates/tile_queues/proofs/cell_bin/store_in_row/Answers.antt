@@ -2,6 +2,7 @@ use Rattle.std.proofs.Common.{◌≡◌, ◌+◌, ◌-◌, true, refl, sym, subs
 use Rattle.cull_base.specs.Piece.{box_of}
 use Rattle.cull_base.specs.Rectangle.{meets}
 use Rattle.cull_base.specs.Screen.{tile_rect_of}
+use Rattle.masked_update.specs.Forms.{piece_in}
 use Rattle.masked_update.proofs.Walks.{row_number}
 use Rattle.tile_cells.specs.Cells.{Writing}
 use Rattle.tile_queues.specs.CellBins.{Stands}
@@ -13,7 +14,7 @@ store-requires-clause-met g c =
     let n = c.row_start-start.result + (c.loop-column.column - c.args.window.first_column) in
     let is = row_number c.args.window c.args.window c.args.row c.loop-column.column c.row_start-start.result refl c.row_start-start.ensures in
     let w = c.index-writers-number.result in
-    subst (λ (z : Writing). meets (box_of c.args.member.now.piece.now) (tile_rect_of c.args.member.now.list.now.list.size z.tile) ≡ true) c.index-writers-number.is (met_here c.args.member.now.cells.now c.args.member.now.list.now.list c.args.window c.args.span c.args.member.now.index c.args.row c.loop-column.column n c.loop-column.writers c.requires.window c.requires.part c.requires.row.0 c.requires.row.1 c.loop-column.auto.column c.loop-column-test.true is c.loop-column.invariant c.args.member.now.piece.now w c.index-writers-number.is c.requires.met)
+    subst (λ (z : Writing). meets (box_of (piece_in c.args.form)) (tile_rect_of c.args.member.now.list.now.list.size z.tile) ≡ true) c.index-writers-number.is (met_here c.args.member.now.cells.now c.args.member.now.list.now.list c.args.window c.args.span c.args.member.now.index c.args.row c.loop-column.column n c.loop-column.writers c.requires.window c.requires.part c.requires.row.0 c.requires.row.1 c.loop-column.auto.column c.loop-column-test.true is c.loop-column.invariant (piece_in c.args.form) w c.index-writers-number.is c.requires.met)
 
 pub store-requires-clause-stands : goal.store-requires-clause-stands
 store-requires-clause-stands g c =

@@ -7,23 +7,14 @@ use Rattle.bin_queues.specs.Tasks.{Tasking}
 use Rattle.bin_queues.proofs.GoingOn.{first_task_at}
 use Rattle.tile_queues.proofs.plain_tasks.plain_tasks.Goals as goal
 
-pub first_task-requires-clause-frame : goal.first_task-requires-clause-frame
-first_task-requires-clause-frame c =
+pub first_task-requires : goal.first_task-requires
+first_task-requires c =
     let i = c.loop-intake.invariant in
     let n = length c.loop-intake.tasks.items in
     let x = c.in-Some.intake in
     let t = turn c.args.intakes.items n x _ (sym i.2 ∙ c.in-Some.ensures.steps.0) in
     let at = first_task_at c.args._queues.now (over c.args.frame.now []) c.args.intakes.items n x t.1 t.2 c.requires in
-    ap (λ (k : Tasking). k.of.frame) at.1
-
-pub first_task-requires-clause-first : goal.first_task-requires-clause-first
-first_task-requires-clause-first c =
-    let i = c.loop-intake.invariant in
-    let n = length c.loop-intake.tasks.items in
-    let x = c.in-Some.intake in
-    let t = turn c.args.intakes.items n x _ (sym i.2 ∙ c.in-Some.ensures.steps.0) in
-    let at = first_task_at c.args._queues.now (over c.args.frame.now []) c.args.intakes.items n x t.1 t.2 c.requires in
-    ap (λ (k : Tasking). k.batches) at.1
+    record { frame = ap (λ (k : Tasking). k.of.frame) at.1; first = ap (λ (k : Tasking). k.batches) at.1 }
 
 pub loop-intake-preserved : goal.loop-intake-preserved
 loop-intake-preserved c =

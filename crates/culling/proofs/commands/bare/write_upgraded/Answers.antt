@@ -4,18 +4,8 @@ use Rattle.command_words.specs.declared.table.BareCommand.TheVariants.{Upgrade}
 use Rattle.command_words.specs.declared.table.Command.TheVariants.{Bare}
 use Rattle.cull_base.specs.Stream.{Writes}
 use Rattle.scene_reader.specs.Layout.{Parts, layout, upgraded}
-use Rattle.culling.proofs.Comings.{failed_read, layout_some, unwritten_comes, written_comes}
+use Rattle.culling.proofs.Comings.{layout_some, read_failed, unwritten_comes, written_comes}
 use Rattle.culling.proofs.commands.bare.write_upgraded.Goals as goal
-
-pub returns-in_err-scene : goal.returns-in_err-scene
-returns-in_err-scene g c =
-    let p = err_from_is_err_and c.from_residual.result c.from_residual.ensures.1 in
-    let read = c.in_err-scene.ensures in
-    rw (p.1, p.2)
-    (record {
-      outcome = failed_read (Bare Upgrade) (g.S.Source.says c.args.input.now) (g.S.Source.says c.read_scene.new.source) (g.W.Sink.says c.args.report.now)
-          (g.E.Sink.says c.args._notes.now) c.in_err-scene.field-0.0 _ _ refl read.refused (λ is. read.read (ap Err is)) refl refl;
-    })
 
 pub returns-in_err-write_scene : goal.returns-in_err-write_scene
 returns-in_err-write_scene g c =
@@ -38,4 +28,12 @@ returns g c =
     record {
       outcome = written_comes (Bare Upgrade) s (layout (upgraded s)) (g.S.Source.says c.args.input.now) (g.S.Source.says c.read_scene.new.source) r0 r1 (g.E.Sink.says c.args._notes.now) tt _ _
           (refl, refl) (layout_some (upgraded s)) c.in_ok-scene.ensures.ok c.in_ok-scene.ensures.layout refl writes;
+    }
+
+pub returns-in_err-scene : goal.returns-in_err-scene
+returns-in_err-scene g c =
+    let p = err_from_is_err_and c.from_residual.result c.from_residual.ensures.1 in
+    record {
+      outcome = read_failed (Bare Upgrade) (g.S.Source.says c.args.input.now) (g.S.Source.says c.read_scene.new.source) (g.W.Sink.says c.args.report.now) (g.E.Sink.says c.args._notes.now) c.in_err-scene.field-0.0 p.0 c.from_residual.result _ _
+          p.1 p.2 refl c.in_err-scene.ensures.refused (λ is. c.in_err-scene.ensures.read (ap Err is)) refl refl;
     }

@@ -6,18 +6,16 @@ use Rattle.cull_report.specs.Scene.{scene_header}
 use Rattle.culling.specs.FrameRuns.{LeavesFrames}
 use Rattle.culling.specs.declared.frames.Beside.{Beside}
 use Rattle.culling.specs.declared.frames.FrameLines.TheVariants.{Report}
-use Rattle.culling.proofs.Comings.{cull_comes, failed_read}
+use Rattle.culling.proofs.Comings.{cull_comes, read_failed}
 use Rattle.culling.proofs.commands.cull.cull.Goals as goal
 
 pub returns-in_err-scene : goal.returns-in_err-scene
 returns-in_err-scene g c =
     let p = err_from_is_err_and c.from_residual.result c.from_residual.ensures.1 in
-    let read = c.in_err-scene.ensures in
-    rw (p.1, p.2)
-    (record {
-      outcome = failed_read (Cull c.args.words.now) (g.S.Source.says c.args.input.now) (g.S.Source.says c.read_scene.new.source) (g.W.Sink.says c.args.report.now)
-          (g.E.Sink.says c.args.notes.now) c.in_err-scene.field-0.0 _ _ refl read.refused (λ is. read.read (ap Err is)) refl refl;
-    })
+    record {
+      outcome = read_failed (Cull c.args.words.now) (g.S.Source.says c.args.input.now) (g.S.Source.says c.read_scene.new.source) (g.W.Sink.says c.args.report.now) (g.E.Sink.says c.args.notes.now) c.in_err-scene.field-0.0 p.0 c.from_residual.result _ _
+          p.1 p.2 refl c.in_err-scene.ensures.refused (λ is. c.in_err-scene.ensures.read (ap Err is)) refl refl;
+    }
 
 at_least_one : (group : Option ℕ) → IfSome group (λ n. (1 ≤ n) × (n ≤ 64)) → IfSome group (λ n. 1 ≤ n)
 at_least_one None h = tt

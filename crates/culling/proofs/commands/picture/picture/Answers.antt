@@ -1,18 +1,16 @@
 use Rattle.std.proofs.Common.{◌≡◌, ◌<◌, length, arith, ap, refl, Err}
 use Rattle.std.proofs.lemmas.Result.{err_from_is_err_and}
 use Rattle.command_words.specs.declared.table.Command.TheVariants.{Picture}
-use Rattle.culling.proofs.Comings.{failed_read, missing_comes, picture_comes}
+use Rattle.culling.proofs.Comings.{missing_comes, picture_comes, read_failed}
 use Rattle.culling.proofs.commands.picture.picture.Goals as goal
 
 pub returns-in_err-scene : goal.returns-in_err-scene
 returns-in_err-scene g c =
     let p = err_from_is_err_and c.from_residual.result c.from_residual.ensures.1 in
-    let read = c.in_err-scene.ensures in
-    rw (p.1, p.2)
-    (record {
-      outcome = failed_read (Picture c.args.words.now) (g.S.Source.says c.args.input.now) (g.S.Source.says c.read_scene.new.source) (g.W.Sink.says c.args.report.now)
-          (g.E.Sink.says c.args._notes.now) c.in_err-scene.field-0.0 _ _ refl read.refused (λ is. read.read (ap Err is)) refl refl;
-    })
+    record {
+      outcome = read_failed (Picture c.args.words.now) (g.S.Source.says c.args.input.now) (g.S.Source.says c.read_scene.new.source) (g.W.Sink.says c.args.report.now) (g.E.Sink.says c.args._notes.now) c.in_err-scene.field-0.0 p.0 c.from_residual.result _ _
+          p.1 p.2 refl c.in_err-scene.ensures.refused (λ is. c.in_err-scene.ensures.read (ap Err is)) refl refl;
+    }
 
 pub returns-then-frames-frame : goal.returns-then-frames-frame
 returns-then-frames-frame g c =

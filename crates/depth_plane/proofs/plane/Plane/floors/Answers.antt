@@ -6,4 +6,4 @@ pub returns-in-Some-clause-raised : goal.returns-in-Some-clause-raised
 returns-in-Some-clause-raised c = λ x plane piece j lt. low_of-raised x (sub_in c.args.tile j) c.args.self.now _ plane piece (c.in-Some.ensures j lt)
 
 pub returns-in-None-clause-raised : goal.returns-in-None-clause-raised
-returns-in-None-clause-raised c = λ x plane piece j lt. low_of-raised x (sub_in c.args.tile j) c.args.self.now _ plane piece (c.floors_in_turn.ensures j lt)
+returns-in-None-clause-raised c = λ x plane piece j lt. low_of-raised x (sub_in c.args.tile j) c.args.self.now _ plane piece (c.floors_read.ensures j lt)

@@ -7,12 +7,12 @@ use Rattle.depth_plane.proofs.plane.Plane.high.Goals as goal
 
 pub returns-clause-value : goal.returns-clause-value
 returns-clause-value c =
-    let fl : FitsSigned w128 c.greatest.result = search rules in
+    let fl : FitsSigned w128 c.outermost.result = search rules in
     let ff : FitsSigned w128 c.ceiling.result = search rules in
     let fx : FitsSigned w128 c.from-nearness.result = search rules in
     let fm : FitsSigned w128 c.min.result = search rules in
-    high_of-computed c.args.tri.now c.args.sub c.args.self.now c.greatest_nearness.result c.cut_to_range.result c.from-nearness.result c.greatest.result (pos c.self.inside.area) c.ceiling.result c.min.result
-    c.requires.plane c.greatest_nearness.ensures.value c.from-nearness.ensures c.greatest.ensures.value (ap (λ (v : Coefficients). v.area) c.self.view_is)
+    high_of-computed c.args.tri.now c.args.sub c.args.self.now c.greatest_nearness.result c.cut_to_range.result c.from-nearness.result c.outermost.result (pos c.self.inside.area) c.ceiling.result c.min.result
+    c.requires.plane c.greatest_nearness.ensures.value c.from-nearness.ensures c.outermost.ensures.value (ap (λ (v : Coefficients). v.area) c.self.view_is)
     (simp to_z-of_z at c.ceiling.ensures) (simp to_z-of_z at c.min.ensures.value) (simp to_z-of_z at c.cut_to_range.ensures.value)
 
 pub returns-clause-above : goal.returns-clause-above

@@ -69,6 +69,7 @@ invariant_of-result c =
       step_bounded = simp to_z-of_z bb;
       are_rows = simp to_z-of_z (eight_rows t);
       is_limit = v.is_limit;
+      are_limits = refl;
     }
 
 pub returns-clause-crossed : goal.returns-clause-crossed

@@ -1,19 +1,13 @@
-use Rattle.std.proofs.Common.{arith, FitsSigned, w32, ℕ, ℤ, ◌<◌, ◌^◌, ◌+◌, ◌+ℤ◌}
+use Rattle.std.proofs.Common.{arith, ℕ, ℤ, ◌<◌, ◌^◌, ◌+◌}
 use Rattle.std.proofs.lemmas.Int.{ints}
 use Rattle.cull_base.specs.Bounds.{Bounded}
 use Rattle.edge_lanes.specs.Lanes.{subtile_step}
-use Rattle.edge_lanes.proofs.Lanes.{all_of_eight, mask_of_eight, narrow_lane_test}
+use Rattle.edge_lanes.proofs.Lanes.{all_of_eight, mask_of_eight, narrow_bounded_test}
 use Rattle.edge_lanes.proofs.Subtiles.{narrow_moved_fits, narrow_step-bounded}
 use Rattle.edge_lanes.proofs.narrow_edge.NarrowEdge.subtile_signs.Goals as goal
 
 wider : (s : ℤ) → Bounded (2 ^ 30 + 2 ^ 24) s → Bounded (2 ^ 30 + 2 ^ 26) s
 wider s b = omega (arith, ints)
-
-step_fits : (o : ℤ) → Bounded (2 ^ 25) o → FitsSigned w32 o
-step_fits o b = omega (arith, ints)
-
-sum_fits : (s o : ℤ) → Bounded (2 ^ 30 + 2 ^ 24) s → Bounded (2 ^ 25) o → FitsSigned w32 (s +ℤ o)
-sum_fits s o b d = omega (arith, ints)
 
 pub overflow_add-result : goal.overflow_add-result
 overflow_add-result c =
@@ -23,5 +17,4 @@ overflow_add-result c =
 pub returns : goal.returns
 returns c =
     let e = c.args.self.now in let are = e.are_subtiles in
-    let near = λ (k : ℕ) (l : k < 8). narrow_step-bounded e.column e.row k l e.column_bounded e.row_bounded in
-    rw are (mask_of_eight _ _ (λ (k : ℕ) (l : k < 8). narrow_lane_test c.args.value (subtile_step e.column e.row k) c.ranges.value (step_fits (subtile_step e.column e.row k) (near k l)) (sum_fits c.args.value (subtile_step e.column e.row k) c.requires (near k l))))
+    rw are (mask_of_eight _ _ (λ (k : ℕ) (l : k < 8). narrow_bounded_test c.args.value (subtile_step e.column e.row k) c.requires (narrow_step-bounded e.column e.row k l e.column_bounded e.row_bounded)))

@@ -1,8 +1,8 @@
-use Rattle.std.proofs.Common.{arith, ℕ, pos, ◌+ℤ◌, ◌*ℤ◌, ◌<◌, ◌∙◌, not}
+use Rattle.std.proofs.Common.{arith, ℕ, ℤ, Bool, pos, ◌+ℤ◌, ◌*ℤ◌, ◌<◌, not}
 use Rattle.std.proofs.lemmas.Int.{ints}
 use Rattle.edge_lanes.specs.Lanes.{is_not_negative}
-use Rattle.edge_lanes.proofs.Lanes.{mask_of_eight}
-use Rattle.edge_lanes.proofs.Masks.{row_of_test}
+use Rattle.edge_lanes.specs.declared.small_edge.SmallEdge.{SmallEdge}
+use Rattle.edge_lanes.proofs.Masks.{row_of_lanes}
 use Rattle.edge_lanes.proofs.SmallLanes.{few_steps-bounded, first_short_test, second_short_test, third_short_test, fourth_short_test}
 use Rattle.edge_lanes.proofs.small_edge.SmallEdge.outside.Goals as goal
 
@@ -18,26 +18,17 @@ overflow_add-third c = let are = c.args.self.now.are_columns in rw are (omega (a
 pub overflow_add-fourth : goal.overflow_add-fourth
 overflow_add-fourth c = let are = c.args.self.now.are_columns in rw are (omega (arith, ints, c.requires, c.args.self.now.column_bounded, c.args.self.now.row_bounded, c.ranges))
 
+abbrev tests : SmallEdge → ℤ → ℕ → ℕ → Bool
+tests e s r k = not (is_not_negative ((s +ℤ (e.row *ℤ pos r)) +ℤ (e.column *ℤ pos k)))
+
 pub returns-clause-first : goal.returns-clause-first
-returns-clause-first c =
-    let e = c.args.self.now in let s = c.args.start in let are = e.are_columns in
-    rw are (mask_of_eight _ _ (λ (k : ℕ) (l : k < 8). first_short_test s (e.column *ℤ pos k) e.row c.requires (few_steps-bounded e.column k (omega arith) e.column_bounded) e.row_bounded)
-    ∙ row_of_test (λ (r : ℕ) (k : ℕ). not (is_not_negative ((s +ℤ (e.row *ℤ pos r)) +ℤ (e.column *ℤ pos k)))) 0)
+returns-clause-first c = let e = c.args.self.now in let are = e.are_columns in rw are (row_of_lanes _ (tests e c.args.start) 0 (λ (k : ℕ) (l : k < 8). first_short_test c.args.start (e.column *ℤ pos k) e.row c.requires (few_steps-bounded e.column k (omega arith) e.column_bounded) e.row_bounded))
 
 pub returns-clause-second : goal.returns-clause-second
-returns-clause-second c =
-    let e = c.args.self.now in let s = c.args.start in let are = e.are_columns in
-    rw are (mask_of_eight _ _ (λ (k : ℕ) (l : k < 8). second_short_test s (e.column *ℤ pos k) e.row c.requires (few_steps-bounded e.column k (omega arith) e.column_bounded) e.row_bounded)
-    ∙ row_of_test (λ (r : ℕ) (k : ℕ). not (is_not_negative ((s +ℤ (e.row *ℤ pos r)) +ℤ (e.column *ℤ pos k)))) 1)
+returns-clause-second c = let e = c.args.self.now in let are = e.are_columns in rw are (row_of_lanes _ (tests e c.args.start) 1 (λ (k : ℕ) (l : k < 8). second_short_test c.args.start (e.column *ℤ pos k) e.row c.requires (few_steps-bounded e.column k (omega arith) e.column_bounded) e.row_bounded))
 
 pub returns-clause-third : goal.returns-clause-third
-returns-clause-third c =
-    let e = c.args.self.now in let s = c.args.start in let are = e.are_columns in
-    rw are (mask_of_eight _ _ (λ (k : ℕ) (l : k < 8). third_short_test s (e.column *ℤ pos k) e.row c.requires (few_steps-bounded e.column k (omega arith) e.column_bounded) e.row_bounded)
-    ∙ row_of_test (λ (r : ℕ) (k : ℕ). not (is_not_negative ((s +ℤ (e.row *ℤ pos r)) +ℤ (e.column *ℤ pos k)))) 2)
+returns-clause-third c = let e = c.args.self.now in let are = e.are_columns in rw are (row_of_lanes _ (tests e c.args.start) 2 (λ (k : ℕ) (l : k < 8). third_short_test c.args.start (e.column *ℤ pos k) e.row c.requires (few_steps-bounded e.column k (omega arith) e.column_bounded) e.row_bounded))
 
 pub returns-clause-fourth : goal.returns-clause-fourth
-returns-clause-fourth c =
-    let e = c.args.self.now in let s = c.args.start in let are = e.are_columns in
-    rw are (mask_of_eight _ _ (λ (k : ℕ) (l : k < 8). fourth_short_test s (e.column *ℤ pos k) e.row c.requires (few_steps-bounded e.column k (omega arith) e.column_bounded) e.row_bounded)
-    ∙ row_of_test (λ (r : ℕ) (k : ℕ). not (is_not_negative ((s +ℤ (e.row *ℤ pos r)) +ℤ (e.column *ℤ pos k)))) 3)
+returns-clause-fourth c = let e = c.args.self.now in let are = e.are_columns in rw are (row_of_lanes _ (tests e c.args.start) 3 (λ (k : ℕ) (l : k < 8). fourth_short_test c.args.start (e.column *ℤ pos k) e.row c.requires (few_steps-bounded e.column k (omega arith) e.column_bounded) e.row_bounded))

@@ -4,7 +4,7 @@ use Rattle.std.proofs.lemmas.Int.{to_z-of_z}
 use Rattle.edge_lanes.specs.Lanes.{columns, row_of, is_not_negative}
 use Rattle.edge_lanes.specs.Lines.{Line, inside_from}
 use Rattle.edge_lanes.specs.Inside.{wide_line}
-use Rattle.edge_lanes.proofs.Masks.{row_of_test, row_of-lt}
+use Rattle.edge_lanes.proofs.Masks.{row_byte, row_of_test}
 use Rattle.edge_lanes.proofs.wide_edge.WideEdge.row_of.Goals as goal
 
 joined : (e : Line) (s t v : ℤ) (row m : ℕ) → m ≡ mask_l (map (λ c. is_not_negative (t +ℤ (e.column *ℤ pos c))) columns) → t ≡ s +ℤ v → v ≡ e.row *ℤ pos row → m ≡ row_of (inside_from e s) row
@@ -20,4 +20,4 @@ returns-clause-value c =
     (simp to_z-of_z at c.columns.ensures) (simp to_z-of_z at c.move_by.ensures.value) (simp to_z-of_z at c.steps.ensures.value)
 
 pub returns-clause-byte : goal.returns-clause-byte
-returns-clause-byte c = let v = returns-clause-value c in rw v (row_of-lt _ _)
+returns-clause-byte c = row_byte _ _ _ (returns-clause-value c)

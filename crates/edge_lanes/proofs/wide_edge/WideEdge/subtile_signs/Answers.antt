@@ -1,16 +1,9 @@
-use Rattle.std.proofs.Common.{arith, FitsSigned, rules, w64, ℕ, ℤ, ◌<◌, ◌^◌, ◌+◌, ◌+ℤ◌}
-use Rattle.std.proofs.lemmas.Int.{ints, to_z-of_z}
-use Rattle.cull_base.specs.Bounds.{Bounded}
+use Rattle.std.proofs.Common.{FitsSigned, rules, w64, ℕ, ◌<◌}
+use Rattle.std.proofs.lemmas.Int.{to_z-of_z}
 use Rattle.edge_lanes.specs.Lanes.{subtile_step}
-use Rattle.edge_lanes.proofs.Lanes.{all_of_eight, lane_test, mask_of_eight}
+use Rattle.edge_lanes.proofs.Lanes.{all_of_eight, bounded_test, mask_of_eight}
 use Rattle.edge_lanes.proofs.Subtiles.{moved_fits, wide_step-bounded}
 use Rattle.edge_lanes.proofs.wide_edge.WideEdge.subtile_signs.Goals as goal
-
-step_fits : (o : ℤ) → Bounded (2 ^ 40) o → FitsSigned w64 o
-step_fits o b = omega (arith, ints)
-
-sum_fits : (s o : ℤ) → Bounded (2 ^ 61 + 2 ^ 49) s → Bounded (2 ^ 40) o → FitsSigned w64 (s +ℤ o)
-sum_fits s o b d = omega (arith, ints)
 
 pub overflow_add-result : goal.overflow_add-result
 overflow_add-result c =
@@ -24,6 +17,4 @@ returns c =
     let e = c.args.self.now in
     let fc : FitsSigned w64 e.column = search rules in let fr : FitsSigned w64 e.row = search rules in
     let are = simp to_z-of_z at c.subtile_steps.ensures in
-    let near = λ (k : ℕ) (l : k < 8). wide_step-bounded e.column e.row k l e.column_bounded e.row_bounded in
-    let test = λ (k : ℕ) (l : k < 8). lane_test c.args.value (subtile_step e.column e.row k) c.ranges.value (step_fits (subtile_step e.column e.row k) (near k l)) (sum_fits c.args.value (subtile_step e.column e.row k) c.requires (near k l)) in
-    rw are (mask_of_eight _ _ test)
+    rw are (mask_of_eight _ _ (λ (k : ℕ) (l : k < 8). bounded_test c.args.value (subtile_step e.column e.row k) c.requires (wide_step-bounded e.column e.row k l e.column_bounded e.row_bounded)))

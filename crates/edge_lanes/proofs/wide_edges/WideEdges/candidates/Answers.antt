@@ -1,14 +1,11 @@
 use Rattle.std.proofs.Common.{arith, FitsSigned, w64}
 use Rattle.std.proofs.lemmas.Int.{to_z-of_z}
-use Rattle.edge_lanes.specs.Inside.{wide_lines}
-use Rattle.edge_lanes.proofs.Subtiles.{candidates_of_all-lt}
+use Rattle.edge_lanes.specs.Inside.{wide_line}
+use Rattle.edge_lanes.proofs.Subtiles.{candidates_byte}
 use Rattle.edge_lanes.proofs.wide_edges.WideEdges.candidates.Goals as goal
 
 pub returns-clause-byte : goal.returns-clause-byte
-returns-clause-byte c =
-    let fs : FitsSigned w64 c.args.first = c.ranges.first in let ft : FitsSigned w64 c.args.second = c.ranges.second in let fu : FitsSigned w64 c.args.third = c.ranges.third in
-    let a = simp to_z-of_z at c.candidates-first.ensures in let b = simp to_z-of_z at c.candidates-second.ensures in let d = simp to_z-of_z at c.candidates-third.ensures in
-    rw (a, b, d) (candidates_of_all-lt (wide_lines c.args.self.now) c.args.first c.args.second c.args.third)
+returns-clause-byte c = let fu : FitsSigned w64 c.args.third = c.ranges.third in candidates_byte c.candidates-first.result c.candidates-second.result c.candidates-third.result (wide_line c.args.self.now.third) c.args.third (simp to_z-of_z at c.candidates-third.ensures)
 
 pub overflow_cast-result : goal.overflow_cast-result
 overflow_cast-result c = let byte = returns-clause-byte c in omega arith

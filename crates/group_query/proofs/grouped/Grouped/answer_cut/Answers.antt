@@ -1,16 +1,14 @@
 use Rattle.std.proofs.Common.{◌-◌, arith, ap}
 use Rattle.cull_report.specs.Scene.{verdicts_in}
 use Rattle.group_query.specs.declared.grouping.Group.{Group}
-use Rattle.group_query.proofs.Answered.{answered_none}
+use Rattle.group_query.proofs.Answered.{answered_same}
 use Rattle.group_query.proofs.grouped.Grouped.answer_cut.Goals as goal
 
 pub returns-then-begun-eq0-clause-next : goal.returns-then-begun-eq0-clause-next
 returns-then-begun-eq0-clause-next g c d lt = c.requires.begun.behind c.args.begun d (omega arith) lt
 
 pub returns-then-begun-eq0-clause-verdicts : goal.returns-then-begun-eq0-clause-verdicts
-returns-then-begun-eq0-clause-verdicts g c =
-    let a = c.args.self.now.asked.now in
-    answered_none (verdicts_in a.scene.now a.frame (g.V.TileView.tile_of a.view.now)) c.args.verdicts.now.items c.args.place (c.args.place - c.args.place) (omega arith)
+returns-then-begun-eq0-clause-verdicts g c = let a = c.args.self.now.asked.now in answered_same (verdicts_in a.scene.now a.frame (g.V.TileView.tile_of a.view.now)) c.args.verdicts.now.items c.args.place
 
 pub group_at-group-requires : goal.group_at-group-requires
 group_at-group-requires g c = omega (arith, c.requires.begun.within, c.if-begun-eq0.false)
@@ -19,9 +17,7 @@ pub returns-then-next-place-clause-next : goal.returns-then-next-place-clause-ne
 returns-then-next-place-clause-next g c d lt = c.requires.begun.behind c.args.begun d (omega arith) lt
 
 pub returns-then-next-place-clause-verdicts : goal.returns-then-next-place-clause-verdicts
-returns-then-next-place-clause-verdicts g c =
-    let a = c.args.self.now.asked.now in
-    answered_none (verdicts_in a.scene.now a.frame (g.V.TileView.tile_of a.view.now)) c.args.verdicts.now.items c.args.place (c.args.place - c.args.place) (omega arith)
+returns-then-next-place-clause-verdicts g c = let a = c.args.self.now.asked.now in answered_same (verdicts_in a.scene.now a.frame (g.V.TileView.tile_of a.view.now)) c.args.verdicts.now.items c.args.place
 
 pub answer_alone-requires-clause-within : goal.answer_alone-requires-clause-within
 answer_alone-requires-clause-within g c = omega (arith, c.min-next.ensures, c.requires.end, c.if-next-place.false)

@@ -30,8 +30,8 @@ returns-then-not-is_short c =
     let number = number_is p.row p.column c.tile_columns.result c.from.result c.from-2.result (tile_columns_of s.size) c.from.ensures c.from-2.ensures columns in
     record { took = took_not (p.row * tile_columns_of s.size + p.column) c.args.piece.now c.args.index s (ap (λ (n : ℕ). is_short_at s n c.args.index) (sym number) ∙ sym c.is_short.ensures ∙ c.if-not-is_short.true) }
 
-pub take_at-requires : goal.take_at-requires
-take_at-requires c =
+pub take_form-requires : goal.take_form-requires
+take_form-requires c =
     let s = c.args.self.now in let p = c.args.place in
     let columns : c.tile_columns.result ≡ tile_columns_of s.size = c.tile_columns.ensures.value ∙ ap (λ (x : TilesOf). tile_columns_of x.size) c.self.view_is in
     let number = number_is p.row p.column c.tile_columns.result c.from.result c.from-2.result (tile_columns_of s.size) c.from.ensures c.from-2.ensures columns in
@@ -41,6 +41,7 @@ take_at-requires c =
     let sizes = ap (λ (x : TilesOf). x.size) c.self.view_is in
     record {
       count = omega (arith, c.requires.few short, ap (λ (x : TileOf). x.count) here);
+      form = (c.reached_on.ensures.reached, c.reached_on.ensures.size);
       column = omega (arith, c.requires.column, ap tile_columns_of sizes);
       row = omega (arith, c.requires.row, ap tile_rows_of sizes);
     }
@@ -55,12 +56,12 @@ returns c =
     let short : is_short_at s n c.args.index ≡ true = ap (λ (m : ℕ). is_short_at s m c.args.index) (sym number) ∙ sym c.is_short.ensures ∙ c.if-not-is_short.false in
     let lt = number_below p.row (tile_rows_of s.size) p.column (tile_columns_of s.size) c.requires.row c.requires.column in
     let here = state_read c.self.inside.states.items (c.from.result * c.tile_columns.result + c.from-2.result) n c.index_mut.result.now c.self.inside.size s c.self.view_is c.self.invariant.states number lt c.index_mut.ensures.value in
-    let taken : c.take_at.new.self ≡ taken_at s.size p x (tile_at s.states n) = c.take_at.ensures ∙ ap (λ (d : Dimensions). taken_at d p x c.index_mut.result.now) (ap (λ (y : TilesOf). y.size) c.self.view_is) ∙ ap (taken_at s.size p x) here in
+    let taken : c.take_form.new.self ≡ taken_at s.size p x (tile_at s.states n) = c.take_form.ensures ∙ ap (λ (d : Dimensions). taken_at d p x c.index_mut.result.now) (ap (λ (y : TilesOf). y.size) c.self.view_is) ∙ ap (taken_at s.size p x) here in
     let at = place_of_number s.size p.row p.column c.requires.column in
     let v = c.self.view_is in
     record {
       took = took_one n x c.args.index s _ lt (subst AreWhole v c.self.invariant) short (ap (λ (y : TilesOf). y.size) v) (ap (λ (y : TilesOf). y.stated) v)
-          (ap (λ (m : ℕ). set c.self.inside.states.items m c.take_at.new.self) number ∙ ap (λ (y : TilesOf). set y.states n c.take_at.new.self) v
+          (ap (λ (m : ℕ). set c.self.inside.states.items m c.take_form.new.self) number ∙ ap (λ (y : TilesOf). set y.states n c.take_form.new.self) v
           ∙ ap (λ (y : TileOf). set s.states n y) (taken ∙ ap (λ (q : Tile). taken_at s.size q x (tile_at s.states n)) (sym at)))
           (ap (λ (m : ℕ). set c.self.inside.behind.items m (c.args.index + 1)) number ∙ ap (λ (y : TilesOf). set y.behind n (c.args.index + 1)) v);
     }

@@ -4,7 +4,7 @@ use Rattle.masked_update.specs.Merged.{IsSubBox, merged_by}
 use Rattle.masked_update.proofs.piece_setup.PieceSetup.merge_into.Goals as goal
 
 pub merge_into-requires-clause-edges : goal.merge_into-requires-clause-edges
-merge_into-requires-clause-edges c = c.self.invariant.edges_cover
+merge_into-requires-clause-edges c u lc lr = c.view.ensures u ∙ c.self.invariant.edges_cover u lc lr
 
 pub merge_into-requires-clause-reached : goal.merge_into-requires-clause-reached
 merge_into-requires-clause-reached c = subst (λ (y : Piece). IsSubBox (box_of y) c.args.reached.now) (sym c.self.view_is) c.requires.reached

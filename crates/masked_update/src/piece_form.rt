@@ -1,0 +1,17 @@
+//! A piece as far as it is set up for the tiles that take it.
+
+use crate::piece_setup::PieceSetup;
+use crate::small_piece::SmallPiece;
+use crate::sub_span::SubBox;
+use cull_base::ScreenTri;
+
+/// A piece in a form in which any tile takes it, and the subtiles of a screen that it reaches.
+#[derive(Clone, Copy)]
+pub enum PieceForm<'a> {
+    /// Not set up: a tile that it may change sets it up by itself.
+    Bare(&'a ScreenTri),
+    /// A piece of a few pixels.
+    Small(&'a SmallPiece, &'a SubBox),
+    /// Any piece.
+    Whole(&'a PieceSetup, &'a SubBox),
+}
