@@ -47,8 +47,8 @@ pub(crate) fn box_around(x: &[i32; 3], y: &[i32; 3]) -> Rect
     pixels(left, top, right, bottom)
 }
 
-// The first pixels whose middle isn't before the least coordinates, and the first whose middle, and that of each one past
-// them, is past the greatest.
+// The first pixels whose middle isn't before the least coordinates, and the first whose middle, and that of each one
+// past them, is past the greatest.
 #[inline(always)]
 fn samples(left: i32, top: i32, right: i32, bottom: i32) -> Rect
     requires left { IsCoordinate left }

@@ -11,7 +11,7 @@ use Rattle.cull_base.proofs.Ring.{diff-mul, diff-same, pos_is, over1}
 use Rattle.cull_base.specs.declared.place.Sub.{Sub}
 use Rattle.cull_base.specs.declared.place.Tile.{Tile}
 use Rattle.depth_plane.specs.Plane.{Coefficients, numerator_at, IsNarrow, least_in, sub_in}
-use Rattle.depth_plane.specs.Corner.{best_of, least_place, place_of}
+use Rattle.depth_plane.specs.Corner.{best_of, least_place, end_place}
 use Rattle.depth_plane.specs.declared.corner.End.{End}
 use Rattle.depth_plane.specs.declared.corner.End.TheVariants.{Least, Greatest}
 use Rattle.depth_plane.specs.Floors.{number_at}
@@ -88,13 +88,13 @@ sum_end Least a b p q l h k = omega (arith, ints, h, k)
 sum_end Greatest a b p q l h k = omega (arith, ints, h, k)
 
 -- along one axis, whose last place is h from the first
-axis : (end : End) (n : ℤ) (x h i : ℕ) → i ≤ h → AtEnd end (n *ℤ pos (x + place_of end n h)) (n *ℤ pos (x + i))
+axis : (end : End) (n : ℤ) (x h i : ℕ) → i ≤ h → AtEnd end (n *ℤ pos (x + end_place end n h)) (n *ℤ pos (x + i))
 axis Least (pos n) x h i le = let l : x + 0 ≤ x + i = omega arith in omega (arith, ints, mul-le-mul_left n l)
 axis Least (negsuc n) x h i le = let l : x + i ≤ x + h = omega arith in omega (arith, ints, mul-le-mul_left (suc n) l)
 axis Greatest (pos n) x h i le = let l : x + i ≤ x + h = omega arith in omega (arith, ints, mul-le-mul_left n l)
 axis Greatest (negsuc n) x h i le = let l : x + 0 ≤ x + i = omega arith in omega (arith, ints, mul-le-mul_left (suc n) l)
 
-place_is : (end : End) (n : ℤ) (h : ℕ) → (place_of end n h ≡ 0) ⊎ (place_of end n h ≡ h)
+place_is : (end : End) (n : ℤ) (h : ℕ) → (end_place end n h ≡ 0) ⊎ (end_place end n h ≡ h)
 place_is Least (pos n) h = inl refl
 place_is Least (negsuc n) h = inr refl
 place_is Greatest (pos n) h = inr refl
@@ -120,11 +120,11 @@ sample_at c u k =
 sample_is : (c : Coefficients) (u : Sub) (k i j x y : ℕ) → 16 * (k % 8) ≡ i → 16 * (k / 8) ≡ j → x ≡ (16 * (8 * u.column) + 8) + i → y ≡ (16 * (4 * u.row) + 8) + j → numerator_at c (sample u k) ≡ numerator_at c (at x y)
 sample_is c u k i j x y ei ej ex ey = rw (ex, ey, ← ei, ← ej) (sample_at c u k)
 
-pub corner_best : (end : End) (c : Coefficients) (u : Sub) (x y : ℕ) → x ≡ (16 * (8 * u.column) + 8) + place_of end c.across 112 → y ≡ (16 * (4 * u.row) + 8) + place_of end c.down 48 →
+pub corner_best : (end : End) (c : Coefficients) (u : Sub) (x y : ℕ) → x ≡ (16 * (8 * u.column) + 8) + end_place end c.across 112 → y ≡ (16 * (4 * u.row) + 8) + end_place end c.down 48 →
     numerator_at c (at x y) ≡ best_of end (each_sample (λ k. numerator_at c (sample u k)))
 corner_best end c u x y ex ey =
     let left = 16 * (8 * u.column) + 8 in let top = 16 * (4 * u.row) + 8 in
-    let across = place_of end c.across 112 in let down = place_of end c.down 48 in
+    let across = end_place end c.across 112 in let down = end_place end c.down 48 in
     let (k, lt, i, j) = corner across down (place_is end c.across 112) (place_is end c.down 48) in
     let there : numerator_at c (at x y) ≡ numerator_at c (at (left + across) (top + down)) = rw (ex, ey) refl in
     best_is end (λ k. numerator_at c (sample u k)) (numerator_at c (at x y)) k lt (sample_is c u k across down x y i j ex ey)

@@ -14,9 +14,9 @@ greatest_place (pos n) span = span
 greatest_place (negsuc n) span = 0
 
 -- either place, and either value of some
-abbrev pub place_of : End → ℤ → ℕ → ℕ
-place_of Least n span = least_place n span
-place_of Greatest n span = greatest_place n span
+abbrev pub end_place : End → ℤ → ℕ → ℕ
+end_place Least n span = least_place n span
+end_place Greatest n span = greatest_place n span
 
 abbrev pub best_of : End → List ℤ → ℤ
 best_of Least vs = least_of vs

@@ -1,7 +1,7 @@
 //! The corner of a subtile where a plane is least or greatest, picked by the slopes' signs.
 ghost use Rattle.std.specs.Prelude.{◌≡◌, ℕ, ℤ, pos, ◌+◌, ◌<◌, ◌^◌, ◌+ℤ◌, ◌*ℤ◌, IfSome, IsTrue, ◌↔◌};
 ghost use Rattle.cull_base.specs.Bounds.{Bounded};
-ghost use Rattle.depth_plane.specs.Corner.{place_of};
+ghost use Rattle.depth_plane.specs.Corner.{end_place};
 ghost use Rattle.depth_plane.specs.Plane.{coefficients, IsNarrow};
 
 /// From the first sample of a subtile to the last in its row, in sixteenths of a pixel.
@@ -19,19 +19,19 @@ const STEEPEST: i64 = 0x4000_0000_0000;
 /// The greatest numerator of a narrow plane at the origin.
 const GREATEST: i128 = 0x2000_0000_0000_0000;
 
-/// Which of a plane's values over a subtile is meant.
+/// The least or the greatest of a plane over a subtile.
 #[derive(Clone, Copy)]
 pub enum End {
     Least,
     Greatest,
 }
 
-/// The place of that value along one axis, from the first sample on.
+/// Where along one axis it is, in sixteenths of a pixel.
 #[inline(always)]
 pub fn place_along(slope: i64, first: u32, span: u32, end: End) -> u32
     requires first { first < 2 ^ 20 }
     requires span { span < 2 ^ 10 }
-    ensures value { result ≡ first + place_of end slope span }
+    ensures value { result ≡ first + end_place end slope span }
     ensures small { result < 2 ^ 21 }
 {
     match end {

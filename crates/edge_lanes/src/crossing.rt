@@ -1,5 +1,6 @@
 //! Where an edge crosses the rows of samples: columns in fixed-point numbers, of 2^32 parts a pixel.
-ghost use Rattle.std.specs.Prelude.{◌≡◌, ℕ, ℤ, pos, ◌^◌, ◌+◌, ◌*◌, ◌<◌, ◌+ℤ◌, ◌*ℤ◌, replicate, slice_index, slice_index_or};
+ghost use Rattle.std.specs.Prelude.{◌≡◌, ℕ, ℤ, pos, ◌^◌, ◌+◌, ◌*◌, ◌<◌, ◌+ℤ◌, ◌*ℤ◌};
+ghost use Rattle.std.specs.Prelude.{replicate, slice_index, slice_index_or};
 ghost use Rattle.std.specs.Int.{int_div_euclid};
 ghost use Rattle.cull_base.specs.Bounds.{Bounded};
 ghost use Rattle.cull_base.specs.Depth.{floor_of};
@@ -14,8 +15,8 @@ use std::simd::prelude::*;
 /// The parts of a pixel.
 const PIXEL: i64 = 0x1_0000_0000;
 
-/// The steps of 2048 rows, each rounded down, fall short by less than this in all. It moves no sample to the other side:
-/// a crossing that isn't a whole column lies at least 2^12 parts before the next one.
+/// The steps of 2048 rows, each rounded down, fall short by less than this in all. It moves no sample to the other
+/// side: a crossing that isn't a whole column lies at least 2^12 parts before the next one.
 const SHORTFALL: i64 = 2048;
 
 /// An edge, by the column where it crosses each row of samples of a screen of 2048 by 2048 pixels.

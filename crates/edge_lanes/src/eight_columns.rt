@@ -3,8 +3,9 @@ ghost use Rattle.std.specs.Prelude.{◌≡◌, ℕ, ◌<◌, ◌≤◌, length, 
 
 use std::simd::prelude::*;
 
-/// A column that none of the eight is before: the least. Each step tells it of twice as many, in half as many places;
-/// what stands in the others is nothing to it. LLVM knows this form, and makes one instruction of it.
+/// A number that none of the eight is below: the least. Each step takes the lesser of a lane and of one 4, 2, then 1
+/// further on, so the first lane ends with the least of all. Where a processor has one instruction for this,
+/// LLVM finds it.
 #[inline(always)]
 pub fn least_column(numbers: u16x8) -> u32
     requires { length numbers ≡ 8 }

@@ -36,8 +36,8 @@ impl NearEdges {
         }
     }
 
-    /// Where they cross the rows of samples of a screen of 2048 by 2048 pixels. In line, with all that it calls, so that
-    /// they are written where the caller keeps them: they are large to copy.
+    /// Where they cross the rows of samples of a screen of 2048 by 2048 pixels. In line, with all that it calls, so
+    /// that they are written where the caller keeps them: they are large to copy.
     #[inline(always)]
     pub fn crossings(&self) -> Crossings
         ensures { (x : Piece) → AreNearOf self.now x → (u : Sub) → u.column < 256 → u.row < 512

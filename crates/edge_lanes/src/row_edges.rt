@@ -15,17 +15,19 @@ pub struct RowEdges {
     pub(crate) kind: RowKind,
 }
 
-/// Nearly all pieces are crossed: the others have an edge that is very long, far away or flat.
+/// Nearly all pieces have crossings: the others have an edge that is very long, far away or flat.
 #[derive(Clone, Copy)]
 pub(crate) enum RowKind {
     Crossed(Crossings),
     Plain(Edges),
 }
 
-/// The edges of a piece, lent: they themselves are large to copy. Nearly all pieces are crossed here too.
+/// The edges of a piece, lent: they themselves are large to copy. Nearly all pieces have crossings.
 #[derive(Clone, Copy)]
 pub enum EdgesView<'a> {
+    /// Where they cross the rows of samples.
     Crossed(&'a Crossings),
+    /// The edges themselves, tested tile by tile.
     Plain(&'a Edges),
 }
 
@@ -40,8 +42,8 @@ fn plain(tri: &ScreenTri) -> RowEdges
 }
 
 impl RowEdges {
-    // Out of line, so that what is made is written where the caller keeps it. Each way returns by itself: where two ways
-    // join, what is large is copied.
+    // Out of line, so that what is made is written where the caller keeps it. Each way returns by itself: where two
+    // ways join, what is large is copied.
     #[inline(never)]
     pub fn of(tri: &ScreenTri) -> RowEdges
         ensures { (u : Sub) → u.column < 256 → u.row < 512 → inside_rows result u ≡ covered tri.now u }

@@ -44,8 +44,8 @@ impl<'a> EdgesView<'a> {
 impl TileRow<'_> {
     ghost use Rattle.edge_lanes.specs.Rows.{AreAhead, inside_in};
 
-    /// Of the tile in a column and the seven to its right, those that have samples inside: bit i, of eight, is clear only
-    /// where the tile i to the right has none. Condition: the column is below 64.
+    /// Of the tile in a column and the seven to its right, those that have samples inside: bit i, of eight, is clear
+    /// only where the tile i to the right has none. Condition: the column is below 64.
     #[inline(always)]
     pub fn ahead(&self, column: u32) -> u32
         requires { column < 64 }
@@ -58,8 +58,8 @@ impl TileRow<'_> {
         }
     }
 
-    /// The same where no more than so many tiles count. Of one alone it is told with less: whether its rows have any
-    /// columns. Condition: the column is below 64.
+    /// The same, for a caller who reads only the first so many bits. For one tile it only tests whether any row has a
+    /// column. Condition: the column is below 64.
     #[inline(always)]
     pub fn ahead_among(&self, column: u32, count: u32) -> u32
         requires { column < 64 }

@@ -67,8 +67,10 @@ told_before s frame states groups place = record {
   members = total_before (members_hidden s frame states) place groups;
 }
 
--- what is reported of a frame over what tiles hold: each object's verdict, how many groups are hidden, and how many members of these count
-pub record IsReported (s : Parts) (frame : ℕ) (tile_of : ℕ → TileOf) (groups : List Group) (r : GroupReport) : Type 0 where
+-- What is reported of a frame over what tiles hold: each object's verdict, how many groups are hidden, and how many
+-- members of these count.
+pub record IsReported (s : Parts) (frame : ℕ) (tile_of : ℕ → TileOf) (groups : List Group)
+    (r : GroupReport) : Type 0 where
   pub verdicts : r.frame ≡ verdicts_in s frame tile_of
   pub hidden : r.hidden ≡ hidden_groups s frame (state_in (size_of s) tile_of) groups
   pub members : r.members ≡ hidden_members s frame (state_in (size_of s) tile_of) groups
@@ -85,7 +87,8 @@ is_shown forms.Visible v = false
 is_shown (forms.Flat rect q) v = not (is_occluded v)
 is_shown (forms.Mesh first count) v = false
 
--- What is kept of the first so many members of a group: their hull, until one shows that the group isn't hidden. Where one alone counts, their hull is occluded as it is.
+-- What is kept of the first so many members of a group: their hull, until one shows that the group isn't hidden. Where
+-- one alone counts, their hull is occluded as it is.
 pub record IsKept (s : Parts) (frame : ℕ) (states : Sub → State) (g : Group) (count : ℕ) (k : Kept) : Type 0 where
   pub few : k.hull.members ≤ count
   pub hull : k.shown ≡ false → k.hull ≡ kept_hull (size_of s) (hull_from (size_of s) None (shapes_from s frame g.first count))

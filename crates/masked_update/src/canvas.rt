@@ -92,9 +92,9 @@ impl Canvas {
         self.tiles[start + (u32::from(place.column) - self.window.first_column) as usize]
     }
 
-    /// The tiles that a piece may change, of eight from a number on, by the table: bit i is clear only where no reference
-    /// of tile number + i is below a nearness. A piece that is nowhere nearer changes none of its subtiles. Condition:
-    /// there is the first of them.
+    /// The tiles that a piece may change, of eight from a number on, by the table: bit i is clear only where no
+    /// reference of tile number + i is below a nearness. A piece that is nowhere nearer changes none of its subtiles.
+    /// Condition: there is the first of them.
     #[inline(always)]
     pub(crate) fn may_change(&self, number: usize, nearest: u32) -> u32
         requires { number < length self.now.tiles }
@@ -111,8 +111,8 @@ impl Canvas {
             .to_bitmask() as u32
     }
 
-    /// The same of the first alone: 1, or 0 where no reference of it is below the nearness. Condition: there is such a
-    /// tile.
+    /// The same of the first alone: 1, or 0 where no reference of it is below the nearness. Condition: there is a tile
+    /// of that number.
     #[inline(always)]
     pub(crate) fn first_may_change(&self, number: usize, nearest: u32) -> u32
         requires { number < length self.now.tiles }
@@ -162,9 +162,9 @@ impl Canvas {
         self.least[number] = least;
     }
 
-    /// Merges a small piece into the tile of a number, and counts nothing. Most raise no reference, and the table stays.
-    /// Conditions: there is such a tile, the column and the row are below the screen's, and what is reached on it has
-    /// each sample that the piece covers.
+    /// Merges a small piece into the tile of a number, and counts nothing. Most raise no reference, and the table
+    /// stays. Conditions: there is such a tile, the column and the row are below the screen's, and what is reached on
+    /// it has each sample that the piece covers.
     #[inline(always)]
     pub(crate) fn merge_small(
         &mut self,
@@ -185,9 +185,9 @@ impl Canvas {
         }
     }
 
-    /// The subtiles of the tile of a number, as bits, that are reached on the screen and whose reference is below a piece:
-    /// it changes no other. Conditions: there is such a tile, and what is reached on the screen has each sample that the
-    /// piece covers.
+    /// The subtiles of the tile of a number, as bits, that are reached on the screen and whose reference is below a
+    /// piece: it changes no other. Conditions: there is such a tile, and what is reached on the screen has each sample
+    /// that the piece covers.
     #[inline(always)]
     pub(crate) fn wanted(
         &self,
@@ -207,9 +207,9 @@ impl Canvas {
         self.tiles[number].wanted(tri, reached, place)
     }
 
-    /// Merges a small piece into the subtiles of the bits of the tile of a number, and counts nothing. Conditions: there
-    /// is such a tile, the column and the row are below the screen's, and the bits are eight and have each subtile on the
-    /// screen that the piece changes.
+    /// Merges a small piece into the subtiles of the bits of the tile of a number, and counts nothing. Conditions:
+    /// there is such a tile, the column and the row are below the screen's, and the bits are eight and have each
+    /// subtile on the screen that the piece changes.
     #[inline(always)]
     pub(crate) fn merge_among(
         &mut self,

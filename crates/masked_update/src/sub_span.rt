@@ -1,6 +1,6 @@
 //! The subtiles of a tile that a rectangle reaches, computed from it and not searched for.
-ghost use Rattle.std.specs.Prelude.{◌≡◌, ℕ, pos, ◌+◌, ◌-◌, ◌*◌, ◌/◌, ◌^◌, ◌<◌, ◌≤◌, ◌≤ℤ◌, ◌∷◌, [], cond, max, min, true};
-ghost use Rattle.std.specs.Prelude.{slice_index};
+ghost use Rattle.std.specs.Prelude.{◌≡◌, ℕ, pos, ◌+◌, ◌-◌, ◌*◌, ◌/◌, ◌^◌, ◌<◌, ◌≤◌, ◌≤ℤ◌, ◌∷◌, [], cond, max, min};
+ghost use Rattle.std.specs.Prelude.{slice_index, true};
 ghost use Rattle.std.specs.Int.{int_min, int_max, div_ceil, bit_at};
 ghost use Rattle.masked_update.specs.Inner.{GoesOn, IsInner};
 
@@ -50,8 +50,8 @@ fn pixels_before(rect: &Rect, width: u16, height: u16) -> [u32; 4]
     held.cast::<u32>().to_array()
 }
 
-// The subtiles in which so many columns and rows of pixels end, and those past which the others do. Condition: the others
-// are few.
+// The first subtiles that columns and rows of pixels reach, and the ends: pixels over 8 and 4, rounded down and up.
+// Condition: the ends are below 2^16.
 #[inline(always)]
 fn subtiles(pixels: [u32; 4]) -> [u32; 4]
     requires end_column { slice_index pixels 2 < 2 ^ 16 }

@@ -14,8 +14,8 @@ use cull_base::{ScreenTri, Size, Tile};
 use edge_lanes::TileRow;
 use std::marker::Model;
 
-/// Eight subtiles in two rows of four, and a count of pieces. In memory it is 25 numbers of 32 bits: the references, the
-/// workings and the masks of the subtiles, then the count.
+/// Eight subtiles in two rows of four, and a count of pieces. In memory it is 25 numbers of 32 bits: the references,
+/// the workings and the masks of the subtiles, then the count.
 #[derive(Clone, Copy)]
 #[repr(C)]
 pub struct TileState {
@@ -35,7 +35,7 @@ impl Model for TileState {
 
 impl TileState {
     ghost use Rattle.masked_update.specs.Coverage.{AreWanted};
-    ghost use Rattle.masked_update.specs.Forms.{IsFormOn, piece_in};
+    ghost use Rattle.masked_update.specs.Forms.{IsFormOn, piece_of_form};
     ghost use Rattle.masked_update.specs.TileOf.{sub_at, empty_tile};
     ghost use Rattle.masked_update.specs.Inner.{IsInner};
     ghost use Rattle.masked_update.specs.Merged.{AreRowOf, IsSubBox};
@@ -105,43 +105,62 @@ impl TileState {
         self.count_piece();
     }
 
-    /// As `take_set_up`, where the tile's column and row are known, of a piece in any form. Condition: they are below the
-    /// screen's, and what the piece reaches is of the screen.
-    pub fn take_form(&mut self, form: PieceForm, size: Size, place: Tile)
+    /// As `take_set_up`, where the tile's column and row are known, of a piece in any form. Says whether any subtile
+    /// may have changed. Conditions: the count is below 131,072, the column and the row are below the screen's, what the
+    /// form says is reached is of this screen and has each sample that the piece covers, of a whole form it is the
+    /// box's, and a form for one row is for the tile's.
+    pub fn take_form(&mut self, form: PieceForm, size: Size, place: Tile) -> bool
         requires count { self.old.count < 131072 }
-        requires form { IsFormOn size form }
+        requires form { IsFormOn size place.row form }
         requires column { place.column < tile_columns_of size }
         requires row { place.row < tile_rows_of size }
-        ensures { self.new ≡ taken_at size place (piece_in form.entry) self.old }
+        ensures taken { self.new ≡ taken_at size place (piece_of_form form.entry) self.old }
+        ensures same { result ≡ false → self.new.subs ≡ self.old.subs }
+    {
+        let changed = self.merge_form(form, size, place);
+        self.count_piece();
+        changed
+    }
+
+    // Merges a piece in any form, doesn't count it, and says whether any subtile may have changed.
+    #[inline(always)]
+    fn merge_form(&mut self, form: PieceForm, size: Size, place: Tile) -> bool
+        requires form { IsFormOn size place.row form }
+        requires column { place.column < tile_columns_of size }
+        requires row { place.row < tile_rows_of size }
+        ensures merged { self.new ≡ merged_tile size place (piece_of_form form.entry) self.old }
+        ensures same { result ≡ false → self.new ≡ self.old }
     {
         match form {
             PieceForm::Bare(tri) => self.merge_bare(tri, size, place),
             PieceForm::Small(piece, reached) => {
+                // a working layer may be another where no reference is
                 self.merge_small(piece, reached, place);
+                true
             }
-            PieceForm::Whole(piece, reached) => {
-                self.merge(piece, reached, place);
-            }
+            PieceForm::Whole(piece, reached) => self.merge(piece, reached, place),
+            PieceForm::Row(piece, reached, over) => self.merge_ahead(piece, reached, over, place),
         }
-        self.count_piece();
     }
 
-    // Merges a piece that isn't set up, and doesn't count it. One that stands behind the tile changes nothing.
+    // Merges a piece that isn't set up, doesn't count it, and says whether any subtile may have changed. One that
+    // stands behind the tile changes nothing.
     #[inline(always)]
-    fn merge_bare(&mut self, tri: &ScreenTri, size: Size, place: Tile)
+    fn merge_bare(&mut self, tri: &ScreenTri, size: Size, place: Tile) -> bool
         requires column { place.column < tile_columns_of size }
         requires row { place.row < tile_rows_of size }
-        ensures { self.new ≡ merged_tile size place tri.now self.old }
+        ensures merged { self.new ≡ merged_tile size place tri.now self.old }
+        ensures same { result ≡ false → self.new ≡ self.old }
     {
         // an accessor tells how many subtiles a tile has
         let _first = self.sub(0);
         let near = tri.greatest_nearness();
         let least = self.least_reference();
         if near <= least {
-            return;
+            return false;
         }
         let piece = PieceSetup::of(tri);
-        self.merge(&piece, &piece.reached_on(size), place);
+        self.merge(&piece, &piece.reached_on(size), place)
     }
 
     /// Merges a piece, doesn't count it, and says whether any subtile may have changed. Conditions: the column and the
@@ -183,9 +202,10 @@ impl TileState {
         self.layers.least_reference()
     }
 
-    /// Merges a piece, whose edges over the tile's row are at hand, and doesn't count it. A tile to which the edges
-    /// leave nothing stays, and so does one that is nowhere behind the piece. Conditions: the column and the row are
-    /// below the screen's, what is reached on it has each sample that the piece covers, and the edges are the piece's.
+    /// Merges a piece, whose edges over the tile's row are at hand, doesn't count it, and says whether any subtile may
+    /// have changed. A tile to which the edges leave nothing stays, and so does one that is nowhere behind the piece.
+    /// Conditions: the column and the row are below the screen's, what is reached on it has each sample that the piece
+    /// covers, and the edges are the piece's.
     #[inline(always)]
     pub fn merge_ahead(
         &mut self,
@@ -193,12 +213,13 @@ impl TileState {
         reached: &SubBox,
         over: &TileRow,
         place: Tile,
-    )
+    ) -> bool
         requires reached { HoldsSampled piece.now reached.now }
         requires over { AreRowOf over.now place.row piece.now }
         requires column { place.column < tile_columns_of reached.now.size }
         requires row { place.row < tile_rows_of reached.now.size }
-        ensures { self.new ≡ merged_tile reached.now.size place piece.now self.old }
+        ensures merged { self.new ≡ merged_tile reached.now.size place piece.now self.old }
+        ensures same { result ≡ false → self.new ≡ self.old }
     {
         // accessors tell what is held of a size, of a piece and of a tile
         let _columns = reached.size.tile_columns();
@@ -207,13 +228,14 @@ impl TileState {
         let nearest = piece.nearest();
         let ahead = over.ahead(u32::from(place.column)) % 2;
         if ahead == 0 {
-            return;
+            return false;
         }
         let least = self.least_reference();
         if nearest <= least {
-            return;
+            return false;
         }
         self.merge_over(piece, reached, over, place, reached.is_inner(place));
+        true
     }
 
     /// Merges a small piece, doesn't count it, and says whether any reference is another then. Conditions: the column and

@@ -1,8 +1,8 @@
 //! The writer of a tile's cell.
 ghost use Rattle.std.specs.Prelude.{◌≡◌, ℕ, ◌+◌, ◌<◌, ◌≤◌, [], max, length};
 ghost use Rattle.crossbeam_utils.specs.Seq.{cell_view};
-ghost use Rattle.cull_base.specs.Screen.{tile_count_of};
-ghost use Rattle.masked_update.specs.Forms.{IsFormOn, piece_in};
+ghost use Rattle.cull_base.specs.Screen.{tile_count_of, tile_place};
+ghost use Rattle.masked_update.specs.Forms.{IsFormOn, piece_of_form};
 ghost use Rattle.masked_update.specs.Taken.{IsMember, standing_at};
 ghost use Rattle.masked_update.specs.TileOf.{sub_at};
 ghost use Rattle.tile_cells.specs.Cells.{IsAt, Writing, first_at, note_of};
@@ -13,14 +13,14 @@ use crate::cells::TileCells;
 use crate::note::Note;
 use crate::rule::{Cell, CellPass};
 use crate::steps;
-use crate::words::{tile_of, words_of};
+use crate::words::{renew_words, tile_of};
 use cull_base::{FrameList, ScreenTri, Size, Tile};
 use masked_update::{PieceForm, TileState};
 use std::marker::Model;
 use std::sync::Wait;
 
 /// Draws the members of a tile's list into the tile's cell. Beside its pass it keeps what it stored last, so that it
-/// doesn't read its cell to draw.
+/// doesn't read its cell to draw, and packs only a tile that may have changed.
 #[derive(Drop)]
 pub struct TileWriter {
     pass: CellPass,
@@ -28,6 +28,7 @@ pub struct TileWriter {
     place: Tile,
     size: Size,
     state: TileState,
+    words: [u64; 13],
 }
 
 impl Model for TileWriter {
@@ -35,7 +36,7 @@ impl Model for TileWriter {
 
     ghost view = { λ s. writing s.tile s.pass };
 
-    ghost invariant = { λ s. IsWriting s.tile s.place s.size s.state s.pass };
+    ghost invariant = { λ s. IsWriting s.tile s.place s.size s.state s.words s.pass };
 }
 
 impl TileWriter {
@@ -54,6 +55,7 @@ impl TileWriter {
             place: size.tile_at(tile),
             size,
             state: TileState::empty(),
+            words: [0; 13],
         }
     }
 
@@ -81,16 +83,17 @@ impl TileWriter {
         self.take_form(rt, cells, PieceForm::Bare(tri));
     }
 
-    /// As `take_next`, of a piece in any form. Condition: what the piece reaches is of the list's screen.
+    /// As `take_next`, of a piece in any form. Conditions: what the piece reaches is of the list's screen, and a form
+    /// for one row is for the tile's.
     pub fn take_form<R: Wait>(&mut self, rt: &R, cells: &TileCells, form: PieceForm)
         requires of { IsAt cells.now self.old.tile self.old.cell }
-        requires form { IsFormOn self.old.list.size form }
-        requires next { IsMember self.old.tile self.old.count self.old.list (piece_in form) }
+        requires form { let w = self.old in IsFormOn w.list.size (tile_place w.list.size w.tile).row form }
+        requires next { IsMember self.old.tile self.old.count self.old.list (piece_of_form form) }
         ensures { self.new ≡ record self.old { count = self.old.count + 1 } }
     {
-        self.state.take_form(form, self.size, self.place);
-        let words = words_of(&self.state);
-        steps::store(rt, cells.cell(self.tile), &mut self.pass, words);
+        let changed = self.state.take_form(form, self.size, self.place);
+        renew_words(&mut self.words, &self.state, changed);
+        steps::store(rt, cells.cell(self.tile), &mut self.pass, self.words);
     }
 
     /// A nearness that no reference of the tile is below.

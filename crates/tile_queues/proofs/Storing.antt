@@ -68,6 +68,17 @@ stored_as test other cells list window k ws same s = record {
   each = λ t d within. subst (λ b. StandsAt cells list (cond b (k + 1) k) t (slice_index_or ws (number_in window (tile_place list.size t)) d)) (same (tile_place list.size t)) (s.each t d within);
 }
 
+-- a row more is passed
+pub row_stored : (cells : List TableId) (list : PieceList) (window span : TileSpan) (k row : ℕ) (ws : List Writing) → span.first_row ≤ row → HasStored (is_passed span row span.end_column) cells list window k ws → HasStored (is_passed span (row + 1) span.first_column) cells list window k ws
+row_stored cells list window span k row ws le s =
+    stored_as (is_passed span row span.end_column) (is_passed span (row + 1) span.first_column) cells list window k ws (λ p. row_passed span row p le) s
+
+-- all rows are
+pub span_stored : (cells : List TableId) (list : PieceList) (window span : TileSpan) (k row : ℕ) (ws : List Writing) → row ≡ span.end_row → HasStored (is_passed span row span.first_column) cells list window k ws → HasStored (has_tile span) cells list window k ws
+span_stored cells list window span k row ws end s =
+    let last = subst (λ r. HasStored (is_passed span r span.first_column) cells list window k ws) end s in
+    stored_as (is_passed span span.end_row span.first_column) (has_tile span) cells list window k ws (rows_passed span span.end_row) last
+
 -- one place, one tile
 pub same_tile : (size : Dimensions) (t u : ℕ) → tile_place size t ≡ tile_place size u → t ≡ u
 same_tile size t u e =
@@ -101,6 +112,9 @@ module _ (cells : List TableId) (list : PieceList) (window span : TileSpan) (k r
 
   pub stands_here : (w : Writing) → w ≡ slice_index_or ws n w → Stands cells list k w
   stands_here w e = let s = there w e in subst (λ t. StandsAt cells list k t w) (sym s.tile_is) s
+
+  pub row_is : (w : Writing) → w ≡ slice_index_or ws n w → (tile_place list.size w.tile).row ≡ row
+  row_is w e = ap (λ t. (tile_place list.size t).row) (there w e).tile_is ∙ ap (λ (p : Tile). p.row) place_is
 
   pub met_here : (x : Piece) (w : Writing) → w ≡ slice_index_or ws n w → HasMet list.size window span x → meets (box_of x) (tile_rect_of list.size w.tile) ≡ true
   met_here x w e met =

@@ -9,7 +9,7 @@ use Rattle.cull_base.specs.Tiles.{PieceList}
 use Rattle.cull_base.specs.declared.place.Tile.{Tile}
 use Rattle.cull_base.specs.declared.tile_span.TileSpan.{TileSpan}
 use Rattle.masked_update.specs.Canvas.{IsInWindow}
-use Rattle.masked_update.specs.Forms.{IsFormOn, piece_in}
+use Rattle.masked_update.specs.Forms.{IsFormOn, piece_of_form}
 use Rattle.masked_update.specs.Walk.{is_in_row}
 use Rattle.masked_update.specs.declared.piece_form.PieceForm.{PieceForm}
 use Rattle.tile_cells.specs.Cells.{Writing}
@@ -54,10 +54,10 @@ abbrev pub tile_numbered : Dimensions → TileSpan → ℕ → ℕ
 tile_numbered size window n =
     (window.first_row + n / columns_in window) * tile_columns_of size + (window.first_column + n % columns_in window)
 
--- member k of a list, in a form for the list's screen
-pub record IsFormOf (list : PieceList) (k : ℕ) (form : PieceForm) : Type 0 where
-  pub is : slice_index_or list.members k (piece_in form) ≡ piece_in form
-  pub formed : IsFormOn list.size form
+-- member k of a list, in a form for the tiles of a row of the list's screen
+pub record IsMemberForm (list : PieceList) (k row : ℕ) (form : PieceForm) : Type 0 where
+  pub is : slice_index_or list.members k (piece_of_form form) ≡ piece_of_form form
+  pub formed : IsFormOn list.size row form
 
 -- the writer took those of the list's first k members that are its tile's
 abbrev pub Stands : List TableId → PieceList → ℕ → Writing → Type 0

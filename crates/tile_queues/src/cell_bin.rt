@@ -1,18 +1,20 @@
 //! The tiles of a bin as cells, each with its writer, so that others may read them while they are drawn.
-ghost use Rattle.std.specs.Prelude.{◌≡◌, ◌≤◌, ◌<◌, ◌+◌, true, length, slice_index_or};
+ghost use Rattle.std.specs.Prelude.{◌≡◌, ℕ, ◌≤◌, ◌<◌, ◌+◌, true, length, slice_index_or};
 ghost use Rattle.cull_base.specs.Piece.{box_of};
 ghost use Rattle.cull_base.specs.Rectangle.{meets};
-ghost use Rattle.cull_base.specs.Screen.{tile_rect_of};
+ghost use Rattle.cull_base.specs.Screen.{tile_place, tile_rect_of};
 ghost use Rattle.cull_base.specs.Span.{IsPartOf, IsSpan, has_tile, tiles_in};
-ghost use Rattle.masked_update.specs.Forms.{piece_in};
+ghost use Rattle.masked_update.specs.Forms.{piece_of_form};
+ghost use Rattle.masked_update.specs.Samples.{HoldsSampled};
 ghost use Rattle.tile_cells.specs.Standing.{StandsAt};
-ghost use Rattle.tile_queues.specs.CellBins.{HasMet, HasStored, IsFormOf, Stands, is_passed};
+ghost use Rattle.tile_queues.specs.CellBins.{HasMet, HasStored, IsMemberForm, Stands, is_passed};
 
 use crate::held::Held;
 use bin_tiles::Keeper;
 use binning::Cut;
 use cull_base::{FrameList, ScreenTri, TileSpan};
-use masked_update::{PieceForm, PieceSetup, SmallPiece, SubBox};
+use edge_lanes::RowEdges;
+use masked_update::{PieceDepths, PieceForm, SmallPiece, SubBox};
 use std::sync::Wait;
 use tile_cells::{TileCells, TileWriter};
 
@@ -43,8 +45,9 @@ struct Member<'a, R> {
 // Stores a member in the cell of a tile that it meets.
 #[inline(always)]
 fn store<R: Wait>(writer: &mut TileWriter, member: &Member<R>, form: PieceForm)
-    requires form { IsFormOf member.now.list.now.list member.now.index form }
-    requires met { meets (box_of (piece_in form))
+    requires form { let list = member.now.list.now.list in
+        IsMemberForm list member.now.index (tile_place list.size writer.old.tile).row form }
+    requires met { meets (box_of (piece_of_form form))
         (tile_rect_of member.now.list.now.list.size writer.old.tile) ≡ true }
     requires stands { let m = member.now in Stands m.cells.now m.list.now.list m.index writer.old }
     ensures tile { writer.new.tile ≡ writer.old.tile }
@@ -62,10 +65,10 @@ fn store_in_row<R: Wait>(
     span: TileSpan,
     row: u32,
 )
-    requires form { IsFormOf member.now.list.now.list member.now.index form }
+    requires form { IsMemberForm member.now.list.now.list member.now.index row form }
     requires window { IsSpan member.now.list.now.list.size window }
     requires part { IsPartOf window span }
-    requires met { HasMet member.now.list.now.list.size window span (piece_in form) }
+    requires met { HasMet member.now.list.now.list.size window span (piece_of_form form) }
     requires row { (span.first_row ≤ row) × (row < span.end_row) }
     requires stored { let m = member.now in HasStored (is_passed span row span.first_column)
         m.cells.now m.list.now.list window m.index writers.old }
@@ -79,7 +82,7 @@ fn store_in_row<R: Wait>(
     }
 }
 
-// Stores it in the tiles of a span.
+// Stores it in the tiles of a span, in one form for all rows.
 fn store_in_span<R: Wait>(
     writers: &mut [TileWriter],
     member: &Member<R>,
@@ -87,16 +90,48 @@ fn store_in_span<R: Wait>(
     window: TileSpan,
     span: TileSpan,
 )
-    requires form { IsFormOf member.now.list.now.list member.now.index form }
+    requires form { (row : ℕ) → IsMemberForm member.now.list.now.list member.now.index row form }
     requires window { IsSpan member.now.list.now.list.size window }
     requires part { IsPartOf window span }
-    requires met { HasMet member.now.list.now.list.size window span (piece_in form) }
+    requires met { HasMet member.now.list.now.list.size window span (piece_of_form form) }
     requires stored { let m = member.now in HasStored (is_passed span span.first_row span.first_column)
         m.cells.now m.list.now.list window m.index writers.old }
     ensures { let m = member.now in
         HasStored (has_tile span) m.cells.now m.list.now.list window m.index writers.new }
 {
     for row in span.first_row..span.end_row {
+        store_in_row(writers, member, form, window, span, row);
+    }
+}
+
+// Sets a member up, and stores it in the tiles of a span. Its edges over a row of tiles are computed once.
+fn store_set_up<R: Wait>(
+    writers: &mut [TileWriter],
+    member: &Member<R>,
+    tri: &ScreenTri,
+    reached: &SubBox,
+    window: TileSpan,
+    span: TileSpan,
+)
+    requires is { let m = member.now in slice_index_or m.list.now.list.members m.index tri.now ≡ tri.now }
+    requires reached { HoldsSampled tri.now reached.now }
+    requires size { reached.now.size ≡ member.now.list.now.list.size }
+    requires window { IsSpan member.now.list.now.list.size window }
+    requires part { IsPartOf window span }
+    requires met { HasMet member.now.list.now.list.size window span tri.now }
+    requires stored { let m = member.now in HasStored (is_passed span span.first_row span.first_column)
+        m.cells.now m.list.now.list window m.index writers.old }
+    ensures { let m = member.now in
+        HasStored (has_tile span) m.cells.now m.list.now.list window m.index writers.new }
+{
+    // an accessor tells how many rows there may be
+    let _rows = reached.size.tile_rows();
+    // the edges stay where they are made: they are large to copy
+    let edges = RowEdges::of(tri);
+    let piece = PieceDepths::of(tri);
+    for row in span.first_row..span.end_row {
+        let over = piece.over_row(edges.view(), row);
+        let form = PieceForm::Row(&piece, reached, &over);
         store_in_row(writers, member, form, window, span, row);
     }
 }
@@ -146,11 +181,7 @@ fn store_member<R: Wait>(
             let form = PieceForm::Small(&piece, &reached);
             store_in_span(writers, member, form, window, span);
         }
-        None => {
-            let piece = PieceSetup::of(tri);
-            let form = PieceForm::Whole(&piece, &reached);
-            store_in_span(writers, member, form, window, span);
-        }
+        None => store_set_up(writers, member, tri, &reached, window, span),
     }
 }
 

@@ -130,7 +130,8 @@ fn many_objects(alloc: Global, frames: u8) -> Result<Vec<u8>, AllocError> {
     seen_from(changed(bytes, &[(29, 4)]), frames, 1)
 }
 
-// The second piece of verdicts is the fourth write: before it stand the header, the line of the frame and the first one.
+// The second piece of verdicts is the fourth write: before it stand the header, the line of the frame and the
+// first one.
 #[test]
 fn lines_of_128_verdicts_or_of_a_run_are_a_piece(rt: HostRuntime) -> Result<(), Fail> {
     let alloc = rt.alloc();
@@ -144,7 +145,8 @@ fn lines_of_128_verdicts_or_of_a_run_are_a_piece(rt: HostRuntime) -> Result<(), 
     Ok(())
 }
 
-// The quad in five frames. Written are the header, and for each frame its first line, its one verdict and its last line.
+// The quad in five frames. Written are the header, and for each frame its first line, its one verdict and its
+// last line.
 #[test]
 fn a_fault_at_each_write_of_frames_side_by_side(rt: HostRuntime) -> Result<(), Fail> {
     let alloc = rt.alloc();

@@ -26,12 +26,14 @@ impl Patience {
         }
     }
 
+    /// Waits for a flag. If it doesn't come, this is late from then on.
     pub fn wait(&self, flag: &AtomicBool) {
         if !wait_for(flag) {
             self.late.store(true, Ordering::SeqCst);
         }
     }
 
+    /// Whether one of the waits so far was in vain.
     pub fn is_late(&self) -> bool {
         self.late.load(Ordering::SeqCst)
     }

@@ -147,13 +147,15 @@ fn piece_is_taken_whether_it_is_set_up_or_not(rt: HostRuntime) -> Result<(), Fai
     let mut first = TileState::empty();
     first.take_set_up(&PieceSetup::of(&piece), size, 0);
     let mut second = TileState::empty();
-    second.take_form(PieceForm::Bare(&piece), size, place);
+    let changed = second.take_form(PieceForm::Bare(&piece), size, place);
+    assert!(rt; changed);
     for tile in [first, second] {
         assert_eq!(rt; tile.count(), 1);
         assert_eq!(rt; layers(&tile.sub(7)), (1000, 0, 0));
     }
     // one that is no nearer is counted alone
-    second.take_form(PieceForm::Bare(&piece), size, place);
+    let again = second.take_form(PieceForm::Bare(&piece), size, place);
+    assert!(rt; !again);
     assert_eq!(rt; second.count(), 2);
     assert_eq!(rt; layers(&second.sub(7)), (1000, 0, 0));
     Ok(())

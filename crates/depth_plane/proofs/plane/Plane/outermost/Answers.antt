@@ -4,13 +4,13 @@ use Rattle.std.proofs.lemmas.Int.{to_z-of_z}
 use Rattle.cull_base.specs.Piece.{sample, each_sample}
 use Rattle.cull_base.specs.declared.place.Sub.{Sub}
 use Rattle.depth_plane.specs.Plane.{Coefficients, numerator_at}
-use Rattle.depth_plane.specs.Corner.{best_of, place_of}
+use Rattle.depth_plane.specs.Corner.{best_of, end_place}
 use Rattle.depth_plane.specs.declared.corner.End.{End}
 use Rattle.depth_plane.proofs.Corners.{corner_best}
 use Rattle.depth_plane.proofs.plane.Plane.outermost.Goals as goal
 
 joined : (end : End) (c v : Coefficients) (u : Sub) (r : ℤ) (fx fy px py x y : ℕ) → c ≡ v → r ≡ ((c.across *ℤ pos x) +ℤ (c.down *ℤ pos y)) +ℤ c.level →
-    x ≡ px + place_of end c.across 112 → y ≡ py + place_of end c.down 48 → px ≡ 16 * fx + 8 → py ≡ 16 * fy + 8 → fx ≡ 8 * u.column → fy ≡ 4 * u.row →
+    x ≡ px + end_place end c.across 112 → y ≡ py + end_place end c.down 48 → px ≡ 16 * fx + 8 → py ≡ 16 * fy + 8 → fx ≡ 8 * u.column → fy ≡ 4 * u.row →
     r ≡ best_of end (each_sample (λ k. numerator_at v (sample u k)))
 joined end c v u r fx fy px py x y ev er ex ey epx epy efx efy = rw (← ev, er) (corner_best end c u x y (rw (ex, epx, efx) refl) (rw (ey, epy, efy) refl))
 
