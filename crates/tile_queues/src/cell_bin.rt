@@ -136,7 +136,8 @@ fn store_set_up<R: Wait>(
     }
 }
 
-// Whether a piece stands behind all tiles of a span: they take it as it is then, and it needs no setting up.
+// Whether a piece stands behind all tiles of a span: they take it as it is then, and it needs no setting up. Cells take
+// the same by either answer, so no clause says which it is.
 #[inline(always)]
 fn is_behind(writers: &[TileWriter], window: TileSpan, span: TileSpan, nearest: u32) -> bool
     requires whole { length writers.now ≡ tiles_in window }

@@ -144,12 +144,15 @@ fn piece_is_taken_whether_it_is_set_up_or_not(rt: HostRuntime) -> Result<(), Fai
     assert_eq!(rt; depths.nearest(), 1000);
     assert_eq!(rt; depths.boxed().x1, 257);
     let place = Tile { column: 1, row: 0 };
+    let set_up = PieceSetup::of(&piece);
     let mut first = TileState::empty();
-    first.take_set_up(&PieceSetup::of(&piece), size, 0);
+    first.take_set_up(&set_up, size, 0);
+    let mut other = TileState::empty();
+    other.take_set_up(&set_up, size, 0);
     let mut second = TileState::empty();
     let changed = second.take_form(PieceForm::Bare(&piece), size, place);
     assert!(rt; changed);
-    for tile in [first, second] {
+    for tile in [first, other, second] {
         assert_eq!(rt; tile.count(), 1);
         assert_eq!(rt; layers(&tile.sub(7)), (1000, 0, 0));
     }
