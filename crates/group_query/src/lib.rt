@@ -2,6 +2,7 @@
 //! occluded, and none of these is tested by itself.
 #![tactic(auto)]
 
+mod around;
 mod begun;
 mod group_hull;
 mod grouped;
