@@ -73,10 +73,10 @@ less_near : (q n b : ℕ) → q ≤ n → nat_lt n b ≡ true → nat_lt q b ≡
 less_near q n b le e = grind (arith, nat_tests)
 
 -- each pixel of a rectangle in the screen is one of another
-abbrev Covers : Dimensions → Rect → Rect → Type 0
+abbrev pub Covers : Dimensions → Rect → Rect → Type 0
 Covers size a b = (px py : ℕ) → px < size.width → py < size.height → has_pixel b px py ≡ true → has_pixel a px py ≡ true
 
-covered_hidden : (size : Dimensions) (f : Sub → State) (a b : Rect) (n q : ℕ) → Covers size a b → q ≤ n → meets b (screen_of size) ≡ true → is_hidden size f (Flat a n) ≡ true → is_hidden size f (Flat b q) ≡ true
+pub covered_hidden : (size : Dimensions) (f : Sub → State) (a b : Rect) (n q : ℕ) → Covers size a b → q ≤ n → meets b (screen_of size) ≡ true → is_hidden size f (Flat a n) ≡ true → is_hidden size f (Flat b q) ≡ true
 covered_hidden size f a b n q covers le m hidden =
     let (px, py, x, y, has) = some_pixel_of b size m in
     hidden_if size f (Flat b q) px py x y has
@@ -88,7 +88,7 @@ within_covers size h r q w px py x y e =
     let there = (cut_pixels r (screen_of size) (pos px) (pos py)).1 (to_pixel r px py e, on_screen size px py x y) in
     from_pixel h.rect px py (w.pixels (pos px) (pos py) there)
 
-flat_hidden : (size : Dimensions) (f : Sub → State) (r : Rect) (q : ℕ) → is_hidden size f (flat_shape size r q) ≡ true → is_hidden size f (Flat r q) ≡ true
+pub flat_hidden : (size : Dimensions) (f : Sub → State) (r : Rect) (q : ℕ) → is_hidden size f (flat_shape size r q) ≡ true → is_hidden size f (Flat r q) ≡ true
 flat_hidden size f r q e = by (meets r (screen_of size)) e
   where
     by : (b : Bool) → is_hidden size f (cond b (Flat r q) AlwaysOutside) ≡ true → is_hidden size f (Flat r q) ≡ true
@@ -103,7 +103,7 @@ member_occluded size f h r q w m e =
 
 -- ---- a rectangle cut to the screen
 
-cut_meets : (size : Dimensions) (r : Rect) → meets r (screen_of size) ≡ true → meets (cut_of r (screen_of size)) (screen_of size) ≡ true
+pub cut_meets : (size : Dimensions) (r : Rect) → meets r (screen_of size) ≡ true → meets (cut_of r (screen_of size)) (screen_of size) ≡ true
 cut_meets size r m =
     let (x, y, p, q) = (meets_pixel r (screen_of size)).0 m in
     (meets_pixel (cut_of r (screen_of size)) (screen_of size)).1 (x, y, (cut_pixels r (screen_of size) x y).1 (p, q), q)
@@ -137,7 +137,7 @@ member_within s frame g o d r q h from below lt is m e =
     holds_member (size_of s) None (member_shapes s frame g) (o - g.first) r q h (shape_below s frame g o from below lt) (shape_at s frame g o d AlwaysOutside from below lt ∙ is) m e
 
 -- a flat shape with a pixel in the screen
-flat_there : (size : Dimensions) (r : Rect) (q : ℕ) → meets r (screen_of size) ≡ true → flat_shape size r q ≡ Flat r q
+pub flat_there : (size : Dimensions) (r : Rect) (q : ℕ) → meets r (screen_of size) ≡ true → flat_shape size r q ≡ Flat r q
 flat_there size r q m = ap (λ (b : Bool). cond b (Flat r q) AlwaysOutside) m
 
 -- by a hull that is occluded

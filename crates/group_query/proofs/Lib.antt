@@ -9,3 +9,5 @@ pub mod HiddenHulls
 pub mod Totals
 pub mod Answered
 pub mod CountsAlike
+pub mod BoxesAround
+pub mod HiddenAround

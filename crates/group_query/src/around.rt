@@ -124,7 +124,6 @@ fn picked(camera: &Camera, r: usize, low: &[i32; 3], high: &[i32; 3]) -> [i32; 3
 impl Seen {
     // What a camera sees in a box.
     #[inline(always)]
-    #[tactic(auto, unfolding(Rattle.camera_path.specs.Clip.clip_of))]
     fn of(camera: &Camera, around: &Around) -> Seen
         requires camera { AreWithin (2 ^ 24) camera.now.0 }
         requires low { AreWithin (2 ^ 24) around.now.low }

@@ -1,7 +1,8 @@
 //! The objects of a frame, those of groups by their hulls first.
-ghost use Rattle.std.specs.Prelude.{◌≡◌, ◌+◌, ◌-◌, ◌++◌, ◌<◌, ◌≤◌, min, length, take, drop, vec_capacity};
+ghost use Rattle.std.specs.Prelude.{◌≡◌, ℕ, ◌+◌, ◌-◌, ◌++◌, ◌<◌, ◌≤◌, min, length, take, drop, vec_capacity};
 ghost use Rattle.std.specs.Prelude.{slice_index_or};
 ghost use Rattle.cull_base.specs.declared.scene_types.Object.{Object};
+ghost use Rattle.cull_base.specs.declared.scene_types.Verdict.TheVariants.{Occluded};
 ghost use Rattle.cull_report.specs.Scene.{size_of, verdict_in, verdicts_in};
 ghost use Rattle.group_query.specs.Grouping.{AreApart, AreBegun};
 ghost use Rattle.group_query.specs.Hidden.{IsKept, IsTested, group_tally};
@@ -9,6 +10,7 @@ ghost use Rattle.group_query.specs.Hulls.{AreFormsFrom};
 ghost use Rattle.group_query.specs.declared.grouping.Group.{Group};
 ghost use Rattle.masked_update.specs.Views.{state_in};
 
+use crate::around::is_hidden_around;
 use crate::begun::begun_before;
 use crate::grouping::Group;
 use crate::hulls::{grown_by, hull_keeping, seen_form, told};
@@ -176,8 +178,27 @@ impl<'a, V: TileView> Grouped<'a, V> {
         tally_of(asked, group, tested)
     }
 
+    // Appends the verdicts of the first so many members of a group whose members are all occluded.
+    fn answer_hidden(&self, group: Group, count: u32, verdicts: &mut Vec<Verdict>)
+        requires group { group.first + group.count ≤ length self.now.asked.now.scene.now.objects }
+        requires within { count ≤ group.count }
+        requires room { length verdicts.old.items + count ≤ vec_capacity verdicts.old }
+        requires occluded { (k : ℕ) (o : Object) → let a = self.now.asked.now in k < group.count
+            → verdict_in a.scene.now a.frame (V.tile_of a.view.now)
+            (slice_index_or a.scene.now.objects (group.first + k) o) ≡ Occluded }
+        ensures verdicts { let a = self.now.asked.now in
+            let all = verdicts_in a.scene.now a.frame (V.tile_of a.view.now) in
+            verdicts.new.items ≡ verdicts.old.items ++ take count (drop group.first all) }
+        ensures room { vec_capacity verdicts.new ≡ vec_capacity verdicts.old }
+    {
+        for _k in 0..count {
+            verdicts.push_reserved(Verdict::Occluded);
+        }
+    }
+
     // Appends the verdicts of the first so many members of a group, and tells what is counted of the group. By its hull
-    // it is tested first; else each member is tested by itself, and the hull behind them, where it may be hidden.
+    // it is tested first, and before that by a box around its boxes, since then none of these is looked at; else each
+    // member is tested by itself, and the hull behind them, where it may be hidden.
     fn answer_group(
         &self,
         group: Group,
@@ -202,6 +223,13 @@ impl<'a, V: TileView> Grouped<'a, V> {
         let _objects = self.object_count();
         let asked = self.asked;
         let size = asked.scene.size();
+        if by_hull && is_hidden_around(asked, size, group) {
+            self.answer_hidden(group, count, verdicts);
+            return Tally {
+                hidden: 1,
+                members: group.count,
+            };
+        }
         if by_hull {
             let tested = self.tested(size, group, forms);
             for k in 0..count {

@@ -1,0 +1,136 @@
+-- What a camera sees in a box, coordinate by coordinate, and boxes around others.
+use Rattle.std.proofs.Common.{◌≡◌, ℕ, ℤ, suc, pos, negsuc, neg_ℤ, ◌+◌, ◌<◌, ◌^◌, ◌≤ℤ◌, ◌+ℤ◌, ◌*ℤ◌, Bool, true, false, int_lt, List, [], ◌∷◌, length, arith, refl}
+use Rattle.std.specs.List.{All}
+use Rattle.std.specs.Int.{int_min, int_max, int_div_euclid}
+use Rattle.std.proofs.Math.IntN.{*ℤ_comm}
+use Rattle.std.proofs.lemmas.Int.{ints, clamps}
+use Rattle.std.proofs.lemmas.List.Elements.{All-from_recursion}
+use Rattle.cull_base.specs.Bounds.{Bounded}
+use Rattle.cull_base.specs.declared.scene_types.Object.{Object}
+use Rattle.cull_base.specs.declared.scene_types.Object.TheVariants.{Area, Block, Mesh}
+use Rattle.camera_path.specs.Clip.{AreWithin, clip_of, coordinate_of, corners_of, factors_sum, number}
+use Rattle.edge_lanes.proofs.Floors.{floor-le, from_below_floor, le-times, neg-times}
+use Rattle.scene_reader.specs.Layout.{IsObject, IsRow}
+use Rattle.group_query.specs.Around.{IsBetween, IsBoxInside, IsInside, IsSeenIn, pick, picked, spread, three}
+use Rattle.group_query.specs.declared.around.Around.{Around}
+use Rattle.group_query.specs.declared.around.Seen.{Seen}
+
+-- ---- a factor of numbers between two
+
+times_rise : (n : ℕ) (x y : ℤ) → x ≤ℤ y → (pos n *ℤ x) ≤ℤ (pos n *ℤ y)
+times_rise n x y le = joined _ _ _ _ (*ℤ_comm (pos n) x) (*ℤ_comm (pos n) y) (le-times x y n le)
+  where
+    joined : (a b c d : ℤ) → a ≡ c → b ≡ d → c ≤ℤ d → a ≤ℤ b
+    joined a b c d e f h = omega (arith, ints, e, f, h)
+
+times_fall : (n : ℕ) (x y : ℤ) → x ≤ℤ y → (negsuc n *ℤ y) ≤ℤ (negsuc n *ℤ x)
+times_fall n x y le = turned _ _ _ _ (neg-times (pos (suc n)) x) (neg-times (pos (suc n)) y) (times_rise (suc n) x y le)
+  where
+    turned : (a b c d : ℤ) → a ≡ neg_ℤ c → b ≡ neg_ℤ d → c ≤ℤ d → b ≤ℤ a
+    turned a b c d e f h = omega (arith, ints, e, f, h)
+
+at_least : (f a b v : ℤ) → a ≤ℤ v → v ≤ℤ b → (f *ℤ pick f a b) ≤ℤ (f *ℤ v)
+at_least (pos n) a b v low high = let e : int_lt (pos n) (pos 0) ≡ false = grind (arith, ints) in rw e (times_rise n a v low)
+at_least (negsuc n) a b v low high = let e : int_lt (negsuc n) (pos 0) ≡ true = grind (arith, ints) in rw e (times_fall n v b high)
+
+at_most : (f a b v : ℤ) → a ≤ℤ v → v ≤ℤ b → (f *ℤ v) ≤ℤ (f *ℤ pick f b a)
+at_most (pos n) a b v low high = let e : int_lt (pos n) (pos 0) ≡ false = grind (arith, ints) in rw e (times_rise n v b high)
+at_most (negsuc n) a b v low high = let e : int_lt (negsuc n) (pos 0) ≡ true = grind (arith, ints) in rw e (times_fall n a v low)
+
+-- ---- a row of a camera
+
+sums_rise : (a b c x y z : ℤ) → a ≤ℤ x → b ≤ℤ y → c ≤ℤ z → ((a +ℤ b) +ℤ c) ≤ℤ ((x +ℤ y) +ℤ z)
+sums_rise a b c x y z f g h = omega (arith, ints, f, g, h)
+
+floors_rise : (m n : ℤ) → m ≤ℤ n → int_div_euclid m (pos 65536) ≤ℤ int_div_euclid n (pos 65536)
+floors_rise m n le = from_below_floor (int_div_euclid m (pos 65536)) n 65536 (omega arith) (then _ _ _ (floor-le m 65536 (omega arith)) le)
+  where
+    then : (a b c : ℤ) → a ≤ℤ b → b ≤ℤ c → a ≤ℤ c
+    then a b c f g = omega (arith, ints, f, g)
+
+moved : (a b o : ℤ) → a ≤ℤ b → (a +ℤ o) ≤ℤ (b +ℤ o)
+moved a b o h = omega (arith, ints, h)
+
+row_least : (camera : List ℤ) (r : ℕ) (low high v : List ℤ) → IsInside low high v → coordinate_of camera r (picked camera r low high) ≤ℤ coordinate_of camera r v
+row_least camera r low high v h =
+    moved _ _ (number camera (r + 3)) (floors_rise (factors_sum camera r (picked camera r low high)) (factors_sum camera r v)
+    (sums_rise _ _ _ _ _ _ (at_least (number camera r) _ _ (number v 0) h.x.0 h.x.1) (at_least (number camera (r + 1)) _ _ (number v 1) h.y.0 h.y.1) (at_least (number camera (r + 2)) _ _ (number v 2) h.z.0 h.z.1)))
+
+row_most : (camera : List ℤ) (r : ℕ) (low high v : List ℤ) → IsInside low high v → coordinate_of camera r v ≤ℤ coordinate_of camera r (picked camera r high low)
+row_most camera r low high v h =
+    moved _ _ (number camera (r + 3)) (floors_rise (factors_sum camera r v) (factors_sum camera r (picked camera r high low))
+    (sums_rise _ _ _ _ _ _ (at_most (number camera r) _ _ (number v 0) h.x.0 h.x.1) (at_most (number camera (r + 1)) _ _ (number v 1) h.y.0 h.y.1) (at_most (number camera (r + 2)) _ _ (number v 2) h.z.0 h.z.1)))
+
+from_both : (least greatest a b z : ℤ) → least ≡ a → greatest ≡ b → a ≤ℤ z → z ≤ℤ b → (least ≤ℤ z) × (z ≤ℤ greatest)
+from_both least greatest a b z e f g h = (omega (arith, ints, e, g), omega (arith, ints, f, h))
+
+pub seen_in : (camera low high v : List ℤ) (s : Seen)
+    → s.x.least ≡ (clip_of camera (picked camera 0 low high)).x → s.x.greatest ≡ (clip_of camera (picked camera 0 high low)).x
+    → s.y.least ≡ (clip_of camera (picked camera 4 low high)).y → s.y.greatest ≡ (clip_of camera (picked camera 4 high low)).y
+    → s.w.least ≡ (clip_of camera (picked camera 8 low high)).w → s.w.greatest ≡ (clip_of camera (picked camera 8 high low)).w
+    → IsInside low high v → IsSeenIn s (clip_of camera v)
+unfolding clip_of
+seen_in camera low high v s x0 x1 y0 y1 w0 w1 h = record {
+  x = from_both s.x.least s.x.greatest _ _ (coordinate_of camera 0 v) x0 x1 (row_least camera 0 low high v h) (row_most camera 0 low high v h);
+  y = from_both s.y.least s.y.greatest _ _ (coordinate_of camera 4 v) y0 y1 (row_least camera 4 low high v h) (row_most camera 4 low high v h);
+  w = from_both s.w.least s.w.greatest _ _ (coordinate_of camera 8 v) w0 w1 (row_least camera 8 low high v h) (row_most camera 8 low high v h);
+}
+
+-- ---- three numbers within a bound
+
+pub three_within : (n : ℕ) (x y z : ℤ) → Bounded n x → Bounded n y → Bounded n z → AreWithin n (three x y z)
+three_within n x y z hx hy hz = All-from_recursion (Bounded n) (three x y z) (hx, (hy, (hz, tt)))
+
+pub within_at : (n : ℕ) (row : List ℤ) (k : ℕ) → AreWithin n row → k < length row → Bounded n (number row k)
+within_at n row k h lt = h k (pos 0) lt
+
+min_within : (n : ℕ) (a b : ℤ) → Bounded n a → Bounded n b → Bounded n (int_min a b)
+min_within n a b f g = (omega (arith, ints, clamps, f, g), omega (arith, ints, clamps, f, g))
+
+max_within : (n : ℕ) (a b : ℤ) → Bounded n a → Bounded n b → Bounded n (int_max a b)
+max_within n a b f g = (omega (arith, ints, clamps, f, g), omega (arith, ints, clamps, f, g))
+
+-- ---- a box around another and one more
+
+kept_between : (a b c d z : ℤ) → a ≤ℤ z → z ≤ℤ b → (int_min a c ≤ℤ z) × (z ≤ℤ int_max b d)
+kept_between a b c d z f g = (omega (arith, ints, clamps, f), omega (arith, ints, clamps, g))
+
+new_between : (a b c d z : ℤ) → c ≤ℤ z → z ≤ℤ d → (int_min a c ≤ℤ z) × (z ≤ℤ int_max b d)
+new_between a b c d z f g = (omega (arith, ints, clamps, f), omega (arith, ints, clamps, g))
+
+-- a point in the box is in the wider one
+still_inside : (a : Around) (low high v : List ℤ) → IsInside a.low a.high v → IsInside (spread a low high).low (spread a low high).high v
+still_inside a low high v h = record {
+  x = kept_between _ _ _ _ _ h.x.0 h.x.1;
+  y = kept_between _ _ _ _ _ h.y.0 h.y.1;
+  z = kept_between _ _ _ _ _ h.z.0 h.z.1;
+}
+
+new_inside : (a : Around) (low high v : List ℤ) → IsInside low high v → IsInside (spread a low high).low (spread a low high).high v
+new_inside a low high v h = record {
+  x = new_between _ _ _ _ _ h.x.0 h.x.1;
+  y = new_between _ _ _ _ _ h.y.0 h.y.1;
+  z = new_between _ _ _ _ _ h.z.0 h.z.1;
+}
+
+pub still_boxed : (a : Around) (low high : List ℤ) (o : Object) → IsBoxInside a o → IsBoxInside (spread a low high) o
+still_boxed a low high (Area r w) h = absurd h
+still_boxed a low high (Block l t) h = (still_inside a low high l h.0, still_inside a low high t h.1)
+still_boxed a low high (Mesh first count) h = absurd h
+
+same : (z : ℤ) → z ≤ℤ z
+same z = omega (arith, ints)
+
+pub new_boxed : (a : Around) (low high : List ℤ) (m : ℕ) → IsObject m (Block low high) → IsBoxInside (spread a low high) (Block low high)
+new_boxed a low high m h =
+    (new_inside a low high low (record { x = (same _, h.2); y = (same _, h.3); z = (same _, h.4) }),
+    new_inside a low high high (record { x = (h.2, same _); y = (h.3, same _); z = (h.4, same _) }))
+
+-- the corners of a box in a box are in it
+pub corners_inside : (low high l t : List ℤ) → IsInside low high l → IsInside low high t → All (IsInside low high) (corners_of l t)
+corners_inside low high l t a b =
+    All-from_recursion (IsInside low high) (corners_of l t)
+    (mixed a.x a.y a.z, (mixed b.x a.y a.z, (mixed a.x b.y a.z, (mixed b.x b.y a.z, (mixed a.x a.y b.z, (mixed b.x a.y b.z, (mixed a.x b.y b.z, (mixed b.x b.y b.z, tt))))))))
+  where
+    mixed : {x y z : ℤ} → (number low 0 ≤ℤ x) × (x ≤ℤ number high 0) → (number low 1 ≤ℤ y) × (y ≤ℤ number high 1) → (number low 2 ≤ℤ z) × (z ≤ℤ number high 2) → IsInside low high (three x y z)
+    mixed p q r = record { x = p; y = q; z = r }
