@@ -9,3 +9,4 @@ pub mod HiddenHulls
 pub mod Totals
 pub mod Answered
 pub mod CountsAlike
+pub mod SeenBoxes
