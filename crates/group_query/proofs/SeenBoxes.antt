@@ -164,12 +164,12 @@ before_next x y le = omega (arith, ints, le)
 part_of : (f g : ClipVertex → ℤ) (cs vs : List ClipVertex) → LiesIn f cs vs → LiesIn g cs vs → IsPart (box_around (map f vs) (map g vs)) (box_around (map f cs) (map g cs))
 part_of f g cs vs x y =
     record {
-      wide = before_next (first_pixel (least_of (map f vs))) (first_pixel (greatest_of (map f vs))) (pixels_rise _ _ x.order);
-      high = before_next (first_pixel (least_of (map g vs))) (first_pixel (greatest_of (map g vs))) (pixels_rise _ _ y.order);
+      wide = before_next _ _ (pixels_rise _ _ x.order);
+      high = before_next _ _ (pixels_rise _ _ y.order);
       left = pixels_rise _ _ x.least;
       above = pixels_rise _ _ y.least;
-      right = next_rises (first_pixel (greatest_of (map f vs))) (first_pixel (greatest_of (map f cs))) (pixels_rise _ _ x.greatest);
-      below = next_rises (first_pixel (greatest_of (map g vs))) (first_pixel (greatest_of (map g cs))) (pixels_rise _ _ y.greatest);
+      right = next_rises _ _ (pixels_rise _ _ x.greatest);
+      below = next_rises _ _ (pixels_rise _ _ y.greatest);
     }
 
 -- ---- places: where a number isn't negative its quotient by the greatest distance is the least one, else that by the least distance
@@ -194,102 +194,82 @@ times_near k (negsuc a) b some h = absurd (omega (arith, ints, some))
 abbrev ratio : ℤ → ℤ → Ratio
 ratio n w = record { number = n; w = w }
 
--- ratios whose numbers lie on one side of another's, one with no more than its distance and one with no less
-pub record AreAround (near : ℕ) (n w0 w1 : ℤ) (r : Ratio) : Type 0 where
-  pub some : 1 ≤ near
-  pub near_one : IsRatio near (ratio n w0)
-  pub far_one : IsRatio near (ratio n w1)
-  pub own : IsRatio near r
-  pub from : w0 ≤ℤ r.w
-  pub to : r.w ≤ℤ w1
-
 one_of : (near : ℕ) (w : ℤ) → 1 ≤ near → pos near ≤ℤ w → pos 1 ≤ℤ w
 one_of near w some h = omega (arith, ints, some, h)
 
-not_before : (near pixels : ℕ) (n w0 w1 : ℤ) (r : Ratio) (m : ℤ) → AreAround near n w0 w1 r → n ≤ℤ r.number → m ≤ℤ place_at pixels (ratio n w0) → m ≤ℤ place_at pixels (ratio n w1) → m ≤ℤ place_at pixels r
+-- a ratio with a distance between those of two others
+pub record IsBetweenTwo (near : ℕ) (a b r : Ratio) : Type 0 where
+  pub some : 1 ≤ near
+  pub near_one : IsRatio near a
+  pub far_one : IsRatio near b
+  pub own : IsRatio near r
+  pub from : a.w ≤ℤ r.w
+  pub to : r.w ≤ℤ b.w
+
+not_before : (near pixels : ℕ) (n w0 w1 : ℤ) (r : Ratio) (m : ℤ) → IsBetweenTwo near (ratio n w0) (ratio n w1) r → n ≤ℤ r.number → m ≤ℤ place_at pixels (ratio n w0) → m ≤ℤ place_at pixels (ratio n w1) → m ≤ℤ place_at pixels r
 not_before near pixels (pos k) w0 w1 r m h le e f =
-    let w = one_of near r.w h.some h.own.w_least in
-    let low = times_far k r.w w1 w h.to in
+    let low = times_far k r.w w1 (one_of near r.w h.some h.own.w_least) h.to in
     let high = times_rise (pos k) r.number w1 (one_of near w1 h.some h.far_one.w_least) le in
     after m _ _ f (places_rise near pixels (ratio (pos k) w1) r h.some h.far_one h.own (after (pos k *ℤ r.w) (pos k *ℤ w1) (r.number *ℤ w1) low high))
 not_before near pixels (negsuc k) w0 w1 r m h le e f =
-    let w = one_of near w0 h.some h.near_one.w_least in
-    let low = times_near k w0 r.w w h.from in
-    let high = times_rise (negsuc k) r.number w0 w le in
-    after m _ _ e (places_rise near pixels (ratio (negsuc k) w0) r h.some h.near_one h.own (after (negsuc k *ℤ r.w) (negsuc k *ℤ w0) (r.number *ℤ w0) low high))
+    let one = one_of near w0 h.some h.near_one.w_least in
+    let low = times_near k w0 r.w one h.from in
+    after m _ _ e (places_rise near pixels (ratio (negsuc k) w0) r h.some h.near_one h.own (after (negsuc k *ℤ r.w) (negsuc k *ℤ w0) (r.number *ℤ w0) low (times_rise (negsuc k) r.number w0 one le)))
 
-not_past : (near pixels : ℕ) (n w0 w1 : ℤ) (r : Ratio) (m : ℤ) → AreAround near n w0 w1 r → r.number ≤ℤ n → place_at pixels (ratio n w0) ≤ℤ m → place_at pixels (ratio n w1) ≤ℤ m → place_at pixels r ≤ℤ m
+not_past : (near pixels : ℕ) (n w0 w1 : ℤ) (r : Ratio) (m : ℤ) → IsBetweenTwo near (ratio n w0) (ratio n w1) r → r.number ≤ℤ n → place_at pixels (ratio n w0) ≤ℤ m → place_at pixels (ratio n w1) ≤ℤ m → place_at pixels r ≤ℤ m
 not_past near pixels (pos k) w0 w1 r m h le e f =
-    let w = one_of near w0 h.some h.near_one.w_least in
-    let low = times_rise r.number (pos k) w0 w le in
-    let high = times_far k w0 r.w w h.from in
-    after _ _ m (places_rise near pixels r (ratio (pos k) w0) h.some h.own h.near_one (after (r.number *ℤ w0) (pos k *ℤ w0) (pos k *ℤ r.w) low high)) e
+    let one = one_of near w0 h.some h.near_one.w_least in
+    let high = times_far k w0 r.w one h.from in
+    after _ _ m (places_rise near pixels r (ratio (pos k) w0) h.some h.own h.near_one (after (r.number *ℤ w0) (pos k *ℤ w0) (pos k *ℤ r.w) (times_rise r.number (pos k) w0 one le) high)) e
 not_past near pixels (negsuc k) w0 w1 r m h le e f =
-    let w = one_of near r.w h.some h.own.w_least in
     let low = times_rise r.number (negsuc k) w1 (one_of near w1 h.some h.far_one.w_least) le in
-    let high = times_near k r.w w1 w h.to in
+    let high = times_near k r.w w1 (one_of near r.w h.some h.own.w_least) h.to in
     after _ _ m (places_rise near pixels r (ratio (negsuc k) w1) h.some h.own h.far_one (after (r.number *ℤ w1) (negsuc k *ℤ w1) (negsuc k *ℤ r.w) low high)) f
 
 -- the ratios of vertices
 opposite : (x y : ℤ) → x ≤ℤ y → neg_ℤ y ≤ℤ neg_ℤ x
 opposite x y h = omega (arith, ints, h)
 
-opposite_within : (n : ℕ) (z : ℤ) → Bounded n z → Bounded n (neg_ℤ z)
-opposite_within n z h = (omega (arith, ints, h.1), omega (arith, ints, h.0))
-
 is_ratio : (near : ℕ) (way : Way) (v : ClipVertex) → IsClear near v → IsRatio near (ratio_along way v)
 is_ratio near Across v h = record { number_within = h.x; w_least = h.front; w_most = h.w.1 }
-is_ratio near Down v h = record { number_within = opposite_within (16384 * near) v.y h.y; w_least = h.front; w_most = h.w.1 }
+is_ratio near Down v h = record { number_within = (opposite v.y (pos (16384 * near)) h.y.1, omega (arith, ints, h.y.0)); w_least = h.front; w_most = h.w.1 }
 
--- a place along a way by its ratio, and the other way round
-at_ratio : (way : Way) (size : Dimensions) (P : ℤ → Type 0) (v : ClipVertex) → P (place_along way size v) → P (place_at (pixels_along way size) (ratio_along way v))
-at_ratio way size P v h = subst P (sym (placed_along way v size (ratio_along way v) refl)) h
+two : (near : ℕ) (way : Way) (a b v : ClipVertex) → 1 ≤ near → IsClear near a → IsClear near b → IsClear near v → (a.w ≤ℤ v.w) × (v.w ≤ℤ b.w) → IsBetweenTwo near (ratio_along way a) (ratio_along way b) (ratio_along way v)
+two near Across a b v some ha hb hv h = record { some = some; near_one = is_ratio near Across a ha; far_one = is_ratio near Across b hb; own = is_ratio near Across v hv; from = h.0; to = h.1 }
+two near Down a b v some ha hb hv h = record { some = some; near_one = is_ratio near Down a ha; far_one = is_ratio near Down b hb; own = is_ratio near Down v hv; from = h.0; to = h.1 }
 
-from_ratio : (way : Way) (size : Dimensions) (P : ℤ → Type 0) (v : ClipVertex) → P (place_at (pixels_along way size) (ratio_along way v)) → P (place_along way size v)
-from_ratio way size P v h = subst P (placed_along way v size (ratio_along way v) refl) h
+low_two : (near : ℕ) (way : Way) (s : Seen) (v : ClipVertex) → 1 ≤ near → AtFour (IsClear near) s → IsSeenIn s v → IsBetweenTwo near (ratio_along way (low_at s s.w.least)) (ratio_along way (low_at s s.w.greatest)) (ratio_along way v)
+low_two near way s v some k h = two near way (low_at s s.w.least) (low_at s s.w.greatest) v some k.low_near k.low_far (clear_seen near s v k h) h.w
+
+high_two : (near : ℕ) (way : Way) (s : Seen) (v : ClipVertex) → 1 ≤ near → AtFour (IsClear near) s → IsSeenIn s v → IsBetweenTwo near (ratio_along way (high_at s s.w.least)) (ratio_along way (high_at s s.w.greatest)) (ratio_along way v)
+high_two near way s v some k h = two near way (high_at s s.w.least) (high_at s s.w.greatest) v some k.high_near k.high_far (clear_seen near s v k h) h.w
 
 -- what is seen lies among the outer corners on the screen
-seen_from : (near : ℕ) (way : Way) (size : Dimensions) (s : Seen) (v : ClipVertex) (m : ℤ) → 1 ≤ near → AtFour (IsClear near) s → IsSeenIn s v → AtFour (λ u. m ≤ℤ place_along way size u) s → m ≤ℤ place_along way size v
-seen_from near Across size s v m some k h c =
-    let P = λ (z : ℤ). m ≤ℤ z in
-    let own = is_ratio near Across v (clear_seen near s v k h) in
-    from_ratio Across size P v
-    (not_before near size.width s.x.least s.w.least s.w.greatest (across v) m
-    (record { some = some; near_one = is_ratio near Across (low_at s s.w.least) k.low_near; far_one = is_ratio near Across (low_at s s.w.greatest) k.low_far; own = own; from = h.w.0; to = h.w.1 })
-    h.x.0 (at_ratio Across size P (low_at s s.w.least) c.low_near) (at_ratio Across size P (low_at s s.w.greatest) c.low_far))
-seen_from near Down size s v m some k h c =
-    let P = λ (z : ℤ). m ≤ℤ z in
-    let own = is_ratio near Down v (clear_seen near s v k h) in
-    from_ratio Down size P v
-    (not_before near size.height (neg_ℤ s.y.greatest) s.w.least s.w.greatest (down v) m
-    (record { some = some; near_one = is_ratio near Down (high_at s s.w.least) k.high_near; far_one = is_ratio near Down (high_at s s.w.greatest) k.high_far; own = own; from = h.w.0; to = h.w.1 })
-    (opposite v.y s.y.greatest h.y.1) (at_ratio Down size P (high_at s s.w.least) c.high_near) (at_ratio Down size P (high_at s s.w.greatest) c.high_far))
+abbrev placed : Way → Dimensions → ClipVertex → ℤ
+placed way size v = place_at (pixels_along way size) (ratio_along way v)
 
-seen_to : (near : ℕ) (way : Way) (size : Dimensions) (s : Seen) (v : ClipVertex) (m : ℤ) → 1 ≤ near → AtFour (IsClear near) s → IsSeenIn s v → AtFour (λ u. place_along way size u ≤ℤ m) s → place_along way size v ≤ℤ m
-seen_to near Across size s v m some k h c =
-    let P = λ (z : ℤ). z ≤ℤ m in
-    let own = is_ratio near Across v (clear_seen near s v k h) in
-    from_ratio Across size P v
-    (not_past near size.width s.x.greatest s.w.least s.w.greatest (across v) m
-    (record { some = some; near_one = is_ratio near Across (high_at s s.w.least) k.high_near; far_one = is_ratio near Across (high_at s s.w.greatest) k.high_far; own = own; from = h.w.0; to = h.w.1 })
-    h.x.1 (at_ratio Across size P (high_at s s.w.least) c.high_near) (at_ratio Across size P (high_at s s.w.greatest) c.high_far))
+seen_from : (near : ℕ) (way : Way) (size : Dimensions) (s : Seen) (v : ClipVertex) (m : ℤ) → 1 ≤ near → AtFour (IsClear near) s → IsSeenIn s v → AtFour (λ u. m ≤ℤ placed way size u) s → m ≤ℤ placed way size v
+seen_from near Across size s v m some k h c = not_before near size.width s.x.least s.w.least s.w.greatest (across v) m (low_two near Across s v some k h) h.x.0 c.low_near c.low_far
+seen_from near Down size s v m some k h c =
+    not_before near size.height (neg_ℤ s.y.greatest) s.w.least s.w.greatest (down v) m (high_two near Down s v some k h) (opposite v.y s.y.greatest h.y.1) c.high_near c.high_far
+
+seen_to : (near : ℕ) (way : Way) (size : Dimensions) (s : Seen) (v : ClipVertex) (m : ℤ) → 1 ≤ near → AtFour (IsClear near) s → IsSeenIn s v → AtFour (λ u. placed way size u ≤ℤ m) s → placed way size v ≤ℤ m
+seen_to near Across size s v m some k h c = not_past near size.width s.x.greatest s.w.least s.w.greatest (across v) m (high_two near Across s v some k h) h.x.1 c.high_near c.high_far
 seen_to near Down size s v m some k h c =
-    let P = λ (z : ℤ). z ≤ℤ m in
-    let own = is_ratio near Down v (clear_seen near s v k h) in
-    from_ratio Down size P v
-    (not_past near size.height (neg_ℤ s.y.least) s.w.least s.w.greatest (down v) m
-    (record { some = some; near_one = is_ratio near Down (low_at s s.w.least) k.low_near; far_one = is_ratio near Down (low_at s s.w.greatest) k.low_far; own = own; from = h.w.0; to = h.w.1 })
-    (opposite s.y.least v.y h.y.0) (at_ratio Down size P (low_at s s.w.least) c.low_near) (at_ratio Down size P (low_at s s.w.greatest) c.low_far))
+    not_past near size.height (neg_ℤ s.y.least) s.w.least s.w.greatest (down v) m (low_two near Down s v some k h) (opposite s.y.least v.y h.y.0) c.low_near c.low_far
 
 lies_along : (near : ℕ) (way : Way) (size : Dimensions) (s : Seen) (v : ClipVertex) (vs : List ClipVertex) → 1 ≤ near → AtFour (IsClear near) s → All (IsSeenIn s) (v ∷ vs) → LiesIn (place_along way size) (outer_corners s) (v ∷ vs)
 lies_along near way size s v vs some k all =
     let f = place_along way size in
     let cs = outer_corners s in
-    let low = at_four (λ u. least_of (map f cs) ≤ℤ f u) s (least_each f cs) in
-    let high = at_four (λ u. f u ≤ℤ greatest_of (map f cs)) s (greatest_each f cs) in
+    let m = least_of (map f cs) in
+    let n = greatest_of (map f cs) in
+    let same = λ (u : ClipVertex). placed_along way u size (ratio_along way u) refl in
+    let low = at_four (λ u. m ≤ℤ placed way size u) s (All-weaker (λ u. m ≤ℤ f u) (λ u. m ≤ℤ placed way size u) (λ u h. subst (λ z. m ≤ℤ z) (sym (same u)) h) cs (least_each f cs)) in
+    let high = at_four (λ u. placed way size u ≤ℤ n) s (All-weaker (λ u. f u ≤ℤ n) (λ u. placed way size u ≤ℤ n) (λ u h. subst (λ z. z ≤ℤ n) (sym (same u)) h) cs (greatest_each f cs)) in
     lies_in f cs v vs
-    (All-weaker (IsSeenIn s) (λ u. least_of (map f cs) ≤ℤ f u) (λ u h. seen_from near way size s u (least_of (map f cs)) some k h low) (v ∷ vs) all)
-    (All-weaker (IsSeenIn s) (λ u. f u ≤ℤ greatest_of (map f cs)) (λ u h. seen_to near way size s u (greatest_of (map f cs)) some k h high) (v ∷ vs) all)
+    (All-weaker (IsSeenIn s) (λ u. m ≤ℤ f u) (λ u h. subst (λ z. m ≤ℤ z) (same u) (seen_from near way size s u m some k h low)) (v ∷ vs) all)
+    (All-weaker (IsSeenIn s) (λ u. f u ≤ℤ n) (λ u h. subst (λ z. z ≤ℤ n) (same u) (seen_to near way size s u n some k h high)) (v ∷ vs) all)
 
 -- ---- nearness falls with the distance
 
@@ -308,21 +288,10 @@ nearness_falls a (negsuc b) w some h = absurd (omega (arith, ints, some))
 
 -- ---- what is answered
 
-pub record StandsAt (top near : ℕ) (size : Dimensions) (vs : List ClipVertex) (rect : Rect) (q : ℕ) : Type 0 where
-  pub none : list_any (is_stray near) vs ≡ false
-  pub rect_is : box_rect_of size vs ≡ rect
-  pub nearness_is : box_nearness top near vs ≡ q
-
 taken_apart : (a b : Bool) (r rect : Rect) (n q : ℕ) → cond a Outside (cond b Straddles (At r n)) ≡ At rect q → (b ≡ false) × (r ≡ rect) × (n ≡ q)
 taken_apart true b r rect n q e = absurd cc
 taken_apart false true r rect n q e = absurd cc
 taken_apart false false r rect n q e = (refl, cc, cc)
-
-stands_at : (top near : ℕ) (size : Dimensions) (vs : List ClipVertex) (rect : Rect) (q : ℕ) → box_answer top near size vs ≡ At rect q → StandsAt top near size vs rect q
-unfolding box_answer
-stands_at top near size vs rect q e =
-    let k = taken_apart (list_all (is_behind near) vs) (list_any (is_stray near) vs) (box_rect_of size vs) rect (box_nearness top near vs) q e in
-    record { none = k.0; rect_is = k.1; nearness_is = k.2 }
 
 put_together : (a b : Bool) (r rect : Rect) (n q : ℕ) → a ≡ false → b ≡ false → IsPart r rect → n ≤ q → StandsIn rect q (cond a Outside (cond b Straddles (At r n)))
 put_together true b r rect n q e f part le = absurd cc
@@ -335,9 +304,9 @@ pub stands_in : (top near : ℕ) (size : Dimensions) (s : Seen) (v : ClipVertex)
 unfolding box_answer
 stands_in top near size s v vs rect q some e all =
     let cs = outer_corners s in
-    let at = stands_at top near size cs rect q e in
+    let at = taken_apart (list_all (is_behind near) cs) (list_any (is_stray near) cs) (box_rect_of size cs) rect (box_nearness top near cs) q e in
     let d = a_vertex (pos 0) (pos 0) (pos 0) in
-    let clear : All (IsClear near) cs = λ k d lt. (let t = none_stray near cs k d at.none lt in clear_from near (get_or cs k d) t.0 t.1) in
+    let clear : All (IsClear near) cs = λ k d lt. (let t = none_stray near cs k d at.0 lt in clear_from near (get_or cs k d) t.0 t.1) in
     let four = at_four (IsClear near) s clear in
     let own : All (IsClear near) (v ∷ vs) = All-weaker (IsSeenIn s) (IsClear near) (λ u h. clear_seen near s u four h) (v ∷ vs) all in
     let none : list_any (is_stray near) (v ∷ vs) ≡ false =
@@ -352,4 +321,4 @@ stands_in top near size s v vs rect q some e all =
     let falls = nearness_falls (top * near) least (least_of (map distance (v ∷ vs))) (one_of near least some front) far in
     let part = part_of (place_along Across size) (place_along Down size) cs (v ∷ vs) (lies_along near Across size s v vs some four all) (lies_along near Down size s v vs some four all) in
     put_together (list_all (is_behind near) (v ∷ vs)) (list_any (is_stray near) (v ∷ vs)) (box_rect_of size (v ∷ vs)) rect (box_nearness top near (v ∷ vs)) q ahead none
-    (subst (λ r. IsPart (box_rect_of size (v ∷ vs)) r) at.rect_is part) (subst (λ n. box_nearness top near (v ∷ vs) ≤ n) at.nearness_is falls)
+    (subst (λ r. IsPart (box_rect_of size (v ∷ vs)) r) at.1 part) (subst (λ n. box_nearness top near (v ∷ vs) ≤ n) at.2 falls)
