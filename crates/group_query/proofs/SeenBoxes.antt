@@ -1,6 +1,6 @@
 -- Why what is seen in a box stands in the rectangle of the outer corners, and is no nearer.
-use Rattle.std.proofs.Common.{◌≡◌, ℕ, ℤ, pos, negsuc, neg_ℤ, suc, ◌+◌, ◌*◌, ◌<◌, ◌≤◌, ◌≤ℤ◌, ◌<ℤ◌, ◌+ℤ◌, ◌*ℤ◌, List, [], ◌∷◌, length, map, get_or, Bool, true, false, ◌||◌, ◌&&◌, int_lt, cond, arith, refl, sym, ap, subst, inl, inr, lt_of_mul-lt-mul_right, mul-le-mul_left}
-use Rattle.std.specs.Int.{div_ceil}
+use Rattle.std.proofs.Common.{◌≡◌, ℕ, ℤ, pos, negsuc, neg_ℤ, suc, ◌+◌, ◌*◌, ◌<◌, ◌≤◌, ◌≤ℤ◌, ◌<ℤ◌, ◌+ℤ◌, ◌-ℤ◌, ◌*ℤ◌, List, [], ◌∷◌, length, map, get_or, Bool, true, false, ◌||◌, ◌&&◌, int_lt, cond, arith, refl, sym, ap, subst, inl, inr, lt_of_mul-lt-mul_right, mul-le-mul_left}
+use Rattle.std.specs.Int.{div_ceil, int_div_euclid}
 use Rattle.std.specs.List.{list_all, list_any, All}
 use Rattle.std.proofs.lemmas.Bool.{or_parts, or_from}
 use Rattle.std.proofs.lemmas.Grind.{div_ceil_times}
@@ -16,14 +16,11 @@ use Rattle.cull_base.specs.Piece.{least_of, greatest_of, first_pixel, box_around
 use Rattle.cull_base.specs.Pixels.{natural}
 use Rattle.cull_base.specs.Screen.{Dimensions}
 use Rattle.rect_query.specs.Boxes.{box_answer, box_nearness, box_rect_of}
-use Rattle.rect_query.specs.Ratios.{IsRatio, across, down, pixels_along, place_along, place_at, ratio_along}
+use Rattle.rect_query.specs.Ratios.{IsRatio, across, down, place_at}
 use Rattle.rect_query.specs.declared.boxes.BoxAnswer.TheVariants.{Outside, Straddles, At}
-use Rattle.rect_query.specs.declared.ratio.Ratio.{Ratio}
-use Rattle.rect_query.specs.declared.ratio.Way.{Way}
-use Rattle.rect_query.specs.declared.ratio.Way.TheVariants.{Across, Down}
 use Rattle.rect_query.proofs.Corners.{w_front}
 use Rattle.rect_query.proofs.Reaching.{none_stray}
-use Rattle.rect_query.proofs.Rising.{places_rise, placed_along}
+use Rattle.rect_query.proofs.Rising.{places_rise}
 use Rattle.group_query.specs.Around.{IsPart, IsSeenIn, StandsIn, a_vertex, outer_corners}
 use Rattle.group_query.specs.declared.around.Seen.{Seen}
 
@@ -191,85 +188,106 @@ times_near k (pos a) (pos b) some h = let le : a ≤ b = omega (arith, ints, h) 
 times_near k (pos a) (negsuc b) some h = absurd (omega (arith, ints, h))
 times_near k (negsuc a) b some h = absurd (omega (arith, ints, some))
 
-abbrev ratio : ℤ → ℤ → Ratio
-ratio n w = record { number = n; w = w }
+abbrev at_x : ℤ → ℤ → ClipVertex
+at_x n w = a_vertex n (pos 0) w
 
 one_of : (near : ℕ) (w : ℤ) → 1 ≤ near → pos near ≤ℤ w → pos 1 ≤ℤ w
 one_of near w some h = omega (arith, ints, some, h)
 
--- a ratio with a distance between those of two others
-pub record IsBetweenTwo (near : ℕ) (a b r : Ratio) : Type 0 where
+-- a vertex with a distance between two others
+pub record IsBetweenTwo (near : ℕ) (n w0 w1 : ℤ) (v : ClipVertex) : Type 0 where
   pub some : 1 ≤ near
-  pub near_one : IsRatio near a
-  pub far_one : IsRatio near b
-  pub own : IsRatio near r
-  pub from : a.w ≤ℤ r.w
-  pub to : r.w ≤ℤ b.w
+  pub near_one : IsRatio near (across (at_x n w0))
+  pub far_one : IsRatio near (across (at_x n w1))
+  pub own : IsRatio near (across v)
+  pub from : w0 ≤ℤ v.w
+  pub to : v.w ≤ℤ w1
 
-not_before : (near pixels : ℕ) (n w0 w1 : ℤ) (r : Ratio) (m : ℤ) → IsBetweenTwo near (ratio n w0) (ratio n w1) r → n ≤ℤ r.number → m ≤ℤ place_at pixels (ratio n w0) → m ≤ℤ place_at pixels (ratio n w1) → m ≤ℤ place_at pixels r
-not_before near pixels (pos k) w0 w1 r m h le e f =
-    let low = times_far k r.w w1 (one_of near r.w h.some h.own.w_least) h.to in
-    let high = times_rise (pos k) r.number w1 (one_of near w1 h.some h.far_one.w_least) le in
-    after m _ _ f (places_rise near pixels (ratio (pos k) w1) r h.some h.far_one h.own (after (pos k *ℤ r.w) (pos k *ℤ w1) (r.number *ℤ w1) low high))
-not_before near pixels (negsuc k) w0 w1 r m h le e f =
+two : (near : ℕ) (n w0 w1 : ℤ) (v : ClipVertex) → 1 ≤ near → Bounded (16384 * near) n → pos near ≤ℤ w0 → w1 ≤ℤ pos (16384 * near) → IsClear near v → (w0 ≤ℤ v.w) × (v.w ≤ℤ w1) → IsBetweenTwo near n w0 w1 v
+two near n w0 w1 v some b front most k h =
+    record {
+      some = some;
+      near_one = record { number_within = b; w_least = front; w_most = after w0 v.w (pos (16384 * near)) h.0 k.w.1 };
+      far_one = record { number_within = b; w_least = after (pos near) v.w w1 k.front h.1; w_most = most };
+      own = record { number_within = k.x; w_least = k.front; w_most = k.w.1 };
+      from = h.0;
+      to = h.1;
+    }
+
+not_before : (near pixels : ℕ) (n w0 w1 : ℤ) (v : ClipVertex) (m : ℤ) → IsBetweenTwo near n w0 w1 v → n ≤ℤ v.x → m ≤ℤ place_at pixels (across (at_x n w0)) → m ≤ℤ place_at pixels (across (at_x n w1)) → m ≤ℤ place_at pixels (across v)
+not_before near pixels (pos k) w0 w1 v m h le e f =
+    let low = times_far k v.w w1 (one_of near v.w h.some h.own.w_least) h.to in
+    let high = times_rise (pos k) v.x w1 (one_of near w1 h.some h.far_one.w_least) le in
+    after m _ _ f (places_rise near pixels (across (at_x (pos k) w1)) (across v) h.some h.far_one h.own (after (pos k *ℤ v.w) (pos k *ℤ w1) (v.x *ℤ w1) low high))
+not_before near pixels (negsuc k) w0 w1 v m h le e f =
     let one = one_of near w0 h.some h.near_one.w_least in
-    let low = times_near k w0 r.w one h.from in
-    after m _ _ e (places_rise near pixels (ratio (negsuc k) w0) r h.some h.near_one h.own (after (negsuc k *ℤ r.w) (negsuc k *ℤ w0) (r.number *ℤ w0) low (times_rise (negsuc k) r.number w0 one le)))
+    let low = times_near k w0 v.w one h.from in
+    after m _ _ e (places_rise near pixels (across (at_x (negsuc k) w0)) (across v) h.some h.near_one h.own (after (negsuc k *ℤ v.w) (negsuc k *ℤ w0) (v.x *ℤ w0) low (times_rise (negsuc k) v.x w0 one le)))
 
-not_past : (near pixels : ℕ) (n w0 w1 : ℤ) (r : Ratio) (m : ℤ) → IsBetweenTwo near (ratio n w0) (ratio n w1) r → r.number ≤ℤ n → place_at pixels (ratio n w0) ≤ℤ m → place_at pixels (ratio n w1) ≤ℤ m → place_at pixels r ≤ℤ m
-not_past near pixels (pos k) w0 w1 r m h le e f =
+not_past : (near pixels : ℕ) (n w0 w1 : ℤ) (v : ClipVertex) (m : ℤ) → IsBetweenTwo near n w0 w1 v → v.x ≤ℤ n → place_at pixels (across (at_x n w0)) ≤ℤ m → place_at pixels (across (at_x n w1)) ≤ℤ m → place_at pixels (across v) ≤ℤ m
+not_past near pixels (pos k) w0 w1 v m h le e f =
     let one = one_of near w0 h.some h.near_one.w_least in
-    let high = times_far k w0 r.w one h.from in
-    after _ _ m (places_rise near pixels r (ratio (pos k) w0) h.some h.own h.near_one (after (r.number *ℤ w0) (pos k *ℤ w0) (pos k *ℤ r.w) (times_rise r.number (pos k) w0 one le) high)) e
-not_past near pixels (negsuc k) w0 w1 r m h le e f =
-    let low = times_rise r.number (negsuc k) w1 (one_of near w1 h.some h.far_one.w_least) le in
-    let high = times_near k r.w w1 (one_of near r.w h.some h.own.w_least) h.to in
-    after _ _ m (places_rise near pixels r (ratio (negsuc k) w1) h.some h.own h.far_one (after (r.number *ℤ w1) (negsuc k *ℤ w1) (negsuc k *ℤ r.w) low high)) f
+    let high = times_far k w0 v.w one h.from in
+    after _ _ m (places_rise near pixels (across v) (across (at_x (pos k) w0)) h.some h.own h.near_one (after (v.x *ℤ w0) (pos k *ℤ w0) (pos k *ℤ v.w) (times_rise v.x (pos k) w0 one le) high)) e
+not_past near pixels (negsuc k) w0 w1 v m h le e f =
+    let low = times_rise v.x (negsuc k) w1 (one_of near w1 h.some h.far_one.w_least) le in
+    let high = times_near k v.w w1 (one_of near v.w h.some h.own.w_least) h.to in
+    after _ _ m (places_rise near pixels (across v) (across (at_x (negsuc k) w1)) h.some h.own h.far_one (after (v.x *ℤ w1) (negsuc k *ℤ w1) (negsuc k *ℤ v.w) low high)) f
 
--- the ratios of vertices
+-- a vertex that lies across the screen where another lies down it
+abbrev turned : ClipVertex → ClipVertex
+turned v = at_x (neg_ℤ v.y) v.w
+
 opposite : (x y : ℤ) → x ≤ℤ y → neg_ℤ y ≤ℤ neg_ℤ x
 opposite x y h = omega (arith, ints, h)
 
-is_ratio : (near : ℕ) (way : Way) (v : ClipVertex) → IsClear near v → IsRatio near (ratio_along way v)
-is_ratio near Across v h = record { number_within = h.x; w_least = h.front; w_most = h.w.1 }
-is_ratio near Down v h = record { number_within = (opposite v.y (pos (16384 * near)) h.y.1, omega (arith, ints, h.y.0)); w_least = h.front; w_most = h.w.1 }
+opposite_within : (n : ℕ) (z : ℤ) → Bounded n z → Bounded n (neg_ℤ z)
+opposite_within n z h = (opposite z (pos n) h.1, omega (arith, ints, h.0))
 
-two : (near : ℕ) (way : Way) (a b v : ClipVertex) → 1 ≤ near → IsClear near a → IsClear near b → IsClear near v → (a.w ≤ℤ v.w) × (v.w ≤ℤ b.w) → IsBetweenTwo near (ratio_along way a) (ratio_along way b) (ratio_along way v)
-two near Across a b v some ha hb hv h = record { some = some; near_one = is_ratio near Across a ha; far_one = is_ratio near Across b hb; own = is_ratio near Across v hv; from = h.0; to = h.1 }
-two near Down a b v some ha hb hv h = record { some = some; near_one = is_ratio near Down a ha; far_one = is_ratio near Down b hb; own = is_ratio near Down v hv; from = h.0; to = h.1 }
-
-low_two : (near : ℕ) (way : Way) (s : Seen) (v : ClipVertex) → 1 ≤ near → AtFour (IsClear near) s → IsSeenIn s v → IsBetweenTwo near (ratio_along way (low_at s s.w.least)) (ratio_along way (low_at s s.w.greatest)) (ratio_along way v)
-low_two near way s v some k h = two near way (low_at s s.w.least) (low_at s s.w.greatest) v some k.low_near k.low_far (clear_seen near s v k h) h.w
-
-high_two : (near : ℕ) (way : Way) (s : Seen) (v : ClipVertex) → 1 ≤ near → AtFour (IsClear near) s → IsSeenIn s v → IsBetweenTwo near (ratio_along way (high_at s s.w.least)) (ratio_along way (high_at s s.w.greatest)) (ratio_along way v)
-high_two near way s v some k h = two near way (high_at s s.w.least) (high_at s s.w.greatest) v some k.high_near k.high_far (clear_seen near s v k h) h.w
+clear_turned : (near : ℕ) (v : ClipVertex) → IsClear near v → IsClear near (turned v)
+clear_turned near v h = record { x = opposite_within (16384 * near) v.y h.y; y = (omega (arith, ints), omega (arith, ints)); w = h.w; front = h.front }
 
 -- what is seen lies among the outer corners on the screen
-abbrev placed : Way → Dimensions → ClipVertex → ℤ
-placed way size v = place_at (pixels_along way size) (ratio_along way v)
+abbrev IsAmong : (ClipVertex → ℤ) → Seen → Type 0
+IsAmong g s = (v : ClipVertex) (m n : ℤ) → IsSeenIn s v → AtFour (λ u. m ≤ℤ g u) s → AtFour (λ u. g u ≤ℤ n) s → (m ≤ℤ g v) × (g v ≤ℤ n)
 
-seen_from : (near : ℕ) (way : Way) (size : Dimensions) (s : Seen) (v : ClipVertex) (m : ℤ) → 1 ≤ near → AtFour (IsClear near) s → IsSeenIn s v → AtFour (λ u. m ≤ℤ placed way size u) s → m ≤ℤ placed way size v
-seen_from near Across size s v m some k h c = not_before near size.width s.x.least s.w.least s.w.greatest (across v) m (low_two near Across s v some k h) h.x.0 c.low_near c.low_far
-seen_from near Down size s v m some k h c =
-    not_before near size.height (neg_ℤ s.y.greatest) s.w.least s.w.greatest (down v) m (high_two near Down s v some k h) (opposite v.y s.y.greatest h.y.1) c.high_near c.high_far
+seen_across : (near pixels : ℕ) (s : Seen) → 1 ≤ near → AtFour (IsClear near) s → IsAmong (λ u. place_at pixels (across u)) s
+seen_across near pixels s some k v m n h c d =
+    let own = clear_seen near s v k h in
+    (not_before near pixels s.x.least s.w.least s.w.greatest v m (two near _ _ _ v some k.low_near.x k.low_near.front k.high_far.w.1 own h.w) h.x.0 c.low_near c.low_far,
+    not_past near pixels s.x.greatest s.w.least s.w.greatest v n (two near _ _ _ v some k.high_far.x k.low_near.front k.high_far.w.1 own h.w) h.x.1 d.high_near d.high_far)
 
-seen_to : (near : ℕ) (way : Way) (size : Dimensions) (s : Seen) (v : ClipVertex) (m : ℤ) → 1 ≤ near → AtFour (IsClear near) s → IsSeenIn s v → AtFour (λ u. placed way size u ≤ℤ m) s → placed way size v ≤ℤ m
-seen_to near Across size s v m some k h c = not_past near size.width s.x.greatest s.w.least s.w.greatest (across v) m (high_two near Across s v some k h) h.x.1 c.high_near c.high_far
-seen_to near Down size s v m some k h c =
-    not_past near size.height (neg_ℤ s.y.least) s.w.least s.w.greatest (down v) m (low_two near Down s v some k h) (opposite s.y.least v.y h.y.0) c.low_near c.low_far
+seen_down : (near pixels : ℕ) (s : Seen) → 1 ≤ near → AtFour (IsClear near) s → IsAmong (λ u. place_at pixels (down u)) s
+seen_down near pixels s some k v m n h c d =
+    let own = clear_turned near v (clear_seen near s v k h) in
+    let low = opposite_within (16384 * near) s.y.greatest k.high_far.y in
+    let high = opposite_within (16384 * near) s.y.least k.low_near.y in
+    (not_before near pixels (neg_ℤ s.y.greatest) s.w.least s.w.greatest (turned v) m (two near _ _ _ (turned v) some low k.low_near.front k.high_far.w.1 own h.w) (opposite v.y s.y.greatest h.y.1) c.high_near c.high_far,
+    not_past near pixels (neg_ℤ s.y.least) s.w.least s.w.greatest (turned v) n (two near _ _ _ (turned v) some high k.low_near.front k.high_far.w.1 own h.w) (opposite s.y.least v.y h.y.0) d.low_near d.low_far)
 
-lies_along : (near : ℕ) (way : Way) (size : Dimensions) (s : Seen) (v : ClipVertex) (vs : List ClipVertex) → 1 ≤ near → AtFour (IsClear near) s → All (IsSeenIn s) (v ∷ vs) → LiesIn (place_along way size) (outer_corners s) (v ∷ vs)
-lies_along near way size s v vs some k all =
-    let f = place_along way size in
+lies_along : (f g : ClipVertex → ℤ) (s : Seen) (v : ClipVertex) (vs : List ClipVertex) → ((u : ClipVertex) → g u ≡ f u) → IsAmong g s → All (IsSeenIn s) (v ∷ vs) → LiesIn f (outer_corners s) (v ∷ vs)
+lies_along f g s v vs same among all =
     let cs = outer_corners s in
     let m = least_of (map f cs) in
     let n = greatest_of (map f cs) in
-    let same = λ (u : ClipVertex). placed_along way u size (ratio_along way u) refl in
-    let low = at_four (λ u. m ≤ℤ placed way size u) s (All-weaker (λ u. m ≤ℤ f u) (λ u. m ≤ℤ placed way size u) (λ u h. subst (λ z. m ≤ℤ z) (sym (same u)) h) cs (least_each f cs)) in
-    let high = at_four (λ u. placed way size u ≤ℤ n) s (All-weaker (λ u. f u ≤ℤ n) (λ u. placed way size u ≤ℤ n) (λ u h. subst (λ z. z ≤ℤ n) (sym (same u)) h) cs (greatest_each f cs)) in
+    let low = at_four (λ u. m ≤ℤ g u) s (All-weaker (λ u. m ≤ℤ f u) (λ u. m ≤ℤ g u) (λ u h. subst (λ z. m ≤ℤ z) (sym (same u)) h) cs (least_each f cs)) in
+    let high = at_four (λ u. g u ≤ℤ n) s (All-weaker (λ u. f u ≤ℤ n) (λ u. g u ≤ℤ n) (λ u h. subst (λ z. z ≤ℤ n) (sym (same u)) h) cs (greatest_each f cs)) in
     lies_in f cs v vs
-    (All-weaker (IsSeenIn s) (λ u. m ≤ℤ f u) (λ u h. subst (λ z. m ≤ℤ z) (same u) (seen_from near way size s u m some k h low)) (v ∷ vs) all)
-    (All-weaker (IsSeenIn s) (λ u. f u ≤ℤ n) (λ u h. subst (λ z. z ≤ℤ n) (same u) (seen_to near way size s u n some k h high)) (v ∷ vs) all)
+    (All-weaker (IsSeenIn s) (λ u. m ≤ℤ f u) (λ u h. subst (λ z. m ≤ℤ z) (same u) (among u m n h low high).0) (v ∷ vs) all)
+    (All-weaker (IsSeenIn s) (λ u. f u ≤ℤ n) (λ u h. subst (λ z. z ≤ℤ n) (same u) (among u m n h low high).1) (v ∷ vs) all)
+
+-- where a vertex lies on the screen
+abbrev across_at : Dimensions → ClipVertex → ℤ
+across_at size v = place_at size.width (across v)
+
+abbrev down_at : Dimensions → ClipVertex → ℤ
+down_at size v = int_div_euclid ((pos 2 *ℤ (pos (8 * size.height) *ℤ (v.w -ℤ v.y))) +ℤ v.w) (pos 2 *ℤ v.w)
+
+down_is : (size : Dimensions) (v : ClipVertex) → place_at size.height (down v) ≡ down_at size v
+down_is size v = ap (λ (z : ℤ). int_div_euclid ((pos 2 *ℤ (pos (8 * size.height) *ℤ z)) +ℤ v.w) (pos 2 *ℤ v.w)) (sum v.y v.w)
+  where
+    sum : (y w : ℤ) → neg_ℤ y +ℤ w ≡ w -ℤ y
+    sum y w = omega (arith, ints)
 
 -- ---- nearness falls with the distance
 
@@ -319,6 +337,8 @@ stands_in top near size s v vs rect q some e all =
     let nearest = at_four (λ u. least ≤ℤ u.w) s (least_each distance cs) in
     let far = least_above distance least (v ∷ vs) (omega arith) (All-weaker (IsSeenIn s) (λ u. least ≤ℤ u.w) (λ u h. after least s.w.least u.w nearest.low_near h.w.0) (v ∷ vs) all) in
     let falls = nearness_falls (top * near) least (least_of (map distance (v ∷ vs))) (one_of near least some front) far in
-    let part = part_of (place_along Across size) (place_along Down size) cs (v ∷ vs) (lies_along near Across size s v vs some four all) (lies_along near Down size s v vs some four all) in
+    let across_screen = lies_along (across_at size) (across_at size) s v vs (λ u. refl) (seen_across near size.width s some four) all in
+    let down_screen = lies_along (down_at size) (λ u. place_at size.height (down u)) s v vs (down_is size) (seen_down near size.height s some four) all in
+    let part = part_of (across_at size) (down_at size) cs (v ∷ vs) across_screen down_screen in
     put_together (list_all (is_behind near) (v ∷ vs)) (list_any (is_stray near) (v ∷ vs)) (box_rect_of size (v ∷ vs)) rect (box_nearness top near (v ∷ vs)) q ahead none
     (subst (λ r. IsPart (box_rect_of size (v ∷ vs)) r) at.1 part) (subst (λ n. box_nearness top near (v ∷ vs) ≤ n) at.2 falls)
