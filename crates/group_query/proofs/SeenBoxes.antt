@@ -253,17 +253,19 @@ IsAmong g s = (v : ClipVertex) (m n : ℤ) → IsSeenIn s v → AtFour (λ u. m 
 
 seen_across : (near pixels : ℕ) (s : Seen) → 1 ≤ near → AtFour (IsClear near) s → IsAmong (λ u. place_at pixels (across u)) s
 seen_across near pixels s some k v m n h c d =
-    let own = clear_seen near s v k h in
-    (not_before near pixels s.x.least s.w.least s.w.greatest v m (two near _ _ _ v some k.low_near.x k.low_near.front k.high_far.w.1 own h.w) h.x.0 c.low_near c.low_far,
-    not_past near pixels s.x.greatest s.w.least s.w.greatest v n (two near _ _ _ v some k.high_far.x k.low_near.front k.high_far.w.1 own h.w) h.x.1 d.high_near d.high_far)
+    let own = clear_seen near s v k h in (
+      not_before near pixels s.x.least s.w.least s.w.greatest v m (two near _ _ _ v some k.low_near.x k.low_near.front k.high_far.w.1 own h.w) h.x.0 c.low_near c.low_far,
+      not_past near pixels s.x.greatest s.w.least s.w.greatest v n (two near _ _ _ v some k.high_far.x k.low_near.front k.high_far.w.1 own h.w) h.x.1 d.high_near d.high_far,
+    )
 
 seen_down : (near pixels : ℕ) (s : Seen) → 1 ≤ near → AtFour (IsClear near) s → IsAmong (λ u. place_at pixels (down u)) s
 seen_down near pixels s some k v m n h c d =
     let own = clear_turned near v (clear_seen near s v k h) in
     let low = opposite_within (16384 * near) s.y.greatest k.high_far.y in
-    let high = opposite_within (16384 * near) s.y.least k.low_near.y in
-    (not_before near pixels (neg_ℤ s.y.greatest) s.w.least s.w.greatest (turned v) m (two near _ _ _ (turned v) some low k.low_near.front k.high_far.w.1 own h.w) (opposite v.y s.y.greatest h.y.1) c.high_near c.high_far,
-    not_past near pixels (neg_ℤ s.y.least) s.w.least s.w.greatest (turned v) n (two near _ _ _ (turned v) some high k.low_near.front k.high_far.w.1 own h.w) (opposite s.y.least v.y h.y.0) d.low_near d.low_far)
+    let high = opposite_within (16384 * near) s.y.least k.low_near.y in (
+      not_before near pixels (neg_ℤ s.y.greatest) s.w.least s.w.greatest (turned v) m (two near _ _ _ (turned v) some low k.low_near.front k.high_far.w.1 own h.w) (opposite v.y s.y.greatest h.y.1) c.high_near c.high_far,
+      not_past near pixels (neg_ℤ s.y.least) s.w.least s.w.greatest (turned v) n (two near _ _ _ (turned v) some high k.low_near.front k.high_far.w.1 own h.w) (opposite s.y.least v.y h.y.0) d.low_near d.low_far,
+    )
 
 lies_along : (f g : ClipVertex → ℤ) (s : Seen) (v : ClipVertex) (vs : List ClipVertex) → ((u : ClipVertex) → g u ≡ f u) → IsAmong g s → All (IsSeenIn s) (v ∷ vs) → LiesIn f (outer_corners s) (v ∷ vs)
 lies_along f g s v vs same among all =
