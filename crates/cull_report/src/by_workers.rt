@@ -9,7 +9,7 @@ use crate::asked::Asked;
 use crate::frame_verdicts::FrameVerdicts;
 use crate::report::BATCH;
 use crate::run_pool::runs_by_workers;
-use crate::runs::{run_size, runs_in_turn, tally_of_runs, whole_steps};
+use crate::runs::{run_size, tally_of_runs, whole_steps};
 use crate::tally::Tally;
 use cull_base::Memory;
 use masked_update::TileView;
@@ -85,9 +85,8 @@ pub fn answers_with_lines<A: Answering>(
         (λ v. Adds (A.told asked.now 0) v.tally (A.told asked.now (length (A.all asked.now)))) }
 {
     let size = piece_size(asked.count(), threads, step);
-    let runs = runs_in_turn(alloc, asked, size)?;
-    let tally = tally_of_runs(asked, runs.as_slice(), size);
-    let verdicts = FrameVerdicts::of_runs(alloc, runs, size)?;
+    let (list, tally) = all_answers(alloc, asked)?;
+    let verdicts = FrameVerdicts::with_lines(alloc, list, size)?;
     Ok(Answers { verdicts, tally })
 }
 

@@ -1,35 +1,41 @@
-//! The verdicts of a frame, with their lines where workers made them.
-ghost use Rattle.std.specs.Prelude.{◌≡◌, List, IfOk};
+//! The verdicts of a frame, with their lines where they were made at once.
+ghost use Rattle.std.specs.Prelude.{◌≡◌, ◌<◌, ◌^◌, List, length, IfOk};
 ghost use Rattle.cull_base.specs.declared.scene_types.Verdict.{Verdict};
 ghost use Rattle.cull_base.specs.Stream.{Writes};
-ghost use Rattle.cull_report.specs.Runs.{AreRunsOf};
+ghost use Rattle.cull_report.specs.Runs.{AreRunsOf, IsRunSize};
 ghost use Rattle.cull_report.specs.Text.{frame_text, verdict_lines};
 
 use crate::counts::Counts;
-use crate::report::{end_line, frame_line, write_frame};
-use crate::runs::Run;
+use crate::report::{end_line, frame_line, lines_from, write_verdicts};
+use crate::runs::{LINE, Run, run_count};
 use cull_base::{Memory, Sink, SinkError, Verdict, write_whole};
 use std::alloc::Global;
 use std::marker::Model;
 
-/// The verdicts of a frame's objects, in order. Where workers made them, their lines are there too.
+/// The verdicts of a frame's objects, in order. Where workers made them, their lines are there too, run by run. Where
+/// one thread made them with their lines, these are one text, with the ends of the pieces in which it is written.
 #[derive(Drop)]
 pub struct FrameVerdicts {
     list: Vec<Verdict>,
     runs: Vec<Run>,
     size: usize,
+    text: Vec<u8>,
+    ends: Vec<usize>,
 }
 
 impl Model for FrameVerdicts {
-    ghost use Rattle.std.specs.Prelude.{◌<◌, List, length};
+    ghost use Rattle.std.specs.Prelude.{◌≡◌, ◌<◌, List, length};
     ghost use Rattle.cull_base.specs.declared.scene_types.Verdict.{Verdict};
     ghost use Rattle.cull_report.specs.Runs.{AreRunsOf};
+    ghost use Rattle.cull_report.specs.Text.{verdict_lines};
 
     ghost Value = { List Verdict };
 
     ghost view = { λ v. v.list.items };
 
-    ghost invariant = { λ v. 0 < length v.runs.items → AreRunsOf v.list.items v.size v.runs.items };
+    ghost invariant = { λ v.
+        (0 < length v.runs.items → AreRunsOf v.list.items v.size v.runs.items)
+        × (0 < length v.text.items → v.text.items ≡ verdict_lines 0 v.list.items) };
 }
 
 // The verdicts of runs of a size, one run after the other.
@@ -61,16 +67,55 @@ fn write_runs<W: Sink>(
     Ok(())
 }
 
+// The lines of some verdicts in one text, and where each piece of so many lines ends. Err where memory gave out.
+fn text_in_pieces(
+    alloc: Global,
+    verdicts: &[Verdict],
+    size: usize,
+) -> Result<(Vec<u8>, Vec<usize>), Memory>
+    requires size { IsRunSize size }
+    requires few { length verdicts.now < 2 ^ 32 }
+    ensures { IfOk result (λ r. r.0.items ≡ verdict_lines 0 verdicts.now) }
+{
+    let pieces = run_count(verdicts.len() as u32, size);
+    let mut text = Vec::with_capacity(alloc, LINE * verdicts.len()).map_err(|_| Memory)?;
+    let mut ends = Vec::with_capacity(alloc, pieces).map_err(|_| Memory)?;
+    for number in 0..pieces {
+        let first = size * number;
+        let end = first + size.min(verdicts.len() - first);
+        let lines = lines_from(first, &verdicts[first..end]);
+        let Ok(()) = text.extend_from_slice(lines.as_slice()) else {
+            unreachable!()
+        };
+        ends.push_reserved(text.len());
+    }
+    Ok((text, ends))
+}
+
+// Writes a text in pieces that end at these places, and then what is left behind the last one.
+fn write_pieces<W: Sink>(sink: &mut W, text: &[u8], ends: &[usize]) -> Result<(), SinkError>
+    ensures { Writes (W.says sink.old) (W.says sink.new) result text.now }
+{
+    let mut from = 0usize;
+    for end in ends {
+        let end = (*end).clamp(from, text.len());
+        write_whole(sink, &text[from..end])?;
+        from = end;
+    }
+    write_whole(sink, &text[from..])
+}
+
 impl FrameVerdicts {
     /// Verdicts without lines.
     pub(crate) fn plain(alloc: Global, list: Vec<Verdict>) -> FrameVerdicts
         ensures { result ≡ list.items }
     {
-        let runs = Vec::new(alloc);
         FrameVerdicts {
             list,
-            runs,
+            runs: Vec::new(alloc),
             size: 1,
+            text: Vec::new(alloc),
+            ends: Vec::new(alloc),
         }
     }
 
@@ -84,13 +129,52 @@ impl FrameVerdicts {
         ensures { (all : List Verdict) → AreRunsOf all size runs.items → IfOk result (λ v. v ≡ all) }
     {
         let list = joined(alloc, runs.as_slice(), size)?;
-        Ok(FrameVerdicts { list, runs, size })
+        Ok(FrameVerdicts {
+            list,
+            runs,
+            size,
+            text: Vec::new(alloc),
+            ends: Vec::new(alloc),
+        })
+    }
+
+    /// Verdicts with their lines in one text, which is written in pieces of so many lines. Err where memory gave out.
+    pub(crate) fn with_lines(
+        alloc: Global,
+        list: Vec<Verdict>,
+        size: usize,
+    ) -> Result<FrameVerdicts, Memory>
+        requires size { IsRunSize size }
+        requires few { length list.items < 2 ^ 32 }
+        ensures { IfOk result (λ v. v ≡ list.items) }
+    {
+        let (text, ends) = text_in_pieces(alloc, list.as_slice(), size)?;
+        Ok(FrameVerdicts {
+            list,
+            runs: Vec::new(alloc),
+            size,
+            text,
+            ends,
+        })
     }
 
     pub fn list(&self) -> &[Verdict]
         ensures { result.now ≡ self.now }
     {
         self.list.as_slice()
+    }
+
+    // Writes the lines of the verdicts, made before or now.
+    fn write_lines<W: Sink>(&self, sink: &mut W) -> Result<(), SinkError>
+        ensures { Writes (W.says sink.old) (W.says sink.new) result (verdict_lines 0 self.now) }
+    {
+        if !self.text.is_empty() {
+            return write_pieces(sink, self.text.as_slice(), self.ends.as_slice());
+        }
+        if !self.runs.is_empty() {
+            return write_runs(sink, self.list.as_slice(), self.runs.as_slice(), self.size);
+        }
+        write_verdicts(sink, self.list.as_slice())
     }
 
     /// Writes the frame's lines, as `write_frame` does of the list.
@@ -102,11 +186,8 @@ impl FrameVerdicts {
     ) -> Result<(), SinkError>
         ensures { Writes (W.says sink.old) (W.says sink.new) result (frame_text frame pieces self.now) }
     {
-        if self.runs.is_empty() {
-            return write_frame(sink, frame, pieces, self.list.as_slice());
-        }
         frame_line(frame, pieces).write_to(sink)?;
-        write_runs(sink, self.list.as_slice(), self.runs.as_slice(), self.size)?;
+        self.write_lines(sink)?;
         end_line(frame, Counts::of(self.list.as_slice())).write_to(sink)
     }
 }

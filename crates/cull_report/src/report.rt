@@ -96,7 +96,8 @@ pub(crate) fn lines_from(first: usize, verdicts: &[Verdict]) -> Lines
     lines
 }
 
-fn write_verdicts<W: Sink>(sink: &mut W, verdicts: &[Verdict]) -> Result<(), SinkError>
+// Writes the lines of verdicts, so many at once.
+pub(crate) fn write_verdicts<W: Sink>(sink: &mut W, verdicts: &[Verdict]) -> Result<(), SinkError>
     ensures { Writes (W.says sink.old) (W.says sink.new) result (verdict_lines 0 verdicts.now) }
 {
     for batch in 0..verdicts.len().div_ceil(BATCH) {

@@ -1,7 +1,7 @@
 //! Runs of a frame's objects, each with its verdicts, their lines and what is counted of it.
 ghost use Rattle.std.specs.Prelude.{◌≡◌, ℕ, List, ◌+◌, ◌*◌, ◌-◌, ◌/◌, ◌<◌, length, IfOk};
 ghost use Rattle.cull_base.specs.declared.scene_types.Verdict.{Verdict};
-ghost use Rattle.cull_report.specs.Runs.{AreRunsFor, AreRunsOf, AreToldRuns, IsMadeRun, IsRunOf, IsRunSize, IsToldRun};
+ghost use Rattle.cull_report.specs.Runs.{AreRunsFor, AreToldRuns, IsMadeRun, IsRunOf, IsRunSize, IsToldRun};
 ghost use Rattle.cull_report.specs.Runs.{IsWaitingRun};
 ghost use Rattle.cull_report.specs.Tallies.{Adds};
 
@@ -12,7 +12,7 @@ use cull_base::{Memory, Verdict};
 use std::alloc::Global;
 
 /// At most so many bytes has the line of an object.
-const LINE: usize = 30;
+pub(crate) const LINE: usize = 30;
 
 /// The verdicts of objects that follow on one another, their lines, and what is counted of them. Run k of some size
 /// begins at object size * k.
@@ -101,44 +101,6 @@ impl Run {
             self.make(size, asked);
         }
     }
-}
-
-// A run of a number, made at once. Err where memory gave out.
-fn run_made<A: Answering>(
-    alloc: Global,
-    asked: &A,
-    size: usize,
-    number: usize,
-) -> Result<Run, Memory>
-    requires size { IsRunSize size }
-    requires some { size * number < length (A.all asked.now) }
-    ensures made { IfOk result (λ r. IsMadeRun (A.all asked.now) size number r) }
-    ensures counted { IfOk result
-        (λ r. IsToldRun (length (A.all asked.now)) (A.told asked.now) size number r) }
-{
-    let mut run = Run::with_room(alloc, size, number)?;
-    run.make(size, asked);
-    Ok(run)
-}
-
-/// The runs of all objects of a frame, made one after the other. Err where memory gave out.
-pub(crate) fn runs_in_turn<A: Answering>(
-    alloc: Global,
-    asked: &A,
-    size: usize,
-) -> Result<Vec<Run>, Memory>
-    requires size { IsRunSize size }
-    ensures runs { IfOk result (λ v. AreRunsOf (A.all asked.now) size v.items) }
-    ensures counted { IfOk result
-        (λ v. AreToldRuns (length (A.all asked.now)) (A.told asked.now) size v.items) }
-{
-    let count = run_count(asked.count(), size);
-    let mut runs = Vec::with_capacity(alloc, count).map_err(|_| Memory)?;
-    for number in 0..count {
-        let run = run_made(alloc, asked, size, number)?;
-        runs.push_reserved(run);
-    }
-    Ok(runs)
 }
 
 /// What is counted of all objects, by their runs. Its clauses alone ask for the size.

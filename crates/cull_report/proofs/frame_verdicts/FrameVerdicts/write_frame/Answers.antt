@@ -1,7 +1,6 @@
-use Rattle.std.proofs.Common.{◌≡◌, ◌∙◌, List, Err, ap, subst}
+use Rattle.std.proofs.Common.{◌≡◌, ◌∙◌, Err, ap}
 use Rattle.std.specs.Prelude.{count_by}
 use Rattle.std.proofs.lemmas.Result.{err_from_is_err_and}
-use Rattle.cull_base.specs.declared.scene_types.Verdict.{Verdict}
 use Rattle.cull_base.specs.Stream.{Appends, Writes}
 use Rattle.cull_report.specs.Text.{verdict_lines, is_visible, is_occluded, is_outside}
 use Rattle.cull_report.proofs.WrittenFrames.{frame_ends, last_line, line_failed, verdicts_failed}
@@ -11,25 +10,23 @@ pub returns-in_err-write_to : goal.returns-in_err-write_to
 returns-in_err-write_to g c = let p = err_from_is_err_and c.from_residual.result c.from_residual.ensures.1 in
     rw (p.1, p.2) (line_failed c.args.frame c.args.pieces c.args.self.now (g.W.Sink.says c.args.sink.now) (g.W.Sink.says c.write_to.new.sink) c.in_err-write_to.field-0.0 (rw (← c.frame_line.ensures) c.in_err-write_to.ensures))
 
-pub returns-in_err-write_runs : goal.returns-in_err-write_runs
-returns-in_err-write_runs g c =
+pub returns-in_err-write_lines : goal.returns-in_err-write_lines
+returns-in_err-write_lines g c =
     let verdicts = c.args.self.now in
-    let p = err_from_is_err_and c.from_residual-in_err-write_runs.result c.from_residual-in_err-write_runs.ensures.1 in
-    let s1 = g.W.Sink.says c.write_to.new.sink in let s2 = g.W.Sink.says c.write_runs.new.sink in let e = c.in_err-write_runs.field-0.0 in
-    let listed : c.as_slice-2.result.now ≡ verdicts = (let a = c.as_slice-2.ensures.value in let b = c.self.view_is in cc) in
-    let failed : Writes s1 s2 (Err e) (verdict_lines 0 verdicts) = subst (λ (v : List Verdict). Writes s1 s2 (Err e) (verdict_lines 0 v)) listed c.in_err-write_runs.ensures in
+    let p = err_from_is_err_and c.from_residual-in_err-write_lines.result c.from_residual-in_err-write_lines.ensures.1 in
+    let s1 = g.W.Sink.says c.write_to.new.sink in let s2 = g.W.Sink.says c.write_lines.new.sink in let e = c.in_err-write_lines.field-0.0 in
+    let failed : Writes s1 s2 (Err e) (verdict_lines 0 verdicts) = c.in_err-write_lines.ensures in
     rw (p.1, p.2) (verdicts_failed c.args.frame c.args.pieces verdicts (g.W.Sink.says c.args.sink.now) s1 s2 e c.write_to.result (rw (← c.frame_line.ensures) c.write_to.ensures) (rw (← c.frame_line.ensures) c.in_ok-write_to.ensures.ok) failed)
 
 pub returns : goal.returns
 returns g c =
     let verdicts = c.args.self.now in
-    let s1 = g.W.Sink.says c.write_to.new.sink in let s2 = g.W.Sink.says c.write_runs.new.sink in
-    let listed : c.as_slice-2.result.now ≡ verdicts = (let a = c.as_slice-2.ensures.value in let b = c.self.view_is in cc) in
-    let counted : c.as_slice-4.result.now ≡ verdicts = (let a = c.as_slice-4.ensures.value in let b = c.self.view_is in cc) in
+    let s1 = g.W.Sink.says c.write_to.new.sink in let s2 = g.W.Sink.says c.write_lines.new.sink in
+    let counted : c.as_slice.result.now ≡ verdicts = (let a = c.as_slice.ensures.value in let b = c.self.view_is in cc) in
     let visible = c.of.ensures.visible ∙ ap (count_by is_visible) counted in
     let occluded = c.of.ensures.occluded ∙ ap (count_by is_occluded) counted in
     let outside = c.of.ensures.outside ∙ ap (count_by is_outside) counted in
     let is : c.end_line.result ≡ last_line c.args.frame verdicts = rw (← visible, ← occluded, ← outside) c.end_line.ensures in
-    let wrote : Appends s1 s2 (verdict_lines 0 verdicts) = subst (λ (v : List Verdict). Appends s1 s2 (verdict_lines 0 v)) listed c.in_ok-write_runs.ensures.ok in
+    let wrote : Appends s1 s2 (verdict_lines 0 verdicts) = c.in_ok-write_lines.ensures.ok in
     frame_ends c.args.frame c.args.pieces verdicts (g.W.Sink.says c.args.sink.now) s1 s2 (g.W.Sink.says c.write_to-2.new.sink) c.write_to.result c.write_to-2.result (rw (← c.frame_line.ensures) c.write_to.ensures)
-    (rw (← c.frame_line.ensures) c.in_ok-write_to.ensures.ok) c.write_runs.ensures.faults_stay c.write_runs.ensures.refusals_stay wrote (rw (← is) c.write_to-2.ensures)
+    (rw (← c.frame_line.ensures) c.in_ok-write_to.ensures.ok) c.write_lines.ensures.faults_stay c.write_lines.ensures.refusals_stay wrote (rw (← is) c.write_to-2.ensures)
