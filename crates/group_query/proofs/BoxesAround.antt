@@ -1,5 +1,5 @@
 -- What a camera sees in a box, coordinate by coordinate, and boxes around others.
-use Rattle.std.proofs.Common.{◌≡◌, ℕ, ℤ, suc, pos, negsuc, neg_ℤ, ◌+◌, ◌<◌, ◌^◌, ◌≤ℤ◌, ◌+ℤ◌, ◌*ℤ◌, Bool, true, false, int_lt, List, [], ◌∷◌, length, arith, refl}
+use Rattle.std.proofs.Common.{◌≡◌, ℕ, ℤ, zero, suc, pos, negsuc, neg_ℤ, ◌+◌, ◌<◌, ◌^◌, ◌≤ℤ◌, ◌+ℤ◌, ◌*ℤ◌, Bool, true, false, int_lt, cond, FitsSigned, w32, List, [], ◌∷◌, length, arith, refl, sym, subst}
 use Rattle.std.specs.List.{All}
 use Rattle.std.specs.Int.{int_min, int_max, int_div_euclid}
 use Rattle.std.proofs.Math.IntN.{*ℤ_comm}
@@ -29,13 +29,16 @@ times_fall n x y le = turned _ _ _ _ (neg-times (pos (suc n)) x) (neg-times (pos
     turned : (a b c d : ℤ) → a ≡ neg_ℤ c → b ≡ neg_ℤ d → c ≤ℤ d → b ≤ℤ a
     turned a b c d e f h = omega (arith, ints, e, f, h)
 
+not_negative : (n : ℕ) → int_lt (pos n) (pos 0) ≡ false
+not_negative n = grind (arith, ints)
+
 at_least : (f a b v : ℤ) → a ≤ℤ v → v ≤ℤ b → (f *ℤ pick f a b) ≤ℤ (f *ℤ v)
-at_least (pos n) a b v low high = let e : int_lt (pos n) (pos 0) ≡ false = grind (arith, ints) in rw e (times_rise n a v low)
-at_least (negsuc n) a b v low high = let e : int_lt (negsuc n) (pos 0) ≡ true = grind (arith, ints) in rw e (times_fall n v b high)
+at_least (pos n) a b v low high = subst (λ (t : Bool). (pos n *ℤ cond t b a) ≤ℤ (pos n *ℤ v)) (sym (not_negative n)) (times_rise n a v low)
+at_least (negsuc n) a b v low high = times_fall n v b high
 
 at_most : (f a b v : ℤ) → a ≤ℤ v → v ≤ℤ b → (f *ℤ v) ≤ℤ (f *ℤ pick f b a)
-at_most (pos n) a b v low high = let e : int_lt (pos n) (pos 0) ≡ false = grind (arith, ints) in rw e (times_rise n v b high)
-at_most (negsuc n) a b v low high = let e : int_lt (negsuc n) (pos 0) ≡ true = grind (arith, ints) in rw e (times_fall n a v low)
+at_most (pos n) a b v low high = subst (λ (t : Bool). (pos n *ℤ v) ≤ℤ (pos n *ℤ cond t a b)) (sym (not_negative n)) (times_rise n v b high)
+at_most (negsuc n) a b v low high = times_fall n a v low
 
 -- ---- a row of a camera
 
@@ -81,14 +84,37 @@ seen_in camera low high v s x0 x1 y0 y1 w0 w1 h = record {
 pub three_within : (n : ℕ) (x y z : ℤ) → Bounded n x → Bounded n y → Bounded n z → AreWithin n (three x y z)
 three_within n x y z hx hy hz = All-from_recursion (Bounded n) (three x y z) (hx, (hy, (hz, tt)))
 
-pub within_at : (n : ℕ) (row : List ℤ) (k : ℕ) → AreWithin n row → k < length row → Bounded n (number row k)
-within_at n row k h lt = h k (pos 0) lt
+bounded_zero : (n : ℕ) → Bounded n (pos 0)
+bounded_zero n = (omega (arith, ints), omega (arith, ints))
+
+within_at : (n : ℕ) (row : List ℤ) (k : ℕ) → AreWithin n row → Bounded n (number row k)
+within_at n [] k h = bounded_zero n
+within_at n (x ∷ xs) zero h = h 0 (pos 0) (omega arith)
+within_at n (x ∷ xs) (suc k) h = within_at n xs k (λ j d lt. h (suc j) d (omega (arith, lt)))
+
+pick_within : (n : ℕ) (f a b : ℤ) → Bounded n a → Bounded n b → Bounded n (pick f a b)
+pick_within n (pos m) a b h g = subst (λ (t : Bool). Bounded n (cond t b a)) (sym (not_negative m)) h
+pick_within n (negsuc m) a b h g = g
+
+pub picked_within : (n : ℕ) (camera : List ℤ) (r : ℕ) (low high : List ℤ) → AreWithin n low → AreWithin n high → AreWithin n (picked camera r low high)
+picked_within n camera r low high h g =
+    three_within n _ _ _ (pick_within n (number camera r) _ _ (within_at n low 0 h) (within_at n high 0 g)) (pick_within n (number camera (r + 1)) _ _ (within_at n low 1 h) (within_at n high 1 g))
+    (pick_within n (number camera (r + 2)) _ _ (within_at n low 2 h) (within_at n high 2 g))
+
+pub threes : (x y z a b c : ℤ) → x ≡ a → y ≡ b → z ≡ c → three x y z ≡ three a b c
+threes x y z a b c e f g = rw (e, f, g) refl
 
 min_within : (n : ℕ) (a b : ℤ) → Bounded n a → Bounded n b → Bounded n (int_min a b)
 min_within n a b f g = (omega (arith, ints, clamps, f, g), omega (arith, ints, clamps, f, g))
 
 max_within : (n : ℕ) (a b : ℤ) → Bounded n a → Bounded n b → Bounded n (int_max a b)
 max_within n a b f g = (omega (arith, ints, clamps, f, g), omega (arith, ints, clamps, f, g))
+
+pub number_fits : (row : List ℤ) (k : ℕ) → AreWithin (2 ^ 24) row → FitsSigned w32 (number row k)
+number_fits row k h = fits (number row k) (within_at (2 ^ 24) row k h)
+  where
+    fits : (z : ℤ) → Bounded (2 ^ 24) z → FitsSigned w32 z
+    fits z b = omega (arith, ints, b)
 
 -- ---- a box around another and one more
 
@@ -97,6 +123,19 @@ kept_between a b c d z f g = (omega (arith, ints, clamps, f), omega (arith, ints
 
 new_between : (a b c d z : ℤ) → c ≤ℤ z → z ≤ℤ d → (int_min a c ≤ℤ z) × (z ≤ℤ int_max b d)
 new_between a b c d z f g = (omega (arith, ints, clamps, f), omega (arith, ints, clamps, g))
+
+pub spread_low : (n : ℕ) (a : Around) (low high : List ℤ) → AreWithin n a.low → AreWithin n low → AreWithin n (spread a low high).low
+spread_low n a low high h g =
+    three_within n _ _ _ (min_within n _ _ (within_at n a.low 0 h) (within_at n low 0 g)) (min_within n _ _ (within_at n a.low 1 h) (within_at n low 1 g)) (min_within n _ _ (within_at n a.low 2 h) (within_at n low 2 g))
+
+pub spread_high : (n : ℕ) (a : Around) (low high : List ℤ) → AreWithin n a.high → AreWithin n high → AreWithin n (spread a low high).high
+spread_high n a low high h g =
+    three_within n _ _ _ (max_within n _ _ (within_at n a.high 0 h) (within_at n high 0 g)) (max_within n _ _ (within_at n a.high 1 h) (within_at n high 1 g)) (max_within n _ _ (within_at n a.high 2 h) (within_at n high 2 g))
+
+pub spread_is : (a : Around) (low high : List ℤ) (x y z p q r : ℤ) → x ≡ int_min (number a.low 0) (number low 0) → y ≡ int_min (number a.low 1) (number low 1) → z ≡ int_min (number a.low 2) (number low 2)
+    → p ≡ int_max (number a.high 0) (number high 0) → q ≡ int_max (number a.high 1) (number high 1) → r ≡ int_max (number a.high 2) (number high 2)
+    → record { low = three x y z; high = three p q r } ≡ spread a low high
+spread_is a low high x y z p q r e f g h i j = rw (e, f, g, h, i, j) refl
 
 -- a point in the box is in the wider one
 still_inside : (a : Around) (low high v : List ℤ) → IsInside a.low a.high v → IsInside (spread a low high).low (spread a low high).high v

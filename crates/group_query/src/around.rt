@@ -108,6 +108,7 @@ fn pick(factor: i32, first: i32, second: i32) -> i32
 #[inline(always)]
 fn picked(camera: &Camera, r: usize, low: &[i32; 3], high: &[i32; 3]) -> [i32; 3]
     requires row { r + 4 ≤ 12 }
+    requires camera { AreWithin (2 ^ 24) camera.now.0 }
     requires low { AreWithin (2 ^ 24) low.now }
     requires high { AreWithin (2 ^ 24) high.now }
     ensures value { result ≡ picked camera.now.0 r low.now high.now }
