@@ -1,19 +1,28 @@
 -- What a camera sees in a box, coordinate by coordinate, and boxes around others.
-use Rattle.std.proofs.Common.{◌≡◌, ℕ, ℤ, zero, suc, pos, negsuc, neg_ℤ, ◌+◌, ◌<◌, ◌^◌, ◌≤ℤ◌, ◌+ℤ◌, ◌*ℤ◌, Bool, true, false, int_lt, cond, FitsSigned, w32, List, [], ◌∷◌, length, arith, refl, sym, subst}
+use Rattle.std.proofs.Common.{◌≡◌, ◌∙◌, ◌≤◌, ℕ, ℤ, zero, suc, map, pos, negsuc, neg_ℤ, ◌+◌, ◌^◌, ◌≤ℤ◌, ◌+ℤ◌, ◌*ℤ◌, Bool, false, int_lt, cond, FitsSigned, w32, List, [], ◌∷◌, arith, refl, sym, subst}
 use Rattle.std.specs.List.{All}
 use Rattle.std.specs.Int.{int_min, int_max, int_div_euclid}
 use Rattle.std.proofs.Math.IntN.{*ℤ_comm}
 use Rattle.std.proofs.lemmas.Int.{ints, clamps}
 use Rattle.std.proofs.lemmas.List.Elements.{All-from_recursion}
 use Rattle.cull_base.specs.Bounds.{Bounded}
+use Rattle.cull_base.specs.declared.clip.ClipVertex.{ClipVertex}
+use Rattle.cull_base.specs.declared.nearness.Grade.{Grade}
+use Rattle.cull_base.specs.Grade.{top_of}
+use Rattle.cull_base.specs.Screen.{Dimensions}
 use Rattle.cull_base.specs.declared.scene_types.Object.{Object}
 use Rattle.cull_base.specs.declared.scene_types.Object.TheVariants.{Area, Block, Mesh}
 use Rattle.camera_path.specs.Clip.{AreWithin, clip_of, coordinate_of, corners_of, factors_sum, number}
 use Rattle.edge_lanes.proofs.Floors.{floor-le, from_below_floor, le-times, neg-times}
-use Rattle.scene_reader.specs.Layout.{IsObject, IsRow}
-use Rattle.group_query.specs.Around.{IsBetween, IsBoxInside, IsInside, IsSeenIn, pick, picked, spread, three}
+use Rattle.scene_reader.specs.Layout.{IsObject, Parts}
+use Rattle.rect_query.specs.Boxes.{box_answer}
+use Rattle.rect_query.specs.declared.boxes.BoxAnswer.{BoxAnswer}
+use Rattle.rect_query.specs.declared.boxes.BoxAnswer.TheVariants.{Outside, Straddles, At}
+use Rattle.cull_report.specs.Scene.{camera_at, size_of}
+use Rattle.group_query.specs.Around.{IsAnswerAround, IsBoxInside, IsInside, IsSeenIn, outer_corners, pick, picked, spread, three}
 use Rattle.group_query.specs.declared.around.Around.{Around}
 use Rattle.group_query.specs.declared.around.Seen.{Seen}
+use Rattle.group_query.proofs.SeenBoxes.{stands_in}
 
 -- ---- a factor of numbers between two
 
@@ -161,15 +170,40 @@ same : (z : ℤ) → z ≤ℤ z
 same z = omega (arith, ints)
 
 pub new_boxed : (a : Around) (low high : List ℤ) (m : ℕ) → IsObject m (Block low high) → IsBoxInside (spread a low high) (Block low high)
-new_boxed a low high m h =
-    (new_inside a low high low (record { x = (same _, h.2); y = (same _, h.3); z = (same _, h.4) }),
-    new_inside a low high high (record { x = (h.2, same _); y = (h.3, same _); z = (h.4, same _) }))
+new_boxed a low high m h = (
+  new_inside a low high low (record { x = (same _, h.2); y = (same _, h.3); z = (same _, h.4) }),
+  new_inside a low high high (record { x = (h.2, same _); y = (h.3, same _); z = (h.4, same _) }),
+)
 
--- the corners of a box in a box are in it
-pub corners_inside : (low high l t : List ℤ) → IsInside low high l → IsInside low high t → All (IsInside low high) (corners_of l t)
-corners_inside low high l t a b =
-    All-from_recursion (IsInside low high) (corners_of l t)
-    (mixed a.x a.y a.z, (mixed b.x a.y a.z, (mixed a.x b.y a.z, (mixed b.x b.y a.z, (mixed a.x a.y b.z, (mixed b.x a.y b.z, (mixed a.x b.y b.z, (mixed b.x b.y b.z, tt))))))))
+-- what holds of all that is seen in a box holds of the corners of a box in it
+pub corners_seen : (P : ClipVertex → Type 0) (camera low high l t : List ℤ) → ((v : List ℤ) → IsInside low high v → P (clip_of camera v)) → IsInside low high l → IsInside low high t
+    → All P (map (clip_of camera) (corners_of l t))
+corners_seen P camera low high l t h a b =
+    All-from_recursion P (map (clip_of camera) (corners_of l t)) (
+      h _ (mixed a.x a.y a.z),
+      (
+        h _ (mixed b.x a.y a.z),
+        (
+          h _ (mixed a.x b.y a.z),
+          (
+            h _ (mixed b.x b.y a.z),
+            (h _ (mixed a.x a.y b.z), (h _ (mixed b.x a.y b.z), (h _ (mixed a.x b.y b.z), (h _ (mixed b.x b.y b.z), tt)))),
+          ),
+        ),
+      ),
+    )
   where
     mixed : {x y z : ℤ} → (number low 0 ≤ℤ x) × (x ≤ℤ number high 0) → (number low 1 ≤ℤ y) × (y ≤ℤ number high 1) → (number low 2 ≤ℤ z) × (z ≤ℤ number high 2) → IsInside low high (three x y z)
     mixed p q r = record { x = p; y = q; z = r }
+
+-- where a box stands that is made of all that is seen in another
+pub answer_is : (s : Parts) (seen : Seen) (answer : BoxAnswer) (grade : Grade) (near : ℕ) (size : Dimensions) (cs : List ClipVertex) → answer ≡ box_answer (top_of grade) near size cs
+    → grade ≡ s.grade → near ≡ s.near → size ≡ size_of s → cs ≡ outer_corners seen → answer ≡ box_answer (top_of s.grade) s.near (size_of s) (outer_corners seen)
+answer_is s seen answer grade near size cs e g n z k = e ∙ (λ i. box_answer (top_of (g i)) (n i) (z i) (k i))
+
+pub answered : (s : Parts) (frame : ℕ) (a : Around) (seen : Seen) (answer : BoxAnswer) → 1 ≤ s.near → ((v : List ℤ) → IsInside a.low a.high v → IsSeenIn seen (clip_of (camera_at s frame) v))
+    → answer ≡ box_answer (top_of s.grade) s.near (size_of s) (outer_corners seen) → IsAnswerAround s frame a answer
+answered s frame a seen Outside some sees e = tt
+answered s frame a seen Straddles some sees e = tt
+answered s frame a seen (At rect q) some sees e = λ low high l h.
+    stands_in (top_of s.grade) s.near (size_of s) seen _ _ rect q some (sym e) (corners_seen (IsSeenIn seen) (camera_at s frame) a.low a.high low high sees l h)

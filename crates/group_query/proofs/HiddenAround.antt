@@ -1,5 +1,5 @@
 -- Why boxes in a box that is hidden in the screen are occluded, and their hull is.
-use Rattle.std.proofs.Common.{◌≡◌, ℕ, ℤ, zero, suc, pos, ◌+◌, ◌-◌, ◌<◌, ◌≤◌, ◌≤ℤ◌, ◌<ℤ◌, Bool, true, false, ◌&&◌, cond, List, [], ◌∷◌, length, take, drop, get_or, Option, Some, None, int_lt, int_le, arith, refl, sym, ap, ◌∙◌, subst}
+use Rattle.std.proofs.Common.{◌≡◌, ℕ, ℤ, suc, pos, ◌+◌, ◌-◌, ◌<◌, ◌≤◌, ◌≤ℤ◌, ◌<ℤ◌, Bool, true, ◌&&◌, cond, List, [], ◌∷◌, length, take, drop, get_or, Option, Some, None, int_lt, int_le, arith, refl, sym, ap, ◌∙◌, subst}
 use Rattle.std.specs.Int.{int_min, int_max}
 use Rattle.std.proofs.lemmas.Bool.{and_parts}
 use Rattle.std.proofs.lemmas.Int.{ints, clamps}
@@ -12,11 +12,13 @@ use Rattle.cull_base.specs.declared.scene_types.Verdict.{Verdict}
 use Rattle.cull_base.specs.declared.scene_types.Verdict.TheVariants.{Occluded}
 use Rattle.cull_base.specs.Rectangle.{common, cut_of, meets, no_pixels}
 use Rattle.cull_base.specs.Screen.{Dimensions, screen_of}
-use Rattle.cull_base.specs.Shape.{Shape, AlwaysOutside, AlwaysVisible, Flat, Pieces, flat_shape, is_hidden, verdict_of}
+use Rattle.cull_base.specs.Shape.{Shape, AlwaysOutside, AlwaysVisible, Flat, Pieces, flat_shape, verdict_of}
 use Rattle.cull_base.specs.State.{State}
 use Rattle.cull_base.proofs.HiddenObjects.{occluded_is_hidden}
 use Rattle.cull_base.proofs.Rectangles.{meets_pixel}
 use Rattle.edge_lanes.proofs.Floors.{le_of}
+use Rattle.masked_update.specs.TileOf.{TileOf}
+use Rattle.masked_update.specs.Views.{state_in}
 use Rattle.rect_query.specs.Boxes.{shape_of_answer}
 use Rattle.rect_query.specs.declared.boxes.BoxAnswer.{BoxAnswer}
 use Rattle.rect_query.specs.declared.boxes.BoxAnswer.TheVariants.{Outside, Straddles, At}
@@ -26,13 +28,13 @@ use Rattle.cull_report.specs.Scene.{object_shape, object_verdict, size_of}
 use Rattle.cull_report.specs.Text.{is_occluded}
 use Rattle.cull_report.specs.declared.tally.Tally.{Tally}
 use Rattle.group_query.specs.Around.{AreBoxesInside, IsAnswerAround, IsBoxInside, IsPart, StandsIn, box_stands, is_in_screen}
-use Rattle.group_query.specs.Hidden.{group_tally, group_verdict, hull_verdict, is_hidden_group}
-use Rattle.group_query.specs.Hulls.{IsOneMembers, IsTight, counted, counts, hull_of, member_shapes, members_of}
+use Rattle.group_query.specs.Hidden.{group_tally, hull_verdict, is_hidden_group}
+use Rattle.group_query.specs.Hulls.{IsOneMembers, counted, counts, hull_of, member_shapes, members_of}
 use Rattle.group_query.specs.declared.around.Around.{Around}
 use Rattle.group_query.specs.declared.grouping.Group.{Group}
 use Rattle.group_query.specs.declared.hulls.Hull.{Hull}
-use Rattle.group_query.proofs.FormHulls.{shape_at, shape_below}
-use Rattle.group_query.proofs.HiddenHulls.{Covers, covered_hidden, cut_meets, flat_hidden, flat_there, from_pixel, to_pixel}
+use Rattle.group_query.proofs.FormHulls.{shape_at}
+use Rattle.group_query.proofs.HiddenHulls.{Covers, covered_hidden, cut_meets, flat_hidden, flat_there, from_pixel, occluded_is, to_pixel}
 use Rattle.group_query.proofs.HullMembers.{holds_member, members_are}
 use Rattle.group_query.proofs.TightHulls.{hulls_are_tight}
 
@@ -79,6 +81,17 @@ object_part s frame a around q (Area r w) answer on h = absurd h
 object_part s frame a around q (Block low high) answer on h = answer_part (size_of s) around q (box_stands s frame low high) on (answer low high h.0 h.1)
 object_part s frame a around q (Mesh first count) answer on h = absurd h
 
+no_less : (a b c : ℤ) → a ≤ℤ b → b ≤ℤ c → a ≤ℤ c
+no_less a b c f g = omega (arith, ints, f, g)
+
+still_less : (a b c : ℤ) → a <ℤ b → b ≤ℤ c → a <ℤ c
+still_less a b c f g = omega (arith, ints, f, g)
+
+part_covers : (size : Dimensions) (around r : Rect) → IsPart r around → Covers size around r
+part_covers size around r part px py x y e =
+    let p = to_pixel r px py e in
+    from_pixel around px py (no_less _ _ _ part.left p.0, still_less _ _ _ p.1 part.right, no_less _ _ _ part.above p.2, still_less _ _ _ p.3 part.below)
+
 -- it is occluded where the rectangle is
 part_occluded : (size : Dimensions) (f : Sub → State) (around : Rect) (q : ℕ) (shape : Shape) → InScreen size around → verdict_of size f (flat_shape size around q) ≡ Occluded → IsPartShape around q shape
     → verdict_of size f shape ≡ Occluded
@@ -88,17 +101,6 @@ part_occluded size f around q (Flat r n) on v h =
     let m = part_meets size r around h.0 on in
     let hidden = flat_hidden size f around q (occluded_is_hidden size f (flat_shape size around q) v) in
     sym (ap (verdict_of size f) (flat_there size r n m)) ∙ flat_tested size r n f true m (covered_hidden size f around r q n (part_covers size around r h.0) h.1 m hidden)
-  where
-    part_covers : (size : Dimensions) (around r : Rect) → IsPart r around → Covers size around r
-    part_covers size around r part px py x y e =
-        let p = to_pixel r px py e in
-        from_pixel around px py (then _ _ _ part.left p.0, before _ _ _ p.1 part.right, then _ _ _ part.above p.2, before _ _ _ p.3 part.below)
-
-    then : (a b c : ℤ) → a ≤ℤ b → b ≤ℤ c → a ≤ℤ c
-    then a b c f g = omega (arith, ints, f, g)
-
-    before : (a b c : ℤ) → a <ℤ b → b ≤ℤ c → a <ℤ c
-    before a b c f g = omega (arith, ints, f, g)
 part_occluded size f around q (Pieces ps hull) on v h = absurd h
 
 -- ---- groups of boxes in a box
@@ -111,6 +113,18 @@ pub record HidesAround (s : Parts) (frame : ℕ) (f : Sub → State) (g : Group)
   pub answer : IsAnswerAround s frame a (At around q)
   pub on : InScreen (size_of s) around
   pub hidden : verdict_of (size_of s) f (flat_shape (size_of s) around q) ≡ Occluded
+
+pub hides_around : (s : Parts) (frame : ℕ) (tile_of : ℕ → TileOf) (g : Group) (a : Around) (size : Dimensions) (answer : BoxAnswer) (around : Rect) (q : ℕ) (verdict : Verdict) → size ≡ size_of s → 0 < g.count
+    → g.first + g.count ≤ length s.objects → AreBoxesInside a s.objects g.first g.count → IsAnswerAround s frame a answer → answer ≡ At around q → is_in_screen size around ≡ true
+    → verdict ≡ verdict_of size (state_in size tile_of) (flat_shape size around q) → is_occluded verdict ≡ true → HidesAround s frame (state_in (size_of s) tile_of) g a around q
+hides_around s frame tile_of g a size answer around q verdict e some within boxes stands is on tested told = record {
+  some = some;
+  within = within;
+  boxes = boxes;
+  answer = subst (IsAnswerAround s frame a) is stands;
+  on = in_screen (size_of s) around (ap (λ (d : Dimensions). is_in_screen d around) (sym e) ∙ on);
+  hidden = ap (λ (d : Dimensions). verdict_of d (state_in d tile_of) (flat_shape d around q)) (sym e) ∙ sym tested ∙ occluded_is verdict told;
+}
 
 pub member_around : (s : Parts) (frame : ℕ) (f : Sub → State) (g : Group) (a : Around) (around : Rect) (q : ℕ) (k : ℕ) (o : Object) → HidesAround s frame f g a around q → k < g.count
     → object_verdict s frame f (get_or s.objects (g.first + k) o) ≡ Occluded

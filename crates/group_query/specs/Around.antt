@@ -1,5 +1,5 @@
 -- What a camera may see in a box around the boxes of a group.
-use Rattle.std.specs.Prelude.{ℕ, ℤ, pos, ◌≡◌, ◌+◌, ◌<◌, ◌≤◌, ◌≤ℤ◌, ◌<ℤ◌, map, Bool, ◌&&◌, cond, int_lt, int_le, List, [], ◌∷◌, slice_index_or}
+use Rattle.std.specs.Prelude.{ℕ, ℤ, pos, ◌+◌, ◌<◌, ◌≤◌, ◌≤ℤ◌, ◌<ℤ◌, map, Bool, ◌&&◌, cond, int_lt, int_le, List, [], ◌∷◌, slice_index_or}
 use Rattle.std.specs.Int.{int_min, int_max}
 use Rattle.cull_base.specs.declared.clip.ClipVertex.{ClipVertex}
 use Rattle.cull_base.specs.declared.rect.Rect.{Rect}

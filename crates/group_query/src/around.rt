@@ -13,8 +13,9 @@ ghost use Rattle.masked_update.specs.Views.{state_in};
 ghost use Rattle.scene_reader.specs.Layout.{IsRow};
 
 use crate::grouping::Group;
+use crate::tested::is_occluded;
 use camera_path::Camera;
-use cull_base::{ClipVertex, Object, Rect, Size, Verdict};
+use cull_base::{ClipVertex, Object, Rect, Size};
 use cull_report::Asked;
 use masked_update::TileView;
 use rect_query::{BoxAnswer, box_rect, rect_test};
@@ -242,7 +243,7 @@ pub(crate) fn is_hidden_around<V: TileView>(asked: &Asked<V>, size: Size, group:
     match answer_around(asked.scene, asked.frame, size, &around) {
         BoxAnswer::Outside | BoxAnswer::Straddles => false,
         BoxAnswer::At { rect, q } => {
-            is_in_screen(size, &rect) && rect_test(asked.view, size, rect, q) == Verdict::Occluded
+            is_in_screen(size, &rect) && is_occluded(rect_test(asked.view, size, rect, q))
         }
     }
 }

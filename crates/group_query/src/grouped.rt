@@ -191,14 +191,55 @@ impl<'a, V: TileView> Grouped<'a, V> {
             verdicts.new.items ≡ verdicts.old.items ++ take count (drop group.first all) }
         ensures room { vec_capacity verdicts.new ≡ vec_capacity verdicts.old }
     {
-        for _k in 0..count {
+        for k in 0..count {
             verdicts.push_reserved(Verdict::Occluded);
         }
     }
 
-    // Appends the verdicts of the first so many members of a group, and tells what is counted of the group. By its hull
-    // it is tested first, and before that by a box around its boxes, since then none of these is looked at; else each
-    // member is tested by itself, and the hull behind them, where it may be hidden.
+    // Appends the verdicts of the first so many members of a group, and tells what is counted of the group. A box around
+    // its boxes is tested first, since none of these is looked at where that is hidden, and then its hull. Condition: the
+    // size is the scene's.
+    fn answer_by_hull(
+        &self,
+        size: Size,
+        group: Group,
+        count: u32,
+        forms: &mut [Form],
+        verdicts: &mut Vec<Verdict>,
+    ) -> Tally
+        requires size { size ≡ size_of self.now.asked.now.scene.now }
+        requires places { 64 ≤ length forms.old }
+        requires group { group.first + group.count ≤ length self.now.asked.now.scene.now.objects }
+        requires within { count ≤ group.count }
+        requires room { length verdicts.old.items + count ≤ vec_capacity verdicts.old }
+        ensures told { let a = self.now.asked.now in
+            result ≡ group_tally a.scene.now a.frame (state_in (size_of a.scene.now) (V.tile_of a.view.now)) group }
+        ensures verdicts { let a = self.now.asked.now in
+            let all = verdicts_in a.scene.now a.frame (V.tile_of a.view.now) in
+            verdicts.new.items ≡ verdicts.old.items ++ take count (drop group.first all) }
+        ensures room { vec_capacity verdicts.new ≡ vec_capacity verdicts.old }
+        ensures places { length forms.new ≡ length forms.old }
+    {
+        // it tells that the objects' numbers fit
+        let _objects = self.object_count();
+        let asked = self.asked;
+        if is_hidden_around(asked, size, group) {
+            self.answer_hidden(group, count, verdicts);
+            return Tally {
+                hidden: 1,
+                members: group.count,
+            };
+        }
+        let tested = self.tested(size, group, forms);
+        for k in 0..count {
+            let verdict = self.member_verdict(size, group, tested, k, forms);
+            verdicts.push_reserved(verdict);
+        }
+        tally_of(asked, group, tested)
+    }
+
+    // The same by the hull, or by the members: each is tested by itself, and the hull behind them, where it may be
+    // hidden.
     fn answer_group(
         &self,
         group: Group,
@@ -223,20 +264,8 @@ impl<'a, V: TileView> Grouped<'a, V> {
         let _objects = self.object_count();
         let asked = self.asked;
         let size = asked.scene.size();
-        if by_hull && is_hidden_around(asked, size, group) {
-            self.answer_hidden(group, count, verdicts);
-            return Tally {
-                hidden: 1,
-                members: group.count,
-            };
-        }
         if by_hull {
-            let tested = self.tested(size, group, forms);
-            for k in 0..count {
-                let verdict = self.member_verdict(size, group, tested, k, forms);
-                verdicts.push_reserved(verdict);
-            }
-            return tally_of(asked, group, tested);
+            return self.answer_by_hull(size, group, count, forms, verdicts);
         }
         let mut kept = nothing_kept(size);
         for member in 0..count {

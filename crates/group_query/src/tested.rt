@@ -24,8 +24,9 @@ pub(crate) struct Tested {
     pub(crate) verdict: Verdict,
 }
 
+/// Whether a verdict is that of what is hidden.
 #[inline(always)]
-fn is_occluded(verdict: Verdict) -> bool
+pub(crate) fn is_occluded(verdict: Verdict) -> bool
     ensures { result ≡ is_occluded verdict }
 {
     match verdict {

@@ -16,7 +16,7 @@ loop-k-preserved c =
     let a = c.loop-k.around in let low = c.in-Block.low in let high = c.in-Block.high in
     let lt : first + n < length s.objects = omega (arith, c.loop-k-test.true, c.requires) in
     let at : (o : Object) → get_or s.objects (first + n) o ≡ Block low high = λ o.
-        get_or_default s.objects (first + n) o _ lt ∙ ap (λ (os : List Object). get_or os (first + n) _) (sym c.objects-objects.ensures) ∙ c.in-Block.is in
+    get_or_default s.objects (first + n) o _ lt ∙ ap (λ (os : List Object). get_or os (first + n) _) (sym c.objects-objects.ensures) ∙ c.in-Block.is in
     let object : IsObject (length s.object_tris) (Block low high) = subst (IsObject (length s.object_tris)) (at (Mesh 0 0)) (c.near-near.ensures.valid.objects (first + n) (Mesh 0 0) lt) in
     let value = c.with-around.ensures.value in
     record {

@@ -1,4 +1,4 @@
-use Rattle.std.proofs.Common.{◌≡◌, ◌^◌, FitsSigned, w32, rules, sym, subst}
+use Rattle.std.proofs.Common.{◌^◌, FitsSigned, w32, rules, sym, subst}
 use Rattle.std.proofs.lemmas.Int.{to_z-of_z}
 use Rattle.camera_path.specs.Clip.{AreWithin}
 use Rattle.group_query.specs.declared.around.Around.{Around}

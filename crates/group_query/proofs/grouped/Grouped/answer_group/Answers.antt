@@ -7,27 +7,6 @@ use Rattle.group_query.proofs.Answered.{has_all, has_next, has_none}
 use Rattle.group_query.proofs.HiddenHulls.{kept_next, kept_none}
 use Rattle.group_query.proofs.grouped.Grouped.answer_group.Goals as goal
 
-pub loop-k-init : goal.loop-k-init
-loop-k-init g c =
-    let a = c.args.self.now.asked.now in
-    record { verdicts = has_none (verdicts_in a.scene.now a.frame (g.V.TileView.tile_of a.view.now)) c.args.verdicts.now.items c.args.group.first; room = refl }
-
-pub loop-k-preserved : goal.loop-k-preserved
-loop-k-preserved g c =
-    let a = c.args.self.now.asked.now in
-    let lt : c.args.group.first + c.loop-k.k < length a.scene.now.objects = omega (arith, c.loop-k-test.true, c.requires.within, c.requires.group) in
-    record {
-      verdicts = has_next (verdict_in a.scene.now a.frame (g.V.TileView.tile_of a.view.now)) a.scene.now.objects c.args.verdicts.now.items c.loop-k.verdicts.items c.push_reserved.new.self.items c.args.group.first c.loop-k.k (Mesh 0 0)
-          c.member_verdict-verdict.result lt c.loop-k.invariant.verdicts (c.member_verdict-verdict.ensures (Mesh 0 0)) c.push_reserved.ensures.items;
-      room = c.push_reserved.ensures.capacity ∙ c.loop-k.invariant.room;
-    }
-
-pub returns-then-by_hull-clause-verdicts : goal.returns-then-by_hull-clause-verdicts
-returns-then-by_hull-clause-verdicts g c =
-    let a = c.args.self.now.asked.now in
-    let whole : c.loop-k.k ≡ c.args.count = omega (arith, c.loop-k-test.false, c.loop-k.auto.k-end) in
-    has_all (verdicts_in a.scene.now a.frame (g.V.TileView.tile_of a.view.now)) c.args.verdicts.now.items c.loop-k.verdicts.items c.args.group.first c.loop-k.k c.args.count c.loop-k.invariant.verdicts whole
-
 pub loop-member-init : goal.loop-member-init
 loop-member-init g c =
     let a = c.args.self.now.asked.now in let states = state_in (size_of a.scene.now) (g.V.TileView.tile_of a.view.now) in
@@ -48,8 +27,8 @@ loop-member-preserved g c =
     let below : member < group.count = omega (arith, c.loop-member-test.true, c.requires.within) in
     let lt : group.first + member < length s.objects = omega (arith, below, c.requires.group) in
     record {
-      verdicts = has_next (verdict_in s a.frame tile_of) s.objects c.args.verdicts.now.items c.loop-member.verdicts.items c.push_reserved-in-loop-member.new.self.items group.first member (Mesh 0 0) verdict lt i.verdicts is c.push_reserved-in-loop-member.ensures.items;
-      room = c.push_reserved-in-loop-member.ensures.capacity ∙ i.room;
+      verdicts = has_next (verdict_in s a.frame tile_of) s.objects c.args.verdicts.now.items c.loop-member.verdicts.items c.push_reserved.new.self.items group.first member (Mesh 0 0) verdict lt i.verdicts is c.push_reserved.ensures.items;
+      room = c.push_reserved.ensures.capacity ∙ i.room;
       kept = kept_next s a.frame (state_in (size_of s) tile_of) group member (Mesh 0 0) c.size-size.result c.loop-member.kept c.kept_with-kept.result c.seen_form-form.result verdict c.size-size.ensures
           below c.requires.group i.kept c.seen_form-form.ensures is c.kept_with-kept.ensures.shown c.kept_with-kept.ensures.hull c.kept_with-kept.ensures.few;
     }

@@ -5,12 +5,6 @@ use Rattle.group_query.specs.Hidden.{IsKept}
 use Rattle.group_query.proofs.Answered.{HasAnswered}
 use Rattle.group_query.proofs.grouped.Grouped.answer_group.Given as goal
 
-abbrev pub invariant-loop-k : goal.invariant-loop-k
-invariant-loop-k g l = record {
-  verdicts : HasAnswered (verdicts_in l.self.asked.now.scene.now l.self.asked.now.frame (g.V.TileView.tile_of l.self.asked.now.view.now)) l.fn.verdicts.items l.group.first l.k l.verdicts.items;
-  room : vec_capacity l.verdicts ≡ vec_capacity l.fn.verdicts;
-}
-
 abbrev pub invariant-loop-member : goal.invariant-loop-member
 invariant-loop-member g l = record {
   verdicts : HasAnswered (verdicts_in l.self.asked.now.scene.now l.self.asked.now.frame (g.V.TileView.tile_of l.self.asked.now.view.now)) l.fn.verdicts.items l.group.first l.member l.verdicts.items;
