@@ -36,13 +36,13 @@ pub fn thread_count(scene: &Scene, workers: u32) -> u32
     shares.min(workers as usize) as u32
 }
 
-// How many objects' lines are one piece, by so many threads. Where a run may end so many objects after its beginning
-// are whole steps.
+// How many objects' lines are one piece, by so many threads: those of a run, which ends where a step of so many objects
+// does; without runs as many as are written at once.
 fn piece_size(objects: u32, threads: u32, step: u32) -> usize
     ensures { IsRunSize result }
 {
     if threads <= 1 {
-        return whole_steps(BATCH, step as usize);
+        return BATCH;
     }
     whole_steps(run_size(objects, threads as usize), step as usize)
 }

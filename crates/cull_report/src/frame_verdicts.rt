@@ -6,8 +6,8 @@ ghost use Rattle.cull_report.specs.Runs.{AreRunsOf, IsRunSize};
 ghost use Rattle.cull_report.specs.Text.{frame_text, verdict_lines};
 
 use crate::counts::Counts;
-use crate::report::{end_line, frame_line, lines_from, write_verdicts};
-use crate::runs::{LINE, Run, run_count};
+use crate::report::{LINE, end_line, frame_line, lines_from, write_verdicts};
+use crate::runs::{Run, run_count};
 use cull_base::{Memory, Sink, SinkError, Verdict, write_whole};
 use std::alloc::Global;
 use std::marker::Model;
@@ -67,8 +67,8 @@ fn write_runs<W: Sink>(
     Ok(())
 }
 
-// The lines of some verdicts in one text, and where each piece of so many lines ends. Err where memory gave out.
-fn text_in_pieces(
+// The lines of some verdicts in one text, and where each so many lines end. Err where memory gave out.
+fn text_with_ends(
     alloc: Global,
     verdicts: &[Verdict],
     size: usize,
@@ -92,8 +92,9 @@ fn text_in_pieces(
     Ok((text, ends))
 }
 
-// Writes a text in pieces that end at these places, and then what is left behind the last one.
-fn write_pieces<W: Sink>(sink: &mut W, text: &[u8], ends: &[usize]) -> Result<(), SinkError>
+// Writes a text in parts that end at these places. No clause says that they rise to the text's end, so each is clamped,
+// and what is left behind the last is written too.
+fn write_by_ends<W: Sink>(sink: &mut W, text: &[u8], ends: &[usize]) -> Result<(), SinkError>
     ensures { Writes (W.says sink.old) (W.says sink.new) result text.now }
 {
     let mut from = 0usize;
@@ -148,7 +149,7 @@ impl FrameVerdicts {
         requires few { length list.items < 2 ^ 32 }
         ensures { IfOk result (λ v. v ≡ list.items) }
     {
-        let (text, ends) = text_in_pieces(alloc, list.as_slice(), size)?;
+        let (text, ends) = text_with_ends(alloc, list.as_slice(), size)?;
         Ok(FrameVerdicts {
             list,
             runs: Vec::new(alloc),
@@ -169,7 +170,7 @@ impl FrameVerdicts {
         ensures { Writes (W.says sink.old) (W.says sink.new) result (verdict_lines 0 self.now) }
     {
         if !self.text.is_empty() {
-            return write_pieces(sink, self.text.as_slice(), self.ends.as_slice());
+            return write_by_ends(sink, self.text.as_slice(), self.ends.as_slice());
         }
         if !self.runs.is_empty() {
             return write_runs(sink, self.list.as_slice(), self.runs.as_slice(), self.size);

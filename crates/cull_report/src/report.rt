@@ -11,8 +11,11 @@ use text_lines::{Line, Lines};
 
 const REPORT_VERSION: u64 = 1;
 
-// How many verdicts' lines are handed to the sink at once.
+/// How many verdicts' lines are handed to the sink at once.
 pub(crate) const BATCH: usize = 128;
+
+/// At most so many bytes has the line of an object.
+pub(crate) const LINE: usize = 30;
 
 #[tactic(auto, unfolding(crate::specs::Text::header_text))]
 fn header_line(width: u16, height: u16, frames: usize, objects: usize) -> Line
@@ -96,7 +99,7 @@ pub(crate) fn lines_from(first: usize, verdicts: &[Verdict]) -> Lines
     lines
 }
 
-// Writes the lines of verdicts, so many at once.
+/// Writes the lines of verdicts, numbered from 0, so many at once.
 pub(crate) fn write_verdicts<W: Sink>(sink: &mut W, verdicts: &[Verdict]) -> Result<(), SinkError>
     ensures { Writes (W.says sink.old) (W.says sink.new) result (verdict_lines 0 verdicts.now) }
 {

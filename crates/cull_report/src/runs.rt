@@ -6,13 +6,10 @@ ghost use Rattle.cull_report.specs.Runs.{IsWaitingRun};
 ghost use Rattle.cull_report.specs.Tallies.{Adds};
 
 use crate::answering::Answering;
-use crate::report::{BATCH, lines_from};
+use crate::report::{BATCH, LINE, lines_from};
 use crate::tally::Tally;
 use cull_base::{Memory, Verdict};
 use std::alloc::Global;
-
-/// At most so many bytes has the line of an object.
-pub(crate) const LINE: usize = 30;
 
 /// The verdicts of objects that follow on one another, their lines, and what is counted of them. Run k of some size
 /// begins at object size * k.

@@ -19,10 +19,10 @@ use Rattle.rect_query.specs.Boxes.{box_answer}
 use Rattle.rect_query.specs.declared.boxes.BoxAnswer.{BoxAnswer}
 use Rattle.rect_query.specs.declared.boxes.BoxAnswer.TheVariants.{Outside, Straddles, At}
 use Rattle.cull_report.specs.Scene.{camera_at, size_of}
-use Rattle.group_query.specs.Around.{IsAnswerAround, IsBoxInside, IsInside, IsSeenIn, outer_corners, pick, picked, spread, three}
+use Rattle.group_query.specs.Around.{IsAnswerAround, IsBoxInside, IsInside, IsInReach, outer_corners, pick, picked, spread, three}
 use Rattle.group_query.specs.declared.around.Around.{Around}
-use Rattle.group_query.specs.declared.around.Seen.{Seen}
-use Rattle.group_query.proofs.SeenBoxes.{stands_in}
+use Rattle.group_query.specs.declared.around.Reach.{Reach}
+use Rattle.group_query.proofs.BoxReaches.{stands_in}
 
 -- ---- a factor of numbers between two
 
@@ -76,13 +76,13 @@ row_most camera r low high v h =
 from_both : (least greatest a b z : ℤ) → least ≡ a → greatest ≡ b → a ≤ℤ z → z ≤ℤ b → (least ≤ℤ z) × (z ≤ℤ greatest)
 from_both least greatest a b z e f g h = (omega (arith, ints, e, g), omega (arith, ints, f, h))
 
-pub seen_in : (camera low high v : List ℤ) (s : Seen)
+pub in_reach : (camera low high v : List ℤ) (s : Reach)
     → s.x.least ≡ (clip_of camera (picked camera 0 low high)).x → s.x.greatest ≡ (clip_of camera (picked camera 0 high low)).x
     → s.y.least ≡ (clip_of camera (picked camera 4 low high)).y → s.y.greatest ≡ (clip_of camera (picked camera 4 high low)).y
     → s.w.least ≡ (clip_of camera (picked camera 8 low high)).w → s.w.greatest ≡ (clip_of camera (picked camera 8 high low)).w
-    → IsInside low high v → IsSeenIn s (clip_of camera v)
+    → IsInside low high v → IsInReach s (clip_of camera v)
 unfolding clip_of
-seen_in camera low high v s x0 x1 y0 y1 w0 w1 h = record {
+in_reach camera low high v s x0 x1 y0 y1 w0 w1 h = record {
   x = from_both s.x.least s.x.greatest _ _ (coordinate_of camera 0 v) x0 x1 (row_least camera 0 low high v h) (row_most camera 0 low high v h);
   y = from_both s.y.least s.y.greatest _ _ (coordinate_of camera 4 v) y0 y1 (row_least camera 4 low high v h) (row_most camera 4 low high v h);
   w = from_both s.w.least s.w.greatest _ _ (coordinate_of camera 8 v) w0 w1 (row_least camera 8 low high v h) (row_most camera 8 low high v h);
@@ -175,10 +175,10 @@ new_boxed a low high m h = (
   new_inside a low high high (record { x = (h.2, same _); y = (h.3, same _); z = (h.4, same _) }),
 )
 
--- what holds of all that is seen in a box holds of the corners of a box in it
-pub corners_seen : (P : ClipVertex → Type 0) (camera low high l t : List ℤ) → ((v : List ℤ) → IsInside low high v → P (clip_of camera v)) → IsInside low high l → IsInside low high t
+-- what holds of all that is reach in a box holds of the corners of a box in it
+pub corners_reached : (P : ClipVertex → Type 0) (camera low high l t : List ℤ) → ((v : List ℤ) → IsInside low high v → P (clip_of camera v)) → IsInside low high l → IsInside low high t
     → All P (map (clip_of camera) (corners_of l t))
-corners_seen P camera low high l t h a b =
+corners_reached P camera low high l t h a b =
     All-from_recursion P (map (clip_of camera) (corners_of l t)) (
       h _ (mixed a.x a.y a.z),
       (
@@ -196,14 +196,14 @@ corners_seen P camera low high l t h a b =
     mixed : {x y z : ℤ} → (number low 0 ≤ℤ x) × (x ≤ℤ number high 0) → (number low 1 ≤ℤ y) × (y ≤ℤ number high 1) → (number low 2 ≤ℤ z) × (z ≤ℤ number high 2) → IsInside low high (three x y z)
     mixed p q r = record { x = p; y = q; z = r }
 
--- where a box stands that is made of all that is seen in another
-pub answer_is : (s : Parts) (seen : Seen) (answer : BoxAnswer) (grade : Grade) (near : ℕ) (size : Dimensions) (cs : List ClipVertex) → answer ≡ box_answer (top_of grade) near size cs
-    → grade ≡ s.grade → near ≡ s.near → size ≡ size_of s → cs ≡ outer_corners seen → answer ≡ box_answer (top_of s.grade) s.near (size_of s) (outer_corners seen)
-answer_is s seen answer grade near size cs e g n z k = e ∙ (λ i. box_answer (top_of (g i)) (n i) (z i) (k i))
+-- where a box stands that is made of all that is reach in another
+pub answer_is : (s : Parts) (reach : Reach) (answer : BoxAnswer) (grade : Grade) (near : ℕ) (size : Dimensions) (cs : List ClipVertex) → answer ≡ box_answer (top_of grade) near size cs
+    → grade ≡ s.grade → near ≡ s.near → size ≡ size_of s → cs ≡ outer_corners reach → answer ≡ box_answer (top_of s.grade) s.near (size_of s) (outer_corners reach)
+answer_is s reach answer grade near size cs e g n z k = e ∙ (λ i. box_answer (top_of (g i)) (n i) (z i) (k i))
 
-pub answered : (s : Parts) (frame : ℕ) (a : Around) (seen : Seen) (answer : BoxAnswer) → 1 ≤ s.near → ((v : List ℤ) → IsInside a.low a.high v → IsSeenIn seen (clip_of (camera_at s frame) v))
-    → answer ≡ box_answer (top_of s.grade) s.near (size_of s) (outer_corners seen) → IsAnswerAround s frame a answer
-answered s frame a seen Outside some sees e = tt
-answered s frame a seen Straddles some sees e = tt
-answered s frame a seen (At rect q) some sees e = λ low high l h.
-    stands_in (top_of s.grade) s.near (size_of s) seen _ _ rect q some (sym e) (corners_seen (IsSeenIn seen) (camera_at s frame) a.low a.high low high sees l h)
+pub answered : (s : Parts) (frame : ℕ) (a : Around) (reach : Reach) (answer : BoxAnswer) → 1 ≤ s.near → ((v : List ℤ) → IsInside a.low a.high v → IsInReach reach (clip_of (camera_at s frame) v))
+    → answer ≡ box_answer (top_of s.grade) s.near (size_of s) (outer_corners reach) → IsAnswerAround s frame a answer
+answered s frame a reach Outside some sees e = tt
+answered s frame a reach Straddles some sees e = tt
+answered s frame a reach (At rect q) some sees e = λ low high l h.
+    stands_in (top_of s.grade) s.near (size_of s) reach _ _ rect q some (sym e) (corners_reached (IsInReach reach) (camera_at s frame) a.low a.high low high sees l h)

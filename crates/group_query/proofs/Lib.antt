@@ -11,4 +11,4 @@ pub mod Answered
 pub mod CountsAlike
 pub mod BoxesAround
 pub mod HiddenAround
-pub mod SeenBoxes
+pub mod BoxReaches

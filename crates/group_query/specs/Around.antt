@@ -1,4 +1,4 @@
--- What a camera may see in a box around the boxes of a group.
+-- How far a box around the boxes of a group reaches, as a camera sees it.
 use Rattle.std.specs.Prelude.{ℕ, ℤ, pos, ◌+◌, ◌<◌, ◌≤◌, ◌≤ℤ◌, ◌<ℤ◌, map, Bool, ◌&&◌, cond, int_lt, int_le, List, [], ◌∷◌, slice_index_or}
 use Rattle.std.specs.Int.{int_min, int_max}
 use Rattle.cull_base.specs.declared.clip.ClipVertex.{ClipVertex}
@@ -8,14 +8,14 @@ use Rattle.cull_base.specs.declared.scene_types.Object.TheVariants.{Area, Block,
 use Rattle.cull_base.specs.Grade.{top_of}
 use Rattle.cull_base.specs.Screen.{Dimensions}
 use Rattle.scene_reader.specs.Layout.{Parts}
-use Rattle.camera_path.specs.Clip.{clip_of, corners_of, number}
+use Rattle.camera_path.specs.Clip.{as_clip, clip_of, corners_of, number}
 use Rattle.rect_query.specs.Boxes.{box_answer}
 use Rattle.rect_query.specs.declared.boxes.BoxAnswer.{BoxAnswer}
 use Rattle.rect_query.specs.declared.boxes.BoxAnswer.TheVariants.{Outside, Straddles, At}
 use Rattle.cull_report.specs.Scene.{camera_at, size_of}
 use Rattle.group_query.specs.declared.around.Around.{Around}
-use Rattle.group_query.specs.declared.around.Seen.{Seen}
-use Rattle.group_query.specs.declared.around.Span.{Span}
+use Rattle.group_query.specs.declared.around.Reach.{Reach}
+use Rattle.group_query.specs.declared.around.Limits.{Limits}
 
 -- a point lies in a box between its least and its greatest corner
 pub record IsInside (low high v : List ℤ) : Type 0 where
@@ -43,33 +43,28 @@ spread a low high = record {
   high = three (int_max (number a.high 0) (number high 0)) (int_max (number a.high 1) (number high 1)) (int_max (number a.high 2) (number high 2));
 }
 
--- the corner of a box at which the row from number r of a camera is least, or greatest where its corners are given in exchange
+-- the first of two numbers where a factor isn't negative, else the second
 abbrev pub pick : ℤ → ℤ → ℤ → ℤ
 pick factor first second = cond (int_lt factor (pos 0)) second first
 
+-- the corner of a box at which the row from number r of a camera is least, or greatest where its corners are given in exchange
 abbrev pub picked : List ℤ → ℕ → List ℤ → List ℤ → List ℤ
 picked camera r low high =
     three (pick (number camera r) (number low 0) (number high 0)) (pick (number camera (r + 1)) (number low 1) (number high 1))
     (pick (number camera (r + 2)) (number low 2) (number high 2))
 
-abbrev pub IsBetween : Span → ℤ → Type 0
+abbrev pub IsBetween : Limits → ℤ → Type 0
 IsBetween s z = (s.least ≤ℤ z) × (z ≤ℤ s.greatest)
 
--- a vertex is among what is seen
-pub record IsSeenIn (s : Seen) (v : ClipVertex) : Type 0 where
+-- a vertex whose coordinates are each between the least and the greatest
+pub record IsInReach (s : Reach) (v : ClipVertex) : Type 0 where
   pub x : IsBetween s.x v.x
   pub y : IsBetween s.y v.y
   pub w : IsBetween s.w v.w
 
-abbrev pub a_vertex : ℤ → ℤ → ℤ → ClipVertex
-a_vertex x y w = record { x = x; y = y; w = w }
-
-abbrev pub outer_corners : Seen → List ClipVertex
-outer_corners s =
-    a_vertex s.x.least s.y.least s.w.least ∷ a_vertex s.x.greatest s.y.least s.w.least
-    ∷ a_vertex s.x.least s.y.greatest s.w.least ∷ a_vertex s.x.greatest s.y.greatest s.w.least
-    ∷ a_vertex s.x.least s.y.least s.w.greatest ∷ a_vertex s.x.greatest s.y.least s.w.greatest
-    ∷ a_vertex s.x.least s.y.greatest s.w.greatest ∷ a_vertex s.x.greatest s.y.greatest s.w.greatest ∷ []
+-- the corners of the box in clip space that has all these vertices
+abbrev pub outer_corners : Reach → List ClipVertex
+outer_corners r = map as_clip (corners_of (three r.x.least r.y.least r.w.least) (three r.x.greatest r.y.greatest r.w.greatest))
 
 abbrev pub is_in_screen : Dimensions → Rect → Bool
 is_in_screen size r = (int_le (pos 0) r.x0 && int_le (pos 0) r.y0) && (int_le r.x1 (pos size.width) && int_le r.y1 (pos size.height))
@@ -93,7 +88,7 @@ StandsIn rect q Outside = ⊥
 StandsIn rect q Straddles = ⊥
 StandsIn rect q (At r n) = IsPart r rect × (n ≤ q)
 
--- and so does each box in a box, where that is answered to stand at a rectangle
+-- an answer for a box: where it is a rectangle with a nearness, each box inside stands at a part of it and is no nearer
 abbrev pub IsAnswerAround : Parts → ℕ → Around → BoxAnswer → Type 0
 IsAnswerAround s frame a Outside = Unit {0}
 IsAnswerAround s frame a Straddles = Unit {0}

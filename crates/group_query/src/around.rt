@@ -1,12 +1,12 @@
 //! The boxes of a group at once, by a box around them: where all that a camera may see in it lies in the screen and is
-//! hidden, each of the boxes is occluded, and none is looked at by itself.
+//! hidden, each of the boxes is occluded, and none is put through the camera.
 ghost use Rattle.std.specs.Prelude.{◌≡◌, ℕ, ℤ, List, ◌+◌, ◌<◌, ◌≤◌, ◌^◌, true, length, slice_index_or};
 ghost use Rattle.std.specs.Prelude.{IfSome};
 ghost use Rattle.cull_base.specs.declared.scene_types.Object.{Object};
 ghost use Rattle.cull_base.specs.declared.scene_types.Verdict.TheVariants.{Occluded};
 ghost use Rattle.camera_path.specs.Clip.{AreWithin, clip_of, number};
-ghost use Rattle.cull_report.specs.Scene.{camera_at, size_of, verdict_in};
-ghost use Rattle.group_query.specs.Around.{AreBoxesInside, IsAnswerAround, IsInside, IsSeenIn};
+ghost use Rattle.cull_report.specs.Scene.{size_of, verdict_in};
+ghost use Rattle.group_query.specs.Around.{AreBoxesInside, IsAnswerAround, IsInside, IsInReach};
 ghost use Rattle.group_query.specs.Around.{is_in_screen, outer_corners, pick, picked, spread};
 ghost use Rattle.group_query.specs.Hidden.{group_tally};
 ghost use Rattle.masked_update.specs.Views.{state_in};
@@ -24,19 +24,19 @@ use scene_reader::Scene;
 /// The numbers of a scene lie at most so far from 0.
 const MOST: i32 = 0x100_0000;
 
-/// From a least number to a greatest.
+/// The least and the greatest of some numbers.
 #[derive(Clone, Copy)]
-pub(crate) struct Span {
+pub(crate) struct Limits {
     pub(crate) least: i64,
     pub(crate) greatest: i64,
 }
 
-/// Clip coordinates within these are all that a camera may see in a box.
+/// The least and the greatest of each clip coordinate of the points of a box.
 #[derive(Clone, Copy)]
-pub(crate) struct Seen {
-    pub(crate) x: Span,
-    pub(crate) y: Span,
-    pub(crate) w: Span,
+pub(crate) struct Reach {
+    pub(crate) x: Limits,
+    pub(crate) y: Limits,
+    pub(crate) w: Limits,
 }
 
 /// A box in space.
@@ -123,79 +123,55 @@ fn picked(camera: &Camera, r: usize, low: &[i32; 3], high: &[i32; 3]) -> [i32; 3
     ]
 }
 
-impl Seen {
-    // What a camera sees in a box.
+#[inline(always)]
+fn vertex(x: i64, y: i64, w: i64) -> ClipVertex
+    ensures { result ≡ record { x = x; y = y; w = w } }
+{
+    ClipVertex { x, y, w }
+}
+
+impl Reach {
+    // How far all points of a box reach, as a camera sees them. Conditions: the camera's numbers and the box's are at
+    // most 2^24 away from 0.
     #[inline(always)]
-    fn of(camera: &Camera, around: &Around) -> Seen
+    fn of(camera: &Camera, around: &Around) -> Reach
         requires camera { AreWithin (2 ^ 24) camera.now.0 }
         requires low { AreWithin (2 ^ 24) around.now.low }
         requires high { AreWithin (2 ^ 24) around.now.high }
-        ensures { (v : List ℤ) → IsInside around.now.low around.now.high v → IsSeenIn result (clip_of camera.now.0 v) }
+        ensures { (v : List ℤ) → IsInside around.now.low around.now.high v → IsInReach result (clip_of camera.now.0 v) }
     {
         let (low, high) = (&around.low, &around.high);
-        Seen {
-            x: Span {
+        Reach {
+            x: Limits {
                 least: camera.clip(&picked(camera, 0, low, high)).x,
                 greatest: camera.clip(&picked(camera, 0, high, low)).x,
             },
-            y: Span {
+            y: Limits {
                 least: camera.clip(&picked(camera, 4, low, high)).y,
                 greatest: camera.clip(&picked(camera, 4, high, low)).y,
             },
-            w: Span {
+            w: Limits {
                 least: camera.clip(&picked(camera, 8, low, high)).w,
                 greatest: camera.clip(&picked(camera, 8, high, low)).w,
             },
         }
     }
 
-    // The corners of all that is seen.
+    // The corners of the box in clip space that has all these vertices.
     #[inline(always)]
     fn corners(&self) -> [ClipVertex; 8]
         ensures { result ≡ outer_corners self.now }
     {
         let (x, y, w) = (&self.x, &self.y, &self.w);
         [
-            ClipVertex {
-                x: x.least,
-                y: y.least,
-                w: w.least,
-            },
-            ClipVertex {
-                x: x.greatest,
-                y: y.least,
-                w: w.least,
-            },
-            ClipVertex {
-                x: x.least,
-                y: y.greatest,
-                w: w.least,
-            },
-            ClipVertex {
-                x: x.greatest,
-                y: y.greatest,
-                w: w.least,
-            },
-            ClipVertex {
-                x: x.least,
-                y: y.least,
-                w: w.greatest,
-            },
-            ClipVertex {
-                x: x.greatest,
-                y: y.least,
-                w: w.greatest,
-            },
-            ClipVertex {
-                x: x.least,
-                y: y.greatest,
-                w: w.greatest,
-            },
-            ClipVertex {
-                x: x.greatest,
-                y: y.greatest,
-                w: w.greatest,
-            },
+            vertex(x.least, y.least, w.least),
+            vertex(x.greatest, y.least, w.least),
+            vertex(x.least, y.greatest, w.least),
+            vertex(x.greatest, y.greatest, w.least),
+            vertex(x.least, y.least, w.greatest),
+            vertex(x.greatest, y.least, w.greatest),
+            vertex(x.least, y.greatest, w.greatest),
+            vertex(x.greatest, y.greatest, w.greatest),
         ]
     }
 }
@@ -208,8 +184,9 @@ fn is_in_screen(size: Size, rect: &Rect) -> bool
     0 <= rect.x0 && 0 <= rect.y0 && rect.x1 <= screen.x1 && rect.y1 <= screen.y1
 }
 
-// Where a box in space stands before a frame's camera: at least as near as each point of it, at a rectangle with all
-// their pixels.
+// The answer for a box in space before a frame's camera: where it is a rectangle with a nearness, each box inside stands
+// at a part of it and is no nearer. Conditions: there is such a frame, the size is the scene's, and the box's numbers are
+// at most 2^24 away from 0.
 fn answer_around(scene: &Scene, frame: u32, size: Size, around: &Around) -> BoxAnswer
     requires frame { frame < length scene.now.cameras }
     requires size { size ≡ size_of scene.now }
@@ -218,12 +195,13 @@ fn answer_around(scene: &Scene, frame: u32, size: Size, around: &Around) -> BoxA
     ensures { IsAnswerAround scene.now frame around.now result }
 {
     let camera = Camera(scene.cameras()[frame as usize]);
-    let corners = Seen::of(&camera, around).corners();
+    let corners = Reach::of(&camera, around).corners();
     box_rect(&corners, scene.near(), size, scene.grade())
 }
 
-/// Whether the box around a group's boxes is seen in the screen alone and hidden there: each of them is occluded then,
-/// and counts. Conditions: there are these objects, and the size is the scene's.
+/// Whether all that a camera may see in a box around a group's boxes lies in the screen and is hidden: each member counts
+/// then, and is occluded. False of fewer than two members, and where one is no box. Conditions: there are these objects,
+/// and the size is the scene's.
 pub(crate) fn is_hidden_around<V: TileView>(asked: &Asked<V>, size: Size, group: Group) -> bool
     requires group { group.first + group.count ≤ length asked.now.scene.now.objects }
     requires size { size ≡ size_of asked.now.scene.now }
@@ -234,7 +212,7 @@ pub(crate) fn is_hidden_around<V: TileView>(asked: &Asked<V>, size: Size, group:
         → verdict_in a.scene.now a.frame (V.tile_of a.view.now) (slice_index_or a.scene.now.objects (group.first + k) o)
         ≡ Occluded }
 {
-    if group.count == 0 {
+    if group.count < 2 {
         return false;
     }
     let Some(around) = Around::of_group(asked.scene, group) else {

@@ -178,27 +178,28 @@ impl<'a, V: TileView> Grouped<'a, V> {
         tally_of(asked, group, tested)
     }
 
-    // Appends the verdicts of the first so many members of a group whose members are all occluded.
-    fn answer_hidden(&self, group: Group, count: u32, verdicts: &mut Vec<Verdict>)
-        requires group { group.first + group.count ≤ length self.now.asked.now.scene.now.objects }
-        requires within { count ≤ group.count }
+    // Appends the verdicts of the first so many members of a group whose members are all occluded. Its clauses alone ask
+    // for the group.
+    fn answer_hidden(&self, _group: Group, count: u32, verdicts: &mut Vec<Verdict>)
+        requires group { _group.first + _group.count ≤ length self.now.asked.now.scene.now.objects }
+        requires within { count ≤ _group.count }
         requires room { length verdicts.old.items + count ≤ vec_capacity verdicts.old }
-        requires occluded { (k : ℕ) (o : Object) → let a = self.now.asked.now in k < group.count
+        requires occluded { (k : ℕ) (o : Object) → let a = self.now.asked.now in k < _group.count
             → verdict_in a.scene.now a.frame (V.tile_of a.view.now)
-            (slice_index_or a.scene.now.objects (group.first + k) o) ≡ Occluded }
+            (slice_index_or a.scene.now.objects (_group.first + k) o) ≡ Occluded }
         ensures verdicts { let a = self.now.asked.now in
             let all = verdicts_in a.scene.now a.frame (V.tile_of a.view.now) in
-            verdicts.new.items ≡ verdicts.old.items ++ take count (drop group.first all) }
+            verdicts.new.items ≡ verdicts.old.items ++ take count (drop _group.first all) }
         ensures room { vec_capacity verdicts.new ≡ vec_capacity verdicts.old }
     {
-        for k in 0..count {
+        for _k in 0..count {
             verdicts.push_reserved(Verdict::Occluded);
         }
     }
 
     // Appends the verdicts of the first so many members of a group, and tells what is counted of the group. A box around
-    // its boxes is tested first, since none of these is looked at where that is hidden, and then its hull. Condition: the
-    // size is the scene's.
+    // its boxes is tested first, since none of these is put through the camera where that is hidden, and then its hull.
+    // Condition: the size is the scene's.
     fn answer_by_hull(
         &self,
         size: Size,

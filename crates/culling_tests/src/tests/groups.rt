@@ -192,6 +192,11 @@ fn members_that_do_not_count_are_no_part_of_it(rt: HostRuntime) -> Result<(), Fa
             "groups 0 count 1 hidden 1 members 1\n",
         ),
         (
+            &[BEHIND, BEHIND, ASTRIDE, BEHIND],
+            2,
+            "groups 0 count 2 hidden 2 members 3\n",
+        ),
+        (
             &[NOWHERE[0], BEHIND, NOWHERE[1]],
             64,
             "groups 0 count 1 hidden 1 members 1\n",

@@ -4,7 +4,7 @@ use Rattle.std.proofs.lemmas.Nat.{mul-le}
 use Rattle.cull_report.specs.Runs.{run_of}
 use Rattle.cull_report.specs.Text.{verdict_lines}
 use Rattle.cull_report.proofs.MadeRuns.{lines_more, next_run, whole_run}
-use Rattle.cull_report.proofs.frame_verdicts.text_in_pieces.Goals as goal
+use Rattle.cull_report.proofs.frame_verdicts.text_with_ends.Goals as goal
 
 pub loop-number-preserved : goal.loop-number-preserved
 loop-number-preserved c =

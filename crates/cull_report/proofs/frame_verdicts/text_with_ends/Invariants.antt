@@ -1,6 +1,6 @@
 use Rattle.std.proofs.Common.{◌≡◌, ◌*◌, ◌≤◌, length, take, vec_capacity}
 use Rattle.cull_report.specs.Text.{verdict_lines}
-use Rattle.cull_report.proofs.frame_verdicts.text_in_pieces.Given as goal
+use Rattle.cull_report.proofs.frame_verdicts.text_with_ends.Given as goal
 
 abbrev pub invariant-loop-number : goal.invariant-loop-number
 invariant-loop-number l = record {

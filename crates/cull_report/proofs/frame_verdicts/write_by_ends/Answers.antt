@@ -4,7 +4,7 @@ use Rattle.std.proofs.lemmas.List.{length-drop, take_all, take-append-drop}
 use Rattle.std.proofs.lemmas.Result.{err_from_is_err_and}
 use Rattle.cull_base.specs.Stream.{Appends, Writes}
 use Rattle.cull_base.proofs.Streams.{appends_then, writes_then, writes_no_more}
-use Rattle.cull_report.proofs.frame_verdicts.write_pieces.Goals as goal
+use Rattle.cull_report.proofs.frame_verdicts.write_by_ends.Goals as goal
 
 pub loop-end-preserved : goal.loop-end-preserved
 loop-end-preserved g c =

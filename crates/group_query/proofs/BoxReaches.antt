@@ -21,8 +21,12 @@ use Rattle.rect_query.specs.declared.boxes.BoxAnswer.TheVariants.{Outside, Strad
 use Rattle.rect_query.proofs.Corners.{w_front}
 use Rattle.rect_query.proofs.Reaching.{none_stray}
 use Rattle.rect_query.proofs.Rising.{places_rise}
-use Rattle.group_query.specs.Around.{IsPart, IsSeenIn, StandsIn, a_vertex, outer_corners}
-use Rattle.group_query.specs.declared.around.Seen.{Seen}
+use Rattle.group_query.specs.Around.{IsInReach, IsPart, StandsIn, outer_corners}
+use Rattle.group_query.specs.declared.around.Reach.{Reach}
+
+-- a vertex of these coordinates
+abbrev a_vertex : ℤ → ℤ → ℤ → ClipVertex
+a_vertex x y w = record { x = x; y = y; w = w }
 
 -- ---- vertices within the guard, and not before the near distance
 
@@ -63,25 +67,25 @@ between n a b z ha hb h = (after (neg_ℤ (pos n)) a z ha.0 h.0, after z b (pos 
 
 -- ---- four of the outer corners, of which two have each least and each greatest number
 
-abbrev low_at : Seen → ℤ → ClipVertex
+abbrev low_at : Reach → ℤ → ClipVertex
 low_at s w = a_vertex s.x.least s.y.least w
 
-abbrev high_at : Seen → ℤ → ClipVertex
+abbrev high_at : Reach → ℤ → ClipVertex
 high_at s w = a_vertex s.x.greatest s.y.greatest w
 
-pub record AtFour (P : ClipVertex → Type 0) (s : Seen) : Type 0 where
+pub record AtFour (P : ClipVertex → Type 0) (s : Reach) : Type 0 where
   pub low_near : P (low_at s s.w.least)
   pub high_near : P (high_at s s.w.least)
   pub low_far : P (low_at s s.w.greatest)
   pub high_far : P (high_at s s.w.greatest)
 
-at_four : (P : ClipVertex → Type 0) (s : Seen) → All P (outer_corners s) → AtFour P s
+at_four : (P : ClipVertex → Type 0) (s : Reach) → All P (outer_corners s) → AtFour P s
 at_four P s h =
     let d = a_vertex (pos 0) (pos 0) (pos 0) in
     let (i, j, k, l) : (0 < 8) × (3 < 8) × (4 < 8) × (7 < 8) = (omega arith, omega arith, omega arith, omega arith) in
     record { low_near = h 0 d i; high_near = h 3 d j; low_far = h 4 d k; high_far = h 7 d l }
 
-clear_seen : (near : ℕ) (s : Seen) (v : ClipVertex) → AtFour (IsClear near) s → IsSeenIn s v → IsClear near v
+clear_seen : (near : ℕ) (s : Reach) (v : ClipVertex) → AtFour (IsClear near) s → IsInReach s v → IsClear near v
 clear_seen near s v k h =
     let a = k.low_near in
     let b = k.high_far in
@@ -248,17 +252,17 @@ clear_turned : (near : ℕ) (v : ClipVertex) → IsClear near v → IsClear near
 clear_turned near v h = record { x = opposite_within (16384 * near) v.y h.y; y = (omega (arith, ints), omega (arith, ints)); w = h.w; front = h.front }
 
 -- what is seen lies among the outer corners on the screen
-abbrev IsAmong : (ClipVertex → ℤ) → Seen → Type 0
-IsAmong g s = (v : ClipVertex) (m n : ℤ) → IsSeenIn s v → AtFour (λ u. m ≤ℤ g u) s → AtFour (λ u. g u ≤ℤ n) s → (m ≤ℤ g v) × (g v ≤ℤ n)
+abbrev IsAmong : (ClipVertex → ℤ) → Reach → Type 0
+IsAmong g s = (v : ClipVertex) (m n : ℤ) → IsInReach s v → AtFour (λ u. m ≤ℤ g u) s → AtFour (λ u. g u ≤ℤ n) s → (m ≤ℤ g v) × (g v ≤ℤ n)
 
-seen_across : (near pixels : ℕ) (s : Seen) → 1 ≤ near → AtFour (IsClear near) s → IsAmong (λ u. place_at pixels (across u)) s
+seen_across : (near pixels : ℕ) (s : Reach) → 1 ≤ near → AtFour (IsClear near) s → IsAmong (λ u. place_at pixels (across u)) s
 seen_across near pixels s some k v m n h c d =
     let own = clear_seen near s v k h in (
       not_before near pixels s.x.least s.w.least s.w.greatest v m (two near _ _ _ v some k.low_near.x k.low_near.front k.high_far.w.1 own h.w) h.x.0 c.low_near c.low_far,
       not_past near pixels s.x.greatest s.w.least s.w.greatest v n (two near _ _ _ v some k.high_far.x k.low_near.front k.high_far.w.1 own h.w) h.x.1 d.high_near d.high_far,
     )
 
-seen_down : (near pixels : ℕ) (s : Seen) → 1 ≤ near → AtFour (IsClear near) s → IsAmong (λ u. place_at pixels (down u)) s
+seen_down : (near pixels : ℕ) (s : Reach) → 1 ≤ near → AtFour (IsClear near) s → IsAmong (λ u. place_at pixels (down u)) s
 seen_down near pixels s some k v m n h c d =
     let own = clear_turned near v (clear_seen near s v k h) in
     let low = opposite_within (16384 * near) s.y.greatest k.high_far.y in
@@ -267,7 +271,7 @@ seen_down near pixels s some k v m n h c d =
       not_past near pixels (neg_ℤ s.y.least) s.w.least s.w.greatest (turned v) n (two near _ _ _ (turned v) some high k.low_near.front k.high_far.w.1 own h.w) (opposite s.y.least v.y h.y.0) d.low_near d.low_far,
     )
 
-lies_along : (f g : ClipVertex → ℤ) (s : Seen) (v : ClipVertex) (vs : List ClipVertex) → ((u : ClipVertex) → g u ≡ f u) → IsAmong g s → All (IsSeenIn s) (v ∷ vs) → LiesIn f (outer_corners s) (v ∷ vs)
+lies_along : (f g : ClipVertex → ℤ) (s : Reach) (v : ClipVertex) (vs : List ClipVertex) → ((u : ClipVertex) → g u ≡ f u) → IsAmong g s → All (IsInReach s) (v ∷ vs) → LiesIn f (outer_corners s) (v ∷ vs)
 lies_along f g s v vs same among all =
     let cs = outer_corners s in
     let m = least_of (map f cs) in
@@ -275,8 +279,8 @@ lies_along f g s v vs same among all =
     let low = at_four (λ u. m ≤ℤ g u) s (All-weaker (λ u. m ≤ℤ f u) (λ u. m ≤ℤ g u) (λ u h. subst (λ z. m ≤ℤ z) (sym (same u)) h) cs (least_each f cs)) in
     let high = at_four (λ u. g u ≤ℤ n) s (All-weaker (λ u. f u ≤ℤ n) (λ u. g u ≤ℤ n) (λ u h. subst (λ z. z ≤ℤ n) (sym (same u)) h) cs (greatest_each f cs)) in
     lies_in f cs v vs
-    (All-weaker (IsSeenIn s) (λ u. m ≤ℤ f u) (λ u h. subst (λ z. m ≤ℤ z) (same u) (among u m n h low high).0) (v ∷ vs) all)
-    (All-weaker (IsSeenIn s) (λ u. f u ≤ℤ n) (λ u h. subst (λ z. z ≤ℤ n) (same u) (among u m n h low high).1) (v ∷ vs) all)
+    (All-weaker (IsInReach s) (λ u. m ≤ℤ f u) (λ u h. subst (λ z. m ≤ℤ z) (same u) (among u m n h low high).0) (v ∷ vs) all)
+    (All-weaker (IsInReach s) (λ u. f u ≤ℤ n) (λ u h. subst (λ z. z ≤ℤ n) (same u) (among u m n h low high).1) (v ∷ vs) all)
 
 -- where a vertex lies on the screen
 abbrev across_at : Dimensions → ClipVertex → ℤ
@@ -319,7 +323,7 @@ put_together false true r rect n q e f part le = absurd cc
 put_together false false r rect n q e f part le = (part, le)
 
 -- where the outer corners stand at a rectangle, what is seen stands in it
-pub stands_in : (top near : ℕ) (size : Dimensions) (s : Seen) (v : ClipVertex) (vs : List ClipVertex) (rect : Rect) (q : ℕ) → 1 ≤ near → box_answer top near size (outer_corners s) ≡ At rect q → All (IsSeenIn s) (v ∷ vs)
+pub stands_in : (top near : ℕ) (size : Dimensions) (s : Reach) (v : ClipVertex) (vs : List ClipVertex) (rect : Rect) (q : ℕ) → 1 ≤ near → box_answer top near size (outer_corners s) ≡ At rect q → All (IsInReach s) (v ∷ vs)
     → StandsIn rect q (box_answer top near size (v ∷ vs))
 unfolding box_answer
 stands_in top near size s v vs rect q some e all =
@@ -328,7 +332,7 @@ stands_in top near size s v vs rect q some e all =
     let d = a_vertex (pos 0) (pos 0) (pos 0) in
     let clear : All (IsClear near) cs = λ k d lt. (let t = none_stray near cs k d at.0 lt in clear_from near (get_or cs k d) t.0 t.1) in
     let four = at_four (IsClear near) s clear in
-    let own : All (IsClear near) (v ∷ vs) = All-weaker (IsSeenIn s) (IsClear near) (λ u h. clear_seen near s u four h) (v ∷ vs) all in
+    let own : All (IsClear near) (v ∷ vs) = All-weaker (IsInReach s) (IsClear near) (λ u h. clear_seen near s u four h) (v ∷ vs) all in
     let none : list_any (is_stray near) (v ∷ vs) ≡ false =
     list_any_none (is_stray near) (v ∷ vs)
     (All-weaker (IsClear near) (λ u. is_stray near u ≡ false) (λ u h. let t = not_stray near u h in or_from (is_past_guard u near) (is_behind near u) t.0 t.1) (v ∷ vs) own) in
@@ -337,7 +341,7 @@ stands_in top near size s v vs rect q some e all =
     let least = least_of (map distance cs) in
     let front = least_above distance (pos near) cs (omega arith) (All-weaker (IsClear near) (λ u. pos near ≤ℤ u.w) (λ u h. h.front) cs clear) in
     let nearest = at_four (λ u. least ≤ℤ u.w) s (least_each distance cs) in
-    let far = least_above distance least (v ∷ vs) (omega arith) (All-weaker (IsSeenIn s) (λ u. least ≤ℤ u.w) (λ u h. after least s.w.least u.w nearest.low_near h.w.0) (v ∷ vs) all) in
+    let far = least_above distance least (v ∷ vs) (omega arith) (All-weaker (IsInReach s) (λ u. least ≤ℤ u.w) (λ u h. after least s.w.least u.w nearest.low_near h.w.0) (v ∷ vs) all) in
     let falls = nearness_falls (top * near) least (least_of (map distance (v ∷ vs))) (one_of near least some front) far in
     let across_screen = lies_along (across_at size) (across_at size) s v vs (λ u. refl) (seen_across near size.width s some four) all in
     let down_screen = lies_along (down_at size) (λ u. place_at size.height (down u)) s v vs (down_is size) (seen_down near size.height s some four) all in

@@ -1,6 +1,6 @@
 use Rattle.std.proofs.Common.{◌≤◌, length, take}
 use Rattle.cull_base.specs.Stream.{Appends}
-use Rattle.cull_report.proofs.frame_verdicts.write_pieces.Given as goal
+use Rattle.cull_report.proofs.frame_verdicts.write_by_ends.Given as goal
 
 abbrev pub invariant-loop-end : goal.invariant-loop-end
 invariant-loop-end g l = record {
