@@ -239,8 +239,8 @@ impl<'a, V: TileView> Grouped<'a, V> {
         tally_of(asked, group, tested)
     }
 
-    // The same by the hull, or by the members: each is tested by itself, and the hull behind them, where it may be
-    // hidden.
+    // The same by the hull, or by the members: each is tested by itself, and the hull behind them, unless one shows that
+    // the group isn't hidden: nothing more is kept for it from there on.
     fn answer_group(
         &self,
         group: Group,
@@ -269,14 +269,17 @@ impl<'a, V: TileView> Grouped<'a, V> {
             return self.answer_by_hull(size, group, count, forms, verdicts);
         }
         let mut kept = nothing_kept(size);
-        for member in 0..count {
+        let mut member = 0u32;
+        while member < count && !kept.shown {
             let object = group.first + member;
             let form = seen_form(asked.scene, asked.frame, size, object);
             let verdict = verdict_alone(asked, size, object, &form);
             kept = kept_with(size, kept, &form, verdict);
             verdicts.push_reserved(verdict);
+            member += 1;
         }
-        self.told_by(size, group, count, kept)
+        self.answer_alone(group.first + member, count - member, verdicts);
+        self.told_by(size, group, member, kept)
     }
 
     // Of so many groups that begin before a place the last may reach behind it: appends the verdicts of its members

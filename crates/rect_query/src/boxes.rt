@@ -67,6 +67,7 @@ fn rect_around(corners: &[ClipVertex; 8], near: Near, size: Size) -> Rect
 /// Where a box stands, by its eight corners: outside where all are before the near distance, else straddling where one
 /// is or is past the guard, else at the rectangle around them on the screen, with the nearness of the least distance.
 /// The grade is that by which the pieces were set up, as for `rect_near`. Condition: `near` is 1 to 1024.
+#[inline(always)]
 #[tactic(auto, unfolding(crate::specs::Boxes::box_answer))]
 pub fn box_rect(corners: &[ClipVertex; 8], near: u16, size: Size, grade: Grade) -> BoxAnswer
     requires least { 1 ≤ near }
