@@ -21,7 +21,7 @@ use tile_queues::{BinTable, Gate};
 
 /// A window has at most so many frames for each worker. Whoever is done with one takes the next, and waits when none is
 /// left: so the fewer windows there are, the less workers wait, and the less often threads are started.
-const DEPTH: u32 = 8;
+const DEPTH: u32 = 16;
 
 /// In bytes, at most what the frames of a window take together.
 const MOST: u64 = 0x4000_0000;
@@ -89,7 +89,7 @@ pub fn round_count(plan: &Plan, scene: &Scene) -> u32
 // A window has at most so many frames for each worker, so that what is kept of them until it is written isn't too much.
 fn depth_for(scene: &Scene, workers: u32) -> u32
     ensures some { 1 ≤ result }
-    ensures few { result ≤ 8 }
+    ensures few { result ≤ 16 }
 {
     let share = MOST / u64::from(workers.max(1));
     let left = share.saturating_sub(frame_size(scene));

@@ -54,13 +54,14 @@ fn path(alloc: Global, frames: u8) -> Result<Vec<u8>, AllocError> {
     seen_from(scene(alloc, &QUAD, &TWO, &rectangles)?, frames, 1)
 }
 
-// Seven frames in windows of three and one left; twenty-one in a window of eight frames a worker, one of two, and one left.
+// Seven frames in a window of six and one left; thirty-seven in a window of sixteen frames a worker, one of two, and one
+// left.
 #[test]
 fn frames_of_windows_are_those_of_one_worker(rt: HostRuntime) -> Result<(), Fail> {
     let alloc = rt.alloc();
     for (workers, frames, last, wanted) in [
         (3u32, 7, 63, "end 6 visible 6 occluded 1 outside 0"),
-        (2, 21, 189, "end 20 visible 7 occluded 0 outside 0"),
+        (2, 37, 333, "end 36 visible 7 occluded 0 outside 0"),
     ] {
         let line = format!(in alloc; "maskcull cull --workers {workers}")?;
         let ended = run_with(&rt, alloc, line.as_str(), path(alloc, frames)?)?;
