@@ -54,8 +54,8 @@ fn path(alloc: Global, frames: u8) -> Result<Vec<u8>, AllocError> {
     seen_from(scene(alloc, &QUAD, &TWO, &rectangles)?, frames, 1)
 }
 
-// Seven frames in a window of six and one left; thirty-seven in a window of sixteen frames a worker, one of two, and one
-// left.
+// Seven frames in a window of six, and one left; thirty-seven in a window of sixteen frames a worker, one of two, and
+// one left.
 #[test]
 fn frames_of_windows_are_those_of_one_worker(rt: HostRuntime) -> Result<(), Fail> {
     let alloc = rt.alloc();
