@@ -59,8 +59,8 @@ fn worker_size(scene: &Scene, count: u32) -> u64 {
 }
 
 // How many frames there are for each worker in all windows. None where a worker is alone, where objects are settled
-// while a frame is drawn, where workers take bins from each other, and where a frame for each worker would take too much
-// memory.
+// while a frame is drawn, where workers take bins from each other, and where a frame for each worker would take too
+// much memory.
 fn unseen_rounds(settings: &Settings, scene: &Scene) -> u32
     ensures { result * settings.now.workers ≤ length scene.now.cameras }
 {

@@ -184,9 +184,9 @@ fn is_in_screen(size: Size, rect: &Rect) -> bool
     0 <= rect.x0 && 0 <= rect.y0 && rect.x1 <= screen.x1 && rect.y1 <= screen.y1
 }
 
-// The answer for a box in space before a frame's camera: where it is a rectangle with a nearness, each box inside stands
-// at a part of it and is no nearer. Conditions: there is such a frame, the size is the scene's, and the box's numbers are
-// at most 2^24 away from 0.
+// The answer for a box in space before a frame's camera: where it is a rectangle with a nearness, each box inside
+// stands at a part of it and is no nearer. Conditions: there is such a frame, the size is the scene's, and the box's
+// numbers are at most 2^24 away from 0.
 fn answer_around(scene: &Scene, frame: u32, size: Size, around: &Around) -> BoxAnswer
     requires frame { frame < length scene.now.cameras }
     requires size { size ≡ size_of scene.now }
@@ -199,9 +199,9 @@ fn answer_around(scene: &Scene, frame: u32, size: Size, around: &Around) -> BoxA
     box_rect(&corners, scene.near(), size, scene.grade())
 }
 
-/// Whether all that a camera may see in a box around a group's boxes lies in the screen and is hidden: each member counts
-/// then, and is occluded. False of fewer than two members, and where one is no box. Conditions: there are these objects,
-/// and the size is the scene's.
+/// Whether all that a camera may see in a box around a group's boxes lies in the screen and is hidden: each member
+/// counts then, and is occluded. False of fewer than two members, and where one is no box. Conditions: there are these
+/// objects, and the size is the scene's.
 pub(crate) fn is_hidden_around<V: TileView>(asked: &Asked<V>, size: Size, group: Group) -> bool
     requires group { group.first + group.count ≤ length asked.now.scene.now.objects }
     requires size { size ≡ size_of asked.now.scene.now }

@@ -178,8 +178,8 @@ impl<'a, V: TileView> Grouped<'a, V> {
         tally_of(asked, group, tested)
     }
 
-    // Appends the verdicts of the first so many members of a group whose members are all occluded. Its clauses alone ask
-    // for the group.
+    // Appends the verdicts of the first so many members of a group whose members are all occluded. Its clauses alone
+    // ask for the group.
     fn answer_hidden(&self, _group: Group, count: u32, verdicts: &mut Vec<Verdict>)
         requires group { _group.first + _group.count ≤ length self.now.asked.now.scene.now.objects }
         requires within { count ≤ _group.count }
@@ -197,9 +197,9 @@ impl<'a, V: TileView> Grouped<'a, V> {
         }
     }
 
-    // Appends the verdicts of the first so many members of a group, and tells what is counted of the group. A box around
-    // its boxes is tested first, since none of these is put through the camera where that is hidden, and then its hull.
-    // Condition: the size is the scene's.
+    // Appends the verdicts of the first so many members of a group, and tells what is counted of the group. A box
+    // around its boxes is tested first, since none of these is put through the camera where that is hidden, and then
+    // its hull. Condition: the size is the scene's.
     fn answer_by_hull(
         &self,
         size: Size,
@@ -239,8 +239,8 @@ impl<'a, V: TileView> Grouped<'a, V> {
         tally_of(asked, group, tested)
     }
 
-    // The same by the hull, or by the members: each is tested by itself, and the hull behind them, unless one shows that
-    // the group isn't hidden: nothing more is kept for it from there on.
+    // The same by the hull, or by the members: each is tested by itself, and the hull behind them, unless one shows
+    // that the group isn't hidden: nothing more is kept for it from there on.
     fn answer_group(
         &self,
         group: Group,
