@@ -54,6 +54,7 @@ fn least_w(corners: &[ClipVertex; 8], reach: &Reach, near: Near) -> i32
 }
 
 // The pixels that the corners reach on the screen.
+#[inline(always)]
 fn rect_around(corners: &[ClipVertex; 8], near: Near, size: Size) -> Rect
     requires guarded { All (λ v. is_past_guard v near.distance ≡ false) corners.now }
     requires front { All (λ v. is_behind near.distance v ≡ false) corners.now }
