@@ -18,7 +18,7 @@ use camera_path::Camera;
 use cull_base::{ClipVertex, Object, Rect, Size};
 use cull_report::Asked;
 use masked_update::TileView;
-use rect_query::{BoxAnswer, box_rect, rect_test};
+use rect_query::{BoxAnswer, box_rect_for_others, rect_test};
 use scene_reader::Scene;
 
 /// The numbers of a scene lie at most so far from 0.
@@ -196,7 +196,7 @@ fn answer_around(scene: &Scene, frame: u32, size: Size, around: &Around) -> BoxA
 {
     let camera = Camera(scene.cameras()[frame as usize]);
     let corners = Reach::of(&camera, around).corners();
-    box_rect(&corners, scene.near(), size, scene.grade())
+    box_rect_for_others(&corners, scene.near(), size, scene.grade())
 }
 
 /// Whether all that a camera may see in a box around a group's boxes lies in the screen and is hidden: each member

@@ -54,8 +54,7 @@ fn least_w(corners: &[ClipVertex; 8], reach: &Reach, near: Near) -> i32
 }
 
 // The pixels that the corners reach on the screen.
-#[inline(always)]
-fn rect_around(corners: &[ClipVertex; 8], near: Near, size: Size) -> Rect
+fn rect_around<C>(corners: &[ClipVertex; 8], near: Near, size: Size) -> Rect
     requires guarded { All (λ v. is_past_guard v near.distance ≡ false) corners.now }
     requires front { All (λ v. is_behind near.distance v ≡ false) corners.now }
     ensures { result ≡ box_rect_of size corners.now }
@@ -65,12 +64,14 @@ fn rect_around(corners: &[ClipVertex; 8], near: Near, size: Size) -> Rect
     rect_between(across, down)
 }
 
-/// Where a box stands, by its eight corners: outside where all are before the near distance, else straddling where one
-/// is or is past the guard, else at the rectangle around them on the screen, with the nearness of the least distance.
-/// The grade is that by which the pieces were set up, as for `rect_near`. Condition: `near` is 1 to 1024.
-#[inline(always)]
+// Who asks where a box stands. Each has a copy of the code, so that it is inlined where boxes are asked one by one.
+struct OneByOne;
+
+struct ForOthers;
+
+// Where a box stands, by its eight corners.
 #[tactic(auto, unfolding(crate::specs::Boxes::box_answer))]
-pub fn box_rect(corners: &[ClipVertex; 8], near: u16, size: Size, grade: Grade) -> BoxAnswer
+fn answer_of<C>(corners: &[ClipVertex; 8], near: u16, size: Size, grade: Grade) -> BoxAnswer
     requires least { 1 ≤ near }
     requires most { near ≤ 1024 }
     ensures { result ≡ box_answer (top_of grade) near size corners.now }
@@ -84,7 +85,33 @@ pub fn box_rect(corners: &[ClipVertex; 8], near: u16, size: Size, grade: Grade) 
         return BoxAnswer::Straddles;
     }
     BoxAnswer::At {
-        rect: rect_around(corners, near, size),
+        rect: rect_around::<C>(corners, near, size),
         q: nearness(least_w(corners, &reach, near), near, grade),
     }
+}
+
+/// Where a box stands, by its eight corners: outside where all are before the near distance, else straddling where one
+/// is or is past the guard, else at the rectangle around them on the screen, with the nearness of the least distance.
+/// The grade is that by which the pieces were set up, as for `rect_near`. Condition: `near` is 1 to 1024.
+pub fn box_rect(corners: &[ClipVertex; 8], near: u16, size: Size, grade: Grade) -> BoxAnswer
+    requires least { 1 ≤ near }
+    requires most { near ≤ 1024 }
+    ensures { result ≡ box_answer (top_of grade) near size corners.now }
+{
+    answer_of::<OneByOne>(corners, near, size, grade)
+}
+
+/// The same of a box that is asked for others, by code of its own: so that of `box_rect` is inlined where many boxes are
+/// asked one by one.
+pub fn box_rect_for_others(
+    corners: &[ClipVertex; 8],
+    near: u16,
+    size: Size,
+    grade: Grade,
+) -> BoxAnswer
+    requires least { 1 ≤ near }
+    requires most { near ≤ 1024 }
+    ensures { result ≡ box_answer (top_of grade) near size corners.now }
+{
+    answer_of::<ForOthers>(corners, near, size, grade)
 }

@@ -10,6 +10,6 @@ mod settled;
 #[cfg(test)]
 mod tests;
 
-pub use boxes::{BoxAnswer, box_rect};
+pub use boxes::{BoxAnswer, box_rect, box_rect_for_others};
 pub use rectangle::{rect_near, rect_test};
 pub use settled::{references_never_fall, settled_test};
