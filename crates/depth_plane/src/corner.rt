@@ -26,7 +26,7 @@ pub enum End {
     Greatest,
 }
 
-/// Where along one axis it is, in sixteenths of a pixel.
+/// Where along one axis a plane of this slope has that end, from a first place over a span, in sixteenths of a pixel.
 #[inline(always)]
 pub fn place_along(slope: i64, first: u32, span: u32, end: End) -> u32
     requires first { first < 2 ^ 20 }

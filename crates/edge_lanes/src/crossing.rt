@@ -89,18 +89,18 @@ impl Crossing {
     ghost use Rattle.edge_lanes.specs.Crossings.{IsNear, crossed_at, is_beside};
     ghost use Rattle.edge_lanes.specs.Spans.{in_span};
 
-    /// The crossings of an edge. Condition: it is near.
+    /// The crossings of an edge. Conditions: it is near, and the reciprocal is that of its size.
     #[inline(always)]
-    pub fn of(edge: &Turned) -> Crossing
-        requires { IsNear edge.now }
+    pub fn of(edge: &Turned, size: &Reciprocal) -> Crossing
+        requires near { IsNear edge.now }
+        requires size { pos size.now.number ≡ edge.now.size }
         ensures crossed { (y : ℕ) → y < 2 ^ 11 → crossed_at result y
             ≡ column_at edge.now.start edge.now.row edge.now.size y }
         ensures limit { result.limit ≡ edge.now.limit }
     {
-        let size = Reciprocal::of(edge.size as u64);
-        let step = parts(edge.row, &size);
+        let step = parts(edge.row, size);
         Crossing {
-            start: parts(edge.start, &size) + SHORTFALL,
+            start: parts(edge.start, size) + SHORTFALL,
             step,
             rows: i64x8::from_array([
                 0,

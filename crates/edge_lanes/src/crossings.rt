@@ -23,10 +23,14 @@ impl Crossings {
         requires { AreNear edges.now }
         ensures { (e : Lines) → AreTurned e edges.now → AreCrossings e result }
     {
+        // The reciprocals have branches. They come first, since LLVM clears a result that is written after branches.
+        let first = edges.first.reciprocal();
+        let second = edges.second.reciprocal();
+        let third = edges.third.reciprocal();
         Crossings {
-            first: Crossing::of(&edges.first),
-            second: Crossing::of(&edges.second),
-            third: Crossing::of(&edges.third),
+            first: Crossing::of(&edges.first, &first),
+            second: Crossing::of(&edges.second, &second),
+            third: Crossing::of(&edges.third, &third),
         }
     }
 

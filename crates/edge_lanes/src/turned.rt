@@ -7,6 +7,7 @@ ghost use Rattle.edge_lanes.specs.Inside.{narrow_line, narrow_lines};
 
 use crate::narrow_edge::NarrowEdge;
 use crate::narrow_edges::NarrowEdges;
+use crate::reciprocal::Reciprocal;
 use crate::slant::Slant;
 
 /// The columns of the widest screen.
@@ -75,6 +76,14 @@ impl Turned {
         ensures { IsTurned (narrow_line edge.now) result }
     {
         turn(&edge.slant())
+    }
+
+    /// The reciprocal of its size.
+    #[inline(always)]
+    pub fn reciprocal(&self) -> Reciprocal
+        ensures { pos result.number ≡ self.now.size }
+    {
+        Reciprocal::of(self.size as u64)
     }
 
     // Whether the crossings of all rows fit 64 bits in parts of a pixel.

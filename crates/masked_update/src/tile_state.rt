@@ -106,9 +106,9 @@ impl TileState {
     }
 
     /// As `take_set_up`, where the tile's column and row are known, of a piece in any form. Says whether any subtile
-    /// may have changed. Conditions: the count is below 131,072, the column and the row are below the screen's, what the
-    /// form says is reached is of this screen and has each sample that the piece covers, of a whole form it is the
-    /// box's, and a form for one row is for the tile's.
+    /// may have changed. Conditions: the count is below 131,072, the column and the row are below the screen's, what
+    /// the form says is reached is of this screen and has each sample that the piece covers, of a whole form it is the
+    /// box's, and the edges of a form for one row are the piece's own, over the tile's row.
     pub fn take_form(&mut self, form: PieceForm, size: Size, place: Tile) -> bool
         requires count { self.old.count < 131072 }
         requires form { IsFormOn size place.row form }
@@ -134,7 +134,7 @@ impl TileState {
         match form {
             PieceForm::Bare(tri) => self.merge_bare(tri, size, place),
             PieceForm::Small(piece, reached) => {
-                // a working layer may be another where no reference is
+                // it tells of the references alone: a working layer may have changed where none of them has
                 self.merge_small(piece, reached, place);
                 true
             }
@@ -238,8 +238,8 @@ impl TileState {
         true
     }
 
-    /// Merges a small piece, doesn't count it, and says whether any reference is another then. Conditions: the column and
-    /// the row are below the screen's, and what is reached on it has each sample that the piece covers.
+    /// Merges a small piece, doesn't count it, and says whether any reference is another then. Conditions: the column
+    /// and the row are below the screen's, and what is reached on it has each sample that the piece covers.
     #[inline(always)]
     pub fn merge_small(&mut self, piece: &SmallPiece, reached: &SubBox, place: Tile) -> bool
         requires reached { HoldsSampled piece.now reached.now }

@@ -50,7 +50,7 @@ pub fn words_of(state: &TileState) -> [u64; 13]
 }
 
 /// The words of a tile, in place of those that it had. Where no subtile changed, only the count is another: nothing is
-/// packed anew. Condition: unless a subtile may have changed, the words are those of the same subtiles.
+/// packed anew. Condition: where `changed` is false, the words are those of the same subtiles.
 #[inline(always)]
 pub(crate) fn renew_words(words: &mut [u64; 13], state: &TileState, changed: bool)
     requires { changed ≡ false → AreWordsBut words.old state.now }
