@@ -112,7 +112,8 @@ impl TurnedEdges {
         }
     }
 
-    /// Whether each is near: it begins within 2^30 sizes of the screen's corner, and goes by at most 2^18 columns a row.
+    /// Whether each is near: it begins within 2^30 sizes of the screen's corner, and goes by at most 2^18 columns a
+    /// row.
     #[inline(always)]
     pub fn are_near(&self) -> bool
         ensures { IsTrue result → AreNear self.now }

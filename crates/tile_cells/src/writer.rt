@@ -83,9 +83,9 @@ impl TileWriter {
         self.take_form(rt, cells, PieceForm::Bare(tri));
     }
 
-    /// As `take_next`, of a piece in any form. Conditions: what the form says is reached is of the list's screen and has
-    /// each sample that the piece covers, of a whole form it is the box's, and the edges of a form for one row are the
-    /// piece's own, over the tile's row.
+    /// As `take_next`, of a piece in any form. Conditions: what the form says is reached is of the list's screen and
+    /// has each sample that the piece covers, of a whole form it is the box's, and the edges of a form for one row are
+    /// the piece's own, over the tile's row.
     pub fn take_form<R: Wait>(&mut self, rt: &R, cells: &TileCells, form: PieceForm)
         requires of { IsAt cells.now self.old.tile self.old.cell }
         requires form { let w = self.old in IsFormOn w.list.size (tile_place w.list.size w.tile).row form }
