@@ -1,9 +1,9 @@
 //! The verdicts of a frame, with their lines where they were made at once.
-ghost use Rattle.std.specs.Prelude.{◌≡◌, ◌<◌, ◌^◌, List, length, IfOk};
+ghost use Rattle.std.specs.Prelude.{◌≡◌, ◌<◌, ◌^◌, List, count_by, length, IfOk};
 ghost use Rattle.cull_base.specs.declared.scene_types.Verdict.{Verdict};
 ghost use Rattle.cull_base.specs.Stream.{Writes};
 ghost use Rattle.cull_report.specs.Runs.{AreRunsOf, IsRunSize};
-ghost use Rattle.cull_report.specs.Text.{frame_text, verdict_lines};
+ghost use Rattle.cull_report.specs.Text.{frame_text, is_occluded, is_outside, is_visible, verdict_lines};
 
 use crate::counts::Counts;
 use crate::report::{LINE, end_line, frame_line, lines_from, write_verdicts};
@@ -12,11 +12,13 @@ use cull_base::{Memory, Sink, SinkError, Verdict, write_whole};
 use std::alloc::Global;
 use std::marker::Model;
 
-/// The verdicts of a frame's objects, in order. Where workers made them, their lines are there too, run by run. Where
-/// one thread made them with their lines, these are one text, with the ends of the pieces in which it is written.
+/// The verdicts of a frame's objects, in order, and how many there are of each kind. Where workers made them, their
+/// lines are there too, run by run. Where one thread made them with their lines, these are one text, with the ends of
+/// the pieces in which it is written.
 #[derive(Drop)]
 pub struct FrameVerdicts {
     list: Vec<Verdict>,
+    counts: Counts,
     runs: Vec<Run>,
     size: usize,
     text: Vec<u8>,
@@ -24,10 +26,10 @@ pub struct FrameVerdicts {
 }
 
 impl Model for FrameVerdicts {
-    ghost use Rattle.std.specs.Prelude.{◌≡◌, ◌<◌, List, length};
+    ghost use Rattle.std.specs.Prelude.{◌≡◌, ◌<◌, List, count_by, length};
     ghost use Rattle.cull_base.specs.declared.scene_types.Verdict.{Verdict};
     ghost use Rattle.cull_report.specs.Runs.{AreRunsOf};
-    ghost use Rattle.cull_report.specs.Text.{verdict_lines};
+    ghost use Rattle.cull_report.specs.Text.{is_occluded, is_outside, is_visible, verdict_lines};
 
     ghost Value = { List Verdict };
 
@@ -35,7 +37,10 @@ impl Model for FrameVerdicts {
 
     ghost invariant = { λ v.
         (0 < length v.runs.items → AreRunsOf v.list.items v.size v.runs.items)
-        × (0 < length v.text.items → v.text.items ≡ verdict_lines 0 v.list.items) };
+        × (0 < length v.text.items → v.text.items ≡ verdict_lines 0 v.list.items)
+        × (v.counts.visible ≡ count_by is_visible v.list.items)
+        × (v.counts.occluded ≡ count_by is_occluded v.list.items)
+        × (v.counts.outside ≡ count_by is_outside v.list.items) };
 }
 
 // The verdicts of runs of a size, one run after the other.
@@ -111,8 +116,10 @@ impl FrameVerdicts {
     pub(crate) fn plain(alloc: Global, list: Vec<Verdict>) -> FrameVerdicts
         ensures { result ≡ list.items }
     {
+        let counts = Counts::of(list.as_slice());
         FrameVerdicts {
             list,
+            counts,
             runs: Vec::new(alloc),
             size: 1,
             text: Vec::new(alloc),
@@ -130,8 +137,10 @@ impl FrameVerdicts {
         ensures { (all : List Verdict) → AreRunsOf all size runs.items → IfOk result (λ v. v ≡ all) }
     {
         let list = joined(alloc, runs.as_slice(), size)?;
+        let counts = Counts::of(list.as_slice());
         Ok(FrameVerdicts {
             list,
+            counts,
             runs,
             size,
             text: Vec::new(alloc),
@@ -149,9 +158,12 @@ impl FrameVerdicts {
         requires few { length list.items < 2 ^ 32 }
         ensures { IfOk result (λ v. v ≡ list.items) }
     {
-        let (text, ends) = text_with_ends(alloc, list.as_slice(), size)?;
+        let verdicts = list.as_slice();
+        let (text, ends) = text_with_ends(alloc, verdicts, size)?;
+        let counts = Counts::of(verdicts);
         Ok(FrameVerdicts {
             list,
+            counts,
             runs: Vec::new(alloc),
             size,
             text,
@@ -163,6 +175,15 @@ impl FrameVerdicts {
         ensures { result.now ≡ self.now }
     {
         self.list.as_slice()
+    }
+
+    /// How many of the verdicts are of each kind.
+    pub fn counts(&self) -> Counts
+        ensures visible { result.visible ≡ count_by is_visible self.now }
+        ensures occluded { result.occluded ≡ count_by is_occluded self.now }
+        ensures outside { result.outside ≡ count_by is_outside self.now }
+    {
+        self.counts
     }
 
     // Writes the lines of the verdicts, made before or now.
@@ -189,6 +210,6 @@ impl FrameVerdicts {
     {
         frame_line(frame, pieces).write_to(sink)?;
         self.write_lines(sink)?;
-        end_line(frame, Counts::of(self.list.as_slice())).write_to(sink)
+        end_line(frame, self.counts()).write_to(sink)
     }
 }

@@ -164,6 +164,6 @@ pub fn write_lines<W: Sink>(
 {
     match lines {
         FrameLines::Report => drawn.verdicts.write_frame(report, frame, drawn.pieces),
-        FrameLines::Summary => write_summary(report, frame, drawn.pieces, drawn.verdicts.list()),
+        FrameLines::Summary => write_summary(report, frame, drawn.pieces, &drawn.verdicts),
     }
 }

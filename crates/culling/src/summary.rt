@@ -4,8 +4,8 @@ ghost use Rattle.cull_base.specs.Stream.{Writes};
 ghost use Rattle.cull_report.specs.Text.{is_visible, is_occluded, is_outside};
 ghost use Rattle.culling.specs.Summary.{demo_line, counts_line, summary_line};
 
-use cull_base::{Sink, SinkError, Verdict};
-use cull_report::Counts;
+use cull_base::{Sink, SinkError};
+use cull_report::{Counts, FrameVerdicts};
 use demo_scene::{BOXES, FRAMES};
 use text_lines::{Line, Text};
 
@@ -61,9 +61,9 @@ pub fn write_summary<W: Sink>(
     sink: &mut W,
     frame: u32,
     pieces: u32,
-    verdicts: &[Verdict],
+    verdicts: &FrameVerdicts,
 ) -> Result<(), SinkError>
     ensures { Writes (W.says sink.old) (W.says sink.new) result (summary_line frame pieces verdicts.now) }
 {
-    counts_line(frame, pieces, Counts::of(verdicts)).write_to(sink)
+    counts_line(frame, pieces, verdicts.counts()).write_to(sink)
 }

@@ -17,7 +17,10 @@ use cull_base::Memory;
 use side_by_side::for_each_beside;
 use std::alloc::Global;
 use std::sync::Wait;
-use std::thread::Threads;
+use std::thread::{Threads, yield_now};
+
+/// A worker goes through its bins at most so often, and once more, while batches are to come.
+const ROUNDS: u32 = 0x1_0000;
 
 // Draws what is in the queues of some bins, bin by bin.
 fn drain_in_order<R: Wait, G: Gate>(drawing: &Drawing<R, InCells<R>, G>, tasks: &mut [BinTask])
@@ -43,20 +46,24 @@ fn drain_each<R: Wait, G: Gate>(drawing: &Drawing<R, InCells<R>, G>, tasks: &mut
     drain_in_order(drawing, before);
 }
 
-// Whether a batch was drawn into a bin of a worker.
-fn has_begun(tasks: &[BinTask]) -> bool {
-    tasks.iter().any(|task| 0 < task.batches())
+fn have_drawn(tasks: &[BinTask], batches: u32) -> bool {
+    tasks.iter().all(|task| task.batches() == batches)
 }
 
-// Draws what is in the queues of a worker's bins. Where it found batches, it looks once more behind the last bin: by then
-// those have come that were submitted while it drew.
+// Draws what is in the queues of a worker's bins, round after round, until all batches are drawn: the submitter may be
+// behind. It gives up after so many rounds, since it doesn't wait for the submitter.
 fn drain_share<R: Wait, G: Gate>(drawing: &Drawing<R, InCells<R>, G>, tasks: &mut [BinTask])
     requires { All (MayDraw drawing.now) tasks.old }
     ensures may { All (MayDraw drawing.now) tasks.new }
     ensures drained { AreChanged HasDrained tasks.old tasks.new }
 {
+    let batches = drawing.frame.batches();
     drain_each(drawing, tasks);
-    if has_begun(tasks) {
+    for _ in 0..ROUNDS {
+        if have_drawn(tasks, batches) {
+            return;
+        }
+        yield_now();
         drain_each(drawing, tasks);
     }
 }
@@ -173,10 +180,6 @@ fn submit_and_drain<R: Threads + Wait + Sync, G: Gate>(
                 (sender.exit.now ≡ record sender.entry.now { batches = batches_in sender.entry.now.frame }) }
         { drawing.submit(alloc, sender, left) },
     )
-}
-
-fn have_drawn(tasks: &[BinTask], batches: u32) -> bool {
-    tasks.iter().all(|task| task.batches() == batches)
 }
 
 // In how many threads of their own the rest is drained: in none where all batches are drawn.

@@ -1,8 +1,7 @@
-use Rattle.std.proofs.Common.{◌≡◌, ◌∙◌, Err, ap}
-use Rattle.std.specs.Prelude.{count_by}
+use Rattle.std.proofs.Common.{◌≡◌, Err}
 use Rattle.std.proofs.lemmas.Result.{err_from_is_err_and}
 use Rattle.cull_base.specs.Stream.{Appends, Writes}
-use Rattle.cull_report.specs.Text.{verdict_lines, is_visible, is_occluded, is_outside}
+use Rattle.cull_report.specs.Text.{verdict_lines}
 use Rattle.cull_report.proofs.WrittenFrames.{frame_ends, last_line, line_failed, verdicts_failed}
 use Rattle.cull_report.proofs.frame_verdicts.FrameVerdicts.write_frame.Goals as goal
 
@@ -22,10 +21,9 @@ pub returns : goal.returns
 returns g c =
     let verdicts = c.args.self.now in
     let s1 = g.W.Sink.says c.write_to.new.sink in let s2 = g.W.Sink.says c.write_lines.new.sink in
-    let counted : c.as_slice.result.now ≡ verdicts = (let a = c.as_slice.ensures.value in let b = c.self.view_is in cc) in
-    let visible = c.of.ensures.visible ∙ ap (count_by is_visible) counted in
-    let occluded = c.of.ensures.occluded ∙ ap (count_by is_occluded) counted in
-    let outside = c.of.ensures.outside ∙ ap (count_by is_outside) counted in
+    let visible = c.counts.ensures.visible in
+    let occluded = c.counts.ensures.occluded in
+    let outside = c.counts.ensures.outside in
     let is : c.end_line.result ≡ last_line c.args.frame verdicts = rw (← visible, ← occluded, ← outside) c.end_line.ensures in
     let wrote : Appends s1 s2 (verdict_lines 0 verdicts) = c.in_ok-write_lines.ensures.ok in
     frame_ends c.args.frame c.args.pieces verdicts (g.W.Sink.says c.args.sink.now) s1 s2 (g.W.Sink.says c.write_to-2.new.sink) c.write_to.result c.write_to-2.result (rw (← c.frame_line.ensures) c.write_to.ensures)
