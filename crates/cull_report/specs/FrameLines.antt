@@ -1,5 +1,5 @@
 -- The lines of a frame's verdicts, as they are kept until they are written.
-use Rattle.std.specs.Prelude.{◌≡◌, List, Unit}
+use Rattle.std.specs.Prelude.{◌≡◌, List}
 use Rattle.cull_base.specs.declared.scene_types.Verdict.{Verdict}
 use Rattle.cull_report.specs.Runs.{AreRunsOf}
 use Rattle.cull_report.specs.Text.{verdict_lines}
