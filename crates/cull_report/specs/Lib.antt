@@ -2,6 +2,7 @@ pub mod Text
 pub mod Scene
 pub mod Tallies
 pub mod Runs
+pub mod FrameLines
 pub mod Forms
 pub mod Hiding
 pub mod Live

@@ -62,7 +62,7 @@ pub fn answers_by_workers<R: Threads + Wait + Sync, A: Answering + Sync>(
 {
     if threads <= 1 {
         let (list, tally) = all_answers(alloc, asked)?;
-        let verdicts = FrameVerdicts::plain(alloc, list);
+        let verdicts = FrameVerdicts::plain(list);
         return Ok(Answers { verdicts, tally });
     }
     let size = piece_size(asked.count(), threads, step);

@@ -2,6 +2,7 @@
 ghost use Rattle.std.specs.Prelude.{◌≡◌, ◌<◌, ◌^◌, List, count_by, length, IfOk};
 ghost use Rattle.cull_base.specs.declared.scene_types.Verdict.{Verdict};
 ghost use Rattle.cull_base.specs.Stream.{Writes};
+ghost use Rattle.cull_report.specs.FrameLines.{AreLinesOf};
 ghost use Rattle.cull_report.specs.Runs.{AreRunsOf, IsRunSize};
 ghost use Rattle.cull_report.specs.Text.{frame_text, is_occluded, is_outside, is_visible, verdict_lines};
 
@@ -12,32 +13,36 @@ use cull_base::{Memory, Sink, SinkError, Verdict, write_whole};
 use std::alloc::Global;
 use std::marker::Model;
 
-/// The verdicts of a frame's objects, in order, and how many there are of each kind. Where workers made them, their
-/// lines are there too, run by run. Where one thread made them with their lines, these are one text, with the ends of
-/// the pieces in which it is written.
+/// The lines of a frame's verdicts.
+#[derive(Drop)]
+pub(crate) enum LinesOf {
+    /// They are made when they are written.
+    Unmade,
+    /// Workers made them, in runs of so many objects.
+    Runs(Vec<Run>, usize),
+    /// One thread made them: one text, which is written in pieces that end at these places.
+    Text(Vec<u8>, Vec<usize>),
+}
+
+/// The verdicts of a frame's objects, in order, how many there are of each kind, and their lines.
 #[derive(Drop)]
 pub struct FrameVerdicts {
     list: Vec<Verdict>,
     counts: Counts,
-    runs: Vec<Run>,
-    size: usize,
-    text: Vec<u8>,
-    ends: Vec<usize>,
+    lines: LinesOf,
 }
 
 impl Model for FrameVerdicts {
-    ghost use Rattle.std.specs.Prelude.{◌≡◌, ◌<◌, List, count_by, length};
+    ghost use Rattle.std.specs.Prelude.{◌≡◌, List, count_by};
     ghost use Rattle.cull_base.specs.declared.scene_types.Verdict.{Verdict};
-    ghost use Rattle.cull_report.specs.Runs.{AreRunsOf};
-    ghost use Rattle.cull_report.specs.Text.{is_occluded, is_outside, is_visible, verdict_lines};
+    ghost use Rattle.cull_report.specs.FrameLines.{AreLinesOf};
+    ghost use Rattle.cull_report.specs.Text.{is_occluded, is_outside, is_visible};
 
     ghost Value = { List Verdict };
 
     ghost view = { λ v. v.list.items };
 
-    ghost invariant = { λ v.
-        (0 < length v.runs.items → AreRunsOf v.list.items v.size v.runs.items)
-        × (0 < length v.text.items → v.text.items ≡ verdict_lines 0 v.list.items)
+    ghost invariant = { λ v. AreLinesOf v.list.items v.lines
         × (v.counts.visible ≡ count_by is_visible v.list.items)
         × (v.counts.occluded ≡ count_by is_occluded v.list.items)
         × (v.counts.outside ≡ count_by is_outside v.list.items) };
@@ -112,19 +117,24 @@ fn write_by_ends<W: Sink>(sink: &mut W, text: &[u8], ends: &[usize]) -> Result<(
 }
 
 impl FrameVerdicts {
-    /// Verdicts without lines.
-    pub(crate) fn plain(alloc: Global, list: Vec<Verdict>) -> FrameVerdicts
+    // Verdicts with their lines, and how many there are of each kind.
+    fn counted(list: Vec<Verdict>, lines: LinesOf) -> FrameVerdicts
+        requires { AreLinesOf list.items lines }
         ensures { result ≡ list.items }
     {
         let counts = Counts::of(list.as_slice());
         FrameVerdicts {
             list,
             counts,
-            runs: Vec::new(alloc),
-            size: 1,
-            text: Vec::new(alloc),
-            ends: Vec::new(alloc),
+            lines,
         }
+    }
+
+    /// Verdicts without lines.
+    pub(crate) fn plain(list: Vec<Verdict>) -> FrameVerdicts
+        ensures { result ≡ list.items }
+    {
+        FrameVerdicts::counted(list, LinesOf::Unmade)
     }
 
     /// The verdicts of runs of a size, with their lines. Err where memory gave out.
@@ -137,15 +147,7 @@ impl FrameVerdicts {
         ensures { (all : List Verdict) → AreRunsOf all size runs.items → IfOk result (λ v. v ≡ all) }
     {
         let list = joined(alloc, runs.as_slice(), size)?;
-        let counts = Counts::of(list.as_slice());
-        Ok(FrameVerdicts {
-            list,
-            counts,
-            runs,
-            size,
-            text: Vec::new(alloc),
-            ends: Vec::new(alloc),
-        })
+        Ok(FrameVerdicts::counted(list, LinesOf::Runs(runs, size)))
     }
 
     /// Verdicts with their lines in one text, which is written in pieces of so many lines. Err where memory gave out.
@@ -158,17 +160,8 @@ impl FrameVerdicts {
         requires few { length list.items < 2 ^ 32 }
         ensures { IfOk result (λ v. v ≡ list.items) }
     {
-        let verdicts = list.as_slice();
-        let (text, ends) = text_with_ends(alloc, verdicts, size)?;
-        let counts = Counts::of(verdicts);
-        Ok(FrameVerdicts {
-            list,
-            counts,
-            runs: Vec::new(alloc),
-            size,
-            text,
-            ends,
-        })
+        let (text, ends) = text_with_ends(alloc, list.as_slice(), size)?;
+        Ok(FrameVerdicts::counted(list, LinesOf::Text(text, ends)))
     }
 
     pub fn list(&self) -> &[Verdict]
@@ -190,13 +183,12 @@ impl FrameVerdicts {
     fn write_lines<W: Sink>(&self, sink: &mut W) -> Result<(), SinkError>
         ensures { Writes (W.says sink.old) (W.says sink.new) result (verdict_lines 0 self.now) }
     {
-        if !self.text.is_empty() {
-            return write_by_ends(sink, self.text.as_slice(), self.ends.as_slice());
+        let verdicts = self.list.as_slice();
+        match &self.lines {
+            LinesOf::Unmade => write_verdicts(sink, verdicts),
+            LinesOf::Runs(runs, size) => write_runs(sink, verdicts, runs.as_slice(), *size),
+            LinesOf::Text(text, ends) => write_by_ends(sink, text.as_slice(), ends.as_slice()),
         }
-        if !self.runs.is_empty() {
-            return write_runs(sink, self.list.as_slice(), self.runs.as_slice(), self.size);
-        }
-        write_verdicts(sink, self.list.as_slice())
     }
 
     /// Writes the frame's lines, as `write_frame` does of the list.

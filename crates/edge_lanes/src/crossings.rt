@@ -23,7 +23,7 @@ impl Crossings {
         requires { AreNear edges.now }
         ensures { (e : Lines) → AreTurned e edges.now → AreCrossings e result }
     {
-        // The reciprocals have branches. They come first, since LLVM clears a result that is written after branches.
+        // the reciprocals branch, and LLVM zeroes a result that is filled behind branches: so they come first
         let first = edges.first.reciprocal();
         let second = edges.second.reciprocal();
         let third = edges.third.reciprocal();

@@ -19,8 +19,8 @@ use std::alloc::Global;
 use std::sync::Wait;
 use std::thread::{Threads, yield_now};
 
-/// A worker goes through its bins at most so often, and once more, while batches are to come.
-const ROUNDS: u32 = 0x1_0000;
+/// A worker that hasn't drawn all batches looks so often for more, and then leaves them to the last drain.
+const LOOKS: u32 = 0x1_0000;
 
 // Draws what is in the queues of some bins, bin by bin.
 fn drain_in_order<R: Wait, G: Gate>(drawing: &Drawing<R, InCells<R>, G>, tasks: &mut [BinTask])
@@ -46,12 +46,13 @@ fn drain_each<R: Wait, G: Gate>(drawing: &Drawing<R, InCells<R>, G>, tasks: &mut
     drain_in_order(drawing, before);
 }
 
+// Whether each of some tasks has drawn so many batches.
 fn have_drawn(tasks: &[BinTask], batches: u32) -> bool {
     tasks.iter().all(|task| task.batches() == batches)
 }
 
-// Draws what is in the queues of a worker's bins, round after round, until all batches are drawn: the submitter may be
-// behind. It gives up after so many rounds, since it doesn't wait for the submitter.
+// Draws what is in the queues of a worker's bins, again and again, until all batches are drawn: the submitter may be
+// behind. After so many looks it gives up, since nobody waits for another without end.
 fn drain_share<R: Wait, G: Gate>(drawing: &Drawing<R, InCells<R>, G>, tasks: &mut [BinTask])
     requires { All (MayDraw drawing.now) tasks.old }
     ensures may { All (MayDraw drawing.now) tasks.new }
@@ -59,7 +60,7 @@ fn drain_share<R: Wait, G: Gate>(drawing: &Drawing<R, InCells<R>, G>, tasks: &mu
 {
     let batches = drawing.frame.batches();
     drain_each(drawing, tasks);
-    for _ in 0..ROUNDS {
+    for _ in 0..LOOKS {
         if have_drawn(tasks, batches) {
             return;
         }
@@ -147,8 +148,8 @@ fn tell_all<R: Wait, G: Gate>(
     }
 }
 
-// Submits all batches, a first part of them before the workers begin, and the others while these drain what is there. So
-// each finds batches when it has started. Nobody waits for another.
+// Submits all batches, a first part of them before the workers begin, and the others while these drain what is there.
+// So each finds batches when it has started. Nobody waits for another without end.
 fn submit_and_drain<R: Threads + Wait + Sync, G: Gate>(
     drawing: &Drawing<R, InCells<R>, G>,
     alloc: Global,
