@@ -159,6 +159,19 @@ impl TileState {
         if near <= least {
             return false;
         }
+        self.merge_unset(tri, size, place)
+    }
+
+    // Sets a piece up, merges it, doesn't count it, and says whether any subtile may have changed. Out of line: room for
+    // what is set up is cleared, and few pieces that come here change the tile.
+    #[cold]
+    #[inline(never)]
+    fn merge_unset(&mut self, tri: &ScreenTri, size: Size, place: Tile) -> bool
+        requires column { place.column < tile_columns_of size }
+        requires row { place.row < tile_rows_of size }
+        ensures merged { self.new ≡ merged_tile size place tri.now self.old }
+        ensures same { result ≡ false → self.new ≡ self.old }
+    {
         let piece = PieceSetup::of(tri);
         self.merge(&piece, &piece.reached_on(size), place)
     }
