@@ -4,7 +4,9 @@ ghost use Rattle.cull_base.specs.Piece.{box_of};
 ghost use Rattle.cull_base.specs.Rectangle.{meets};
 ghost use Rattle.cull_base.specs.Screen.{tile_place, tile_rect_of};
 ghost use Rattle.cull_base.specs.Span.{IsPartOf, IsSpan, has_tile, tiles_in};
+ghost use Rattle.edge_lanes.specs.Near.{AreNearOf};
 ghost use Rattle.masked_update.specs.Forms.{piece_of_form};
+ghost use Rattle.masked_update.specs.Merged.{AreEdgesOf};
 ghost use Rattle.masked_update.specs.Samples.{HoldsSampled};
 ghost use Rattle.tile_cells.specs.Standing.{StandsAt};
 ghost use Rattle.tile_queues.specs.CellBins.{HasMet, HasStored, IsMemberForm, Stands, is_passed};
@@ -12,8 +14,8 @@ ghost use Rattle.tile_queues.specs.CellBins.{HasMet, HasStored, IsMemberForm, St
 use crate::held::Held;
 use bin_tiles::Keeper;
 use binning::Cut;
-use cull_base::{FrameList, ScreenTri, TileSpan};
-use edge_lanes::RowEdges;
+use cull_base::{FrameList, ScreenTri, Side, TileSpan};
+use edge_lanes::{Edges, EdgesView, NearEdges};
 use masked_update::{PieceDepths, PieceForm, SmallPiece, SubBox};
 use std::sync::Wait;
 use tile_cells::{TileCells, TileWriter};
@@ -104,7 +106,96 @@ fn store_in_span<R: Wait>(
     }
 }
 
-// Sets a member up, and stores it in the tiles of a span. Its edges over a row of tiles are computed once.
+// Sets up what a member has besides its edges, and stores it in the tiles of a span. Its edges over a row of tiles are
+// computed once.
+#[inline(always)]
+fn store_by_edges<R: Wait>(
+    writers: &mut [TileWriter],
+    member: &Member<R>,
+    tri: &ScreenTri,
+    edges: EdgesView,
+    reached: &SubBox,
+    window: TileSpan,
+    span: TileSpan,
+)
+    requires is { let m = member.now in slice_index_or m.list.now.list.members m.index tri.now ≡ tri.now }
+    requires edges { AreEdgesOf edges tri.now }
+    requires reached { HoldsSampled tri.now reached.now }
+    requires size { reached.now.size ≡ member.now.list.now.list.size }
+    requires window { IsSpan member.now.list.now.list.size window }
+    requires part { IsPartOf window span }
+    requires met { HasMet member.now.list.now.list.size window span tri.now }
+    requires stored { let m = member.now in HasStored (is_passed span span.first_row span.first_column)
+        m.cells.now m.list.now.list window m.index writers.old }
+    ensures { let m = member.now in
+        HasStored (has_tile span) m.cells.now m.list.now.list window m.index writers.new }
+{
+    // an accessor tells how many rows there may be
+    let _rows = reached.size.tile_rows();
+    let piece = PieceDepths::of(tri);
+    for row in span.first_row..span.end_row {
+        let over = piece.over_row(edges, row);
+        let form = PieceForm::Row(&piece, reached, &over);
+        store_in_row(writers, member, form, window, span, row);
+    }
+}
+
+// The same for a member whose edges are near. They stay where they are made: they are large to copy.
+#[inline(always)]
+fn store_near<R: Wait>(
+    writers: &mut [TileWriter],
+    member: &Member<R>,
+    tri: &ScreenTri,
+    edges: &NearEdges,
+    reached: &SubBox,
+    window: TileSpan,
+    span: TileSpan,
+)
+    requires is { let m = member.now in slice_index_or m.list.now.list.members m.index tri.now ≡ tri.now }
+    requires edges { AreNearOf edges.now tri.now }
+    requires reached { HoldsSampled tri.now reached.now }
+    requires size { reached.now.size ≡ member.now.list.now.list.size }
+    requires window { IsSpan member.now.list.now.list.size window }
+    requires part { IsPartOf window span }
+    requires met { HasMet member.now.list.now.list.size window span tri.now }
+    requires stored { let m = member.now in HasStored (is_passed span span.first_row span.first_column)
+        m.cells.now m.list.now.list window m.index writers.old }
+    ensures { let m = member.now in
+        HasStored (has_tile span) m.cells.now m.list.now.list window m.index writers.new }
+{
+    let crossings = edges.crossings();
+    let view = EdgesView::Crossed(&crossings);
+    store_by_edges(writers, member, tri, view, reached, window, span);
+}
+
+// The same for any other member. Out of line: hardly any is such a one.
+#[cold]
+#[inline(never)]
+fn store_plain<R: Wait>(
+    writers: &mut [TileWriter],
+    member: &Member<R>,
+    tri: &ScreenTri,
+    reached: &SubBox,
+    window: TileSpan,
+    span: TileSpan,
+)
+    requires is { let m = member.now in slice_index_or m.list.now.list.members m.index tri.now ≡ tri.now }
+    requires reached { HoldsSampled tri.now reached.now }
+    requires size { reached.now.size ≡ member.now.list.now.list.size }
+    requires window { IsSpan member.now.list.now.list.size window }
+    requires part { IsPartOf window span }
+    requires met { HasMet member.now.list.now.list.size window span tri.now }
+    requires stored { let m = member.now in HasStored (is_passed span span.first_row span.first_column)
+        m.cells.now m.list.now.list window m.index writers.old }
+    ensures { let m = member.now in
+        HasStored (has_tile span) m.cells.now m.list.now.list window m.index writers.new }
+{
+    let edges = Edges::of(tri, Side::Occluder);
+    let view = EdgesView::Plain(&edges);
+    store_by_edges(writers, member, tri, view, reached, window, span);
+}
+
+// Sets a member up, and stores it in the tiles of a span.
 fn store_set_up<R: Wait>(
     writers: &mut [TileWriter],
     member: &Member<R>,
@@ -124,15 +215,9 @@ fn store_set_up<R: Wait>(
     ensures { let m = member.now in
         HasStored (has_tile span) m.cells.now m.list.now.list window m.index writers.new }
 {
-    // an accessor tells how many rows there may be
-    let _rows = reached.size.tile_rows();
-    // the edges stay where they are made: they are large to copy
-    let edges = RowEdges::of(tri);
-    let piece = PieceDepths::of(tri);
-    for row in span.first_row..span.end_row {
-        let over = piece.over_row(edges.view(), row);
-        let form = PieceForm::Row(&piece, reached, &over);
-        store_in_row(writers, member, form, window, span, row);
+    match NearEdges::of(tri) {
+        Some(edges) => store_near(writers, member, tri, &edges, reached, window, span),
+        None => store_plain(writers, member, tri, reached, window, span),
     }
 }
 

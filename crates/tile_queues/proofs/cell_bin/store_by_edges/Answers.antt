@@ -5,10 +5,10 @@ use Rattle.cull_base.specs.Screen.{tile_rows_of}
 use Rattle.masked_update.specs.Samples.{HoldsSampled}
 use Rattle.tile_queues.specs.CellBins.{HasMet}
 use Rattle.tile_queues.proofs.Storing.{row_stored, span_stored}
-use Rattle.tile_queues.proofs.cell_bin.store_set_up.Goals as goal
+use Rattle.tile_queues.proofs.cell_bin.store_by_edges.Goals as goal
 
 pub over_row-over-requires-clause-edges : goal.over_row-over-requires-clause-edges
-over_row-over-requires-clause-edges g c u lc lr = c.view.ensures u ∙ c.of-edges.ensures u lc lr ∙ ap (λ (y : Piece). covered y u) (sym c.of-piece.ensures.value)
+over_row-over-requires-clause-edges g c u lc lr = c.requires.edges u lc lr ∙ ap (λ (y : Piece). covered y u) (sym c.of-piece.ensures.value)
 
 pub over_row-over-requires-clause-row : goal.over_row-over-requires-clause-row
 over_row-over-requires-clause-row g c =
