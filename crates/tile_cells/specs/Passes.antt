@@ -12,7 +12,7 @@ use Rattle.masked_update.specs.Taken.{standing_at}
 use Rattle.tile_cells.specs.declared.rule.View.{View}
 use Rattle.tile_cells.specs.Rule.{no_list, writer, reader}
 use Rattle.tile_cells.specs.Cells.{Writing, Reading, IsAt}
-use Rattle.tile_cells.specs.Words.{IsTile, words_of}
+use Rattle.tile_cells.specs.Words.{IsTile}
 
 abbrev pub Token : Type 0
 Token = Seat (List ℕ) (Doing (List ℕ) View)
@@ -35,10 +35,8 @@ abbrev pub writing : ℕ → Token → Writing
 writing tile p =
     record { cell = p.table_id; list = list_at p; tile = tile; count = number_at p; heard = heard_at p }
 
--- The pass is that of a tile's writer. The state beside it is that after the members that its view counts, and the
--- words are those of this state.
-pub record IsWriting (tile : ℕ) (place : Tile) (size : Dimensions) (state : TileOf) (words : List ℕ)
-    (p : Token) : Type 0 where
+-- The pass is that of a tile's writer. The state beside it is that after the members that its view counts.
+pub record IsWriting (tile : ℕ) (place : Tile) (size : Dimensions) (state : TileOf) (p : Token) : Type 0 where
   pub view : cell_view p ≡ writer (list_at p) tile (number_at p) (heard_at p)
   pub size_is : size ≡ (list_at p).size
   pub on_screen : tile < tile_count_of size
@@ -47,7 +45,6 @@ pub record IsWriting (tile : ℕ) (place : Tile) (size : Dimensions) (state : Ti
   pub within : number_at p ≤ length (tile_list tile (list_at p))
   pub state_is : state ≡ standing_at tile (number_at p) (list_at p)
   pub possible : IsTile state
-  pub words_are : words ≡ words_of state
 
 -- the pass is a note
 pub record IsNote (tile count : ℕ) (p : Token) : Type 0 where

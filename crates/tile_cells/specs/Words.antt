@@ -24,10 +24,6 @@ masks_of t = map (λ i. packed_mask (sub_at t (2 * i)) + 2 ^ 32 * packed_mask (s
 abbrev pub words_of : TileOf → List ℕ
 words_of t = t.count ∷ (layers_of t ++ masks_of t)
 
--- the words are those of a tile with the same subtiles, whatever its count
-abbrev pub AreWordsBut : List ℕ → TileOf → Type 0
-AreWordsBut words t = (was : TileOf) × IsTile was × (words ≡ words_of was) × (t.subs ≡ was.subs)
-
 -- some tile has these words
 abbrev pub AreTileWords : List ℕ → Type 0
 AreTileWords words = (t : TileOf) × IsTile t × (words ≡ words_of t)

@@ -1,9 +1,9 @@
 //! A tile as the words of its cell, and back.
-ghost use Rattle.std.specs.Prelude.{◌≡◌, ◌+◌, ◌*◌, ◌/◌, ◌%◌, ◌<◌, ◌^◌, cond, false, nat_eq};
+ghost use Rattle.std.specs.Prelude.{◌≡◌, ◌+◌, ◌*◌, ◌/◌, ◌%◌, ◌<◌, ◌^◌, cond, nat_eq};
 ghost use Rattle.cull_base.specs.State.{State};
 ghost use Rattle.masked_update.specs.Packing.{IsSubTile, packed};
 ghost use Rattle.masked_update.specs.TileOf.{TileOf, sub_at};
-ghost use Rattle.tile_cells.specs.Words.{ArePacked, AreTileWords, AreWordsBut, IsTile, words_of};
+ghost use Rattle.tile_cells.specs.Words.{ArePacked, AreTileWords, IsTile, words_of};
 
 use masked_update::{SubTile, TileState};
 
@@ -47,21 +47,6 @@ pub fn words_of(state: &TileState) -> [u64; 13]
         paired(fifth.1, sixth.1),
         paired(seventh.1, eighth.1),
     ]
-}
-
-/// The words of a tile, in place of those that it had. Where no subtile changed, only the count is another: nothing is
-/// packed anew. Condition: where `changed` is false, the words are those of the same subtiles.
-#[inline(always)]
-pub(crate) fn renew_words(words: &mut [u64; 13], state: &TileState, changed: bool)
-    requires { changed ≡ false → AreWordsBut words.old state.now }
-    ensures value { words.new ≡ words_of state.now }
-    ensures possible { IsTile state.now }
-{
-    if changed {
-        *words = words_of(state);
-    } else {
-        words[0] = u64::from(state.count());
-    }
 }
 
 // The subtile that packs to these layers and this mask. Condition: there is one.

@@ -13,14 +13,14 @@ use crate::cells::TileCells;
 use crate::note::Note;
 use crate::rule::{Cell, CellPass};
 use crate::steps;
-use crate::words::{renew_words, tile_of};
+use crate::words::{tile_of, words_of};
 use cull_base::{FrameList, ScreenTri, Size, Tile};
 use masked_update::{PieceForm, TileState};
 use std::marker::Model;
 use std::sync::Wait;
 
-/// Draws the members of a tile's list into the tile's cell. Beside its pass it keeps what it stored last, so that it
-/// doesn't read its cell to draw, and packs only a tile that may have changed.
+/// Draws the members of a tile's list into the tile's cell. Beside its pass it keeps the tile that it stored last, so
+/// that it doesn't read its cell to draw.
 #[derive(Drop)]
 pub struct TileWriter {
     pass: CellPass,
@@ -28,7 +28,6 @@ pub struct TileWriter {
     place: Tile,
     size: Size,
     state: TileState,
-    words: [u64; 13],
 }
 
 impl Model for TileWriter {
@@ -36,7 +35,7 @@ impl Model for TileWriter {
 
     ghost view = { λ s. writing s.tile s.pass };
 
-    ghost invariant = { λ s. IsWriting s.tile s.place s.size s.state s.words s.pass };
+    ghost invariant = { λ s. IsWriting s.tile s.place s.size s.state s.pass };
 }
 
 impl TileWriter {
@@ -55,7 +54,6 @@ impl TileWriter {
             place: size.tile_at(tile),
             size,
             state: TileState::empty(),
-            words: [0; 13],
         }
     }
 
@@ -92,9 +90,9 @@ impl TileWriter {
         requires next { IsMember self.old.tile self.old.count self.old.list (piece_of_form form) }
         ensures { self.new ≡ record self.old { count = self.old.count + 1 } }
     {
-        let changed = self.state.take_form(form, self.size, self.place);
-        renew_words(&mut self.words, &self.state, changed);
-        steps::store(rt, cells.cell(self.tile), &mut self.pass, self.words);
+        self.state.take_form(form, self.size, self.place);
+        let words = words_of(&self.state);
+        steps::store(rt, cells.cell(self.tile), &mut self.pass, words);
     }
 
     /// A nearness that no reference of the tile is below.

@@ -5,28 +5,21 @@ use Rattle.cull_base.specs.declared.place.Tile.{Tile}
 use Rattle.masked_update.specs.Forms.{IsFormOn, piece_of_form}
 use Rattle.masked_update.specs.Taken.{IsMember}
 use Rattle.tile_cells.specs.Cells.{Writing, IsAt}
-use Rattle.tile_cells.proofs.Writing.{few_taken, next_holds, next_is, words_stay}
+use Rattle.tile_cells.proofs.Writing.{few_taken, next_holds, next_is}
 use Rattle.tile_cells.proofs.writer.TileWriter.take_form.Goals as goal
 
-pub take_form-changed-requires-clause-count : goal.take_form-changed-requires-clause-count
-take_form-changed-requires-clause-count g c =
+pub take_form-requires-clause-count : goal.take_form-requires-clause-count
+take_form-requires-clause-count g c =
     let s = c.self.inside in
     let x = piece_of_form c.args.form in
-    few_taken s.tile s.place s.size s.state s.words s.pass x c.self.invariant (subst (λ (w : Writing). IsMember w.tile w.count w.list x) (sym c.self.view_is) c.requires.next)
+    few_taken s.tile s.place s.size s.state s.pass x c.self.invariant (subst (λ (w : Writing). IsMember w.tile w.count w.list x) (sym c.self.view_is) c.requires.next)
 
-pub take_form-changed-requires-clause-form : goal.take_form-changed-requires-clause-form
-take_form-changed-requires-clause-form g c =
+pub take_form-requires-clause-form : goal.take_form-requires-clause-form
+take_form-requires-clause-form g c =
     let s = c.self.inside in
     let of_list = subst (λ (w : Writing). IsFormOn w.list.size (tile_place w.list.size w.tile).row c.args.form) (sym c.self.view_is) c.requires.form in
     let here = subst (λ (z : Dimensions). IsFormOn z (tile_place z s.tile).row c.args.form) (sym c.self.invariant.size_is) of_list in
     subst (λ (p : Tile). IsFormOn s.size p.row c.args.form) (sym c.self.invariant.place_is) here
-
-pub renew_words-requires : goal.renew_words-requires
-renew_words-requires g c stays =
-    let s = c.self.inside in
-    let x = piece_of_form c.args.form in
-    words_stay s.tile s.place s.size s.state s.words s.pass x c.self.invariant (subst (λ (w : Writing). IsMember w.tile w.count w.list x) (sym c.self.view_is) c.requires.next)
-    c.take_form-changed.new.self (c.take_form-changed.ensures.same stays)
 
 pub cell-requires : goal.cell-requires
 cell-requires g c =
@@ -37,12 +30,12 @@ pub store-requires-clause-next : goal.store-requires-clause-next
 store-requires-clause-next g c =
     let s = c.self.inside in
     let x = piece_of_form c.args.form in
-    next_holds s.tile s.place s.size s.state s.words s.pass x c.self.invariant (subst (λ (w : Writing). IsMember w.tile w.count w.list x) (sym c.self.view_is) c.requires.next)
-    _ _ c.take_form-changed.ensures.taken c.renew_words.ensures.value c.renew_words.ensures.possible
+    next_holds s.tile s.place s.size s.state s.pass x c.self.invariant (subst (λ (w : Writing). IsMember w.tile w.count w.list x) (sym c.self.view_is) c.requires.next)
+    _ _ c.take_form.ensures.taken c.words_of-words.ensures.value c.words_of-words.ensures.possible
 
 pub invariant_of-self : goal.invariant_of-self
 invariant_of-self g c =
     let s = c.self.inside in
     let x = piece_of_form c.args.form in
-    next_is s.tile s.place s.size s.state s.words s.pass x c.self.invariant (subst (λ (w : Writing). IsMember w.tile w.count w.list x) (sym c.self.view_is) c.requires.next)
-    _ _ _ c.take_form-changed.ensures.taken c.renew_words.ensures.value c.renew_words.ensures.possible c.store.ensures.stored
+    next_is s.tile s.place s.size s.state s.pass x c.self.invariant (subst (λ (w : Writing). IsMember w.tile w.count w.list x) (sym c.self.view_is) c.requires.next)
+    _ _ c.take_form.ensures.taken c.words_of-words.ensures.possible c.store.ensures.stored
