@@ -164,8 +164,15 @@ fn store_near<R: Wait>(
         HasStored (has_tile span) m.cells.now m.list.now.list window m.index writers.new }
 {
     let crossings = edges.crossings();
-    let view = EdgesView::Crossed(&crossings);
-    store_by_edges(writers, member, tri, view, reached, window, span);
+    store_by_edges(
+        writers,
+        member,
+        tri,
+        EdgesView::Crossed(&crossings),
+        reached,
+        window,
+        span,
+    );
 }
 
 // The same for any other member. Out of line: hardly any is such a one.
@@ -191,8 +198,15 @@ fn store_plain<R: Wait>(
         HasStored (has_tile span) m.cells.now m.list.now.list window m.index writers.new }
 {
     let edges = Edges::of(tri, Side::Occluder);
-    let view = EdgesView::Plain(&edges);
-    store_by_edges(writers, member, tri, view, reached, window, span);
+    store_by_edges(
+        writers,
+        member,
+        tri,
+        EdgesView::Plain(&edges),
+        reached,
+        window,
+        span,
+    );
 }
 
 // Sets a member up, and stores it in the tiles of a span.
