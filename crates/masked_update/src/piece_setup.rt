@@ -189,30 +189,27 @@ impl PieceDepths {
         layers.merge(self.coverage(masks, place, wanted).raised(self.least));
     }
 
-    /// The same where the row's edges aren't at hand, and what is reached is what the piece reaches. Says whether any
-    /// subtile may have changed.
+    /// The same where the row's edges aren't at hand, and what is reached is what the piece reaches.
     pub(crate) fn merge_into(
         &self,
         edges: EdgesView,
         layers: &mut TileLayers,
         reached: &SubBox,
         place: Tile,
-    ) -> bool
+    )
         requires edges { AreEdgesOf edges self.now }
         requires reached { IsSubBox (box_of self.now) reached.now }
         requires column { place.column < tile_columns_of reached.now.size }
         requires row { place.row < tile_rows_of reached.now.size }
-        ensures merged { layers.new ≡ merged_by reached.now.size place self.now layers.old }
-        ensures same { result ≡ false → layers.new ≡ layers.old }
+        ensures { layers.new ≡ merged_by reached.now.size place self.now layers.old }
     {
         // accessors tell what is held of a size and of a piece
         let (_width, _nearest) = (reached.size.width(), self.nearest());
         if self.subtiles_behind(layers, reached, place) == 0 {
-            return false;
+            return;
         }
         let over = self.over_row(edges, u32::from(place.row));
         self.merge_over(layers, reached, &over, place, reached.is_inner(place));
-        true
     }
 }
 
@@ -235,16 +232,15 @@ impl PieceSetup {
         self.depths.reached_on(size)
     }
 
-    /// Merges the piece into a tile's subtiles on the screen. Says whether any subtile may have changed. Conditions: the
-    /// column and the row are below the screen's, and what is reached on it is what the piece reaches.
-    pub(crate) fn merge_into(&self, layers: &mut TileLayers, reached: &SubBox, place: Tile) -> bool
+    /// Merges the piece into a tile's subtiles on the screen. Conditions: the column and the row are below the screen's,
+    /// and what is reached on it is what the piece reaches.
+    pub(crate) fn merge_into(&self, layers: &mut TileLayers, reached: &SubBox, place: Tile)
         requires reached { IsSubBox (box_of self.now) reached.now }
         requires column { place.column < tile_columns_of reached.now.size }
         requires row { place.row < tile_rows_of reached.now.size }
-        ensures merged { layers.new ≡ merged_by reached.now.size place self.now layers.old }
-        ensures same { result ≡ false → layers.new ≡ layers.old }
+        ensures { layers.new ≡ merged_by reached.now.size place self.now layers.old }
     {
         self.depths
-            .merge_into(self.edges.view(), layers, reached, place)
+            .merge_into(self.edges.view(), layers, reached, place);
     }
 }

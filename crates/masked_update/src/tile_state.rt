@@ -105,88 +105,79 @@ impl TileState {
         self.count_piece();
     }
 
-    /// As `take_set_up`, where the tile's column and row are known, of a piece in any form. Says whether any subtile
-    /// may have changed. Conditions: the count is below 131,072, the column and the row are below the screen's, what
-    /// the form says is reached is of this screen and has each sample that the piece covers, of a whole form it is the
-    /// box's, and the edges of a form for one row are the piece's own, over the tile's row.
-    pub fn take_form(&mut self, form: PieceForm, size: Size, place: Tile) -> bool
+    /// As `take_set_up`, where the tile's column and row are known, of a piece in any form. Conditions: the count is
+    /// below 131,072, the column and the row are below the screen's, what the form says is reached is of this screen
+    /// and has each sample that the piece covers, of a whole form it is the box's, and the edges of a form for one row
+    /// are the piece's own, over the tile's row.
+    pub fn take_form(&mut self, form: PieceForm, size: Size, place: Tile)
         requires count { self.old.count < 131072 }
         requires form { IsFormOn size place.row form }
         requires column { place.column < tile_columns_of size }
         requires row { place.row < tile_rows_of size }
-        ensures taken { self.new ≡ taken_at size place (piece_of_form form.entry) self.old }
-        ensures same { result ≡ false → self.new.subs ≡ self.old.subs }
+        ensures { self.new ≡ taken_at size place (piece_of_form form.entry) self.old }
     {
-        let changed = self.merge_form(form, size, place);
+        self.merge_form(form, size, place);
         self.count_piece();
-        changed
     }
 
-    // Merges a piece in any form, doesn't count it, and says whether any subtile may have changed.
+    // Merges a piece in any form, and doesn't count it.
     #[inline(always)]
-    fn merge_form(&mut self, form: PieceForm, size: Size, place: Tile) -> bool
+    fn merge_form(&mut self, form: PieceForm, size: Size, place: Tile)
         requires form { IsFormOn size place.row form }
         requires column { place.column < tile_columns_of size }
         requires row { place.row < tile_rows_of size }
-        ensures merged { self.new ≡ merged_tile size place (piece_of_form form.entry) self.old }
-        ensures same { result ≡ false → self.new ≡ self.old }
+        ensures { self.new ≡ merged_tile size place (piece_of_form form.entry) self.old }
     {
         match form {
             PieceForm::Bare(tri) => self.merge_bare(tri, size, place),
             PieceForm::Small(piece, reached) => {
-                // it tells of the references alone: a working layer may have changed where none of them has
                 self.merge_small(piece, reached, place);
-                true
             }
             PieceForm::Whole(piece, reached) => self.merge(piece, reached, place),
             PieceForm::Row(piece, reached, over) => self.merge_ahead(piece, reached, over, place),
         }
     }
 
-    // Merges a piece that isn't set up, doesn't count it, and says whether any subtile may have changed. One that
-    // stands behind the tile changes nothing.
+    // Merges a piece that isn't set up, and doesn't count it. One that stands behind the tile changes nothing.
     #[inline(always)]
-    fn merge_bare(&mut self, tri: &ScreenTri, size: Size, place: Tile) -> bool
+    fn merge_bare(&mut self, tri: &ScreenTri, size: Size, place: Tile)
         requires column { place.column < tile_columns_of size }
         requires row { place.row < tile_rows_of size }
-        ensures merged { self.new ≡ merged_tile size place tri.now self.old }
-        ensures same { result ≡ false → self.new ≡ self.old }
+        ensures { self.new ≡ merged_tile size place tri.now self.old }
     {
         // an accessor tells how many subtiles a tile has
         let _first = self.sub(0);
         let near = tri.greatest_nearness();
         let least = self.least_reference();
         if near <= least {
-            return false;
+            return;
         }
-        self.merge_unset(tri, size, place)
+        self.merge_unset(tri, size, place);
     }
 
-    // Sets a piece up, merges it, doesn't count it, and says whether any subtile may have changed. Out of line: room for
-    // what is set up is cleared, and few pieces that come here change the tile.
+    // Sets a piece up, merges it, and doesn't count it. Out of line: else room for what is set up would be cleared also
+    // for pieces that stand behind the tile, and most that aren't set up do.
     #[cold]
     #[inline(never)]
-    fn merge_unset(&mut self, tri: &ScreenTri, size: Size, place: Tile) -> bool
+    fn merge_unset(&mut self, tri: &ScreenTri, size: Size, place: Tile)
         requires column { place.column < tile_columns_of size }
         requires row { place.row < tile_rows_of size }
-        ensures merged { self.new ≡ merged_tile size place tri.now self.old }
-        ensures same { result ≡ false → self.new ≡ self.old }
+        ensures { self.new ≡ merged_tile size place tri.now self.old }
     {
         let piece = PieceSetup::of(tri);
-        self.merge(&piece, &piece.reached_on(size), place)
+        self.merge(&piece, &piece.reached_on(size), place);
     }
 
-    /// Merges a piece, doesn't count it, and says whether any subtile may have changed. Conditions: the column and the
-    /// row are below the screen's, and what is reached on it is what the piece reaches.
-    pub fn merge(&mut self, piece: &PieceSetup, reached: &SubBox, place: Tile) -> bool
+    /// Merges a piece, and doesn't count it. Conditions: the column and the row are below the screen's, and what is
+    /// reached on it is what the piece reaches.
+    pub fn merge(&mut self, piece: &PieceSetup, reached: &SubBox, place: Tile)
         requires reached { IsSubBox (box_of piece.now) reached.now }
         requires column { place.column < tile_columns_of reached.now.size }
         requires row { place.row < tile_rows_of reached.now.size }
         ensures merged { self.new ≡ merged_tile reached.now.size place piece.now self.old }
-        ensures same { result ≡ false → self.new ≡ self.old }
         ensures eight { length self.new.subs ≡ 8 }
     {
-        piece.merge_into(&mut self.layers, reached, place)
+        piece.merge_into(&mut self.layers, reached, place);
     }
 
     /// Merges a piece, whose edges over the tile's row are at hand, and doesn't count it. Gives a nearness that no
@@ -215,10 +206,9 @@ impl TileState {
         self.layers.least_reference()
     }
 
-    /// Merges a piece, whose edges over the tile's row are at hand, doesn't count it, and says whether any subtile may
-    /// have changed. A tile to which the edges leave nothing stays, and so does one that is nowhere behind the piece.
-    /// Conditions: the column and the row are below the screen's, what is reached on it has each sample that the piece
-    /// covers, and the edges are the piece's.
+    /// Merges a piece, whose edges over the tile's row are at hand, and doesn't count it. A tile to which the edges
+    /// leave nothing stays, and so does one that is nowhere behind the piece. Conditions: the column and the row are
+    /// below the screen's, what is reached on it has each sample that the piece covers, and the edges are the piece's.
     #[inline(always)]
     pub fn merge_ahead(
         &mut self,
@@ -226,13 +216,12 @@ impl TileState {
         reached: &SubBox,
         over: &TileRow,
         place: Tile,
-    ) -> bool
+    )
         requires reached { HoldsSampled piece.now reached.now }
         requires over { AreRowOf over.now place.row piece.now }
         requires column { place.column < tile_columns_of reached.now.size }
         requires row { place.row < tile_rows_of reached.now.size }
-        ensures merged { self.new ≡ merged_tile reached.now.size place piece.now self.old }
-        ensures same { result ≡ false → self.new ≡ self.old }
+        ensures { self.new ≡ merged_tile reached.now.size place piece.now self.old }
     {
         // accessors tell what is held of a size, of a piece and of a tile
         let _columns = reached.size.tile_columns();
@@ -241,14 +230,13 @@ impl TileState {
         let nearest = piece.nearest();
         let ahead = over.ahead(u32::from(place.column)) % 2;
         if ahead == 0 {
-            return false;
+            return;
         }
         let least = self.least_reference();
         if nearest <= least {
-            return false;
+            return;
         }
         self.merge_over(piece, reached, over, place, reached.is_inner(place));
-        true
     }
 
     /// Merges a small piece, doesn't count it, and says whether any reference is another then. Conditions: the column

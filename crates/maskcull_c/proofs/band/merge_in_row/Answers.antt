@@ -25,7 +25,7 @@ loop-column-preserved c =
     let number = row_number window window c.args.row c.loop-column.column c.row_start-start.result refl c.row_start-start.ensures in
     let inside = number_inside (is_in_row (columns_before span c.loop-column.column) c.args.row) f (band_of window c.args.tiles.now) (band_of window tiles) q c.loop-column.invariant here in
     let read = get_or_default tiles n c.index-tiles-number.result no_tile (omega (arith, number, inside)) in
-    let step = ap (λ (s : TileOf). band_of window (set tiles n s)) (c.merge_ahead.ensures.merged ∙ ap (f q) read) in
+    let step = ap (λ (s : TileOf). band_of window (set tiles n s)) (c.merge_ahead.ensures ∙ ap (f q) read) in
     row_more span f (band_of window c.args.tiles.now) (band_of window tiles) (band_of window (set tiles n c.merge_ahead.new.self)) q n here number c.loop-column.auto.column c.loop-column.invariant step
 
 pub returns : goal.returns

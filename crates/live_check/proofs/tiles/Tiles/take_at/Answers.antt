@@ -56,7 +56,7 @@ returns c =
     let short : is_short_at s n c.args.index ≡ true = ap (λ (m : ℕ). is_short_at s m c.args.index) (sym number) ∙ sym c.is_short.ensures ∙ c.if-not-is_short.false in
     let lt = number_below p.row (tile_rows_of s.size) p.column (tile_columns_of s.size) c.requires.row c.requires.column in
     let here = state_read c.self.inside.states.items (c.from.result * c.tile_columns.result + c.from-2.result) n c.index_mut.result.now c.self.inside.size s c.self.view_is c.self.invariant.states number lt c.index_mut.ensures.value in
-    let taken : c.take_form.new.self ≡ taken_at s.size p x (tile_at s.states n) = c.take_form.ensures.taken ∙ ap (λ (d : Dimensions). taken_at d p x c.index_mut.result.now) (ap (λ (y : TilesOf). y.size) c.self.view_is) ∙ ap (taken_at s.size p x) here in
+    let taken : c.take_form.new.self ≡ taken_at s.size p x (tile_at s.states n) = c.take_form.ensures ∙ ap (λ (d : Dimensions). taken_at d p x c.index_mut.result.now) (ap (λ (y : TilesOf). y.size) c.self.view_is) ∙ ap (taken_at s.size p x) here in
     let at = place_of_number s.size p.row p.column c.requires.column in
     let v = c.self.view_is in
     record {

@@ -9,5 +9,5 @@ merge_into-requires-clause-edges c u lc lr = c.view.ensures u ∙ c.self.invaria
 pub merge_into-requires-clause-reached : goal.merge_into-requires-clause-reached
 merge_into-requires-clause-reached c = subst (λ (y : Piece). IsSubBox (box_of y) c.args.reached.now) (sym c.self.view_is) c.requires.reached
 
-pub returns-clause-merged : goal.returns-clause-merged
-returns-clause-merged c = c.merge_into.ensures.merged ∙ ap (λ (y : Piece). merged_by c.args.reached.now.size c.args.place y c.args.layers.now) c.self.view_is
+pub returns : goal.returns
+returns c = c.merge_into.ensures ∙ ap (λ (y : Piece). merged_by c.args.reached.now.size c.args.place y c.args.layers.now) c.self.view_is

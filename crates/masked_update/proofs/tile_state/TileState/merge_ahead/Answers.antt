@@ -7,8 +7,8 @@ use Rattle.masked_update.proofs.Tiles.{tile_with}
 use Rattle.masked_update.proofs.tile_state.TileState.merge_ahead.Goals as goal
 
 -- a tile that isn't ahead
-pub returns-then-ahead-eq0-clause-merged : goal.returns-then-ahead-eq0-clause-merged
-returns-then-ahead-eq0-clause-merged c =
+pub returns-then-ahead-eq0 : goal.returns-then-ahead-eq0
+returns-then-ahead-eq0 c =
     let x = c.args.piece.now in
     let place = c.args.place in
     let size = c.args.reached.now.size in
@@ -20,8 +20,8 @@ returns-then-ahead-eq0-clause-merged c =
     sym (merged_uncovered size place x c.args.self.now c.sub-first.ensures.eight (subst (λ (n : ℕ). CoversNone x (tile_with n place.row)) same none))
 
 -- a tile whose references are all as near
-pub returns-then-nearest-least-clause-merged : goal.returns-then-nearest-least-clause-merged
-returns-then-nearest-least-clause-merged c =
+pub returns-then-nearest-least : goal.returns-then-nearest-least
+returns-then-nearest-least c =
     let x = c.args.piece.now in
     let near = c.nearest-nearest.ensures in
     let behind : NoneBelow c.nearest-nearest.result c.args.self.now = record {

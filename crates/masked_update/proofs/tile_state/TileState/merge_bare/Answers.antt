@@ -4,8 +4,8 @@ use Rattle.masked_update.proofs.Merging.{merged_behind}
 use Rattle.masked_update.proofs.tile_state.TileState.merge_bare.Goals as goal
 
 -- a tile whose references are all as near
-pub returns-then-near-least-clause-merged : goal.returns-then-near-least-clause-merged
-returns-then-near-least-clause-merged c =
+pub returns-then-near-least : goal.returns-then-near-least
+returns-then-near-least c =
     let near = c.greatest_nearness-near.ensures in
     let behind : NoneBelow c.greatest_nearness-near.result c.args.self.now = record {
       eight = c.sub-first.ensures.eight;

@@ -31,11 +31,11 @@ store-requires-clause-next g c =
     let s = c.self.inside in
     let x = piece_of_form c.args.form in
     next_holds s.tile s.place s.size s.state s.pass x c.self.invariant (subst (λ (w : Writing). IsMember w.tile w.count w.list x) (sym c.self.view_is) c.requires.next)
-    _ _ c.take_form.ensures.taken c.words_of-words.ensures.value c.words_of-words.ensures.possible
+    _ _ c.take_form.ensures c.words_of-words.ensures.value c.words_of-words.ensures.possible
 
 pub invariant_of-self : goal.invariant_of-self
 invariant_of-self g c =
     let s = c.self.inside in
     let x = piece_of_form c.args.form in
     next_is s.tile s.place s.size s.state s.pass x c.self.invariant (subst (λ (w : Writing). IsMember w.tile w.count w.list x) (sym c.self.view_is) c.requires.next)
-    _ _ c.take_form.ensures.taken c.words_of-words.ensures.possible c.store.ensures.stored
+    _ _ c.take_form.ensures c.words_of-words.ensures.possible c.store.ensures.stored
