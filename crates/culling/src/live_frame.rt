@@ -116,10 +116,10 @@ fn draw_in_cells<R: Threads + Wait + Sync, G: Gate, C: Caller>(
 {
     // accessors tell what is held of a size and of a list
     let (_width, _len) = (list.size().width(), list.len());
-    let (rt, alloc) = (drawing.rt, drawing.alloc);
-    let (cells, writers, mut readers) = TileCells::make(rt, alloc, list, 1)?;
+    let (rt, alloc, workers) = (drawing.rt, drawing.alloc, drawing.plan.settings.workers);
+    let (cells, writers, mut readers) = TileCells::make_by(rt, alloc, list, 1, workers)?;
     let writers = draw_into_cells(drawing, list, &cells, writers, &mut readers[0], caller)?;
-    Ok(cells.close(rt, writers, readers))
+    Ok(cells.close_by(rt, writers, readers, workers))
 }
 
 // A caller with a line for each look, and a mark for each object, of which none is set.

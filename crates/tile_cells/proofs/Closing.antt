@@ -1,8 +1,8 @@
 -- Readers end in the writers.
-use Rattle.std.proofs.Common.{◌≡◌, ⊎_elim, ℕ, zero, suc, ◌+◌, ◌<◌, ◌≤◌, max, List, [], ◌∷◌, drop, length, set, Some, sym, ap, ◌∙◌, subst, arith, length-set, length-append, length-take-le, take, ◌++◌, le_trans}
+use Rattle.std.proofs.Common.{◌≡◌, ⊎_elim, ℕ, zero, suc, ◌+◌, ◌<◌, ◌≤◌, max, List, [], ◌∷◌, drop, length, set, Some, refl, sym, ap, ◌∙◌, subst, arith, length-set, length-append, length-take-le, take, ◌++◌, le_trans}
 use lib.Seq.{take-append_seam}
 use Rattle.std.specs.Prelude.{slice_get, slice_index, slice_index_or}
-use Rattle.std.proofs.lemmas.List.{get_or-set_same, get_or-set_other, get_or-map, length-map, take_more}
+use Rattle.std.proofs.lemmas.List.{ext_get_or, get_or-set_same, get_or-set_other, get_or-map, length-map, take_more}
 use Rattle.std.proofs.lemmas.Option.{slice_get-get_or, same_Some}
 use Rattle.std.proofs.lemmas.Bool.{cases_eq}
 use Rattle.atomic_table.specs.Seated.{TableId}
@@ -11,7 +11,7 @@ use Rattle.cull_base.proofs.Lists.{turn, pushed_at, set_each}
 use Rattle.masked_update.specs.TileOf.{TileOf, tile_at, no_tile}
 use Rattle.masked_update.specs.Taken.{standing_at}
 use Rattle.tile_cells.specs.Cells.{Writing, Reading, IsAt, AreWriters, IsReaderOf, CoversSeen}
-use Rattle.tile_cells.specs.Passes.{AreChecked, HearWithin, Token, Reads, AreReading, names_of, number_at, reading, Hears, HearsOne, HeardBelow}
+use Rattle.tile_cells.specs.Passes.{AreChecked, HearWithin, standing_by, Token, Reads, AreReading, names_of, number_at, reading, Hears, HearsOne, HeardBelow}
 use Rattle.tile_cells.proofs.Lists.{same_at}
 
 -- the writer in place t, after some ends
@@ -134,12 +134,22 @@ all_readers m rs n ws is f = subst (λ (l : List Reading). (k : ℕ) (d : Readin
     take_all zero (r ∷ rs) is = absurd (omega arith)
     take_all (suc n) (r ∷ rs) is = ap (λ l. r ∷ l) (take_all n rs (omega arith))
 
+pub states_more : (ws : List Writing) (room : List TileOf) (n : ℕ) (w : Writing) (state : TileOf) → length room ≡ n → n < length ws → w ≡ slice_index_or ws n w → state ≡ standing_by w → AreChecked n ws room → AreChecked (n + 1) ws (room ++ state ∷ [])
+states_more ws room n w state len lt is shown f t d tl =
+    pushed_at (λ k (x : TileOf). x ≡ standing_by (slice_index_or ws k d)) n room state len
+    (λ k x kl. same_at room k x no_tile (omega arith) ∙ f k d kl)
+    (subst (λ (z : Writing). state ≡ standing_by z) (is ∙ same_at ws n w d lt) shown) t no_tile tl
+
+-- lists of one length that have the same elements
+pub same_each : {X : Type 0} (xs ys : List X) → length ys ≡ length xs → ((k : ℕ) (d : X) → k < length xs → slice_index_or ys k d ≡ slice_index_or xs k d) → ys ≡ xs
+same_each [] [] len f = refl
+same_each [] (y ∷ ys) len f = absurd (omega arith)
+same_each (x ∷ xs) ys len f = ext_get_or x ys (x ∷ xs) len (λ i lt. f i x (omega (arith, lt, len)))
+
 pub checked_more : (ws now : List Writing) (room : List TileOf) (n : ℕ) (w : Writing) (state : TileOf) → now ≡ ws → length room ≡ n → n < length ws → w ≡ slice_index_or now n w → state ≡ standing_at w.tile w.count w.list → w.heard ≤ w.count
     → AreChecked n ws room → HearWithin n ws → AreChecked (n + 1) ws (room ++ state ∷ []) × HearWithin (n + 1) ws
 checked_more ws now room n w state same len lt is shown heard f h = (
-  λ t d tl. pushed_at (λ k (x : TileOf). x ≡ standing_at (slice_index_or ws k d).tile (slice_index_or ws k d).count (slice_index_or ws k d).list) n room state len
-      (λ k x kl. same_at room k x no_tile (omega arith) ∙ f k d kl)
-      (subst (λ (z : Writing). state ≡ standing_at z.tile z.count z.list) (at d) shown) t no_tile tl,
+  states_more ws room n w state len lt (is ∙ ap (λ l. slice_index_or l n w) same) shown f,
   λ t d tl. ⊎_elim (λ (e : t ≡ n). subst (λ k. (slice_index_or ws k d).heard ≤ (slice_index_or ws k d).count) (sym e) (subst (λ (z : Writing). z.heard ≤ z.count) (at d) heard))
       (λ (ne : t ≡ n → ⊥). h t d (omega arith)) (cases_eq t n),
 )

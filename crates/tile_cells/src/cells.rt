@@ -7,6 +7,15 @@ use masked_update::TileState;
 use std::alloc::Global;
 use std::marker::Model;
 
+// So many tiles are worth a thread's start.
+const SHARE: usize = 512;
+
+/// By how many threads so many tiles are gone through: by no more than there are workers, and each has tiles enough.
+/// Where it is less than two, the caller does it.
+pub(crate) fn threads_for(tiles: usize, workers: u32) -> usize {
+    (tiles / SHARE).min(workers as usize)
+}
+
 /// One cell for each tile of a screen, and room for the tiles that the cells hold when they are closed.
 #[derive(Drop)]
 pub struct TileCells {

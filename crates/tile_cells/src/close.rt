@@ -3,12 +3,14 @@ ghost use Rattle.std.specs.Prelude.{◌≡◌, ℕ, ◌<◌, ◌≤◌, [], map,
 ghost use Rattle.tile_cells.specs.Cells.{AreClosed, AreWriters, CoversSeen, IsAt, IsReaderOf, Writing};
 ghost use Rattle.tile_cells.specs.Passes.{AreChecked, HearWithin, HeardBelow, Hears};
 
-use crate::cells::TileCells;
+use crate::cells::{TileCells, threads_for};
 use crate::reader::TileReader;
 use crate::rule::Cell;
 use crate::writer::TileWriter;
 use masked_update::TileState;
+use side_by_side::for_each_share;
 use std::sync::Wait;
+use std::thread::Threads;
 
 // Ends the views of a reader in those of the writers.
 fn end_reader(cells: &TileCells, writers: &mut [TileWriter], reader: TileReader)
@@ -60,6 +62,65 @@ fn check_all<R: Wait>(
     room
 }
 
+// Reads the tile of each cell once, by so many threads, each into its writer.
+fn renew_all<R: Threads + Wait + Sync>(
+    rt: &R,
+    cells: &[Cell],
+    writers: &mut [TileWriter],
+    threads: usize,
+)
+    requires whole { length writers.old ≡ length cells.now }
+    requires at { (t : ℕ) (d : Writing) → t < length cells.now
+        → IsAt (map (λ c. c.table.shared.table_id) cells.now) t (slice_index_or writers.old t d).cell }
+    ensures same { writers.new ≡ writers.old }
+    ensures heard { HearWithin (length writers.old) writers.old }
+{
+    for_each_share(
+        rt,
+        writers,
+        threads,
+        &|tile: usize, writer: &mut TileWriter|
+            requires there { tile < length cells.now }
+            requires at { IsAt (map (λ c. c.table.shared.table_id) cells.now) tile writer.old.cell }
+            ensures same { writer.new ≡ writer.old }
+            ensures heard { writer.old.heard ≤ writer.old.count }
+        { writer.renew(rt, &cells[tile]) },
+    );
+}
+
+// The tiles of some writers, into the room.
+fn states_of(writers: &[TileWriter], mut room: Vec<TileState>) -> Vec<TileState>
+    requires { (room.items ≡ []) × (length writers.now ≤ vec_capacity room) }
+    ensures whole { length result.items ≡ length writers.now }
+    ensures states { AreChecked (length writers.now) writers.now result.items }
+{
+    for tile in 0..writers.len() {
+        let state = writers[tile].state();
+        room.push_reserved(state);
+    }
+    room
+}
+
+// As `check_all`, by so many threads.
+fn check_by<R: Threads + Wait + Sync>(
+    rt: &R,
+    cells: &[Cell],
+    writers: &mut [TileWriter],
+    room: Vec<TileState>,
+    threads: usize,
+) -> Vec<TileState>
+    requires whole { length writers.old ≡ length cells.now }
+    requires room { (room.items ≡ []) × (length cells.now ≤ vec_capacity room) }
+    requires at { (t : ℕ) (d : Writing) → t < length cells.now
+        → IsAt (map (λ c. c.table.shared.table_id) cells.now) t (slice_index_or writers.old t d).cell }
+    ensures whole { length result.items ≡ length writers.old }
+    ensures states { AreChecked (length writers.old) writers.old result.items }
+    ensures heard { HearWithin (length writers.old) writers.old }
+{
+    renew_all(rt, cells, writers, threads);
+    states_of(writers, room)
+}
+
 impl TileCells {
     /// Each tile after the members that its writer counted, read from its cell. Each reader had seen no more members of a
     /// tile than the tile's writer counted. Conditions: these are the writers of these cells, in tile order, and readers
@@ -80,5 +141,26 @@ impl TileCells {
         end_readers(&self, writers.as_mut_slice(), readers);
         let (cells, room) = self.into_parts();
         check_all(rt, cells.as_slice(), writers, room)
+    }
+
+    /// As `close`, by at most so many threads, and by several only where there are many tiles.
+    pub fn close_by<R: Threads + Wait + Sync>(
+        self,
+        rt: &R,
+        writers: Vec<TileWriter>,
+        readers: Vec<TileReader>,
+        workers: u32,
+    ) -> Vec<TileState>
+        requires writers { AreWriters self writers.items }
+        requires readers { All (IsReaderOf self writers.items) readers.items }
+        ensures whole { length result.items ≡ length self }
+        ensures states { AreClosed (length self) writers.items result.items }
+        ensures seen { All (CoversSeen (length self) writers.items) readers.items }
+    {
+        let mut writers = writers;
+        end_readers(&self, writers.as_mut_slice(), readers);
+        let (cells, room) = self.into_parts();
+        let threads = threads_for(cells.len(), workers);
+        check_by(rt, cells.as_slice(), writers.as_mut_slice(), room, threads)
     }
 }

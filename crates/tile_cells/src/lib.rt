@@ -10,6 +10,7 @@ mod note;
 mod reader;
 mod reading;
 mod rule;
+mod slots;
 mod snapshot;
 mod steps;
 mod words;

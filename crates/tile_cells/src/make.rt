@@ -4,14 +4,16 @@ ghost use Rattle.cull_base.specs.Screen.{tile_count_of};
 ghost use Rattle.tile_cells.specs.Cells.{AreFresh, IsNew};
 ghost use Rattle.tile_cells.specs.Passes.{AreOpened};
 
-use crate::cells::TileCells;
+use crate::cells::{TileCells, threads_for};
 use crate::reader::TileReader;
 use crate::rule::{Cell, CellPass};
+use crate::slots::open_by;
 use crate::steps;
 use crate::writer::TileWriter;
 use cull_base::{FrameList, Memory};
 use std::alloc::Global;
 use std::sync::Wait;
+use std::thread::Threads;
 
 // A cell for each tile, and the passes of their writers.
 fn open_all(alloc: Global, list: &FrameList) -> Result<(Vec<Cell>, Vec<CellPass>), Memory>
@@ -97,6 +99,28 @@ fn read_many(
 }
 
 impl TileCells {
+    // The same, over cells that are open.
+    fn over(
+        alloc: Global,
+        list: &FrameList,
+        cells: Vec<Cell>,
+        passes: Vec<CellPass>,
+        readers: u32,
+    ) -> Result<(TileCells, Vec<TileWriter>, Vec<TileReader>), Memory>
+        requires { AreOpened list.now.list (tile_count_of list.now.list.size)
+            (map (λ c. c.table.shared.table_id) cells.items) passes.items }
+        ensures cells { IfOk result (λ r. length r.0 ≡ tile_count_of list.now.list.size) }
+        ensures writers { IfOk result (λ r. AreFresh r.0 list.now.list (length r.0) r.1.items) }
+        ensures readers { IfOk result (λ r. (length r.2.items ≡ readers)
+            × All (IsNew r.0 list.now.list) r.2.items) }
+    {
+        let room = Vec::with_capacity(alloc, cells.len()).map_err(|_| Memory)?;
+        let cells = TileCells::of(cells, room);
+        let mut writers = write_all(alloc, list, &cells, passes)?;
+        let made = read_many(alloc, list, &cells, writers.as_mut_slice(), readers)?;
+        Ok((cells, writers, made))
+    }
+
     /// The cells of a list, each tile empty: with a writer for each tile, in tile order, and so many readers that have
     /// seen nothing. Err if out of memory. All memory is taken here, also that which `close` needs.
     pub fn make<R: Wait>(
@@ -111,10 +135,27 @@ impl TileCells {
             × All (IsNew r.0 list.now.list) r.2.items) }
     {
         let (cells, passes) = open_all(alloc, list)?;
-        let room = Vec::with_capacity(alloc, cells.len()).map_err(|_| Memory)?;
-        let cells = TileCells::of(cells, room);
-        let mut writers = write_all(alloc, list, &cells, passes)?;
-        let made = read_many(alloc, list, &cells, writers.as_mut_slice(), readers)?;
-        Ok((cells, writers, made))
+        TileCells::over(alloc, list, cells, passes, readers)
+    }
+
+    /// As `make`, by at most so many threads, and by several only where there are many tiles.
+    pub fn make_by<R: Threads + Wait + Sync>(
+        rt: &R,
+        alloc: Global,
+        list: &FrameList,
+        readers: u32,
+        workers: u32,
+    ) -> Result<(TileCells, Vec<TileWriter>, Vec<TileReader>), Memory>
+        ensures cells { IfOk result (λ r. length r.0 ≡ tile_count_of list.now.list.size) }
+        ensures writers { IfOk result (λ r. AreFresh r.0 list.now.list (length r.0) r.1.items) }
+        ensures readers { IfOk result (λ r. (length r.2.items ≡ readers)
+            × All (IsNew r.0 list.now.list) r.2.items) }
+    {
+        let threads = threads_for(list.size().tile_count() as usize, workers);
+        if threads < 2 {
+            return TileCells::make(rt, alloc, list, readers);
+        }
+        let (cells, passes) = open_by(rt, alloc, list, threads)?;
+        TileCells::over(alloc, list, cells, passes, readers)
     }
 }

@@ -142,4 +142,20 @@ impl TileWriter {
     {
         tile_of(&steps::check(rt, cell, &mut self.pass))
     }
+
+    /// Takes the tile that its cell holds, read once, as its own.
+    pub(crate) fn renew<R: Wait>(&mut self, rt: &R, cell: &Cell)
+        requires { self.old.cell ≡ cell.now.table.shared.table_id }
+        ensures same { self.new ≡ self.old }
+        ensures heard { self.old.heard ≤ self.old.count }
+    {
+        self.state = self.check(rt, cell);
+    }
+
+    /// The tile that it stored last, or took from its cell.
+    pub(crate) fn state(&self) -> TileState
+        ensures { result ≡ standing_at self.now.tile self.now.count self.now.list }
+    {
+        self.state
+    }
 }

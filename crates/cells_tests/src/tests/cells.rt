@@ -195,32 +195,39 @@ fn are_alike(one: &TileState, other: &TileState) -> bool {
 
 type Cells = (TileCells, Vec<TileWriter>, Vec<TileReader>);
 
-// Cells of a list with their writers and so many readers.
+// Cells of a list with their writers and so many readers, by so many workers.
 #[tactic(auto, using(tile_cells::proofs::Standing::new_reads))]
-fn opened<R: Wait>(rt: &R, alloc: Global, list: &FrameList, readers: u32) -> Result<Cells, Memory>
+fn opened<R: Threads + Wait + Sync>(
+    rt: &R,
+    alloc: Global,
+    list: &FrameList,
+    readers: u32,
+    workers: u32,
+) -> Result<Cells, Memory>
     ensures cells { IfOk result (λ r. length r.0 ≡ tile_count_of list.now.list.size) }
     ensures writers { IfOk result (λ r. AreStanding r.0 list.now.list 0 r.1.items) }
     ensures count { IfOk result (λ r. length r.2.items ≡ readers) }
     ensures readers { IfOk result (λ r. All (IsReading r.0 list.now.list) r.2.items) }
 {
-    let (cells, writers, readers) = TileCells::make(rt, alloc, list, readers)?;
+    let (cells, writers, readers) = TileCells::make_by(rt, alloc, list, readers, workers)?;
     Ok((cells, writers, readers))
 }
 
-// The tiles of the cells when they are closed.
+// The tiles of the cells when they are closed by so many workers.
 #[tactic(auto, using(tile_cells::proofs::Standing::standing_writers, tile_cells::proofs::Standing::reads_of))]
-fn closed<R: Wait>(
+fn closed<R: Threads + Wait + Sync>(
     rt: &R,
     cells: TileCells,
     writers: Vec<TileWriter>,
     readers: Vec<TileReader>,
     _list: &FrameList,
     _index: u32,
+    workers: u32,
 ) -> Vec<TileState>
     requires writers { AreStanding cells _list.now.list _index writers.items }
     requires readers { All (IsReading cells _list.now.list) readers.items }
 {
-    cells.close(rt, writers, readers)
+    cells.close_by(rt, writers, readers, workers)
 }
 
 // One thread draws five members, and each reader looks in a thread of its own.
@@ -259,7 +266,7 @@ fn draw_and_look<R: Threads + Wait + Sync>(
 fn note_is_learnt_and_a_prefix_is_read(rt: HostRuntime) -> Result<(), Fail> {
     let list = five_halves(&rt)?;
     assert_eq!(rt; list.len(), 5);
-    let (cells, mut writers, mut readers) = opened(&rt, rt.alloc(), &list, 1)?;
+    let (cells, mut writers, mut readers) = opened(&rt, rt.alloc(), &list, 1, 1)?;
     draw(&rt, &cells, &mut writers, &list, 0, 3);
     let (seen, count) = hear_and_look(
         &rt,
@@ -273,7 +280,7 @@ fn note_is_learnt_and_a_prefix_is_read(rt: HostRuntime) -> Result<(), Fail> {
     assert_eq!(rt; seen, 3);
     assert_eq!(rt; count, 3);
     draw(&rt, &cells, &mut writers, &list, 3, 5);
-    let states = closed(&rt, cells, writers, readers, &list, 5);
+    let states = closed(&rt, cells, writers, readers, &list, 5, 1);
     assert_eq!(rt; states.len(), 1);
     assert_eq!(rt; states[0].count(), 5);
     Ok(())
@@ -288,7 +295,7 @@ fn two_look_while_one_draws<R: Threads + Wait + Sync>(
 ) -> Result<Vec<TileState>, Memory>
     requires { 5 ≤ length list.now.list.members }
 {
-    let (cells, mut writers, mut readers) = opened(rt, alloc, list, 2)?;
+    let (cells, mut writers, mut readers) = opened(rt, alloc, list, 2, 1)?;
     draw_and_look(
         rt,
         alloc,
@@ -298,7 +305,7 @@ fn two_look_while_one_draws<R: Threads + Wait + Sync>(
         list,
         steady,
     );
-    Ok(closed(rt, cells, writers, readers, list, 5))
+    Ok(closed(rt, cells, writers, readers, list, 5, 1))
 }
 
 #[test]
@@ -312,5 +319,48 @@ fn two_readers(rt: HostRuntime) -> Result<(), Fail> {
     assert_eq!(rt; states.len(), 1);
     assert_eq!(rt; plain.len(), 1);
     assert!(rt; are_alike(&states[0], &plain[0]));
+    Ok(())
+}
+
+// A quad that fills a screen of 1,024 tiles, in two halves.
+fn two_halves(rt: &HostRuntime) -> Result<FrameList, Fail> {
+    let size = Size::new(1024, 256).ok_or("a size")?;
+    let mut list = FrameList::with_room(rt.alloc(), size, 2)?;
+    let nearness = [32767, 32767, 32767];
+    for (x, y) in [
+        ([0, 16384, 16384], [0, 0, 4096]),
+        ([0, 16384, 0], [0, 4096, 4096]),
+    ] {
+        let half = ScreenTri::new(x, y, nearness).ok_or("a piece")?;
+        if list.len() < 2 {
+            list.push(half);
+        }
+    }
+    Ok(list)
+}
+
+fn are_all_alike(some: &[TileState], others: &[TileState]) -> bool {
+    if some.len() != others.len() {
+        return false;
+    }
+    for tile in 0..some.len() {
+        if !are_alike(&some[tile], &others[tile]) {
+            return false;
+        }
+    }
+    true
+}
+
+#[test]
+fn four_workers_make_and_close_what_one_draws(rt: HostRuntime) -> Result<(), Fail> {
+    let list = two_halves(&rt)?;
+    assert_eq!(rt; list.len(), 2);
+    let plain = draw_plain(rt.alloc(), &list)?;
+    let (cells, mut writers, readers) = opened(&rt, rt.alloc(), &list, 1, 4)?;
+    draw(&rt, &cells, &mut writers, &list, 0, 2);
+    let states = closed(&rt, cells, writers, readers, &list, 2, 4);
+    assert_eq!(rt; states.len(), 1024);
+    assert!(rt; states[0].count() > 0);
+    assert!(rt; are_all_alike(&states, &plain));
     Ok(())
 }
