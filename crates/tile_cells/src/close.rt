@@ -143,7 +143,8 @@ impl TileCells {
         check_all(rt, cells.as_slice(), writers, room)
     }
 
-    /// As `close`, by at most so many threads, and by several only where there are many tiles.
+    /// As `close`, by one thread for each 512 tiles and at most `workers` threads; where these would be fewer than two,
+    /// the caller does it.
     pub fn close_by<R: Threads + Wait + Sync>(
         self,
         rt: &R,
@@ -157,10 +158,13 @@ impl TileCells {
         ensures states { AreClosed (length self) writers.items result.items }
         ensures seen { All (CoversSeen (length self) writers.items) readers.items }
     {
+        let threads = threads_for(writers.len(), workers);
+        if threads < 2 {
+            return self.close(rt, writers, readers);
+        }
         let mut writers = writers;
         end_readers(&self, writers.as_mut_slice(), readers);
         let (cells, room) = self.into_parts();
-        let threads = threads_for(cells.len(), workers);
         check_by(rt, cells.as_slice(), writers.as_mut_slice(), room, threads)
     }
 }

@@ -99,7 +99,7 @@ fn read_many(
 }
 
 impl TileCells {
-    // The same, over cells that are open.
+    // What `make` gives, over cells that are open. Err if out of memory.
     fn over(
         alloc: Global,
         list: &FrameList,
@@ -122,7 +122,8 @@ impl TileCells {
     }
 
     /// The cells of a list, each tile empty: with a writer for each tile, in tile order, and so many readers that have
-    /// seen nothing. Err if out of memory. All memory is taken here, also that which `close` needs.
+    /// seen nothing. Err if out of memory. All memory is taken here, also that which
+    /// `close` and `close_by` need.
     pub fn make<R: Wait>(
         _rt: &R,
         alloc: Global,
@@ -138,7 +139,8 @@ impl TileCells {
         TileCells::over(alloc, list, cells, passes, readers)
     }
 
-    /// As `make`, by at most so many threads, and by several only where there are many tiles.
+    /// As `make`, by one thread for each 512 tiles and at most `workers` threads; where these would be fewer than two, the
+    /// caller does it. Err if out of memory.
     pub fn make_by<R: Threads + Wait + Sync>(
         rt: &R,
         alloc: Global,

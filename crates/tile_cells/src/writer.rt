@@ -19,8 +19,8 @@ use masked_update::{PieceForm, TileState};
 use std::marker::Model;
 use std::sync::Wait;
 
-/// Draws the members of a tile's list into the tile's cell. Beside its pass it keeps the tile that it stored last, so
-/// that it doesn't read its cell to draw.
+/// Draws the members of a tile's list into the tile's cell. Beside its pass it keeps the tile that it stored last, or
+/// took from its cell at the close, so that it doesn't read its cell to draw.
 #[derive(Drop)]
 pub struct TileWriter {
     pass: CellPass,

@@ -322,14 +322,14 @@ fn two_readers(rt: HostRuntime) -> Result<(), Fail> {
     Ok(())
 }
 
-// A quad that fills a screen of 1,024 tiles, in two halves.
+// A quad that fills a screen of 2,048 tiles, in two halves.
 fn two_halves(rt: &HostRuntime) -> Result<FrameList, Fail> {
-    let size = Size::new(1024, 256).ok_or("a size")?;
+    let size = Size::new(1024, 512).ok_or("a size")?;
     let mut list = FrameList::with_room(rt.alloc(), size, 2)?;
     let nearness = [32767, 32767, 32767];
     for (x, y) in [
-        ([0, 16384, 16384], [0, 0, 4096]),
-        ([0, 16384, 0], [0, 4096, 4096]),
+        ([0, 16384, 16384], [0, 0, 8192]),
+        ([0, 16384, 0], [0, 8192, 8192]),
     ] {
         let half = ScreenTri::new(x, y, nearness).ok_or("a piece")?;
         if list.len() < 2 {
@@ -359,8 +359,8 @@ fn four_workers_make_and_close_what_one_draws(rt: HostRuntime) -> Result<(), Fai
     let (cells, mut writers, readers) = opened(&rt, rt.alloc(), &list, 1, 4)?;
     draw(&rt, &cells, &mut writers, &list, 0, 2);
     let states = closed(&rt, cells, writers, readers, &list, 2, 4);
-    assert_eq!(rt; states.len(), 1024);
-    assert!(rt; states[0].count() > 0);
+    assert_eq!(rt; states.len(), 2048);
+    assert_eq!(rt; states[0].count(), 2);
     assert!(rt; are_all_alike(&states, &plain));
     Ok(())
 }
