@@ -327,15 +327,10 @@ fn two_halves(rt: &HostRuntime) -> Result<FrameList, Fail> {
     let size = Size::new(1024, 512).ok_or("a size")?;
     let mut list = FrameList::with_room(rt.alloc(), size, 2)?;
     let nearness = [32767, 32767, 32767];
-    for (x, y) in [
-        ([0, 16384, 16384], [0, 0, 8192]),
-        ([0, 16384, 0], [0, 8192, 8192]),
-    ] {
-        let half = ScreenTri::new(x, y, nearness).ok_or("a piece")?;
-        if list.len() < 2 {
-            list.push(half);
-        }
-    }
+    let upper = ScreenTri::new([0, 16384, 16384], [0, 0, 8192], nearness).ok_or("a piece")?;
+    let lower = ScreenTri::new([0, 16384, 0], [0, 8192, 8192], nearness).ok_or("a piece")?;
+    list.push(upper);
+    list.push(lower);
     Ok(list)
 }
 
