@@ -1,13 +1,16 @@
 -- Pixels by tile, subtile and sample.
-use Rattle.std.proofs.Common.{◌≡◌, ℕ, pos, ◌+◌, ◌*◌, ◌/◌, ◌%◌, ◌<◌, ◌≤◌, suc, refl, arith, ◌∙◌}
+use Rattle.std.proofs.Common.{◌≡◌, ℕ, pos, ◌+◌, ◌*◌, ◌/◌, ◌%◌, ◌<◌, ◌≤◌, suc, refl, arith, ap, ◌∙◌, true, nat_lt}
 use Rattle.std.specs.Int.{div_ceil}
+use Rattle.std.proofs.lemmas.Bool.Decides.{nat_tests}
 use Rattle.std.proofs.lemmas.Int.{ints}
 use Rattle.std.proofs.lemmas.Nat.{div-mul-add}
 use Rattle.std.proofs.Math.Nat.{mul-le-mul_right, mul-add-mod_self_right, mod-eq_of_lt}
+use Rattle.cull_base.specs.declared.place.Sub.{Sub}
+use Rattle.cull_base.specs.declared.place.Tile.{Tile}
 use Rattle.cull_base.specs.Piece.{middle, sample}
 use Rattle.cull_base.specs.Pixels.{sub_of_pixel, sample_of_pixel, tile_of_pixel}
 use Rattle.cull_base.specs.Rectangle.{HasPixel}
-use Rattle.cull_base.specs.Screen.{Dimensions, tile_columns_of, tile_rows_of, tile_count_of, tile_place, tile_rect_of}
+use Rattle.cull_base.specs.Screen.{Dimensions, is_on_screen, tile_columns_of, tile_rows_of, tile_count_of, tile_place, tile_rect_of, tile_sub}
 
 -- a tile of a row that lies in the screen
 pub tile_below : (row rows column columns : ℕ) → row < rows → column < columns → row * columns + column < columns * rows
@@ -63,3 +66,24 @@ tile_of_pixel-is size px py x y =
 
     row_below : (h py : ℕ) → py < h → py / 8 < div_ceil h 8
     row_below h py lt = omega arith
+
+-- the number of a pixel's subtile in its tile
+abbrev pub place_in_tile : ℕ → ℕ → ℕ
+place_in_tile px py = 4 * (py / 4 % 2) + px / 8 % 4
+
+-- the subtile of a pixel, as that of its tile
+pub sub_is : (size : Dimensions) (px py : ℕ) → px < size.width → py < size.height → tile_sub size (tile_of_pixel size px py) (place_in_tile px py) ≡ sub_of_pixel px py
+sub_is size px py x y =
+    let tile = tile_of_pixel-is size px py x y in
+    let c : 4 * (px / 32) + (4 * (py / 4 % 2) + px / 8 % 4) % 4 ≡ px / 8 = omega arith in
+    let r : 2 * (py / 8) + (4 * (py / 4 % 2) + px / 8 % 4) / 4 ≡ py / 4 = omega arith in
+    ap (λ (p : Tile). of_place p) tile.place ∙ rw (c, r) refl
+  where
+    of_place : Tile → Sub
+    of_place p = record { column = 4 * p.column + place_in_tile px py % 4; row = 2 * p.row + place_in_tile px py / 4 }
+
+pub on_screen : (size : Dimensions) (px py : ℕ) → px < size.width → py < size.height → is_on_screen size (sub_of_pixel px py) ≡ true
+on_screen size px py x y =
+    let a : nat_lt (8 * (px / 8)) size.width ≡ true = grind (arith, nat_tests) in
+    let b : nat_lt (4 * (py / 4)) size.height ≡ true = grind (arith, nat_tests) in
+    rw (a, b) refl

@@ -21,3 +21,10 @@ common a b = record { x0 = int_max a.x0 b.x0; y0 = int_max a.y0 b.y0; x1 = int_m
 -- the pixels in both, and one fixed rectangle where there are none
 abbrev pub cut_of : Rect → Rect → Rect
 cut_of a b = cond (meets a b) (common a b) no_pixels
+
+-- a rectangle whose sides lie between those of another
+pub record IsWithin (a b : Rect) : Type 0 where
+  pub x0 : b.x0 ≤ℤ a.x0
+  pub y0 : b.y0 ≤ℤ a.y0
+  pub x1 : a.x1 ≤ℤ b.x1
+  pub y1 : a.y1 ≤ℤ b.y1

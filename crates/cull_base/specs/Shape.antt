@@ -1,13 +1,13 @@
 -- What of an object is asked of the tiles: its samples, its nearness at each, its area, and the verdict over them.
 use Rattle.std.specs.Prelude.{ℕ, pos, List, map, filter, Bool, false, not, ◌&&◌, ◌||◌, cond}
-use Rattle.std.specs.List.{list_all, list_any}
+use Rattle.std.specs.List.{Contains, list_all, list_any}
 use Rattle.cull_base.specs.declared.rect.Rect.{Rect}
 use Rattle.cull_base.specs.declared.place.Sub.{Sub}
 use Rattle.cull_base.specs.declared.scene_types.Verdict.{Verdict}
 use Rattle.cull_base.specs.declared.scene_types.Verdict.TheVariants.{Visible, Occluded, Outside}
 use Rattle.cull_base.specs.Screen.{Dimensions, screen_of}
-use Rattle.cull_base.specs.Rectangle.{meets, cut_of, no_pixels}
-use Rattle.cull_base.specs.Piece.{Piece, middle, touches}
+use Rattle.cull_base.specs.Rectangle.{IsWithin, meets, cut_of, no_pixels}
+use Rattle.cull_base.specs.Piece.{Piece, IsPiece, box_of, middle, touches}
 use Rattle.cull_base.specs.Depth.{high_of}
 use Rattle.cull_base.specs.Fraction.{Fraction, whole_number, depth_at, greatest_fraction}
 use Rattle.cull_base.specs.State.{State, hides}
@@ -19,6 +19,13 @@ pub data Shape : Type 0 where
   AlwaysVisible : Shape
   Flat : (rect : Rect) (nearness : ℕ) → Shape
   Pieces : (pieces : List Piece) (hull : Rect) → Shape
+
+-- each of its pieces is one, and lies in the hull
+abbrev pub HasPieces : Shape → Type 0
+HasPieces AlwaysOutside = Unit {0}
+HasPieces AlwaysVisible = Unit {0}
+HasPieces (Flat rect nearness) = Unit {0}
+HasPieces (Pieces pieces hull) = (t : Piece) → Contains pieces t → IsPiece t × IsWithin (box_of t) hull
 
 -- a rectangle with one nearness, where it has a pixel in the screen
 abbrev pub flat_shape : Dimensions → Rect → ℕ → Shape

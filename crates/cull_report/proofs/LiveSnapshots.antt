@@ -13,7 +13,7 @@ use Rattle.cull_base.specs.State.{State}
 use Rattle.cull_base.specs.Pixels.{sub_of_pixel, tile_of_pixel, at_each_pixel}
 use Rattle.cull_base.specs.Shape.{Shape, AlwaysOutside, AlwaysVisible, Flat, Pieces, has_sample, is_hidden_at, is_hidden, verdict_of}
 use Rattle.cull_base.proofs.HiddenObjects.{each_to, each_from, implied, implies}
-use Rattle.cull_base.proofs.Pixels.{tile_is, tile_of_pixel-is}
+use Rattle.cull_base.proofs.Pixels.{place_in_tile, tile_is, tile_of_pixel-is}
 use Rattle.cull_base.proofs.Rectangles.{meets_pixel}
 use Rattle.masked_update.specs.TileOf.{TileOf, sub_at, tile_at}
 use Rattle.masked_update.specs.Taken.{standing_at}
@@ -25,7 +25,6 @@ use Rattle.cull_report.specs.declared.live_line.TileCount.{TileCount}
 use Rattle.cull_report.specs.Scene.{size_of, frame_list, object_shape, object_area, verdict_in}
 use Rattle.cull_report.specs.Live.{tile_count, counts_held, live_line, object_at, tiles_met, prefixed_tiles, prefixed_verdict, object_line}
 use Rattle.cull_report.proofs.Agreement.{hidden_at_alike}
-use Rattle.cull_report.proofs.TileStates.{place_in_tile}
 use Rattle.cull_report.proofs.Occluders.{object_has_pieces, sample_in_area}
 
 -- ---- a verdict asks only for the states at an object's samples

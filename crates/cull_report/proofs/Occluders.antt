@@ -18,23 +18,19 @@ use Rattle.cull_base.specs.State.{State}
 use Rattle.cull_base.specs.Fold.{after, IsSound}
 use Rattle.cull_base.specs.Tiles.{ArePieces}
 use Rattle.cull_base.specs.Nearer.{HasNearerPiece}
-use Rattle.cull_base.specs.Pixels.{sub_of_pixel, sample_of_pixel, tile_of_pixel}
-use Rattle.cull_base.specs.Shape.{Shape, AlwaysOutside, AlwaysVisible, Flat, Pieces, has_sample, near_at, area_of, verdict_of}
-use Rattle.cull_base.proofs.HiddenObjects.{hidden_each, occluded_is_hidden}
-use Rattle.cull_base.proofs.Nearer.{nearer_piece}
-use Rattle.cull_base.proofs.Pixels.{sample_below, sample_is_middle, tile_of_pixel-is}
+use Rattle.cull_base.specs.Pixels.{sub_of_pixel, tile_of_pixel}
+use Rattle.cull_base.specs.Shape.{Shape, AlwaysOutside, AlwaysVisible, Flat, HasPieces, Pieces, has_sample, near_at, area_of, verdict_of}
+use Rattle.cull_base.proofs.Pixels.{tile_of_pixel-is}
 use Rattle.cull_base.proofs.Rectangles.{meets_pixel, cut_pixels}
 use Rattle.masked_update.proofs.Drawing.{after_is_sound}
 use Rattle.masked_update.specs.TileOf.{TileOf}
 use Rattle.masked_update.specs.Views.{state_in}
 use Rattle.scene_reader.specs.Layout.{Parts, IsScene}
-use Rattle.rect_query.specs.declared.boxes.BoxAnswer.{BoxAnswer}
-use Rattle.rect_query.specs.declared.boxes.BoxAnswer.TheVariants.{Outside, Straddles, At}
-use Rattle.rect_query.specs.Boxes.{box_answer, shape_of_answer}
-use Rattle.rect_query.specs.Rectangles.{nearness_at, rectangle_shape}
+use Rattle.rect_query.specs.Boxes.{box_answer}
+use Rattle.rect_query.proofs.Shapes.{answer_has_pieces, rectangle_has_pieces}
 use Rattle.mesh_query.proofs.Members.{one_that_holds}
 use Rattle.mesh_query.proofs.Boxes.{on_screen, touched_pixel}
-use Rattle.mesh_query.proofs.Occluders.{HasPieces, mesh_has_pieces, pieces_nearer}
+use Rattle.mesh_query.proofs.Occluders.{mesh_has_pieces, sound_hides}
 use Rattle.cull_report.specs.Scene.{frame_pieces, frame_verdicts, frame_clips, size_of, object_shape, object_area, object_verdict, verdict_in}
 use Rattle.cull_report.specs.Hiding.{HidesObject, HidesTruly}
 use Rattle.cull_report.proofs.TileStates.{state_after}
@@ -48,42 +44,12 @@ verdict_there f [] o x v e g = absurd cc
 verdict_there f (y ∷ ys) zero x v e g = let is : y ≡ x = cc in rw (← is) (cc)
 verdict_there f (y ∷ ys) (suc o) x v e g = verdict_there f ys o x v e g
 
--- a shape that is occluded where a subtile is sound for a list has a piece of it strictly nearer at each sample there
-pub sound_hides : (size : Dimensions) (f : Sub → State) (pieces : List Piece) (shape : Shape) (px py : ℕ) → HasPieces shape → ArePieces pieces → IsSound (sub_of_pixel px py) pieces (f (sub_of_pixel px py))
-    → verdict_of size f shape ≡ Occluded → px < size.width → py < size.height → has_sample shape px py ≡ true → HasNearerPiece pieces (middle px py) (near_at shape px py)
-sound_hides size f pieces AlwaysOutside px py good all sound occluded x y has = absurd cc
-sound_hides size f pieces AlwaysVisible px py good all sound occluded x y has = absurd cc
-sound_hides size f pieces (Flat r q) px py good all sound occluded x y has =
-    let u = sub_of_pixel px py in
-    let h = hidden_each size f (Flat r q) (occluded_is_hidden size f (Flat r q) occluded) px py x y has in
-    nearer_piece pieces u (f u) (sample_of_pixel px py) q (middle px py) all sound (sample_below px py) (sample_is_middle px py) h
-sound_hides size f pieces (Pieces ts hull) px py good all sound occluded x y has =
-    pieces_nearer size f pieces ts hull px py (λ t m. (good t m).0) all sound (occluded_is_hidden size f (Pieces ts hull) occluded) x y has
-
 -- and so has one where the subtile has the state after the list
 pub shape_hides : (size : Dimensions) (f : Sub → State) (pieces : List Piece) (shape : Shape) (px py : ℕ) → HasPieces shape → ArePieces pieces → f (sub_of_pixel px py) ≡ after (sub_of_pixel px py) pieces
     → verdict_of size f shape ≡ Occluded → px < size.width → py < size.height → has_sample shape px py ≡ true → HasNearerPiece pieces (middle px py) (near_at shape px py)
 shape_hides size f pieces shape px py good all is occluded x y has =
     let u = sub_of_pixel px py in
     sound_hides size f pieces shape px py good all (subst (IsSound u pieces) (sym is) (after_is_sound u pieces all)) occluded x y has
-
-pub rectangle_has_pieces : (top near : ℕ) (size : Dimensions) (r : Rect) (w : ℤ) → HasPieces (rectangle_shape top near size r w)
-rectangle_has_pieces top near size r w = by (int_lt w (pos near)) (meets r (screen_of size))
-  where
-    by : (b m : Bool) → HasPieces (cond m (cond b AlwaysVisible (Flat r (nearness_at top near w))) AlwaysOutside)
-    by true true = tt
-    by true false = tt
-    by false true = tt
-    by false false = tt
-
-pub answer_has_pieces : (size : Dimensions) (answer : BoxAnswer) → HasPieces (shape_of_answer size answer)
-answer_has_pieces size Outside = tt
-answer_has_pieces size Straddles = tt
-answer_has_pieces size (At r q) = by (meets r (screen_of size))
-  where
-    by : (m : Bool) → HasPieces (cond m (Flat r q) AlwaysOutside)
-    by true = tt
-    by false = tt
 
 pub object_has_pieces : (s : Parts) (frame : ℕ) (x : Object) → IsScene s → HasPieces (object_shape s frame x)
 unfolding object_shape

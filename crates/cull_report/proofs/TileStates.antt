@@ -1,41 +1,18 @@
 -- The state of a pixel's subtile among those of tiles that took pieces.
-use Rattle.std.proofs.Common.{◌≡◌, ℕ, ◌+◌, ◌*◌, ◌/◌, ◌%◌, ◌<◌, true, cond, nat_lt, arith, refl, ap, ◌∙◌, subst, List, get_or}
-use Rattle.std.proofs.lemmas.Bool.Decides.{nat_tests}
+use Rattle.std.proofs.Common.{◌≡◌, ℕ, ◌/◌, ◌<◌, cond, arith, refl, ap, ◌∙◌, subst, List, get_or}
 use Rattle.std.proofs.lemmas.List.FromFn.{get_or-map-range_with_len}
 use Rattle.cull_base.specs.declared.place.Sub.{Sub}
-use Rattle.cull_base.specs.declared.place.Tile.{Tile}
 use Rattle.cull_base.specs.Screen.{Dimensions, IsSize, tile_columns_of, tile_count_of, tile_sub, is_on_screen}
 use Rattle.cull_base.specs.Piece.{Piece}
 use Rattle.cull_base.specs.State.{State, empty_state}
 use Rattle.cull_base.specs.Fold.{after}
 use Rattle.cull_base.specs.Tiles.{PieceList, ArePieces, tile_list, tile_after}
 use Rattle.cull_base.specs.Pixels.{sub_of_pixel, tile_of_pixel}
-use Rattle.cull_base.proofs.Pixels.{tile_is, tile_of_pixel-is}
+use Rattle.cull_base.proofs.Pixels.{on_screen, place_in_tile, sub_is, tile_is, tile_of_pixel-is}
 use Rattle.masked_update.proofs.OwnList.{after-tile_list}
 use Rattle.masked_update.specs.TileOf.{TileOf, sub_at}
 use Rattle.masked_update.specs.Views.{state_in}
 use Rattle.cull_report.proofs.Agreement.{Agrees}
-
--- the number of a pixel's subtile in its tile
-abbrev pub place_in_tile : ℕ → ℕ → ℕ
-place_in_tile px py = 4 * (py / 4 % 2) + px / 8 % 4
-
--- the subtile of a pixel, as that of its tile
-pub sub_is : (size : Dimensions) (px py : ℕ) → px < size.width → py < size.height → tile_sub size (tile_of_pixel size px py) (place_in_tile px py) ≡ sub_of_pixel px py
-sub_is size px py x y =
-    let tile = tile_of_pixel-is size px py x y in
-    let c : 4 * (px / 32) + (4 * (py / 4 % 2) + px / 8 % 4) % 4 ≡ px / 8 = omega arith in
-    let r : 2 * (py / 8) + (4 * (py / 4 % 2) + px / 8 % 4) / 4 ≡ py / 4 = omega arith in
-    ap (λ (p : Tile). of_place p) tile.place ∙ rw (c, r) refl
-  where
-    of_place : Tile → Sub
-    of_place p = record { column = 4 * p.column + place_in_tile px py % 4; row = 2 * p.row + place_in_tile px py / 4 }
-
-pub on_screen : (size : Dimensions) (px py : ℕ) → px < size.width → py < size.height → is_on_screen size (sub_of_pixel px py) ≡ true
-on_screen size px py x y =
-    let a : nat_lt (8 * (px / 8)) size.width ≡ true = grind (arith, nat_tests) in
-    let b : nat_lt (4 * (py / 4)) size.height ≡ true = grind (arith, nat_tests) in
-    rw (a, b) refl
 
 -- after the list of a pixel's tile its subtile is as after the whole list
 pub own_list_at : (list : PieceList) (px py : ℕ) → IsSize list.size.width list.size.height → ArePieces list.members → px < list.size.width → py < list.size.height

@@ -15,7 +15,7 @@ use Rattle.cull_base.specs.Fold.{after}
 use Rattle.cull_base.specs.declared.place.Sub.{Sub}
 use Rattle.cull_base.specs.Tiles.{ArePieces}
 use Rattle.cull_base.proofs.HiddenObjects.{each_from, each_to, implied, implies}
-use Rattle.cull_base.proofs.Pixels.{tile_is, tile_of_pixel-is}
+use Rattle.cull_base.proofs.Pixels.{place_in_tile, tile_is, tile_of_pixel-is}
 use Rattle.cull_base.proofs.Rectangles.{meets_pixel}
 use Rattle.masked_update.specs.TileOf.{TileOf, sub_at, tile_at}
 use Rattle.masked_update.specs.Views.{state_in}
@@ -28,7 +28,7 @@ use Rattle.cull_report.specs.Settled.{SettlesObject, is_settled_shape, settled_i
 use Rattle.rect_query.specs.Settled.{is_settled, is_settled_at}
 use Rattle.cull_report.proofs.Agreement.{objects_alike, shape_alike}
 use Rattle.cull_report.proofs.Occluders.{sample_in_area}
-use Rattle.cull_report.proofs.TileStates.{drawn_agrees, place_in_tile}
+use Rattle.cull_report.proofs.TileStates.{drawn_agrees}
 use Rattle.culling.specs.Culling.{AreSettled, TookFrame}
 use Rattle.culling.specs.LiveFrames.{AreMarks, HaveMarks, HaveSettled, IsSettledWhere, prefixed_settled}
 use Rattle.culling.proofs.LiveLooks.{at_other, at_same, list_size, seen_is_prefixed, with_at}

@@ -8,17 +8,15 @@ use Rattle.cull_base.specs.Fold.{IsSound, after}
 use Rattle.cull_base.specs.Piece.{Piece}
 use Rattle.cull_base.specs.Pixels.{sub_of_pixel, tile_of_pixel}
 use Rattle.cull_base.specs.Screen.{Dimensions, is_on_screen, tile_columns_of, tile_sub}
-use Rattle.cull_base.specs.Shape.{Shape, verdict_of}
+use Rattle.cull_base.specs.Shape.{HasPieces, Shape, verdict_of}
 use Rattle.cull_base.specs.State.{State, empty_state}
 use Rattle.cull_base.specs.Tiles.{ArePieces, tile_after}
-use Rattle.cull_base.proofs.Pixels.{tile_is}
+use Rattle.cull_base.proofs.Pixels.{on_screen, place_in_tile, sub_is, tile_is}
 use Rattle.masked_update.specs.TileOf.{TileOf, sub_at, tile_at}
 use Rattle.masked_update.specs.Views.{state_in}
 use Rattle.masked_update.proofs.Drawing.{after_is_sound}
 use Rattle.masked_update.proofs.Merging.{one_of_eight}
-use Rattle.mesh_query.proofs.Occluders.{HasPieces}
-use Rattle.cull_report.proofs.Occluders.{sound_hides}
-use Rattle.cull_report.proofs.TileStates.{on_screen, place_in_tile, sub_is}
+use Rattle.mesh_query.proofs.Occluders.{sound_hides}
 use Rattle.maskcull_c.specs.Tiles.{Hides, IsAfter, IsSoundFor, code_of}
 use Rattle.maskcull_c.proofs.Codes.{occluded_by_code}
 

@@ -7,11 +7,11 @@ use Rattle.std.proofs.lemmas.List.{map_push}
 use Rattle.std.proofs.lemmas.List.Sums.{fold_push}
 use Rattle.cull_base.specs.declared.rect.Rect.{Rect}
 use Rattle.cull_base.specs.Screen.{Dimensions, screen_of, tile_place, tile_rect_of}
-use Rattle.cull_base.specs.Rectangle.{HasPixel, meets, cut_of}
+use Rattle.cull_base.specs.Rectangle.{HasPixel, IsWithin, cut_of, meets}
 use Rattle.cull_base.specs.Piece.{Piece, IsPiece, box_of, middle, touches, least_of, greatest_of}
 use Rattle.cull_base.proofs.Rectangles.{meets_pixel, cut_pixels}
 use Rattle.depth_plane.proofs.Boxes.{touches-in_box}
-use Rattle.snap_setup.proofs.PieceBoxes.{IsWithin, within_pixel}
+use Rattle.snap_setup.proofs.PieceBoxes.{within_pixel}
 use Rattle.mesh_query.specs.Asked.{TouchesPixel}
 use Rattle.mesh_query.specs.Meshes.{hull_of}
 use Rattle.mesh_query.proofs.Members.{cases_of_list}

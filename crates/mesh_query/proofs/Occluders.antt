@@ -22,13 +22,13 @@ use Rattle.cull_base.specs.Fold.{IsSound}
 use Rattle.cull_base.specs.Tiles.{ArePieces}
 use Rattle.cull_base.specs.Nearer.{HasNearerPiece}
 use Rattle.cull_base.specs.Pixels.{sub_of_pixel, sample_of_pixel}
-use Rattle.cull_base.specs.Shape.{Shape, AlwaysOutside, AlwaysVisible, Flat, Pieces, has_sample, near_at, is_hidden}
-use Rattle.cull_base.proofs.HiddenObjects.{implied, hidden_each}
+use Rattle.cull_base.specs.Shape.{Shape, AlwaysOutside, AlwaysVisible, Flat, HasPieces, Pieces, has_sample, near_at, is_hidden, verdict_of}
+use Rattle.cull_base.proofs.HiddenObjects.{implied, hidden_each, occluded_is_hidden}
 use Rattle.cull_base.proofs.Nearer.{nearer_piece}
 use Rattle.cull_base.proofs.Pixels.{sample_below, sample_is_middle}
 use Rattle.depth_plane.proofs.Depths.{high_of-above}
 use Rattle.depth_plane.proofs.Products.{le_times}
-use Rattle.snap_setup.proofs.PieceBoxes.{IsWithin, piece_in_near_box}
+use Rattle.snap_setup.proofs.PieceBoxes.{piece_in_near_box}
 use Rattle.snap_setup.proofs.ValidPieces.{pieces_are, held_by_member}
 use Rattle.snap_setup.specs.Pieces.{clip_at}
 use Rattle.mesh_query.specs.Meshes.{at_each_vertex, at_some_vertex, near_boxes, object_pieces, object_pieces_at, is_one_on_screen, hull_of, mesh_shape}
@@ -106,12 +106,17 @@ pieces_nearer size f list ps hull px py pieces all sound hidden x y has =
     let le : numerator v p ≤ℤ (pos (high_of v u) *ℤ denominator v) = subst (λ (q : Point). numerator v q ≤ℤ (pos (high_of v u) *ℤ denominator v)) at bound in
     subst (HasNearerPiece list p) is (nearer_than_depth list p v (high_of v u) all (pieces v among) le (nearer_piece list u (f u) k (high_of v u) p all sound (sample_below px py) at hides_it)))
 
--- what is true of the pieces of a shape: each is one, and its box lies in the hull
-abbrev pub HasPieces : Shape → Type 0
-HasPieces AlwaysOutside = Unit {0}
-HasPieces AlwaysVisible = Unit {0}
-HasPieces (Flat r q) = Unit {0}
-HasPieces (Pieces ps hull) = (t : Piece) → Contains ps t → IsPiece t × IsWithin (box_of t) hull
+-- a shape that is occluded where a subtile is sound for a list has a piece of it strictly nearer at each sample there
+pub sound_hides : (size : Dimensions) (f : Sub → State) (pieces : List Piece) (shape : Shape) (px py : ℕ) → HasPieces shape → ArePieces pieces → IsSound (sub_of_pixel px py) pieces (f (sub_of_pixel px py))
+    → verdict_of size f shape ≡ Occluded → px < size.width → py < size.height → has_sample shape px py ≡ true → HasNearerPiece pieces (middle px py) (near_at shape px py)
+sound_hides size f pieces AlwaysOutside px py good all sound occluded x y has = absurd cc
+sound_hides size f pieces AlwaysVisible px py good all sound occluded x y has = absurd cc
+sound_hides size f pieces (Flat r q) px py good all sound occluded x y has =
+    let u = sub_of_pixel px py in
+    let h = hidden_each size f (Flat r q) (occluded_is_hidden size f (Flat r q) occluded) px py x y has in
+    nearer_piece pieces u (f u) (sample_of_pixel px py) q (middle px py) all sound (sample_below px py) (sample_is_middle px py) h
+sound_hides size f pieces (Pieces ts hull) px py good all sound occluded x y has =
+    pieces_nearer size f pieces ts hull px py (λ t m. (good t m).0) all sound (occluded_is_hidden size f (Pieces ts hull) occluded) x y has
 
 pub mesh_has_pieces : (grade : Grade) (near : ℕ) (size : Dimensions) (clips : List ClipVertex) (tris : List Tri) → IsSize size.width size.height → 1 ≤ near → near ≤ 1024 → HasPieces (mesh_shape (top_of grade) near size clips tris)
 unfolding mesh_shape

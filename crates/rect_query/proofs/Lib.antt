@@ -7,3 +7,4 @@ pub mod Rising
 pub mod Reaching
 pub mod Bare
 pub mod References
+pub mod Shapes

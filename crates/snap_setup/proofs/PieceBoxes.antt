@@ -11,7 +11,7 @@ use Rattle.cull_base.specs.declared.triangle.Side.{Side}
 use Rattle.cull_base.specs.declared.triangle.Winding.{Winding}
 use Rattle.cull_base.specs.NearPlane.{is_behind}
 use Rattle.cull_base.specs.Piece.{Piece, doubled_area, least_of, greatest_of, first_pixel, end_pixel, box_around, box_of}
-use Rattle.cull_base.specs.Rectangle.{HasPixel}
+use Rattle.cull_base.specs.Rectangle.{HasPixel, IsWithin}
 use Rattle.cull_base.specs.Screen.{Dimensions}
 use Rattle.near_clip.specs.declared.hom_point.HomPoint.{HomPoint}
 use Rattle.near_clip.specs.NearPart.{near_part, whole, corner, is_in_front}
@@ -21,13 +21,6 @@ use Rattle.snap_setup.specs.Pieces.{triangle, triangles_of, is_left_out, exchang
 use Rattle.snap_setup.specs.Triangles.{pieces_of_triangle, near_box_of_triangle}
 use Rattle.snap_setup.proofs.KeptPieces.{kept_from, kept_cons, fronts}
 use Rattle.snap_setup.proofs.ValidPieces.{kept_more, held_by_member}
-
--- each pixel of the first is one of the second
-pub record IsWithin (a b : Rect) : Type 0 where
-  pub x0 : b.x0 ≤ℤ a.x0
-  pub y0 : b.y0 ≤ℤ a.y0
-  pub x1 : a.x1 ≤ℤ b.x1
-  pub y1 : a.y1 ≤ℤ b.y1
 
 pub within_pixel : (a b : Rect) (x y : ℤ) → IsWithin a b → HasPixel a x y → HasPixel b x y
 within_pixel a b x y h p = (omega (arith, ints, h.x0, p.0), omega (arith, ints, h.x1, p.1), omega (arith, ints, h.y0, p.2), omega (arith, ints, h.y1, p.3))

@@ -2,7 +2,7 @@ use Rattle.std.proofs.Common.{◌≡◌, FitsSigned, w32, ap, ◌∙◌}
 use Rattle.std.proofs.lemmas.Int.{to_z-of_z}
 use Rattle.cull_base.specs.Grade.{top_of}
 use Rattle.rect_query.specs.Rectangles.{rectangle_shape}
-use Rattle.cull_report.proofs.Occluders.{rectangle_has_pieces}
+use Rattle.rect_query.proofs.Shapes.{rectangle_has_pieces}
 use Rattle.maskcull_c.specs.Asked.{shape_of_area, verdict_over}
 use Rattle.maskcull_c.specs.Given.{rect_of, grade_of, size_of}
 use Rattle.maskcull_c.specs.Tiles.{code_of}

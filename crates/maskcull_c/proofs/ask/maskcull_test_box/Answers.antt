@@ -1,7 +1,7 @@
 use Rattle.std.proofs.Common.{◌≡◌, map, ap, ◌∙◌}
 use Rattle.cull_base.specs.Grade.{top_of}
 use Rattle.rect_query.specs.Boxes.{box_answer, box_shape}
-use Rattle.cull_report.proofs.Occluders.{answer_has_pieces}
+use Rattle.rect_query.proofs.Shapes.{answer_has_pieces}
 use Rattle.maskcull_c.specs.Asked.{shape_of_box, verdict_over}
 use Rattle.maskcull_c.specs.Given.{clip_of, grade_of, size_of}
 use Rattle.maskcull_c.specs.Tiles.{code_of}
