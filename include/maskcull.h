@@ -114,7 +114,8 @@ typedef struct maskcull_setup {
 } maskcull_setup;
 
 /* A vertex in clip space: any numbers. One with x, y or w further than 16384 near_w from 0 is past the guard: an
- * occluder triangle with such a vertex isn't drawn, and an object with one is called visible. */
+ * occluder triangle with such a vertex isn't drawn, and an object with one is called visible, unless all of it is behind
+ * the near distance: then it is outside. */
 typedef struct maskcull_vertex {
     int32_t x;
     int32_t y;

@@ -20,7 +20,7 @@ pub enum Status {
     ReadFault,
     /// The report couldn't be written.
     ReportFault,
-    /// The lines of `live` couldn't be noted.
+    /// The lines of `live`, or those of `--group`, couldn't be noted.
     NotesFault,
     /// Out of memory.
     Memory,
