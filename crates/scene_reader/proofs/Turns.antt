@@ -63,6 +63,7 @@ reads_then {T} {U} {part} {taken} {later} {n} {m} {most} {a} {b} {c} p le is sam
     turns = omega (arith, length-append p.bytes r.takes.bytes, p.count, p.turns, r.takes.turns);
   };
   within = within_less part (later + length r.takes.bytes) (taken + length (p.bytes ++ r.takes.bytes)) (omega (arith, length-append p.bytes r.takes.bytes, p.count, is)) r.within;
+  asked = within_less part (later + (c.turns - b.turns)) (taken + (c.turns - a.turns)) (omega (arith, p.turns, is)) r.asked;
 }
 
 pub reads_failed : {T U : Type 0} {part : Option ℕ} {taken later n m most : ℕ} {a b c : SourceSays} {e : SceneError} → Progress n a b → n + m ≤ most → taken + n ≡ later
@@ -71,12 +72,13 @@ reads_failed p le is r = reads_then p le is (λ h. cc) r
 
 -- nothing more was read, and it isn't a fault of the source
 pub reads_whole : {U : Type 0} {part : Option ℕ} {taken n most : ℕ} {a b : SourceSays} {q : Result U SceneError} → Progress n a b → n ≤ most → (IsErrOf q Read → ⊥) → IsWithin part (taken + n) → Reads part taken most a b q
-reads_whole {U} {part} {taken} {n} p le none w = record {
+reads_whole {U} {part} {taken} {n} {most} {a} {b} p le none w = record {
   read = λ h. absurd (none h);
   faults_stay = p.faults;
   turns = omega (arith, p.turns, le);
   takes = record { bytes = p.bytes; takes = p.takes; few = omega (arith, p.count, le); turns = omega (arith, p.turns, p.count) };
   within = within_less part (taken + n) (taken + length p.bytes) (omega (arith, p.count)) w;
+  asked = within_less part (taken + n) (taken + (b.turns - a.turns)) (omega (arith, p.turns)) w;
 }
 
 pub fetches_failed : {T U : Type 0} {part : Option ℕ} {n m most need taken later : ℕ} {a b c : SourceSays} {e : SceneError} → Progress n a b → n + m ≤ most → taken + n ≡ later
@@ -107,4 +109,5 @@ reads_filled {T} {part} {taken} {n} {a} {b} {r} rose faults turns t w = record {
   turns = turns;
   takes = t;
   within = within_less part (taken + n) (taken + length t.bytes) (omega (arith, t.few)) w;
+  asked = within_less part (taken + n) (taken + (b.turns - a.turns)) (omega (arith, turns)) w;
 }

@@ -48,14 +48,15 @@ pub record EndsWithin (part : Option ℕ) (wanted need taken : ℕ) (before afte
   pub ended : IsDone part (taken + length bytes) after.left
   pub truncated : e ≡ Truncated need (taken + length bytes)
 
--- What a call that reads owes after every answer, where so many bytes of the part were taken before: no more than so many bytes are taken, and none behind the part.
--- Read comes only where the source failed.
+-- What a call that reads owes after every answer, where so many bytes of the part were taken before: no more than so many bytes are taken, and none behind the part,
+-- in no more turns than the part had bytes left. Read comes only where the source failed.
 pub record Reads {T : Type 0} (part : Option ℕ) (taken most : ℕ) (before after : SourceSays) (result : Result T SceneError) : Type 0 where
   pub read : IsErrOf result Read → Rose before.faults after.faults
   pub faults_stay : before.faults ≤ after.faults
   pub turns : after.turns ≤ before.turns + most
   pub takes : TakesInTurns most before after
   pub within : IsWithin part (taken + length takes.bytes)
+  pub asked : IsWithin part (taken + (after.turns - before.turns))
 
 -- the same of a call that wants so many bytes, and answers Truncated where the end comes before them
 pub record Fetches {T : Type 0} (part : Option ℕ) (wanted need taken : ℕ) (before after : SourceSays) (result : Result T SceneError) : Type 0 where

@@ -207,6 +207,8 @@ pub fn read_part<S: Source>(alloc: Global, source: &mut S, most: u32) -> Result<
     ensures header { IfErr result (λ e. IsRefusal e
         → StopsWithin most (S.says source.old) (S.says source.new) e) }
     ensures within { TakesWithin most (S.says source.old) (S.says source.new) }
+    // No byte behind them is asked for: where each read takes a byte, that would be a turn more.
+    ensures asked { (S.says source.new).turns ≤ (S.says source.old).turns + most }
     ensures turns { (S.says source.new).turns ≤ (S.says source.old).turns + greatest_length + 1 }
     // Each read but one took a byte.
     ensures takes { TakesInTurns (greatest_length + 1) (S.says source.old) (S.says source.new) }

@@ -30,6 +30,7 @@ returns-then-left-buffer-clause-fetches g c =
             turns = omega (arith, c.fetch_rest.ensures.turns, len, less);
             takes = record { bytes = t.bytes; takes = t.takes; few = omega (arith, t.few, len, less); turns = t.turns };
             within = omega (arith, t.few, within);
+            asked = omega (arith, c.fetch_rest.ensures.turns, within);
           };
       within = tt;
     })

@@ -29,3 +29,6 @@ returns-clause-header g c = IfErr-weaker c.read_whole.result _ _ (λ e h refusal
 
 pub returns-clause-within : goal.returns-clause-within
 returns-clause-within g c = let r = c.read_whole.ensures.reads in within_told c.args.most _ _ r.takes.bytes r.takes.takes (let few = r.within in omega (arith, few))
+
+pub returns-clause-asked : goal.returns-clause-asked
+returns-clause-asked g c = let few = c.read_whole.ensures.reads.asked in omega (arith, few)
