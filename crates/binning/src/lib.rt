@@ -11,8 +11,6 @@ mod grid;
 mod part;
 mod parts;
 mod rooms;
-#[cfg(test)]
-mod tests;
 mod tiles;
 
 pub use around::rect_around;

@@ -12,6 +12,3 @@ pub use camera::Camera;
 pub use clips::{clip_all, clip_into};
 pub use guard::{is_behind, past_guard};
 pub use identity::identity_keeps;
-
-#[cfg(test)]
-mod tests;

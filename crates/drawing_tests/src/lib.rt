@@ -1,4 +1,4 @@
-//! Tests of how pieces are made and drawn: setup, coverage, depth bounds, and tiles on one thread.
+//! Tests of how pieces are drawn: coverage, depth bounds, and tiles on one thread.
 #![tactic(auto)]
 
 #[cfg(test)]

@@ -3,6 +3,5 @@ mod depth_bounds;
 mod numbers;
 mod packed_subtiles;
 mod sample_boxes;
-mod set_up;
 mod small_pieces;
 mod updates;

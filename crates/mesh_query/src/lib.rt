@@ -5,8 +5,6 @@ mod area;
 mod edged_tile;
 mod mesh;
 mod piece;
-#[cfg(test)]
-mod tests;
 mod vertices;
 
 pub use area::mesh_area;

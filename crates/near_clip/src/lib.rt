@@ -9,6 +9,3 @@ mod polygon;
 pub use clip::{clip_near, is_in_front, whole};
 pub use hom_point::HomPoint;
 pub use polygon::Polygon;
-
-#[cfg(test)]
-mod tests;

@@ -7,8 +7,6 @@ mod ratio;
 mod reach;
 mod rectangle;
 mod settled;
-#[cfg(test)]
-mod tests;
 
 pub use boxes::{BoxAnswer, box_rect, box_rect_for_others};
 pub use rectangle::{rect_near, rect_test};

@@ -9,6 +9,3 @@ mod seats;
 pub use hands::Hand;
 pub use locked::{give_back, take_from};
 pub use seats::{Loan, Seating, Seats};
-
-#[cfg(test)]
-mod tests;

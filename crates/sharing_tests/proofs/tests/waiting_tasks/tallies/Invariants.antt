@@ -1,6 +1,6 @@
 use Rattle.std.proofs.Common.{◌≡◌, ◌≤◌, length, vec_capacity}
 use Rattle.seats.proofs.First.{AreFirst}
-use Rattle.seats.proofs.tests.tallies.Given as goal
+use Rattle.sharing_tests.proofs.tests.waiting_tasks.tallies.Given as goal
 
 abbrev pub invariant-loop-seat : goal.invariant-loop-seat
 invariant-loop-seat l = record {

@@ -1,7 +1,7 @@
 //! Worked values of bins, batches and parts, from outside.
 ghost use Rattle.std.specs.Prelude.{◌≤◌};
 
-use crate::{
+use binning::{
     Cut, batch_count, batch_size, bin_batch, bin_of_tile, bin_rect, bin_span, parts_make_tile_lists,
 };
 use cull_base::{FrameList, Rect, ScreenTri, Size};

@@ -1,7 +1,7 @@
 use Rattle.std.proofs.Common.{◌≡◌, ◌*◌, ◌≤◌, length, vec_capacity}
 use Rattle.std.specs.List.{All}
 use Rattle.snap_setup.specs.Pieces.{HasClips}
-use Rattle.drawing_tests.proofs.tests.set_up.alternating.Given as goal
+use Rattle.setup_tests.proofs.tests.set_up.alternating.Given as goal
 
 abbrev pub invariant-loop : goal.invariant-loop
 invariant-loop l = record {

@@ -1,5 +1,5 @@
 //! Vertices through a camera, and at the guard.
-use super::*;
+use camera_path::{Camera, clip_all, identity_keeps, past_guard};
 use cull_base::ClipVertex;
 
 /// Halves x and moves it by 5.

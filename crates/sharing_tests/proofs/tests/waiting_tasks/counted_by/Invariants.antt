@@ -1,7 +1,7 @@
 use Rattle.std.proofs.Common.{◌≡◌}
 use Rattle.std.proofs.Math.Nat.{ℕ_set}
 use Rattle.seats.specs.Seats.{seals_of}
-use Rattle.seats.proofs.tests.counted_by.Given as goal
+use Rattle.sharing_tests.proofs.tests.waiting_tasks.counted_by.Given as goal
 
 abbrev pub ghosts-count_under-P-Seating : goal.ghosts-count_under-P-Seating
 ghosts-count_under-P-Seating g a = record { names = seals_of a.slots.items; holds = λ seat t. t.seat ≡ seat; is_fact = λ seat t. ℕ_set t.seat seat }

@@ -1,5 +1,5 @@
 use Rattle.std.proofs.Common.{◌≡◌}
-use Rattle.binning.proofs.tests.listed.Given as goal
+use Rattle.sharing_tests.proofs.tests.bins.listed.Given as goal
 
 abbrev pub invariant-loop-x : goal.invariant-loop-x
 invariant-loop-x l = l.list.room ≡ 5

@@ -2,7 +2,7 @@
 ghost use Rattle.std.specs.Prelude.{◌≡◌, ◌+◌, ◌<◌, IfOk};
 ghost use Rattle.seats.specs.Seats.{AreAllSeated, AreSeated, Means};
 
-use crate::{Hand, Loan, Seating, Seats, give_back, take_from};
+use seats::{Hand, Loan, Seating, Seats, give_back, take_from};
 use std::alloc::{AllocError, Global};
 use std::marker::Brand;
 use std::sync::atomic::{AtomicU64, Ordering};

@@ -1,7 +1,7 @@
 //! Rectangles over a tile that is drawn in part, and boxes before, across and behind the near plane.
-use super::*;
 use cull_base::{ClipVertex, FrameList, Grade, Rect, ScreenTri, Size, Verdict};
 use masked_update::{PlainView, SubTile, TileState, draw_plain};
+use rect_query::{BoxAnswer, box_rect, rect_near, rect_test, references_never_fall, settled_test};
 use std::test::Fail;
 
 fn rect(x0: i32, y0: i32, x1: i32, y1: i32) -> Rect {

@@ -4,9 +4,9 @@ ghost use Rattle.std.specs.List.{All};
 ghost use Rattle.cull_base.specs.Screen.{tile_count_of};
 ghost use Rattle.snap_setup.specs.Pieces.{HasClips};
 
-use super::*;
 use cull_base::{Batch, ClipVertex, Grade, Memory, Rect, Size, Tri, Verdict, Winding};
 use masked_update::{PlainView, TileState, draw_plain};
+use mesh_query::{mesh_area, mesh_test};
 use snap_setup::frame_list;
 use std::alloc::Global;
 use std::test::Fail;

@@ -2,8 +2,8 @@
 ghost use Rattle.std.specs.Prelude.{◌≡◌, false};
 ghost use Rattle.cull_base.specs.Guard.{is_past_guard};
 
-use super::*;
 use cull_base::ClipVertex;
+use near_clip::{HomPoint, Polygon, clip_near};
 
 fn vertex(x: i8, y: i8, w: i8) -> ClipVertex
     ensures { is_past_guard result 2 ≡ false }

@@ -1,0 +1,2 @@
+mod meshes;
+mod rectangles;

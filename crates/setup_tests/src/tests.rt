@@ -1,0 +1,3 @@
+mod camera;
+mod near_plane;
+mod set_up;
