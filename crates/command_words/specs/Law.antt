@@ -1,9 +1,9 @@
--- The table of commands in plain words and numbers.
-use Rattle.std.specs.Prelude.{ℕ, ◌≡◌, List, [], ◌∷◌, ◌++◌, None, Some, codes, map, option_map}
+-- The table of commands in plain words and numbers, and which command lines name a command.
+use Rattle.std.specs.Prelude.{ℕ, ◌≡◌, ◌↔◌, List, [], ◌∷◌, ◌++◌, None, Some, codes, map, option_map}
 use Rattle.std.specs.Str.Parse.{digits_value}
 use Rattle.clap.specs.Words.{Text}
 use Rattle.command_words.specs.Table.{ACommand, AnOption, Taken}
-use Rattle.command_words.specs.Words.{batch, bins_x, bins_y, early, frame, group, rounds, seed, steal, triangles, watch, workers}
+use Rattle.command_words.specs.Words.{IsRefused, batch, bins_x, bins_y, command_of, early, frame, group, rounds, seed, steal, triangles, watch, workers}
 use Rattle.command_words.specs.declared.rows.Takes.{Takes}
 use Rattle.command_words.specs.declared.rows.Takes.TheVariants.{Number, Nothing}
 use Rattle.command_words.specs.declared.table.BareCommand.TheVariants.{Upgrade}
@@ -79,3 +79,7 @@ named_options = workers ∷ bins_x ∷ bins_y ∷ batch ∷ rounds ∷ watch ∷
 
 abbrev pub told_options : List ToldOption
 told_options = told_cutting ++ told_looks ++ told_made ++ told_frame ++ told_group ++ told_flags
+
+-- a command line names none exactly where `clap` refuses it
+abbrev pub NamedOrRefused : Type 0
+NamedOrRefused = (words : List Text) → (command_of words ≡ None) ↔ IsRefused words

@@ -9,7 +9,7 @@ mod table;
 mod values;
 mod words;
 
-pub use laws::told_table;
+pub use laws::{named_or_refused, told_table};
 pub use settings::Settings;
 pub use table::{BareCommand, CheckWords, Command, CullWords, DemoWords, LiveWords, PictureWords};
 pub use words::{Refusal, command_of};

@@ -1,5 +1,7 @@
 //! What some command lines name, and what is said of those that are refused.
-use command_words::{BareCommand, Command, Refusal, Settings, VERSION, command_of, told_table};
+use command_words::{
+    BareCommand, Command, Refusal, Settings, VERSION, command_of, named_or_refused, told_table,
+};
 use std::alloc::Global;
 use std::process::Abort;
 use std::test::*;
@@ -273,4 +275,5 @@ fn picture_asks_for_a_frame(rt: HostRuntime) -> Result<(), Fail> {
 #[test]
 fn the_laws_on_command_lines_are_called(rt: HostRuntime) {
     told_table();
+    named_or_refused();
 }
