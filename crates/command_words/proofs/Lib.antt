@@ -8,3 +8,4 @@ pub mod TakenWords
 pub mod Builders
 pub mod OptionNumbers
 pub mod AskedWords
+pub mod NamedWords

@@ -33,7 +33,7 @@ each_of : (P : AnOption → Type 0) (options : List AnOption) → ((o : AnOption
 each_of P [] each = tt
 each_of P (x ∷ rest) each = (each x (inl refl), each_of P rest (λ o of. each o (inr of)))
 
-none_first : (a b : Kinds) → or_else a b ≡ [] → (a ≡ []) × (b ≡ [])
+pub none_first : (a b : Kinds) → or_else a b ≡ [] → (a ≡ []) × (b ≡ [])
 none_first [] b e = (refl, e)
 none_first (k ∷ ks) b e = cc
 
@@ -346,15 +346,15 @@ module _ (name : Text) (options : List AnOption) (fine : AreFine options) where
 
 -- ---- the program
 
-abbrev help_leaf : Shape
+abbrev pub help_leaf : Shape
 help_leaf = built_leaf (inherited (with_leaf_noted the_app.top) help_shape)
 
 -- the commands once they are built, and help behind them
-abbrev shapes : List ACommand → List Shape
+abbrev pub shapes : List ACommand → List Shape
 shapes rows = map leaf_of rows ++ help_leaf ∷ []
 
 -- the command that answers to a word
-abbrev answering : Text → List ACommand → Option Shape
+abbrev pub answering : Text → List ACommand → Option Shape
 answering word rows = find (λ s. answers_to word (label_of s)) (shapes rows)
 
 -- the name that is entered answers to the word, and the row of that name has its values

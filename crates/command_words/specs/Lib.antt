@@ -1,3 +1,4 @@
 pub mod Table
 pub mod App
 pub mod Words
+pub mod Law

@@ -168,6 +168,10 @@ own_values options values o = option_and_then values (find (λ x. bytes_eq x.nam
 abbrev pub asked_in : Text → List Row → Option Command
 asked_in name rows = option_map (λ row. asked_by row.kind (own_values row.options (value_in rows))) (row_named name)
 
+-- `clap` refuses the words
+abbrev pub IsRefused : List Text → Type 0
+IsRefused words = is_empty (fault_of the_app words) ≡ false
+
 -- what the words ask for; none where `clap` refuses them
 unfoldable pub command_of : List Text → Option Command
 command_of words =

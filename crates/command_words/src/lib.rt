@@ -1,6 +1,7 @@
 //! The program's command line: the table of commands, and what a command line names by it.
 #![tactic(auto)]
 
+mod laws;
 mod program;
 mod rows;
 mod settings;
@@ -8,6 +9,7 @@ mod table;
 mod values;
 mod words;
 
+pub use laws::{named_or_refused, told_table};
 pub use settings::Settings;
 pub use table::{BareCommand, CheckWords, Command, CullWords, DemoWords, LiveWords, PictureWords};
 pub use words::{Refusal, command_of};

@@ -4,7 +4,8 @@ ghost use Rattle.clap.specs.Walk.{is_empty};
 ghost use Rattle.clap.specs.Words.{fault_of, found_of, kind_of, rows_of, subcommand_of, subcommand_rows_of};
 ghost use Rattle.command_words.specs.App.{the_app};
 ghost use Rattle.command_words.specs.Table.{row_among, row_of};
-ghost use Rattle.command_words.specs.Words.{ArePlain, AreWords, IsEntered, IsWithinLimits, asked_in, command_of};
+ghost use Rattle.command_words.specs.Words.{ArePlain, AreWords, IsEntered, IsRefused, IsWithinLimits};
+ghost use Rattle.command_words.specs.Words.{asked_in, command_of};
 
 use crate::program::program;
 use crate::rows::ACommand;
@@ -73,6 +74,7 @@ pub fn command_of(alloc: Global, words: &[String]) -> Result<Command, Refusal>
     ensures some { IfOk result (λ c. command_of (map string_bytes words.now) ≡ Some c) }
     ensures limits { IfOk result IsWithinLimits }
     ensures none { IfErr result (λ e. AreWords e → command_of (map string_bytes words.now) ≡ None) }
+    ensures refused { IfErr result (λ e. AreWords e → IsRefused (map string_bytes words.now)) }
     ensures plain { (c : Command) → ArePlain (map string_bytes words.now) c
         → command_of (map string_bytes words.now) ≡ Some c }
 {

@@ -1,5 +1,7 @@
 //! What some command lines name, and what is said of those that are refused.
-use command_words::{BareCommand, Command, Refusal, Settings, VERSION, command_of};
+use command_words::{
+    BareCommand, Command, Refusal, Settings, VERSION, command_of, named_or_refused, told_table,
+};
 use std::alloc::Global;
 use std::process::Abort;
 use std::test::*;
@@ -268,4 +270,10 @@ fn picture_asks_for_a_frame(rt: HostRuntime) -> Result<(), Fail> {
     let page = said(&rt, alloc, &["maskcull", "picture", "--help"])?;
     assert!(rt; page.contains("Which frame is drawn, 0 to 255 [default: 0]"));
     Ok(())
+}
+
+#[test]
+fn the_laws_on_command_lines_are_called(rt: HostRuntime) {
+    told_table();
+    named_or_refused();
 }
