@@ -2,6 +2,7 @@
 use Rattle.std.proofs.Common.{◌≡◌, ◌≢◌, ℕ, ◌+◌, ◌*◌, ◌≤◌, ◌<◌, All, List, [], ◌∷◌, ◌++◌, length, set, get_or, refl, sym, ap, ◌∙◌, subst, length-append, arith, vec_len, vec_capacity}
 use Rattle.std.specs.Global.{Global}
 use Rattle.std.proofs.lemmas.List.{get_or_default, length-set}
+use Rattle.std.proofs.lemmas.List.Elements.{All-nil, All-push}
 use Rattle.atomic_blocks.specs.Lent.{RowsId}
 use Rattle.cull_base.proofs.Lists.{pushed_at}
 use Rattle.crossbeam_deque.specs.Handles.{Pass, view, IsPassOf, worker_view, worker_deque, worker_flavor}
@@ -12,7 +13,7 @@ use Rattle.steal_pool.specs.declared.seat.Seat.{Seat}
 use Rattle.steal_pool.specs.DequeRule.{owning, stealing, lending}
 use Rattle.steal_pool.specs.Finish.{AreAt}
 use Rattle.steal_pool.specs.Gather.{AreEnds}
-use Rattle.steal_pool.specs.Making.{AreLent, AreLentOn, AreSeatsOn, HaveRowsTo, IsDealt, IsLentOn, IsSeatOn}
+use Rattle.steal_pool.specs.Making.{AreLent, AreLentOn, AreRoomy, AreSeatsOn, HaveRowsTo, IsDealt, IsLentOn, IsSeatOn}
 use Rattle.steal_pool.specs.Seats.{ArePassesOf, AreFresh, IsOpen}
 use Rattle.steal_pool.proofs.Gathering.{each_put}
 
@@ -30,6 +31,15 @@ dealt_same {K} c workers out s t own list a = record {
   none = ap (λ v. vec_len v) list ∙ a.none;
   room = let r = a.room in let e = ap (λ v. vec_capacity v) list in omega (arith, r, e);
 }
+
+-- ---- room for rows
+
+module _ {X Y : Type 0} (items : X → List Y) (room : X → ℕ) (n : ℕ) where
+  pub none_roomy : (rows : List X) → rows ≡ [] → AreRoomy items room n rows
+  none_roomy rows is = subst (AreRoomy items room n) (sym is) (All-nil (λ (x : X). (items x ≡ []) × (n ≤ room x)))
+
+  pub roomy_more : (rows : List X) (row : X) → AreRoomy items room n rows → items row ≡ [] → n ≤ room row → AreRoomy items room n (rows ++ row ∷ [])
+  roomy_more rows row are none enough = All-push (λ (x : X). (items x ≡ []) × (n ≤ room x)) rows row are (none, enough)
 
 -- ---- one row
 

@@ -98,6 +98,10 @@ HaveRowsTo {K} {S} deque c deques n seats =
     → ArePassesOf deque c deques (slice_index_or seats i s).passes.items
     × AreFresh (slice_index_or seats i s).passes.items
 
+-- each is empty, and has room for so many: read off what stands for its members and for its room
+abbrev pub AreRoomy : {X Y : Type 0} → (X → List Y) → (X → ℕ) → ℕ → List X → Type 0
+AreRoomy {X} {Y} items room n rows = All (λ (x : X). (items x ≡ []) × (n ≤ room x)) rows
+
 -- no worker gets more of the tasks than a deque is for
 abbrev pub HaveRoom : ℕ → ℕ → List Tasking → Type 0
 HaveRoom workers room tasks = (w : ℕ) → w < workers → owned workers w tasks ≤ room

@@ -1,19 +1,20 @@
 //! A pool of deques that draws all tasks of a frame.
-ghost use Rattle.std.specs.Prelude.{◌≡◌, ◌*◌, ◌≤◌, ◌<◌, ℕ, All, length, slice_index_or, vec_items, IfOk, OnOk};
+ghost use Rattle.std.specs.Prelude.{◌≡◌, ◌*◌, ◌≤◌, ◌<◌, ℕ, [], All, length, slice_index_or, vec_items, vec_capacity};
+ghost use Rattle.std.specs.Prelude.{IfOk, OnErr, OnOk};
 ghost use Rattle.crossbeam_deque.specs.Handles.{stealer_deque};
 ghost use Rattle.bin_queues.specs.Tasks.{Tasking};
 ghost use Rattle.tile_queues.specs.Shares.{AreWhole};
 ghost use Rattle.steal_pool.specs.DequeRule.{IsToldIn};
 ghost use Rattle.steal_pool.specs.Finish.{AreAt, AreFinishedTo, lists_weigh, pushed_weigh};
 ghost use Rattle.steal_pool.specs.Lists.{frame_at, joined, AreTold};
-ghost use Rattle.steal_pool.specs.Making.{HaveRoom, IsEmptySeat};
+ghost use Rattle.steal_pool.specs.Making.{AreRoomy, HaveRoom, IsEmptySeat};
 ghost use Rattle.steal_pool.specs.Pools.{call_of, frame_of, tasks_weigh};
 ghost use Rattle.steal_pool.specs.Seats.{IsOpen};
 
 use crate::deal::{deal, most_owned};
-use crate::deque_rule::Thief;
+use crate::deque_rule::{DequePass, Thief};
 use crate::draws::Draws;
-use crate::lend::lend_all;
+use crate::lend::{lend_all, rows_of};
 use crate::lists::lists_of;
 use crate::making::{empty_seats, thieves_of};
 use crate::pool::Pool;
@@ -22,76 +23,82 @@ use crate::several::drain_seats;
 use binning::Cut;
 use cull_base::{FrameList, Memory};
 use std::alloc::Global;
+use std::mem;
 use std::sync::Wait;
 use std::thread::Threads;
 use tile_cells::TileCells;
 use tile_queues::{BinQueues, BinTask, Gate, Held};
 
-/// Deals tasks to new seats and lends each worker its passes. Err where memory gave out. Conditions: each seat owns the
-/// deque at its place, the tasks are told of all batches, and no worker gets more than a deque is for.
+/// Deals tasks to new seats and lends each worker its passes. Conditions: each seat owns the deque at its place, the
+/// tasks are told of all batches, no worker gets more than a deque is for, and there is room for each worker's passes.
 pub(crate) fn fill<R, G, K: Held + Drop>(
     pool: &Pool<R, G>,
-    alloc: Global,
     thieves: &[Thief<K>],
     seats: &mut [Seat<K>],
     tasks: Vec<BinTask<K>>,
-) -> Result<(), Memory>
+    rows: Vec<Vec<DequePass<K>>>,
+)
     requires some { 0 < length seats.old }
     requires many { length seats.old ≡ length thieves.now }
     requires deques { AreAt stealer_deque thieves.now seats.old }
     requires empty { All (IsEmptySeat (call_of pool.now) (length seats.old)) seats.old }
     requires told { All (IsToldIn (call_of pool.now)) tasks.items }
     requires room { HaveRoom (length seats.old) pool.now.room tasks.items }
-    ensures many { OnOk result (length seats.new ≡ length seats.old) }
-    ensures open { OnOk result (All (IsOpen stealer_deque (call_of pool.now) thieves.now) seats.new) }
-    ensures deques { OnOk result (AreAt stealer_deque thieves.now seats.new) }
-    ensures once { OnOk result ((k : ℕ → ℕ) → pushed_weigh k seats.new ≡ tasks_weigh k tasks.items) }
+    requires rows { length rows.items ≡ length seats.old }
+    requires roomy { AreRoomy vec_items vec_capacity (length seats.old) rows.items }
+    ensures many { length seats.new ≡ length seats.old }
+    ensures open { All (IsOpen stealer_deque (call_of pool.now) thieves.now) seats.new }
+    ensures deques { AreAt stealer_deque thieves.now seats.new }
+    ensures once { (k : ℕ → ℕ) → pushed_weigh k seats.new ≡ tasks_weigh k tasks.items }
 {
     let workers = seats.len();
     deal(pool, seats, tasks, workers);
-    lend_all(alloc, seats, pool, thieves)?;
-    Ok(())
+    lend_all(rows, seats, pool, thieves);
 }
 
-// The tasks are dealt to new seats and drawn. Err where memory gave out, and then none is drawn.
+// The tasks are dealt to new seats and drawn. Err where memory gave out, and then they are as they were.
 fn run<R: Threads + Wait + Sync, G: Gate, K: Draws>(
     pool: &Pool<R, G>,
     alloc: Global,
     seats: &mut [Seat<K>],
-    tasks: Vec<BinTask<K>>,
+    tasks: &mut Vec<BinTask<K>>,
 ) -> Result<(), Memory>
     requires some { 0 < length seats.old }
     requires empty { All (IsEmptySeat (call_of pool.now) (length seats.old)) seats.old }
-    requires told { All (IsToldIn (call_of pool.now)) tasks.items }
-    requires room { HaveRoom (length seats.old) pool.now.room tasks.items }
+    requires told { All (IsToldIn (call_of pool.now)) tasks.old.items }
+    requires room { HaveRoom (length seats.old) pool.now.room tasks.old.items }
     ensures many { OnOk result (length seats.new ≡ length seats.old) }
     ensures finished { OnOk result (AreFinishedTo (call_of pool.now) (length seats.new) seats.new) }
-    ensures once { OnOk result ((k : ℕ → ℕ) → lists_weigh k seats.new ≡ tasks_weigh k tasks.items) }
+    ensures once { OnOk result ((k : ℕ → ℕ) → lists_weigh k seats.new ≡ tasks_weigh k tasks.old.items) }
+    ensures undrawn { OnErr result (tasks.new ≡ tasks.old) }
 {
     let thieves = thieves_of(alloc, seats)?;
+    let rows = rows_of(alloc, seats.len())?;
+    let given = mem::replace(tasks, Vec::new(alloc));
     let lent = thieves.as_slice();
-    fill(pool, alloc, lent, seats, tasks)?;
+    fill(pool, lent, seats, given, rows);
     drain_seats(pool, alloc, lent, seats);
     Ok(())
 }
 
 /// Draws all tasks by so many workers, each in a thread of its own, and gives what each drew. Err where memory gave
-/// out, and then none is drawn. Conditions: 1 to 64 workers, and the tasks are those of the pool's frame, told of all
-/// batches.
+/// out, and then the tasks are as they were. Conditions: 1 to 64 workers, and the tasks are those of the pool's frame,
+/// told of all batches.
 pub(crate) fn drain_tasks<R: Threads + Wait + Sync, G: Gate, K: Draws>(
     pool: &Pool<R, G>,
     alloc: Global,
-    tasks: Vec<BinTask<K>>,
+    tasks: &mut Vec<BinTask<K>>,
     workers: usize,
 ) -> Result<Vec<Vec<BinTask<K>>>, Memory>
     requires some { 1 ≤ workers }
     requires few { pool.now.room ≤ 64 }
     requires small { workers * pool.now.room ≤ 4096 }
-    requires room { HaveRoom workers pool.now.room tasks.items }
-    requires tasks { AreTold pool.now.queues.now (frame_of pool.now) tasks.items }
+    requires room { HaveRoom workers pool.now.room tasks.old.items }
+    requires tasks { AreTold pool.now.queues.now (frame_of pool.now) tasks.old.items }
     ensures count { IfOk result (λ v. length v.items ≡ workers) }
     ensures whole { IfOk result (λ v.
         AreWhole pool.now.queues.now (frame_of pool.now) (joined vec_items v.items)) }
+    ensures undrawn { OnErr result (tasks.new ≡ tasks.old) }
 {
     let mut seats = empty_seats(alloc, pool, workers)?;
     let room = Vec::with_capacity(alloc, workers).map_err(|_| Memory)?;
@@ -118,26 +125,28 @@ fn size_at<K: Held + Drop>(tasks: &[BinTask<K>], place: usize) -> u32
 /// Draws all tasks of a frame by so many workers: a worker takes those of its own deque, in their order, and where
 /// that is empty those that are left to others. Gives each worker's list of the tasks that it drew: together they have
 /// one task of each bin, with all batches drawn, of these queues and of this frame. All memory is taken before the
-/// first task is drawn. Err where memory gave out: none is drawn then, and the tasks are given up. Conditions: the tasks
+/// first task is. Err where memory gave out: the tasks are as they were then, so none is drawn. Conditions: the tasks
 /// are those of all bins of the frame, in any order, each told of all batches; the cells and the list are the frame's;
 /// 1 to 64 workers.
 pub fn drain_pool<R: Threads + Wait + Sync, G: Gate, K: Draws>(
     rt: &R,
     alloc: Global,
     queues: &BinQueues,
-    tasks: Vec<BinTask<K>>,
+    tasks: &mut Vec<BinTask<K>>,
     cells: &TileCells,
     list: &FrameList,
     workers: u32,
     gate: &G,
 ) -> Result<Vec<Vec<BinTask<K>>>, Memory>
-    requires tasks { AreTold queues.now (frame_at tasks.items) tasks.items }
-    requires cells { (frame_at tasks.items).cells ≡ cells.now }
-    requires list { (frame_at tasks.items).list ≡ list.now.list }
+    requires tasks { AreTold queues.now (frame_at tasks.old.items) tasks.old.items }
+    requires cells { (frame_at tasks.old.items).cells ≡ cells.now }
+    requires list { (frame_at tasks.old.items).list ≡ list.now.list }
     requires some { 1 ≤ workers }
     requires most { workers ≤ 64 }
     ensures count { IfOk result (λ v. length v.items ≡ workers) }
-    ensures whole { IfOk result (λ v. AreWhole queues.now (frame_at tasks.items) (joined vec_items v.items)) }
+    ensures whole { IfOk result (λ v.
+        AreWhole queues.now (frame_at tasks.old.items) (joined vec_items v.items)) }
+    ensures undrawn { OnErr result (tasks.new ≡ tasks.old) }
 {
     let workers = workers as usize;
     let given = tasks.as_slice();

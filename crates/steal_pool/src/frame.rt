@@ -1,5 +1,5 @@
 //! A frame drawn through cells by a pool of deques, while a caller reads them.
-ghost use Rattle.std.specs.Prelude.{◌≡◌, ◌≤◌, ◌<◌, ◌+◌, ◌*◌, ℕ, All, length, IfOk, OnOk};
+ghost use Rattle.std.specs.Prelude.{◌≡◌, ◌≤◌, ◌<◌, ◌+◌, ◌*◌, ℕ, All, length, IfOk, OnErr, OnOk};
 ghost use Rattle.crossbeam_deque.specs.Handles.{stealer_deque};
 ghost use Rattle.binning.specs.Parts.{batch_count_of};
 ghost use Rattle.cull_base.specs.Screen.{tile_count_of};
@@ -21,6 +21,7 @@ use crate::deal::most_owned;
 use crate::deque_rule::Thief;
 use crate::drain::fill;
 use crate::draws::Draws;
+use crate::lend::rows_of;
 use crate::lists::{join_lists, lists_of};
 use crate::making::{empty_seats, thieves_of};
 use crate::pool::Pool;
@@ -31,6 +32,7 @@ use bin_queues::Batched;
 use binning::Cut;
 use cull_base::{FrameList, Memory};
 use std::alloc::Global;
+use std::mem;
 use std::sync::Wait;
 use std::thread::{Threads, join_mut};
 use tile_cells::{TileCells, TileReader, TileWriter};
@@ -104,42 +106,46 @@ fn drain_beside<R: Threads + Wait + Sync, G: Gate, C: Caller, K: Draws>(
     );
 }
 
-// The tasks are dealt to new seats and drawn, while the caller reads the cells. Err where memory gave out, and then
-// none is drawn.
+// The tasks are dealt to new seats and drawn, while the caller reads the cells. Err where memory gave out: then the
+// tasks, the reader and the caller are as they were.
 fn run_beside<R: Threads + Wait + Sync, G: Gate, C: Caller, K: Draws>(
     pool: &Pool<R, G>,
     alloc: Global,
     seats: &mut [Seat<K>],
-    tasks: Vec<BinTask<K>>,
+    tasks: &mut Vec<BinTask<K>>,
     reader: &mut TileReader,
     caller: &mut C,
 ) -> Result<(), Memory>
     requires some { 0 < length seats.old }
     requires empty { All (IsEmptySeat (call_of pool.now) (length seats.old)) seats.old }
-    requires told { All (IsToldIn (call_of pool.now)) tasks.items }
-    requires room { HaveRoom (length seats.old) pool.now.room tasks.items }
+    requires told { All (IsToldIn (call_of pool.now)) tasks.old.items }
+    requires room { HaveRoom (length seats.old) pool.now.room tasks.old.items }
     requires reader { IsReading pool.now.cells.now pool.now.list.now.list reader.old }
     requires ready { C.ready caller.old pool.now.list.now.list }
     ensures many { OnOk result (length seats.new ≡ length seats.old) }
     ensures finished { OnOk result (AreFinishedTo (call_of pool.now) (length seats.new) seats.new) }
-    ensures once { OnOk result ((k : ℕ → ℕ) → lists_weigh k seats.new ≡ tasks_weigh k tasks.items) }
+    ensures once { OnOk result ((k : ℕ → ℕ) → lists_weigh k seats.new ≡ tasks_weigh k tasks.old.items) }
     ensures done { OnOk result (C.done caller.new pool.now.list.now.list reader.new) }
     ensures keeps { OnOk result (C.keeps caller.old caller.new) }
     ensures follows { OnOk result (Follows reader.old reader.new) }
+    ensures undrawn { OnErr result (tasks.new ≡ tasks.old) }
+    ensures unread { OnErr result ((reader.new ≡ reader.old) × (caller.new ≡ caller.old)) }
 {
     let thieves = thieves_of(alloc, seats)?;
+    let rows = rows_of(alloc, seats.len())?;
+    let given = mem::replace(tasks, Vec::new(alloc));
     let lent = thieves.as_slice();
-    fill(pool, alloc, lent, seats, tasks)?;
+    fill(pool, lent, seats, given, rows);
     drain_beside(pool, alloc, lent, seats, reader, caller);
     Ok(())
 }
 
-// All tasks, drawn by so many workers while the caller reads the cells. Err where memory gave out. Conditions: those of
-// `drain_tasks`.
+// All tasks, drawn by so many workers while the caller reads the cells. Err where memory gave out: then the tasks, the
+// reader and the caller are as they were. Conditions: those of `drain_tasks`.
 fn draw_tasks<R: Threads + Wait + Sync, G: Gate, C: Caller, K: Draws>(
     pool: &Pool<R, G>,
     alloc: Global,
-    tasks: Vec<BinTask<K>>,
+    tasks: &mut Vec<BinTask<K>>,
     workers: usize,
     reader: &mut TileReader,
     caller: &mut C,
@@ -147,14 +153,16 @@ fn draw_tasks<R: Threads + Wait + Sync, G: Gate, C: Caller, K: Draws>(
     requires some { 1 ≤ workers }
     requires few { pool.now.room ≤ 64 }
     requires small { workers * pool.now.room ≤ 4096 }
-    requires room { HaveRoom workers pool.now.room tasks.items }
-    requires tasks { AreTold pool.now.queues.now (frame_of pool.now) tasks.items }
+    requires room { HaveRoom workers pool.now.room tasks.old.items }
+    requires tasks { AreTold pool.now.queues.now (frame_of pool.now) tasks.old.items }
     requires reader { IsReading pool.now.cells.now pool.now.list.now.list reader.old }
     requires ready { C.ready caller.old pool.now.list.now.list }
     ensures whole { IfOk result (λ v. AreWhole pool.now.queues.now (frame_of pool.now) v.items) }
     ensures done { OnOk result (C.done caller.new pool.now.list.now.list reader.new) }
     ensures keeps { OnOk result (C.keeps caller.old caller.new) }
     ensures follows { OnOk result (Follows reader.old reader.new) }
+    ensures undrawn { OnErr result (tasks.new ≡ tasks.old) }
+    ensures unread { OnErr result ((reader.new ≡ reader.old) × (caller.new ≡ caller.old)) }
 {
     let all = Vec::with_capacity(alloc, tasks.len()).map_err(|_| Memory)?;
     let room = Vec::with_capacity(alloc, workers).map_err(|_| Memory)?;
@@ -170,7 +178,8 @@ fn draw_tasks<R: Threads + Wait + Sync, G: Gate, C: Caller, K: Draws>(
 /// belonging to worker b mod workers, and when it is done with them those that are left to others; each bin is drawn
 /// whole, by one of them. The caller is lent these cells and this reader, in a thread of its own, and is done
 /// afterwards. The gate is asked before a batch is binned, and before a bin draws a member, with the number that it has
-/// drawn. Err where memory gave out: the writers are given up then. Conditions: the cells are of this list, the writers
+/// drawn. Err where memory gave out: the writers are given up then, and the reader and the caller are as they were,
+/// since all memory is taken before a task is drawn. Conditions: the cells are of this list, the writers
 /// and the reader are those that were made with them, and no member is drawn; the caller is ready; 1 to 64 workers, and
 /// a batch has at least one piece, so that there are at most 2048.
 pub fn draw_stolen<R: Threads + Wait + Sync, G: Gate, C: Caller>(
@@ -200,6 +209,7 @@ pub fn draw_stolen<R: Threads + Wait + Sync, G: Gate, C: Caller>(
     ensures keeps { OnOk result (C.keeps caller.old caller.new) }
     ensures follows { OnOk result (Follows reader.old reader.new) }
     ensures pieces { OnOk result (ArePieces list.now.list.members) }
+    ensures unread { OnErr result ((reader.new ≡ reader.old) × (caller.new ≡ caller.old)) }
 {
     // accessors tell what is held of a cut and of a list
     let (bins, _columns, _len) = (cut.bins(), cut.columns(), list.len());
@@ -209,7 +219,9 @@ pub fn draw_stolen<R: Threads + Wait + Sync, G: Gate, C: Caller>(
         cut,
         size: batch,
     };
-    let (queues, submitter, tasks) = open_frame(rt, alloc, &frame, cells, writers, gate, workers)?;
+    let (queues, submitter, mut tasks) = open_frame(
+        rt, alloc, &frame, cells, writers, gate, workers,
+    )?;
     let given = tasks.as_slice();
     let room = most_owned(given, workers as usize);
     let pool = Pool {
@@ -222,6 +234,6 @@ pub fn draw_stolen<R: Threads + Wait + Sync, G: Gate, C: Caller>(
         size: batch,
         room,
     };
-    let drawn = draw_tasks(&pool, alloc, tasks, workers as usize, reader, caller)?;
+    let drawn = draw_tasks(&pool, alloc, &mut tasks, workers as usize, reader, caller)?;
     Ok(queues.close(submitter, drawn))
 }

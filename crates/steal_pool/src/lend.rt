@@ -1,9 +1,9 @@
 //! How each worker is lent a pass on each deque.
-ghost use Rattle.std.specs.Prelude.{◌≡◌, ◌+◌, ◌<◌, [], All, length, IfOk, OnOk};
+ghost use Rattle.std.specs.Prelude.{◌≡◌, ◌+◌, ◌<◌, ◌≤◌, [], All, length, vec_items, vec_capacity, IfOk};
 ghost use Rattle.crossbeam_deque.specs.Handles.{view, IsPassOf, stealer_deque, worker_deque};
 ghost use Rattle.steal_pool.specs.DequeRule.{stealing};
 ghost use Rattle.steal_pool.specs.Finish.{AreAt};
-ghost use Rattle.steal_pool.specs.Making.{AreLent, AreLentOn, AreSeatsOn, IsDealt, IsLentOn};
+ghost use Rattle.steal_pool.specs.Making.{AreLent, AreLentOn, AreRoomy, AreSeatsOn, IsDealt, IsLentOn};
 ghost use Rattle.steal_pool.specs.Pools.{call_of};
 ghost use Rattle.steal_pool.specs.Seats.{ArePassesOf, AreFresh, IsOpen};
 
@@ -32,49 +32,84 @@ fn lend_at<R, G, K: Held + Drop>(
     lend(&mut seat.owner)
 }
 
-// A pass on the deque of each seat, in order. Err where memory gave out.
-fn lend_row<R, G, K: Held + Drop>(
+/// Room for a row of passes for each of so many workers. Err where memory gave out.
+pub(crate) fn rows_of<K: Held + Drop>(
     alloc: Global,
+    workers: usize,
+) -> Result<Vec<Vec<DequePass<K>>>, Memory>
+    ensures count { IfOk result (λ v. length v.items ≡ workers) }
+    ensures room { IfOk result (λ v. AreRoomy vec_items vec_capacity workers v.items) }
+{
+    let mut rows = Vec::with_capacity(alloc, workers).map_err(|_| Memory)?;
+    for _ in 0..workers {
+        let row = Vec::with_capacity(alloc, workers).map_err(|_| Memory)?;
+        rows.push_reserved(row);
+    }
+    Ok(rows)
+}
+
+// The room for one of the rows that are left.
+fn next_row<K: Held + Drop>(rows: &mut Vec<Vec<DequePass<K>>>, _workers: usize) -> Vec<DequePass<K>>
+    requires some { 0 < length rows.old.items }
+    requires room { AreRoomy vec_items vec_capacity _workers rows.old.items }
+    ensures fewer { length rows.old.items ≡ length rows.new.items + 1 }
+    ensures room { AreRoomy vec_items vec_capacity _workers rows.new.items }
+    ensures empty { result.items ≡ [] }
+    ensures enough { _workers ≤ vec_capacity result }
+{
+    match rows.pop() {
+        Some(row) => row,
+        None => unreachable!(),
+    }
+}
+
+// A pass on the deque of each seat, in order. Condition: there is room for them.
+fn lend_row<R, G, K: Held + Drop>(
+    room: Vec<DequePass<K>>,
     seats: &mut [Seat<K>],
     pool: &Pool<R, G>,
     _thieves: &[Thief<K>],
     out: usize,
-) -> Result<Vec<DequePass<K>>, Memory>
+) -> Vec<DequePass<K>>
     requires many { length seats.old ≡ length _thieves.now }
     requires deques { AreAt stealer_deque _thieves.now seats.old }
     requires lent { AreLent (call_of pool.now) (length seats.old) 0 out seats.old }
-    ensures on { OnOk result (AreLentOn seats.old seats.new) }
-    ensures lent { OnOk result
-        (AreLent (call_of pool.now) (length seats.old) (length seats.old) out seats.new) }
-    ensures passes { IfOk result (λ v. ArePassesOf stealer_deque (call_of pool.now) _thieves.now v.items) }
-    ensures fresh { IfOk result (λ v. AreFresh v.items) }
+    requires empty { room.items ≡ [] }
+    requires room { length seats.old ≤ vec_capacity room }
+    ensures on { AreLentOn seats.old seats.new }
+    ensures lent { AreLent (call_of pool.now) (length seats.old) (length seats.old) out seats.new }
+    ensures passes { ArePassesOf stealer_deque (call_of pool.now) _thieves.now result.items }
+    ensures fresh { AreFresh result.items }
 {
     let workers = seats.len();
-    let mut passes = Vec::with_capacity(alloc, workers).map_err(|_| Memory)?;
+    let mut passes = room;
     for d in 0..seats.len() {
         let pass = lend_at(&mut seats[d], pool, workers, out);
         passes.push_reserved(pass);
     }
-    Ok(passes)
+    passes
 }
 
-/// Lends a pass on each deque to each worker. Err where memory gave out. Conditions: tasks are dealt, no pass is lent,
-/// and each seat owns the deque at its place.
+/// Lends a pass on each deque to each worker. Conditions: tasks are dealt, no pass is lent, each seat owns the deque at
+/// its place, and there is room for a row of passes for each worker.
 pub(crate) fn lend_all<R, G, K: Held + Drop>(
-    alloc: Global,
+    mut rows: Vec<Vec<DequePass<K>>>,
     seats: &mut [Seat<K>],
     pool: &Pool<R, G>,
     thieves: &[Thief<K>],
-) -> Result<(), Memory>
+)
     requires many { length seats.old ≡ length thieves.now }
     requires deques { AreAt stealer_deque thieves.now seats.old }
     requires dealt { All (IsDealt (call_of pool.now) (length seats.old) 0) seats.old }
-    ensures on { OnOk result (AreSeatsOn seats.old seats.new) }
-    ensures open { OnOk result (All (IsOpen stealer_deque (call_of pool.now) thieves.now) seats.new) }
+    requires rows { length rows.items ≡ length seats.old }
+    requires room { AreRoomy vec_items vec_capacity (length seats.old) rows.items }
+    ensures on { AreSeatsOn seats.old seats.new }
+    ensures open { All (IsOpen stealer_deque (call_of pool.now) thieves.now) seats.new }
 {
+    let workers = seats.len();
     for w in 0..seats.len() {
-        let row = lend_row(alloc, seats, pool, thieves, w)?;
+        let room = next_row(&mut rows, workers);
+        let row = lend_row(room, seats, pool, thieves, w);
         drop(mem::replace(&mut seats[w].passes, row));
     }
-    Ok(())
 }

@@ -58,7 +58,7 @@ fn draw_all<R: Threads + Wait + Sync, G: Gate>(
     alloc: Global,
     queues: &BinQueues,
     frame: &Batched,
-    tasks: Vec<PlainTask>,
+    mut tasks: Vec<PlainTask>,
     workers: u32,
     gate: &G,
 ) -> Result<Vec<PlainTask>, Memory>
@@ -69,7 +69,8 @@ fn draw_all<R: Threads + Wait + Sync, G: Gate>(
 {
     let cells = TileCells::none(alloc);
     let all = Vec::with_capacity(alloc, tasks.len()).map_err(|_| Memory)?;
-    let lists = drain_pool(rt, alloc, queues, tasks, &cells, frame.list, workers, gate)?;
+    let list = frame.list;
+    let lists = drain_pool(rt, alloc, queues, &mut tasks, &cells, list, workers, gate)?;
     Ok(join_lists(all, lists))
 }
 

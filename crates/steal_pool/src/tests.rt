@@ -40,10 +40,12 @@ fn drawn_by<R: Threads + Wait + Sync>(
 {
     let list = frame.list;
     let (cells, writers, _readers) = TileCells::make(rt, alloc, list, 0)?;
-    let (queues, _submitter, tasks) = open_frame(
+    let (queues, _submitter, mut tasks) = open_frame(
         rt, alloc, frame, &cells, writers, &OpenGate, workers,
     )?;
-    let drawn = drain_pool(rt, alloc, &queues, tasks, &cells, list, workers, &OpenGate)?;
+    let drawn = drain_pool(
+        rt, alloc, &queues, &mut tasks, &cells, list, workers, &OpenGate,
+    )?;
     Ok(drawn)
 }
 

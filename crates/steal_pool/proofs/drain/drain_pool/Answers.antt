@@ -15,14 +15,14 @@ size_at-size-requires g c = omega (arith, ap length c.as_slice-given.ensures.val
 
 pub drain_tasks-requires-clause-few : goal.drain_tasks-requires-clause-few
 drain_tasks-requires-clause-few g c =
-    let few = bins_few (frame_at c.args.tasks.items) c.args.queues.now c.args.tasks.items c.as_slice-given.result.now c.cut_at-cut.result c.bins-bins.result c.requires.tasks c.as_slice-given.ensures.value c.cut_at-cut.ensures c.bins-bins.ensures.value c.bins-bins.ensures.few in
+    let few = bins_few (frame_at c.args.tasks.now.items) c.args.queues.now c.args.tasks.now.items c.as_slice-given.result.now c.cut_at-cut.result c.bins-bins.result c.requires.tasks c.as_slice-given.ensures.value c.cut_at-cut.ensures c.bins-bins.ensures.value c.bins-bins.ensures.few in
     let most = c.most_owned-room.ensures.few in
     let n = ap length c.as_slice-given.ensures.value in
     omega (arith, few, most, n)
 
 pub drain_tasks-requires-clause-small : goal.drain_tasks-requires-clause-small
 drain_tasks-requires-clause-small g c =
-    let few = bins_few (frame_at c.args.tasks.items) c.args.queues.now c.args.tasks.items c.as_slice-given.result.now c.cut_at-cut.result c.bins-bins.result c.requires.tasks c.as_slice-given.ensures.value c.cut_at-cut.ensures c.bins-bins.ensures.value c.bins-bins.ensures.few in
+    let few = bins_few (frame_at c.args.tasks.now.items) c.args.queues.now c.args.tasks.now.items c.as_slice-given.result.now c.cut_at-cut.result c.bins-bins.result c.requires.tasks c.as_slice-given.ensures.value c.cut_at-cut.ensures c.bins-bins.ensures.value c.bins-bins.ensures.few in
     let most = c.most_owned-room.ensures.few in
     let n = ap length c.as_slice-given.ensures.value in
     let product : c.args.workers * c.most_owned-room.result ≤ 64 * c.most_owned-room.result = mul-le-mul_right c.most_owned-room.result c.requires.most in
@@ -35,11 +35,11 @@ drain_tasks-requires-clause-room g c =
 
 pub drain_tasks-requires-clause-tasks : goal.drain_tasks-requires-clause-tasks
 drain_tasks-requires-clause-tasks g c =
-    let e = same_frame (frame_at c.args.tasks.items) c.args.queues.now c.args.tasks.items c.as_slice-given.result.now c.args.list.now.list c.args.cells.now c.cut_at-cut.result c.size_at-size.result c.requires.tasks c.as_slice-given.ensures.value c.requires.list c.requires.cells c.cut_at-cut.ensures c.size_at-size.ensures in
-    let here = subst (λ (f : BatchedFrame). AreTold c.args.queues.now f c.args.tasks.items) e c.requires.tasks in
+    let e = same_frame (frame_at c.args.tasks.now.items) c.args.queues.now c.args.tasks.now.items c.as_slice-given.result.now c.args.list.now.list c.args.cells.now c.cut_at-cut.result c.size_at-size.result c.requires.tasks c.as_slice-given.ensures.value c.requires.list c.requires.cells c.cut_at-cut.ensures c.size_at-size.ensures in
+    let here = subst (λ (f : BatchedFrame). AreTold c.args.queues.now f c.args.tasks.now.items) e c.requires.tasks in
     search (rules, here)
 
 pub returns-clause-whole : goal.returns-clause-whole
 returns-clause-whole g c =
-    let e = same_frame (frame_at c.args.tasks.items) c.args.queues.now c.args.tasks.items c.as_slice-given.result.now c.args.list.now.list c.args.cells.now c.cut_at-cut.result c.size_at-size.result c.requires.tasks c.as_slice-given.ensures.value c.requires.list c.requires.cells c.cut_at-cut.ensures c.size_at-size.ensures in
+    let e = same_frame (frame_at c.args.tasks.now.items) c.args.queues.now c.args.tasks.now.items c.as_slice-given.result.now c.args.list.now.list c.args.cells.now c.cut_at-cut.result c.size_at-size.result c.requires.tasks c.as_slice-given.ensures.value c.requires.list c.requires.cells c.cut_at-cut.ensures c.size_at-size.ensures in
     subst (λ (f : BatchedFrame). AreWhole c.args.queues.now f (joined vec_items c.in_ok-lists.lists.items)) (sym e) c.in_ok-lists.ensures.whole

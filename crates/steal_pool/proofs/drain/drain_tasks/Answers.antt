@@ -23,12 +23,12 @@ run-requires-clause-empty g c =
 
 pub run-requires-clause-told : goal.run-requires-clause-told
 run-requires-clause-told g c =
-    let here = all_told (call_of c.args.pool.now) c.args.tasks.items c.requires.tasks in
+    let here = all_told (call_of c.args.pool.now) c.args.tasks.now.items c.requires.tasks in
     search (rules, here)
 
 pub run-requires-clause-room : goal.run-requires-clause-room
 run-requires-clause-room g c =
-    let here = subst (λ n. HaveRoom n c.args.pool.now.room c.args.tasks.items) (sym (ap length c.as_mut_slice.ensures.value ∙ c.in_ok-seats.ensures.count)) c.requires.room in
+    let here = subst (λ n. HaveRoom n c.args.pool.now.room c.args.tasks.now.items) (sym (ap length c.as_mut_slice.ensures.value ∙ c.in_ok-seats.ensures.count)) c.requires.room in
     search (rules, here)
 
 pub lists_of-requires-clause-finished : goal.lists_of-requires-clause-finished
@@ -61,6 +61,6 @@ returns-clause-whole g c =
     let same : length new ≡ c.in_ok-seats.seats.len = search rules in
     let is = with_items_is c.in_ok-seats.seats new same in
     let lists = c.lists_of.result.items in
-    are_whole call c.args.tasks.items (joined vec_items lists) c.requires.tasks.tasks_are
+    are_whole call c.args.tasks.now.items (joined vec_items lists) c.requires.tasks.tasks_are
     (λ k. joined_weigh vec_items k lists ∙ c.lists_of.ensures.once k ∙ ap (lists_weigh k) is ∙ c.in_ok-run.ensures.once k)
     (joined_whole vec_items call lists c.lists_of.ensures.whole)

@@ -1,7 +1,7 @@
 use Rattle.std.proofs.Common.{length, arith, ap, sym, ◌∙◌, subst}
 use Rattle.crossbeam_deque.specs.Handles.{stealer_deque}
 use Rattle.steal_pool.specs.Finish.{AreAt, AreFinishedTo}
-use Rattle.steal_pool.specs.Pools.{call_of}
+use Rattle.steal_pool.specs.Pools.{call_of, tasks_weigh}
 use Rattle.steal_pool.proofs.drain.run.Goals as goal
 
 pub fill-requires-clause-many : goal.fill-requires-clause-many
@@ -11,13 +11,13 @@ pub fill-requires-clause-deques : goal.fill-requires-clause-deques
 fill-requires-clause-deques g c = subst (λ ts. AreAt stealer_deque ts c.args.seats.now) (sym c.as_slice-lent.ensures.value) c.in_ok-thieves.ensures.deques
 
 pub drain_seats-requires-clause-many : goal.drain_seats-requires-clause-many
-drain_seats-requires-clause-many g c = omega (arith, c.in_ok-fill.ensures.many, ap length c.as_slice-lent.ensures.value, c.in_ok-thieves.ensures.count)
+drain_seats-requires-clause-many g c = omega (arith, c.fill.ensures.many, ap length c.as_slice-lent.ensures.value, c.in_ok-thieves.ensures.count)
 
 pub returns-clause-many : goal.returns-clause-many
-returns-clause-many g c = c.drain_seats.ensures.many ∙ c.in_ok-fill.ensures.many
+returns-clause-many g c = c.drain_seats.ensures.many ∙ c.fill.ensures.many
 
 pub returns-clause-finished : goal.returns-clause-finished
 returns-clause-finished g c = subst (λ n. AreFinishedTo (call_of c.args.pool.now) n c.drain_seats.new.seats) (sym c.drain_seats.ensures.many) c.drain_seats.ensures.finished
 
 pub returns-clause-once : goal.returns-clause-once
-returns-clause-once g c = λ k. c.drain_seats.ensures.once k ∙ c.in_ok-fill.ensures.once k
+returns-clause-once g c = λ k. c.drain_seats.ensures.once k ∙ c.fill.ensures.once k ∙ ap (λ v. tasks_weigh k v.items) c.replace-given.ensures.value

@@ -25,12 +25,12 @@ run_beside-requires-clause-empty g c =
 
 pub run_beside-requires-clause-told : goal.run_beside-requires-clause-told
 run_beside-requires-clause-told g c =
-    let here = all_told (call_of c.args.pool.now) c.args.tasks.items c.requires.tasks in
+    let here = all_told (call_of c.args.pool.now) c.args.tasks.now.items c.requires.tasks in
     search (rules, here)
 
 pub run_beside-requires-clause-room : goal.run_beside-requires-clause-room
 run_beside-requires-clause-room g c =
-    let here = subst (λ n. HaveRoom n c.args.pool.now.room c.args.tasks.items) (sym (ap length c.as_mut_slice.ensures.value ∙ c.in_ok-seats.ensures.count)) c.requires.room in
+    let here = subst (λ n. HaveRoom n c.args.pool.now.room c.args.tasks.now.items) (sym (ap length c.as_mut_slice.ensures.value ∙ c.in_ok-seats.ensures.count)) c.requires.room in
     search (rules, here)
 
 pub lists_of-requires-clause-finished : goal.lists_of-requires-clause-finished
@@ -56,13 +56,13 @@ join_lists-requires-clause-room g c =
     let same : length new ≡ c.in_ok-seats.seats.len = search rules in
     let is = with_items_is c.in_ok-seats.seats new same in
     let lists = c.lists_of.result.items in
-    let whole = are_whole call c.args.tasks.items (joined vec_items lists) c.requires.tasks.tasks_are
+    let whole = are_whole call c.args.tasks.now.items (joined vec_items lists) c.requires.tasks.tasks_are
     (λ k. joined_weigh vec_items k lists ∙ c.lists_of.ensures.once k ∙ ap (lists_weigh k) is ∙ c.in_ok-run_beside.ensures.once k)
     (joined_whole vec_items call lists c.lists_of.ensures.whole) in
     let n = whole.tasks_are.count in
     let m = c.requires.tasks.tasks_are.count in
-    let room : vec_capacity c.in_ok-all.all ≡ vec_len c.args.tasks = first_of (search rules, grind (arith, common_steps)) in
-    omega (arith, n, m, room, c.args.tasks.ok.0)
+    let room : vec_capacity c.in_ok-all.all ≡ vec_len c.args.tasks.now = first_of (search rules, grind (arith, common_steps)) in
+    omega (arith, n, m, room, c.args.tasks.now.ok.0)
 
 pub returns-clause-whole : goal.returns-clause-whole
 returns-clause-whole g c =
@@ -72,6 +72,6 @@ returns-clause-whole g c =
     let is = with_items_is c.in_ok-seats.seats new same in
     let lists = c.lists_of.result.items in
     subst (λ (ts : List Tasking). AreWhole c.args.pool.now.queues.now (frame_of c.args.pool.now) ts) (sym c.join_lists.ensures)
-    (are_whole call c.args.tasks.items (joined vec_items lists) c.requires.tasks.tasks_are
+    (are_whole call c.args.tasks.now.items (joined vec_items lists) c.requires.tasks.tasks_are
     (λ k. joined_weigh vec_items k lists ∙ c.lists_of.ensures.once k ∙ ap (lists_weigh k) is ∙ c.in_ok-run_beside.ensures.once k)
     (joined_whole vec_items call lists c.lists_of.ensures.whole))

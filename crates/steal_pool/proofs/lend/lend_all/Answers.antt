@@ -8,13 +8,13 @@ use Rattle.steal_pool.proofs.lend.lend_all.Goals as goal
 
 pub loop-w-init : goal.loop-w-init
 loop-w-init g c =
-    (seats_on_none c.args.seats.now, none_lent (call_of c.args.pool.now) (length c.args.seats.now) c.args.seats.now c.requires.dealt, no_rows stealer_deque (call_of c.args.pool.now) c.args.thieves.now c.args.seats.now)
+    (seats_on_none c.args.seats.now, none_lent (call_of c.args.pool.now) (length c.args.seats.now) c.args.seats.now c.requires.dealt, no_rows stealer_deque (call_of c.args.pool.now) c.args.thieves.now c.args.seats.now, omega (arith, c.requires.rows), c.requires.room)
 
-pub lend_row-requires-clause-deques : goal.lend_row-requires-clause-deques
-lend_row-requires-clause-deques g c = at_on stealer_deque c.args.thieves.now c.args.seats.now c.loop-w.seats c.loop-w.invariant.0 c.requires.deques
+pub lend_row-row-requires-clause-deques : goal.lend_row-row-requires-clause-deques
+lend_row-row-requires-clause-deques g c = at_on stealer_deque c.args.thieves.now c.args.seats.now c.loop-w.seats c.loop-w.invariant.0 c.requires.deques
 
-pub lend_row-requires-clause-lent : goal.lend_row-requires-clause-lent
-lend_row-requires-clause-lent g c = lent_to (call_of c.args.pool.now) _ (length c.args.seats.now) 0 c.loop-w.w c.loop-w.seats c.loop-w.invariant.0.many c.loop-w.invariant.1
+pub lend_row-row-requires-clause-lent : goal.lend_row-row-requires-clause-lent
+lend_row-row-requires-clause-lent g c = lent_to (call_of c.args.pool.now) _ (length c.args.seats.now) 0 c.loop-w.w c.loop-w.seats c.loop-w.invariant.0.many c.loop-w.invariant.1
 
 pub loop-w-preserved : goal.loop-w-preserved
 loop-w-preserved g c =
@@ -22,9 +22,9 @@ loop-w-preserved g c =
     let call = call_of c.args.pool.now in
     let was = c.args.seats.now in
     let ss = c.loop-w.seats in
-    let ss' = c.lend_row.new.seats in
+    let ss' = c.lend_row-row.new.seats in
     let w = c.loop-w.w in
-    let row = c.in_ok-row.ensures in
+    let row = c.lend_row-row.ensures in
     let r = c.index-seats-w.result in
     let p = get_or ss' w r in
     let q : Seat g.row.K.Denot = record { owner = p.owner; passes = c.replace.new.dest; list = p.list } in
@@ -36,6 +36,8 @@ loop-w-preserved g c =
       seats_on_next was ss ss' w r q inv.0 row.on lt refl,
       lent_next call (length ss) (length was) w ss' r q m row.on.many row.lent lt refl refl,
       rows_next stealer_deque call c.args.thieves.now w ss ss' q inv.2 row.on lt passes fresh,
+      (let n = c.next_row-room.ensures.fewer in let k = inv.3 in omega (arith, n, k)),
+      c.next_row-room.ensures.room,
     )
 
 pub returns-clause-on : goal.returns-clause-on

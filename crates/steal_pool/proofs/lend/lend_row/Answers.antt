@@ -11,10 +11,9 @@ use Rattle.steal_pool.proofs.lend.lend_row.Goals as goal
 
 pub loop-d-init : goal.loop-d-init
 loop-d-init g c =
-    let passes = c.in_ok-passes.passes in
-    let none : passes.items ≡ [] = first_of (search rules, grind (arith, common_steps)) in
-    let room : length c.args.seats.now ≤ vec_capacity passes = first_of (search rules, grind (arith, common_steps)) in
-    (lent_on_none c.args.seats.now, c.requires.lent, ends_none stealer_deque (call_of c.args.pool.now) c.args._thieves.now passes.items none, fresh_none passes.items none, ap length none, room)
+    let none = c.requires.empty in
+    let passes = c.args.room.items in
+    (lent_on_none c.args.seats.now, c.requires.lent, ends_none stealer_deque (call_of c.args.pool.now) c.args._thieves.now passes none, fresh_none passes none, ap length none, c.requires.room)
 
 pub lend_at-pass-requires : goal.lend_at-pass-requires
 lend_at-pass-requires g c =
