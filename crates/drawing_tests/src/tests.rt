@@ -1,6 +1,3 @@
-mod coverage;
-mod depth_bounds;
-mod numbers;
 mod packed_subtiles;
 mod sample_boxes;
 mod small_pieces;
