@@ -1,3 +1,4 @@
+mod laws;
 mod packed_subtiles;
 mod sample_boxes;
 mod small_pieces;

@@ -4,6 +4,7 @@ ghost use Rattle.std.specs.Prelude.{◌≤◌};
 use cull_base::{BytesSource, SureSink};
 use culling::Status;
 use demo_scene::demo_scene;
+use depth_image::shades_fit;
 use runs_for_tests::{
     LARGE, NEVER, PICTURE, assert_ended, assert_writes, run_over, run_with, sink,
     written_with_fault,
@@ -216,4 +217,9 @@ fn workers_bins_and_batches_change_no_picture(rt: HostRuntime) -> Result<(), Fai
         )?;
     }
     Ok(())
+}
+
+#[test]
+fn the_law_on_shades_is_called(rt: HostRuntime) {
+    shades_fit();
 }
