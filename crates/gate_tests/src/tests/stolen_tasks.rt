@@ -4,7 +4,7 @@ use binning::Cut;
 use culling::Status;
 use masked_update::draw_plain;
 use runs_for_tests::{assert_ended, run_gated, run_with};
-use scenes_for_tests::{OCCLUDED, Patience, changed, first_scene, scene};
+use scenes_for_tests::{OCCLUDED, Patience, changed, first_list, first_scene, scene};
 use std::alloc::{AllocError, Global};
 use std::process::Abort;
 use std::sync::Wait;

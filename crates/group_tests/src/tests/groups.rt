@@ -217,41 +217,45 @@ fn members_that_do_not_count_are_no_part_of_it(rt: HostRuntime) -> Result<(), Fa
     Ok(())
 }
 
-// The demo's scene, with its boxes in groups.
-#[test]
-fn groups_over_the_scene_of_demo(rt: HostRuntime) -> Result<(), Fail> {
-    let alloc = rt.alloc();
+// The scene of `demo` with boxes in groups of at most so many has the report that it has without, and these notes.
+fn assert_groups_of_demo<R: Threads + Wait + Sync>(
+    rt: &R,
+    alloc: Global,
+    most: u32,
+    notes: &str,
+) -> Result<(), Fail> {
     let mut bytes = SureSink::new(alloc);
     write_scene(&demo_scene(alloc, 1, 20000)?, &mut bytes)?;
-    for (most, notes) in [
-        (
-            16u32,
-            concat!(
-                "groups 0 count 32 hidden 0 members 0\ngroups 1 count 32 hidden 0 members 0\n",
-                "groups 2 count 32 hidden 0 members 0\ngroups 3 count 32 hidden 0 members 0\n",
-            ),
-        ),
-        (
-            2,
-            concat!(
-                "groups 0 count 250 hidden 79 members 108\ngroups 1 count 250 hidden 92 members 138\n",
-                "groups 2 count 250 hidden 68 members 86\ngroups 3 count 250 hidden 95 members 133\n",
-            ),
-        ),
-    ] {
-        let plain = run_with(&rt, alloc, CULL, Vec::from_slice(alloc, bytes.held())?)?;
-        for workers in [1u32, 2, 8] {
-            let line = format!(in alloc; "maskcull cull --group {most} --workers {workers}")?;
-            let ended = run_with(
-                &rt,
-                alloc,
-                line.as_str(),
-                Vec::from_slice(alloc, bytes.held())?,
-            )?;
-            assert_ended(&ended, Status::Done, plain.report.as_str(), notes)?;
-        }
+    let plain = run_with(rt, alloc, CULL, Vec::from_slice(alloc, bytes.held())?)?;
+    for workers in [1u32, 2, 8] {
+        let line = format!(in alloc; "maskcull cull --group {most} --workers {workers}")?;
+        let ended = run_with(
+            rt,
+            alloc,
+            line.as_str(),
+            Vec::from_slice(alloc, bytes.held())?,
+        )?;
+        assert_ended(&ended, Status::Done, plain.report.as_str(), notes)?;
     }
     Ok(())
+}
+
+#[test]
+fn groups_of_sixteen_over_the_scene_of_demo(rt: HostRuntime) -> Result<(), Fail> {
+    let notes = concat!(
+        "groups 0 count 32 hidden 0 members 0\ngroups 1 count 32 hidden 0 members 0\n",
+        "groups 2 count 32 hidden 0 members 0\ngroups 3 count 32 hidden 0 members 0\n",
+    );
+    assert_groups_of_demo(&rt, rt.alloc(), 16, notes)
+}
+
+#[test]
+fn groups_of_two_over_the_scene_of_demo(rt: HostRuntime) -> Result<(), Fail> {
+    let notes = concat!(
+        "groups 0 count 250 hidden 79 members 108\ngroups 1 count 250 hidden 92 members 138\n",
+        "groups 2 count 250 hidden 68 members 86\ngroups 3 count 250 hidden 95 members 133\n",
+    );
+    assert_groups_of_demo(&rt, rt.alloc(), 2, notes)
 }
 
 // Two frames of two boxes behind the quad, culled in groups of two, with sinks of which a write fails.
