@@ -1,4 +1,4 @@
-//! Tests of cells that are read while they are drawn: by one thread, and by workers over bins and queues.
+//! Tests of cells that are read while they are drawn.
 #![tactic(auto)]
 
 #[cfg(test)]

@@ -1,3 +1,1 @@
 mod cells;
-mod frames;
-mod queues;

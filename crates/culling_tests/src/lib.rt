@@ -1,4 +1,4 @@
-//! Tests of whole runs of the program's commands, over bytes in memory, and of frames while they are drawn.
+//! Tests of what whole runs draw and hide.
 #![tactic(auto)]
 
 #[cfg(test)]

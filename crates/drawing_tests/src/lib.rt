@@ -1,4 +1,4 @@
-//! Tests of how pieces are drawn: coverage, depth bounds, and tiles on one thread.
+//! Tests of how pieces are drawn into tiles on one thread.
 #![tactic(auto)]
 
 #[cfg(test)]

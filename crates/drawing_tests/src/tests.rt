@@ -1,6 +1,4 @@
-mod coverage;
-mod depth_bounds;
-mod numbers;
+mod laws;
 mod packed_subtiles;
 mod sample_boxes;
 mod small_pieces;

@@ -1,4 +1,4 @@
-//! Tests of what is read and of what is written: scenes, command lines, and the verdicts of a frame.
+//! Tests of scenes: what is read, what is refused, and what is written.
 #![tactic(auto)]
 
 #[cfg(test)]

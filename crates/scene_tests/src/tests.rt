@@ -1,3 +1,1 @@
-mod commands;
-mod reports;
 mod scenes;

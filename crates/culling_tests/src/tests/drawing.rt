@@ -1,6 +1,6 @@
 //! What is drawn, and what it hides.
-use crate::tests::runs::assert_reports;
-use crate::tests::scenes::{
+use runs_for_tests::assert_reports;
+use scenes_for_tests::{
     FIRST, OCCLUDED, QUAD, TWO, UNDRAWN, VISIBLE, WHOLE, changed, scene, two_frames,
 };
 use std::test::*;

@@ -1,6 +1,6 @@
 //! Scenes of the greatest numbers that there are, and of none.
-use crate::tests::runs::assert_reports;
-use crate::tests::scenes::{OCCLUDED, QUAD, TWO, UNDRAWN, WHOLE, first_bytes, scene, scene_of};
+use runs_for_tests::assert_reports;
+use scenes_for_tests::{OCCLUDED, QUAD, TWO, UNDRAWN, WHOLE, first_bytes, scene, scene_of};
 use std::test::*;
 
 const LAST: i32 = 16_777_216;

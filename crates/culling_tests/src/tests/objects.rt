@@ -1,6 +1,6 @@
 //! Rectangles, boxes and meshes, and their verdicts.
-use crate::tests::runs::assert_reports;
-use crate::tests::scenes::{QUAD, TWO, VISIBLE, scene, scene_of, seen_from};
+use runs_for_tests::assert_reports;
+use scenes_for_tests::{QUAD, TWO, VISIBLE, scene, scene_of, seen_from};
 use std::test::*;
 
 // There are none; two without a pixel in the screen; one beside the screen, one over it and one without a pixel, which

@@ -1,15 +1,15 @@
 //! Scenes of version 2: their batches and grades, what is refused of them, and the command that writes them.
 ghost use Rattle.std.specs.Prelude.{◌≤◌};
 
-use crate::tests::runs::{
+use cull_base::BytesSource;
+use culling::Status;
+use runs_for_tests::{
     CULL, LARGE, NEVER, UPGRADE, assert_ended, assert_reports, run_with, sink, status_over,
 };
-use crate::tests::scenes::{
+use scenes_for_tests::{
     OCCLUDED, TWO, UNDRAWN, VISIBLE, changed, first_scene, in_batches, scene, second_scene,
     wide_scene,
 };
-use cull_base::BytesSource;
-use culling::Status;
 use std::alloc::{AllocError, Global};
 use std::process::Abort;
 use std::sync::Wait;
@@ -115,7 +115,7 @@ fn batches_that_do_not_fit_are_refused(rt: HostRuntime) -> Result<(), Fail> {
     ] {
         for line in [CULL, UPGRADE] {
             let ended = run_with(&rt, alloc, line, in_batches(alloc, batches)?)?;
-            assert_ended(&rt, &ended, Status::Scene, "", note);
+            assert_ended(&ended, Status::Scene, "", note)?;
         }
     }
     Ok(())
@@ -142,12 +142,12 @@ fn headers_of_version_2_are_refused_in_order(rt: HostRuntime) -> Result<(), Fail
         (186, &[(33, 16), (32, 1)], "scene refused 8 5 4097\n"),
     ] {
         let ended = run_with(&rt, alloc, CULL, cut_to(alloc, count, changes)?)?;
-        assert_ended(&rt, &ended, Status::Scene, "", note);
+        assert_ended(&ended, Status::Scene, "", note)?;
     }
     let mut longer = second_scene(alloc)?;
     longer.push(0)?;
     let ended = run_with(&rt, alloc, UPGRADE, longer)?;
-    assert_ended(&rt, &ended, Status::Scene, "", "scene refused 9\n");
+    assert_ended(&ended, Status::Scene, "", "scene refused 9\n")?;
     Ok(())
 }
 

@@ -13,7 +13,7 @@ use cull_base::{
 use near_clip::HomPoint;
 use snap_setup::{
     Occluders, Pieces, Snapped, frame_list, frame_list_by_workers, near_box, one_batch,
-    sampled_list, set_up, snap,
+    sampled_list, set_up, snap, within_top,
 };
 use std::alloc::Global;
 use std::process::Abort;
@@ -357,8 +357,9 @@ fn a_piece_without_a_sample_of_the_screen_is_counted_alone(rt: HostRuntime) -> R
 }
 
 #[test]
-fn the_law_on_one_batch_is_called(rt: HostRuntime) {
+fn the_laws_on_lists_are_called(rt: HostRuntime) {
     one_batch();
+    within_top();
 }
 
 // The first triangle of a quad, which runs clockwise, and its second, which is turned, in turn: 2,500 in all.

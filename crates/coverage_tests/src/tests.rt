@@ -1,0 +1,3 @@
+mod coverage;
+mod depth_bounds;
+mod numbers;

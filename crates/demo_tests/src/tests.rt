@@ -1,0 +1,2 @@
+mod counting_run;
+mod demo;

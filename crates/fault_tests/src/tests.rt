@@ -1,0 +1,3 @@
+mod endings;
+mod faults;
+mod words;

@@ -1,0 +1,3 @@
+mod check;
+mod live;
+mod live_verdicts;

@@ -1,0 +1,5 @@
+//! Tests of the command that writes pictures.
+#![tactic(auto)]
+
+#[cfg(test)]
+mod tests;

@@ -1,0 +1,2 @@
+mod masks;
+mod reports;
