@@ -1,5 +1,5 @@
-"""What the scripts here take from the toolchain's own rt, beyond its commands. The kit promises none of it: where a name
-is gone, its caller does without."""
+"""What the scripts here take from the toolchain's own rt, beyond its commands. The kit promises none of it: where a
+name is gone, its caller does without."""
 import importlib.machinery
 import importlib.util
 import os
@@ -35,8 +35,8 @@ def copy_of_crates(top, to):
 
 
 def give_libraries(top, names):
-    """Gives some crates of a copy, in which nothing is built, the libraries below them that were proved of the same files
-    on this machine, and tells whether all were there.
+    """Gives some crates of a copy, in which nothing is built, the libraries below them that were proved of the same
+    files on this machine, and tells whether all were there.
 
     Where `rt check` or `rt lib` built them all in some checkout, they are those. Else they are those of `rt ci`, which
     keeps each under a sum of its files and of the libraries that it was built over. It leaves out the stamp by which
