@@ -10,6 +10,7 @@ use Rattle.cull_base.specs.declared.rect.Rect.{Rect}
 use Rattle.cull_base.specs.declared.scene_types.Tri.{Tri}
 use Rattle.cull_base.specs.declared.triangle.Side.TheVariants.{Object}
 use Rattle.cull_base.specs.declared.triangle.Winding.TheVariants.{Both}
+use Rattle.cull_base.specs.declared.scene_types.Verdict.TheVariants.{Occluded}
 use Rattle.cull_base.specs.Grade.{top_of}
 use Rattle.cull_base.specs.Guard.{is_past_guard}
 use Rattle.cull_base.specs.NearPlane.{is_behind}
