@@ -10,7 +10,9 @@ use std::process::Abort;
 use std::sync::Wait;
 use std::test::Fail;
 use std::thread::Threads;
-use steal_pool::drain_pool;
+use steal_pool::{
+    drain_pool, each_bin_is_in_one_list, owner_has_every_place, places_are_taken_once,
+};
 use tile_queues::{BinTask, OpenGate};
 
 // Three pieces with boxes in x from 0 to 10, from 20 to 40 and from 33 to 50.
@@ -99,4 +101,12 @@ fn more_workers_than_bins_have_a_list_each(rt: HostRuntime) -> Result<(), Fail> 
     let list = three(&rt)?;
     let cut = Cut::new(1, 1).ok_or("a cut")?;
     assert_drawn(&rt, &list, &cut, 1, 64, (1, 3, 3), rt.alloc())
+}
+
+// Each place of a deque is taken once, front counts them, and so each bin is in one worker's list.
+#[test]
+fn each_task_is_handed_out_once() {
+    places_are_taken_once();
+    owner_has_every_place();
+    each_bin_is_in_one_list();
 }
