@@ -64,11 +64,11 @@ module _ {X : Type 0} (items : X → List Tasking) where
 
 -- ---- one task of each bin
 
-abbrev is_bin : ℕ → ℕ → ℕ
+abbrev pub is_bin : ℕ → ℕ → ℕ
 is_bin b x = cond (eqb x b) 1 0
 
 -- a bin of which there is a task
-there : (ts : List Tasking) (b i : ℕ) (t : Tasking) → i < length ts → t ≡ get_or ts i t → t.of.bin ≡ b → 1 ≤ tasks_weigh (is_bin b) ts
+pub there : (ts : List Tasking) (b i : ℕ) (t : Tasking) → i < length ts → t ≡ get_or ts i t → t.of.bin ≡ b → 1 ≤ tasks_weigh (is_bin b) ts
 there ts b i t lt is e =
     let one : is_bin b t.of.bin ≡ 1 = ap (λ z. cond z 1 0) (eq-eqb t.of.bin b e) in
     let h = weigh_at (λ (y : Tasking). is_bin b y.of.bin) ts i t (at_index ts i t lt is) in
@@ -85,7 +85,7 @@ found (x ∷ xs) b h = elim (cases_eq x.of.bin b) [
       (suc r.0, (let lt = r.1 in omega (arith, lt)), r.2)
 ]
 
-some_of : (ts : List Tasking) → 0 < length ts → Tasking
+pub some_of : (ts : List Tasking) → 0 < length ts → Tasking
 some_of [] lt = absurd (omega arith)
 some_of (t ∷ ts) lt = t
 

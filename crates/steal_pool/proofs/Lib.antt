@@ -12,6 +12,7 @@ pub mod Dealing
 pub mod Lending
 pub mod Filling
 pub mod Joining
+pub mod EachBin
 pub mod Pooling
 pub mod Told
 pub mod Starting

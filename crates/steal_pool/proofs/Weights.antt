@@ -2,6 +2,7 @@
 use Rattle.std.proofs.Common.{get_or, ◌<◌, ◌≡◌, ◌≢◌, ℕ, zero, suc, ◌+◌, ◌≤◌, List, [], ◌∷◌, ◌++◌, length, set, refl, sym, ap, arith}
 use mathlib.Core.Option.{some, some-ne-none, some-injective}
 use lib.ListN.{get_elem?}
+use Rattle.steal_pool.specs.Counted.{HasNone, HasOne}
 use Rattle.steal_pool.specs.DequeRule.{weigh, places}
 
 module _ {A : Type 0} where
@@ -39,6 +40,31 @@ module _ {A : Type 0} where
       let a : f x ≡ 0 = n 0 x (λ h. omega arith) refl in
       let r = weigh_alone f xs i v e (λ j u ne at. n (suc j) u (λ h. ne (omega arith)) at) in
       omega arith
+
+  -- where all weigh nothing, each does
+  pub each_none : (f : A → ℕ) (l : List A) → weigh f l ≡ 0 → HasNone f l
+  each_none f [] e j d lt = absurd (omega arith)
+  each_none f (x ∷ xs) e zero d lt = omega (arith, e)
+  each_none f (x ∷ xs) e (suc j) d lt = each_none f xs (omega (arith, e)) j d (omega (arith, lt))
+
+  first_none : (f : A → ℕ) (x : A) (xs : List A) (at : ℕ) → f x ≡ 0 → ((j : ℕ) (d : A) → j < length xs → (j ≡ at → ⊥) → f (get_or xs j d) ≡ 0) → (j : ℕ) (d : A) → j < length (x ∷ xs) → (j ≡ suc at → ⊥) → f (get_or (x ∷ xs) j d) ≡ 0
+  first_none f x xs at none rest zero d lt ne = none
+  first_none f x xs at none rest (suc j) d lt ne = rest j d (omega (arith, lt)) (λ e. ne (ap suc e))
+
+  rest_none : (f : A → ℕ) (x : A) (xs : List A) → weigh f xs ≡ 0 → (j : ℕ) (d : A) → j < length (x ∷ xs) → (j ≡ 0 → ⊥) → f (get_or (x ∷ xs) j d) ≡ 0
+  rest_none f x xs e zero d lt ne = absurd (ne refl)
+  rest_none f x xs e (suc j) d lt ne = each_none f xs e j d (omega (arith, lt))
+
+  one_step : (f : A → ℕ) (x : A) (xs : List A) (n : ℕ) → f x ≡ n → f x + weigh f xs ≡ 1 → (weigh f xs ≡ 1 → HasOne f xs) → HasOne f (x ∷ xs)
+  one_step f x xs zero is e rest =
+      let r = rest (omega (arith, is, e)) in
+      record { at = suc r.at; within = (let lt = r.within in omega (arith, lt)); once = r.once; others = first_none f x xs r.at is r.others }
+  one_step f x xs (suc n) is e rest = record { at = 0; within = omega arith; once = λ d. omega (arith, is, e); others = rest_none f x xs (omega (arith, is, e)) }
+
+  -- where all weigh 1 together, one does
+  pub only_one : (f : A → ℕ) (l : List A) → weigh f l ≡ 1 → HasOne f l
+  only_one f [] e = absurd (omega (arith, e))
+  only_one f (x ∷ xs) e = one_step f x xs (f x) refl e (λ r. only_one f xs r)
 
   pub weigh_length : (l : List A) → weigh (λ (a : A). 1) l ≡ length l
   weigh_length [] = refl

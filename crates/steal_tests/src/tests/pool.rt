@@ -1,17 +1,18 @@
 //! A pool with more workers than bins, and each bin drawn by one of them.
 ghost use Rattle.std.specs.Prelude.{◌≡◌, ◌≤◌, IfOk, length};
 
-use super::drain::drain_pool;
-use super::frame::open_frame;
+use crate::tests::batches::opened;
 use bin_queues::Batched;
 use binning::{Cut, batch_size};
 use cull_base::{FrameList, Memory, ScreenTri, Size};
 use std::alloc::Global;
 use std::process::Abort;
 use std::sync::Wait;
-use std::test::*;
+use std::test::Fail;
 use std::thread::Threads;
-use tile_cells::TileCells;
+use steal_pool::{
+    drain_pool, each_bin_is_in_one_list, owner_has_every_place, places_are_taken_once,
+};
 use tile_queues::{BinTask, OpenGate};
 
 // Three pieces with boxes in x from 0 to 10, from 20 to 40 and from 33 to 50.
@@ -39,10 +40,7 @@ fn drawn_by<R: Threads + Wait + Sync>(
     ensures { IfOk result (λ v. length v.items ≡ workers) }
 {
     let list = frame.list;
-    let (cells, writers, _readers) = TileCells::make(rt, alloc, list, 0)?;
-    let (queues, _submitter, mut tasks) = open_frame(
-        rt, alloc, frame, &cells, writers, &OpenGate, workers,
-    )?;
+    let (cells, queues, mut tasks) = opened(rt, alloc, frame)?;
     let drawn = drain_pool(
         rt, alloc, &queues, &mut tasks, &cells, list, workers, &OpenGate,
     )?;
@@ -103,4 +101,12 @@ fn more_workers_than_bins_have_a_list_each(rt: HostRuntime) -> Result<(), Fail> 
     let list = three(&rt)?;
     let cut = Cut::new(1, 1).ok_or("a cut")?;
     assert_drawn(&rt, &list, &cut, 1, 64, (1, 3, 3), rt.alloc())
+}
+
+// Each place of a deque is taken once, front counts them, and so each bin is in one worker's list.
+#[test]
+fn each_task_is_handed_out_once() {
+    places_are_taken_once();
+    owner_has_every_place();
+    each_bin_is_in_one_list();
 }
