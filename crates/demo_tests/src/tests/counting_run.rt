@@ -1,11 +1,12 @@
 //! A run whose gate counts what it is asked: each bin draws each piece that meets it, once in each frame.
 ghost use Rattle.std.specs.Prelude.{◌<◌, length};
 
+use crate::tests::demo::MANY_TRIANGLES;
 use binning::{Cut, bin_batch};
 use cull_report::pieces_of;
 use culling::Status;
 use demo_scene::demo_scene;
-use runs_for_tests::{assert_ended, run_gated, run_with};
+use runs_for_tests::{assert_ended, run_gated};
 use scene_reader::Scene;
 use scenes_for_tests::clips_of;
 use std::alloc::{AllocError, Global};
@@ -141,14 +142,7 @@ fn assert_counted<R: Threads + Wait + Sync + Abort>(
     for bin in 0..gate.calls.len() {
         assert!(rt; are_counted(&gate.calls[bin], &frames, bin));
     }
-    let plain = run_with(
-        rt,
-        alloc,
-        "maskcull demo --seed 1 --triangles 20000",
-        Vec::new(alloc),
-    )?;
-    assert_ended(&ended, Status::Done, plain.report.as_str(), "")?;
-    Ok(())
+    assert_ended(&ended, Status::Done, MANY_TRIANGLES, "")
 }
 
 #[test]

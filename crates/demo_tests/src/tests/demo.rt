@@ -14,7 +14,8 @@ const WITHOUT_TRIANGLES: &str = concat!(
     "frame 3 pieces 0 visible 414 occluded 0 outside 86\n",
 );
 
-const MANY_TRIANGLES: &str = concat!(
+/// The summary of the scene of seed 1 with 20,000 triangles, as one worker in one bin has it.
+pub const MANY_TRIANGLES: &str = concat!(
     "demo seed 1 triangles 20000 boxes 500 frames 4\n",
     "frame 0 pieces 19999 visible 59 occluded 383 outside 58\n",
     "frame 1 pieces 20008 visible 92 occluded 350 outside 58\n",
