@@ -2,7 +2,7 @@
 use crate::tests::runs::{CULL, LARGE, NEVER, assert_ended, run_over, run_with, sink};
 use crate::tests::scenes::{changed, first_scene, two_frames};
 use cull_base::BytesSource;
-use culling::Status;
+use culling::{Status, cuts_leave_fronts, runs_end_by_their_input};
 use std::test::*;
 use tile_queues::OpenGate;
 
@@ -32,6 +32,7 @@ fn a_refused_scene_is_noted_with_its_numbers(rt: HostRuntime) -> Result<(), Fail
         let ended = run_with(&rt, alloc, CULL, bytes)?;
         assert_ended(&rt, &ended, Status::Scene, "", note);
     }
+    runs_end_by_their_input();
     Ok(())
 }
 
@@ -48,5 +49,6 @@ fn frames_before_a_report_fault_stand_whole(rt: HostRuntime) -> Result<(), Fail>
         "frame 1 pieces 2\n",
     );
     assert_ended(&rt, &ended, Status::ReportFault, front, "report fault\n");
+    cuts_leave_fronts();
     Ok(())
 }
