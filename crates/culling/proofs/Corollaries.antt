@@ -289,6 +289,50 @@ complete_cull words status before after P Q s bytes left spelled scene no_read n
       ]
     ]
 
+-- ---- and so does `live`, where the notes don't fail either
+
+pub complete_live : (words : LiveWords) (status : Status) (before after : Streams) (P Q : Type 0) (s : Parts) (bytes : List ℕ) → before.input.left ≡ Some bytes → bytes ≡ layout s → IsScene s
+    → (Rose before.input.faults after.input.faults → ⊥) → (Rose before.report.faults after.report.faults → ⊥) → (Rose before.notes.faults after.notes.faults → ⊥)
+    → Comes (Live words) status before after IsNotedBehind P Q → (status ≡ statuses.Done) ⊎ (status ≡ statuses.Memory)
+complete_live words status before after P Q s bytes left spelled scene no_read no_report no_notes h =
+    let first : first_fault bytes ≡ None = ap first_fault spelled ∙ scene_first s scene in
+    let which = by_layout before.input h.outcome left first h.ends in
+    elim h.leaves [
+      | inl whole ↦ elim which [ inl done ↦ inl (whole.0 ∙ done) | inr unread ↦ absurd (no_read (h.causes.read (whole.0 ∙ unread))) ]
+      | inr front ↦ elim front.0 [
+        | inl report ↦ absurd (no_report (h.causes.report report).1)
+        | inr rest ↦ elim rest [ inl notes ↦ absurd (no_notes (h.causes.notes notes).1) | inr memory ↦ inr memory ]
+      ]
+    ]
+  where
+    by_layout : (source : SourceSays) (o : OutcomeOf) → source.left ≡ Some bytes → first_fault bytes ≡ None → EndsByScene (Live words) source o (Makes (work_of (Live words)) source.left o)
+        → (o.status ≡ statuses.Done) ⊎ (o.status ≡ statuses.ReadFault)
+    by_layout source o is none ends = elim ends [
+      | inl made ↦
+          let (t, has, makes) = made in
+          let (counts, rising, same) = makes in
+          inl (ap (λ (x : OutcomeOf). x.status) same)
+      | inr rest ↦ elim rest [
+        | inl bad ↦
+            let (e, refusal, fault, same) = bad in absurd (without_fault source.left bytes e is none fault)
+        | inr unread ↦ inr (ap (λ (x : OutcomeOf). x.status) unread)
+      ]
+    ]
+
+-- ---- and `demo`, where the report doesn't fail
+
+pub complete_demo : (words : DemoWords) (status : Status) (before after : Streams) (P Q : Type 0) → (Rose before.report.faults after.report.faults → ⊥)
+    → Comes (Demo words) status before after IsNotedBehind P Q → (status ≡ statuses.Done) ⊎ (status ≡ statuses.Memory)
+complete_demo words status before after P Q no_report h =
+    let (counts, rising, is) = h.ends in
+    elim h.leaves [
+      | inl whole ↦ inl (whole.0 ∙ ap (λ (o : OutcomeOf). o.status) is)
+      | inr front ↦ elim front.0 [
+        | inl report ↦ absurd (no_report (h.causes.report report).1)
+        | inr rest ↦ elim rest [ inl notes ↦ absurd ((h.causes.notes notes).0 (ap (λ (o : OutcomeOf). o.notes) is)) | inr memory ↦ inr memory ]
+      ]
+    ]
+
 -- ---- missing: a scene without the frame, and no fault of the input: `picture` ends as Frame with that note alone, or memory ran out
 
 pub missing_picture : (words : PictureWords) (status : Status) (before after : Streams) (P Q : Type 0) (s : Parts) (bytes : List ℕ) → before.input.left ≡ Some bytes → bytes ≡ layout s → IsScene s

@@ -24,7 +24,7 @@ use Rattle.culling.proofs.Fronts.{all_is_front, front_of_more, front_then, nothi
 
 -- ---- texts
 
-joined-append : (xs ys : List (List ℕ)) → joined (xs ++ ys) ≡ joined xs ++ joined ys
+pub joined-append : (xs ys : List (List ℕ)) → joined (xs ++ ys) ≡ joined xs ++ joined ys
 joined-append xs ys = flat_map-append (λ (t : List ℕ). t) xs ys
 
 pub joined-next : (xs : List (List ℕ)) (k : ℕ) → k < length xs → joined (take (k + 1) xs) ≡ joined (take k xs) ++ slice_index_or xs k []

@@ -15,3 +15,4 @@ pub mod WindowBeside
 pub mod Checking
 pub mod Comings
 pub mod Corollaries
+pub mod Stopped

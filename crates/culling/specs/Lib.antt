@@ -12,3 +12,4 @@ pub mod Outcomes
 pub mod Checking
 pub mod Runs
 pub mod FrameRuns
+pub mod Promises

@@ -9,6 +9,7 @@ mod frame_by_frame;
 mod frame_pool;
 mod frames;
 mod heap;
+mod laws;
 mod live_caller;
 mod live_frame;
 mod noting;
@@ -17,3 +18,4 @@ mod window;
 
 pub use commands::run;
 pub use failure::{Failure, Status};
+pub use laws::{cuts_leave_fronts, done_is_whole, runs_end_by_their_input};

@@ -1,6 +1,6 @@
 //! Runs that are not done: their notes, and what stands on the report.
 use cull_base::BytesSource;
-use culling::Status;
+use culling::{Status, cuts_leave_fronts, runs_end_by_their_input};
 use runs_for_tests::{CULL, LARGE, NEVER, assert_ended, run_over, run_with, sink};
 use scenes_for_tests::{changed, first_scene, two_frames};
 use std::test::*;
@@ -32,6 +32,7 @@ fn a_refused_scene_is_noted_with_its_numbers(rt: HostRuntime) -> Result<(), Fail
         let ended = run_with(&rt, alloc, CULL, bytes)?;
         assert_ended(&ended, Status::Scene, "", note)?;
     }
+    runs_end_by_their_input();
     Ok(())
 }
 
@@ -48,5 +49,6 @@ fn frames_before_a_report_fault_stand_whole(rt: HostRuntime) -> Result<(), Fail>
         "frame 1 pieces 2\n",
     );
     assert_ended(&ended, Status::ReportFault, front, "report fault\n")?;
+    cuts_leave_fronts();
     Ok(())
 }

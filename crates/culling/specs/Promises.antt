@@ -1,0 +1,176 @@
+-- What a user has of a run, command by command. Each is a law on what `run` says: in src/laws.rt a function promises it.
+use Rattle.std.specs.Prelude.{ℕ, ◌≡◌, ◌⊎◌, ◌+◌, ◌<◌, ◌≤◌, ◌++◌, List, [], length, take, Some}
+use Rattle.std.specs.List.{flat_map, range_with_len}
+use Rattle.cull_base.specs.Stream.{Appends, AppendsPrefix, Rose}
+use Rattle.scene_reader.specs.Layout.{Parts, IsScene, layout, upgraded}
+use Rattle.scene_reader.specs.declared.error.SceneError.{SceneError}
+use Rattle.cull_report.specs.Hiding.{HidesTruly}
+use Rattle.cull_report.specs.Live.{Counts, HidesLive, IsRising, frame_live, live_text}
+use Rattle.cull_report.specs.Scene.{frames_text, report_text, scene_header}
+use Rattle.group_query.specs.Text.{frame_groups}
+use Rattle.live_check.specs.Logs.{AreGoodLines, IsAccepted}
+use Rattle.live_check.specs.declared.answer.LogAnswer.TheVariants.{Accepted, Refused}
+use Rattle.command_words.specs.declared.table.Command.{Command}
+use Rattle.command_words.specs.declared.table.BareCommand.TheVariants.{Upgrade}
+use Rattle.command_words.specs.declared.table.Command.TheVariants.{Cull, Live, Demo, Check, Picture, Bare}
+use Rattle.command_words.specs.declared.table.CheckWords.{CheckWords}
+use Rattle.command_words.specs.declared.table.CullWords.{CullWords}
+use Rattle.command_words.specs.declared.table.DemoWords.{DemoWords}
+use Rattle.command_words.specs.declared.table.LiveWords.{LiveWords}
+use Rattle.command_words.specs.declared.table.PictureWords.{PictureWords}
+use Rattle.culling.specs.Notes.{IsNotedBehind, status_text}
+use Rattle.culling.specs.Outcomes.{Ends, HasScene, IfBytes, OutcomeOf, ReadsScene, answer_text, group_notes, input_fault, joined, log_bytes, report_of}
+use Rattle.culling.specs.Picture.{ShowsTruly, frame_picture}
+use Rattle.culling.specs.Runs.{Comes, IsCut, Streams}
+use Rattle.culling.specs.Summary.{summary_text}
+use Rattle.culling.specs.declared.failure.Status.{Status}
+use Rattle.culling.specs.declared.failure.Status.TheVariants as statuses
+
+-- what `run` says of a command, by what its streams say before and after
+abbrev pub Ran : Command → Status → Streams → Streams → Type 0
+Ran c status before after =
+    Comes c status before after IsNotedBehind (after.report ≡ before.report) (status ≡ statuses.Done → after.notes ≡ before.notes)
+
+-- no byte is left in the input, where it tells its bytes
+abbrev pub IsTaken : Streams → Streams → Type 0
+IsTaken before after = IfBytes before.input (λ bytes. after.input.left ≡ Some [])
+
+-- ---- done: all stands
+
+-- the report of the scene, whose verdicts are true, and of groups the line of each frame
+abbrev pub CullIsWhole : Type 0
+CullIsWhole = (words : CullWords) (before after : Streams) → Ran (Cull words) statuses.Done before after
+    → (s : Parts) × HasScene (Cull words) before.input s × IsTaken before after × Appends before.report after.report (report_text s) × HidesTruly s
+    × Appends before.notes after.notes (group_notes s words.group)
+
+-- the same report, and a live text that is true, by counts that rise
+abbrev pub LiveIsWhole : Type 0
+LiveIsWhole = (words : LiveWords) (before after : Streams) → Ran (Live words) statuses.Done before after
+    → (s : Parts) × HasScene (Live words) before.input s × IsTaken before after × Appends before.report after.report (report_text s) × HidesTruly s
+    × ((counts : Counts) × IsRising s words.rounds words.watch counts × Appends before.notes after.notes (live_text s words.rounds words.watch counts) × HidesLive s words.rounds words.watch counts)
+
+abbrev pub DemoIsWhole : Type 0
+DemoIsWhole = (words : DemoWords) (before after : Streams) → Ran (Demo words) statuses.Done before after → Appends before.report after.report (summary_text words.seed words.triangles)
+
+abbrev pub UpgradeIsWhole : Type 0
+UpgradeIsWhole = (before after : Streams) → Ran (Bare Upgrade) statuses.Done before after
+    → (s : Parts) × HasScene (Bare Upgrade) before.input s × IsTaken before after × Appends before.report after.report (layout (upgraded s))
+
+-- the picture of a frame that is there, and what it shows is drawn
+abbrev pub PictureIsWhole : Type 0
+PictureIsWhole = (words : PictureWords) (before after : Streams) → Ran (Picture words) statuses.Done before after
+    → (s : Parts) × HasScene (Picture words) before.input s × IsTaken before after × (words.frame < length s.cameras)
+    × Appends before.report after.report (frame_picture s words.frame) × ShowsTruly s words.frame
+
+-- the log is accepted; with the status Log it isn't, its good lines are told, and nothing is noted
+abbrev pub CheckAccepts : Type 0
+CheckAccepts = (words : CheckWords) (before after : Streams) → Ran (Check words) statuses.Done before after
+    → (s : Parts) × HasScene (Check words) before.input s × IfBytes before.input (λ bytes. IsAccepted s words.rounds words.watch (log_bytes bytes)) × IsTaken before after
+    × Appends before.report after.report (answer_text Accepted)
+
+abbrev pub CheckRefuses : Type 0
+CheckRefuses = (words : CheckWords) (before after : Streams) → Ran (Check words) statuses.Log before after
+    → (s : Parts) × HasScene (Check words) before.input s
+    × ((n : ℕ) × IfBytes before.input (λ bytes. (IsAccepted s words.rounds words.watch (log_bytes bytes) → ⊥) × AreGoodLines s words.rounds words.watch (log_bytes bytes) n)
+    × Appends before.report after.report (answer_text (Refused n)) × Appends before.notes after.notes [])
+
+-- ---- what an input can end as
+
+-- one with a first fault as Scene, ReadFault or Memory, and the report stays
+abbrev pub FaultsAreTold : Type 0
+FaultsAreTold =
+    (c : Command) (status : Status) (before after : Streams) (bytes : List ℕ) (e : SceneError) → ReadsScene c → before.input.left ≡ Some bytes → input_fault c bytes ≡ Some e
+    → Ran c status before after → ((status ≡ statuses.Scene) ⊎ (status ≡ statuses.ReadFault) ⊎ (status ≡ statuses.Memory)) × (after.report ≡ before.report)
+
+-- the input is the layout of a scene
+pub record IsSpelled (source : Streams) (s : Parts) : Type 0 where
+  pub scene : IsScene s
+  pub left : source.input.left ≡ Some (layout s)
+
+-- all is written, or memory ran out
+abbrev pub IsDone : Status → Type 0
+IsDone status = (status ≡ statuses.Done) ⊎ (status ≡ statuses.Memory)
+
+-- where no count rose of a stream that the command asks: of the notes only where group lines are noted
+abbrev pub CullIsComplete : Type 0
+CullIsComplete = (words : CullWords) (status : Status) (before after : Streams) (s : Parts) → IsSpelled before s
+    → (Rose before.input.faults after.input.faults → ⊥) → (Rose before.report.faults after.report.faults → ⊥)
+    → ((n : ℕ) → words.group ≡ Some n → Rose before.notes.faults after.notes.faults → ⊥) → Ran (Cull words) status before after → IsDone status
+
+abbrev pub LiveIsComplete : Type 0
+LiveIsComplete = (words : LiveWords) (status : Status) (before after : Streams) (s : Parts) → IsSpelled before s
+    → (Rose before.input.faults after.input.faults → ⊥) → (Rose before.report.faults after.report.faults → ⊥)
+    → (Rose before.notes.faults after.notes.faults → ⊥) → Ran (Live words) status before after → IsDone status
+
+abbrev pub DemoIsComplete : Type 0
+DemoIsComplete = (words : DemoWords) (status : Status) (before after : Streams)
+    → (Rose before.report.faults after.report.faults → ⊥) → Ran (Demo words) status before after → IsDone status
+
+-- a scene without the frame ends as Frame, or memory ran out, and the report stays
+abbrev pub PictureIsMissing : Type 0
+PictureIsMissing = (words : PictureWords) (status : Status) (before after : Streams) (s : Parts) → IsSpelled before s → length s.cameras ≤ words.frame
+    → (Rose before.input.faults after.input.faults → ⊥) → Ran (Picture words) status before after
+    → ((status ≡ statuses.Frame) ⊎ (status ≡ statuses.Memory)) × (after.report ≡ before.report)
+
+-- ---- cut short: a sink failed or memory ran out
+
+-- a beginning of a report stands, and of some notes a beginning with the status's note behind it
+pub record LeavesFronts (status : Status) (before after : Streams) (report notes : List ℕ) : Type 0 where
+  pub reported : AppendsPrefix before.report after.report report
+  pub size : ℕ
+  pub within : size ≤ length notes
+  pub noted : IsNotedBehind before.notes after.notes (take size notes) (status_text status)
+
+-- memory ran out where the input isn't known as a scene: the report stays, and the note stands alone
+pub record LeavesNote (status : Status) (before after : Streams) : Type 0 where
+  pub memory : status ≡ statuses.Memory
+  pub report : after.report ≡ before.report
+  pub noted : IsNotedBehind before.notes after.notes [] (status_text status)
+
+-- so it is of what any command comes to
+abbrev pub CutsLeaveFronts : Type 0
+CutsLeaveFronts = (c : Command) (status : Status) (before after : Streams) → IsCut status → Ran c status before after
+    → (o : OutcomeOf) × Ends c before.input o × LeavesFronts status before after (report_of o) (joined o.notes)
+
+-- of a scene's report and of the lines of its groups
+abbrev pub CullIsCut : Type 0
+CullIsCut = (words : CullWords) (status : Status) (before after : Streams) → IsCut status → Ran (Cull words) status before after
+    → ((s : Parts) × HasScene (Cull words) before.input s × LeavesFronts status before after (report_text s) (group_notes s words.group)) ⊎ LeavesNote status before after
+
+-- of the same report and of a live text that is true, by counts that rise
+abbrev pub LiveIsCut : Type 0
+LiveIsCut = (words : LiveWords) (status : Status) (before after : Streams) → IsCut status → Ran (Live words) status before after
+    → ((s : Parts) × HasScene (Live words) before.input s
+    × ((counts : Counts) × IsRising s words.rounds words.watch counts × HidesLive s words.rounds words.watch counts
+    × LeavesFronts status before after (report_text s) (live_text s words.rounds words.watch counts)))
+    ⊎ LeavesNote status before after
+
+abbrev pub DemoIsCut : Type 0
+DemoIsCut = (words : DemoWords) (status : Status) (before after : Streams) → IsCut status → Ran (Demo words) status before after
+    → LeavesFronts status before after (summary_text words.seed words.triangles) []
+
+-- a report fault has its cause: there is text for the report, and its count of faults rose
+abbrev pub ReportFaultsRose : Type 0
+ReportFaultsRose = (c : Command) (before after : Streams) → Ran c statuses.ReportFault before after
+    → (o : OutcomeOf) × Ends c before.input o × (report_of o ≡ [] → ⊥) × Rose before.report.faults after.report.faults
+    × LeavesFronts statuses.ReportFault before after (report_of o) (joined o.notes)
+
+-- The notes failed at a frame's lines. The report is the header and the frames up to this one, whole; the notes have all lines of those before it, and of its
+-- own a beginning that isn't the whole.
+pub record StopsAtNotes (s : Parts) (lines : ℕ → List ℕ) (before after : Streams) : Type 0 where
+  pub frame : ℕ
+  pub below : frame < length s.cameras
+  pub reported : Appends before.report after.report (scene_header s ++ frames_text s (frame + 1))
+  pub size : ℕ
+  pub less : size < length (lines frame)
+  pub noted : Appends before.notes after.notes (flat_map lines (range_with_len 0 frame) ++ take size (lines frame))
+  pub rose : Rose before.notes.faults after.notes.faults
+
+abbrev pub LiveStopsAtNotes : Type 0
+LiveStopsAtNotes = (words : LiveWords) (before after : Streams) → Ran (Live words) statuses.NotesFault before after
+    → (s : Parts) × HasScene (Live words) before.input s
+    × ((counts : Counts) × IsRising s words.rounds words.watch counts × StopsAtNotes s (λ frame. frame_live s words.rounds words.watch (counts frame) frame) before after)
+
+abbrev pub GroupsStopAtNotes : Type 0
+GroupsStopAtNotes = (words : CullWords) (before after : Streams) → Ran (Cull words) statuses.NotesFault before after
+    → (s : Parts) × HasScene (Cull words) before.input s × ((most : ℕ) × (words.group ≡ Some most) × StopsAtNotes s (frame_groups s most) before after)
