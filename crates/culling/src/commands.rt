@@ -1,6 +1,6 @@
 //! The top call: from a command line's words and the bytes of a scene to the report.
 ghost use Rattle.std.specs.Prelude.{◌≡◌, None, Some, map, string_bytes};
-ghost use Rattle.command_words.specs.Words.{ArePlain, IsWithinLimits, command_of};
+ghost use Rattle.command_words.specs.Words.{ArePlain, IsRefused, IsWithinLimits, command_of};
 ghost use Rattle.culling.specs.Notes.{IsNotedBehind};
 ghost use Rattle.culling.specs.Outcome.{status_by};
 ghost use Rattle.culling.specs.Outcomes.{Asks, IfAsked, IsTrue, ReadsScene};
@@ -86,6 +86,7 @@ pub fn run<R: Threads + Wait + Sync, S: Source, W: Sink, E: Sink, G: Gate>(
     ensures asked { (result ≡ Status.Usage → ⊥) → (result ≡ Status.Memory → ⊥)
         → Asks (map string_bytes words.now) IsWithinLimits }
     ensures usage { result ≡ Status.Usage → command_of (map string_bytes words.now) ≡ None }
+    ensures refused { result ≡ Status.Usage → IsRefused (map string_bytes words.now) }
     ensures plain { (c : Command) → ArePlain (map string_bytes words.now) c
         → command_of (map string_bytes words.now) ≡ Some c }
 
