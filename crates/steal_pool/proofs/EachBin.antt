@@ -1,5 +1,5 @@
 -- One task of each bin: no bin has two.
-use Rattle.std.proofs.Common.{◌≡◌, ℕ, zero, suc, ◌+◌, ◌≤◌, ◌<◌, cond, eqb, eq-eqb, ne_eqb, List, [], ◌∷◌, length, get_or, refl, ap, subst, sym, ◌∙◌, below_more, arith, inl, inr}
+use Rattle.std.proofs.Common.{◌≡◌, ℕ, zero, suc, ◌+◌, ◌≤◌, ◌<◌, cond, eq-eqb, ne_eqb, List, [], ◌∷◌, length, get_or, refl, ap, sym, ◌∙◌, below_more, arith, inl, inr}
 use Rattle.std.proofs.lemmas.Bool.{cases_eq}
 use Rattle.std.proofs.lemmas.List.{get_or_default}
 use Rattle.bin_queues.specs.QueueParts.{BatchedFrame}

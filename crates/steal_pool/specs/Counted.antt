@@ -1,5 +1,5 @@
 -- The rule of a worker's deque, read place by place.
-use Rattle.std.specs.Prelude.{◌≡◌, ◌==◌, ℕ, ◌<◌, cond, List, [], ◌∷◌, length, slice_index, slice_index_or}
+use Rattle.std.specs.Prelude.{◌≡◌, ◌==◌, ℕ, ◌<◌, cond, List, length, slice_index, slice_index_or}
 use Rattle.binning.specs.Cut.{bin_count_of}
 use Rattle.bin_queues.specs.QueueParts.{BatchedFrame}
 use Rattle.bin_queues.specs.Tasks.{QueuesOf, Tasking}
@@ -65,5 +65,6 @@ OwnerHasNoOther =
 -- Where lists together are whole, the task of each bin stands in exactly one of them, once.
 abbrev pub EachBinOnce : Type 0
 EachBinOnce =
-    (queues : QueuesOf) (frame : BatchedFrame) (lists : List (List Tasking)) → AreWhole queues frame (joined (λ ts. ts) lists)
+    (queues : QueuesOf) (frame : BatchedFrame) (lists : List (List Tasking))
+    → AreWhole queues frame (joined (λ ts. ts) lists)
     → (b : ℕ) → b < bin_count_of frame.cut → HasOne (tasks_of_bin b) lists

@@ -61,7 +61,8 @@ fn submit_all<R: Wait>(
     requires queues { IsSubmitterOf queues.now submitter.old }
     requires frame { submitter.old.frame ≡ over frame.now submitter.old.frame.cells }
     requires none { submitter.old.batches ≡ 0 }
-    ensures { OnOk result (submitter.new ≡ record submitter.old { batches = batches_in submitter.old.frame }) }
+    ensures { OnOk result
+        (submitter.new ≡ record submitter.old { batches = batches_in submitter.old.frame }) }
 {
     let count = frame.batches();
     for _ in 0..count {

@@ -1,5 +1,4 @@
-use Rattle.std.proofs.Common.{◌≡◌, ◌<◌, ◌≤◌, ◌∷◌, [], length, get_or, arith, rules, ap, sym, subst, vec_capacity}
-use Rattle.std.proofs.lemmas.Grind.{common_steps}
+use Rattle.std.proofs.Common.{◌<◌, ◌∷◌, [], length, get_or, arith, ap, sym, subst}
 use Rattle.std.proofs.lemmas.List.{length-append}
 use Rattle.crossbeam_deque.specs.Handles.{stealer_deque}
 use Rattle.steal_pool.specs.Gather.{AreEnds}
