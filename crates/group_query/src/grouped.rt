@@ -384,7 +384,7 @@ impl<'a, V: TileView> Answering for Grouped<'a, V> {
         let mut forms = [Form::Outside; KEPT];
         let mut place = self.answer_cut(from, first, end, verdicts);
         let (mut hidden, mut members) = (0u32, 0u32);
-        // hidden groups mostly follow one another
+        // the first hull is tested before its members; then hidden groups mostly follow one another
         let mut by_hull = true;
         for number in from..to {
             let group = self.group_at(number);

@@ -1,4 +1,4 @@
-//! What groups and their hulls are, and why the members of a hidden group aren't tested.
+//! What groups and their hulls are, and why the members of a hidden group needn't be tested.
 ghost use Rattle.group_query.specs.Grouping.{CutsInGroups};
 ghost use Rattle.group_query.specs.Hidden.{HidesMembers};
 ghost use Rattle.group_query.specs.Hulls.{HullsAreTight};

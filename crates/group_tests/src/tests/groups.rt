@@ -286,7 +286,6 @@ fn group_lines_that_fail_leave_the_report_up_to_their_frame(rt: HostRuntime) -> 
     let whole = faulty(&rt, alloc, NEVER, NEVER)?;
     let lines = "groups 0 count 1 hidden 1 members 2\ngroups 1 count 1 hidden 1 members 2\n";
     assert_ended(&whole, Status::Done, whole.report.as_str(), lines)?;
-    done_is_whole();
     let first = concat!(
         "msoc-report 1 32 8 2 2\nframe 0 pieces 2\n0 occluded\n1 occluded\n",
         "end 0 visible 0 occluded 2 outside 0\n",
@@ -297,6 +296,7 @@ fn group_lines_that_fail_leave_the_report_up_to_their_frame(rt: HostRuntime) -> 
     let one = faulty(&rt, alloc, NEVER, 2)?;
     let line = "groups 0 count 1 hidden 1 members 2\n";
     assert_ended(&one, Status::NotesFault, whole.report.as_str(), line)?;
+    done_is_whole();
     Ok(())
 }
 
