@@ -30,13 +30,14 @@ fn without_triangles_no_frame_has_pieces(rt: HostRuntime) -> Result<(), Fail> {
     assert_writes(&rt, alloc, line, Vec::new(alloc), WITHOUT_TRIANGLES)
 }
 
-// The summary of many triangles, by one worker and by many, in one bin and in many.
+// The summary of many triangles by so many workers, in one bin and in many.
 fn assert_many<R: Threads + Wait + Sync + Abort>(
     rt: &R,
     alloc: Global,
     early: &str,
+    workers: u32,
 ) -> Result<(), Fail> {
-    for (workers, bins) in [(1u32, 1u32), (1, 4), (8, 1), (8, 4)] {
+    for bins in [1u32, 4] {
         let line = format!(in alloc;
             "maskcull demo{early} --seed 1 --triangles 20000 --workers {workers} --bins-x {bins} --bins-y {bins}"
         )?;
@@ -47,12 +48,18 @@ fn assert_many<R: Threads + Wait + Sync + Abort>(
 
 #[test]
 fn many_triangles_by_any_workers_in_any_bins(rt: HostRuntime) -> Result<(), Fail> {
-    assert_many(&rt, rt.alloc(), "")
+    assert_many(&rt, rt.alloc(), "", 1)?;
+    assert_many(&rt, rt.alloc(), "", 8)
 }
 
 #[test]
-fn many_triangles_with_objects_settled_early(rt: HostRuntime) -> Result<(), Fail> {
-    assert_many(&rt, rt.alloc(), " --early")
+fn many_triangles_with_objects_settled_early_by_one_worker(rt: HostRuntime) -> Result<(), Fail> {
+    assert_many(&rt, rt.alloc(), " --early", 1)
+}
+
+#[test]
+fn many_triangles_with_objects_settled_early_by_eight_workers(rt: HostRuntime) -> Result<(), Fail> {
+    assert_many(&rt, rt.alloc(), " --early", 8)
 }
 
 // Four frames: in windows of two, in one of three with a frame left, in one of four, or shared.
