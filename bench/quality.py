@@ -256,7 +256,7 @@ def near(models):
         for wide in (False, True):
             scene = convert(models.town.model, Asked(occluders=BUILDING, near=metres, wide=wide)).scene
             # one step of nearness at 50 metres, in millimetres
-            row += [f"{1000 * 50**2 / (scene.top * metres):.2g} mm", f"{called(reports(models.town.program, scene)):,}"]
+            row += [f"{1000 * 50**2 / (scene.top * metres):.3g} mm", f"{called(reports(models.town.program, scene)):,}"]
         rows.append(row)
     head = ("near distance", "a step at 50 m, narrow", "called occluded", "a step, wide", "called occluded")
     table("The near distance, in the town (walls, roofs and the ground):", head, rows)
