@@ -7,6 +7,7 @@ from . import lenses, transforms, views
 from .document import ModelError
 from .objects import Objects, Vertices
 from .occluders import Choice, largest, ordered
+from .progress import watched
 from .scene import FAR, MOST_FRAMES, MOST_OCCLUDERS, NARROW_TOP, WIDE_TOP, Scene, msoc
 
 # The side of a cell, where none is asked for: this part of the model's diagonal.
@@ -131,7 +132,7 @@ def drawn(occluders, frame, vertices, asked):
     triples = both_ways(occluders, asked.sides)
     hides_twice = asked.sides == "both" or all(occluder.is_double_sided for occluder in occluders)
     triangles = []
-    for points in triples:
+    for points in watched(triples, "occluder triangles"):
         corners = tuple(map(vertices.number, frame.vertices(points)))
         if len(set(corners)) == 3:
             triangles.append(corners)
@@ -174,7 +175,7 @@ def finest_frame(near, ends, seen, aspect):
         frame = views.Frame(near, fineness, ends[0])
         frame.origin = tuple((a + b) / 2 + MARGIN / frame.scale for a, b in zip(*ends))
         if all(abs(part) < FAR for corner in frame.vertices(ends) for part in corner):
-            cameras = [frame.camera(view, aspect) for view in seen]
+            cameras = [frame.camera(view, aspect) for view in watched(seen, "cameras")]
             if all(abs(number) <= FAR for camera in cameras for number in camera):
                 return frame, cameras
     return None

@@ -4,6 +4,7 @@ import dataclasses
 from . import transforms
 from .accessors import INDEX_COMPONENTS, read_accessor, read_scalars
 from .document import MOST_REAL, Document, ModelError
+from .progress import watched
 
 POINTS, TRIANGLES, STRIP, FAN = 0, 4, 5, 6
 JOINT_COMPONENTS = (5121, 5123)
@@ -87,7 +88,7 @@ class Model:
                 raise ModelError(f"{node.label} is moved or scaled past all bounds.")
             order.append((number, node))
             waiting += [(child, node, self.places[number]) for child in reversed(node.wholes("children"))]
-        for number, node in order:
+        for number, node in watched(order, "nodes of the model"):
             self.take_node(node, self.places[number])
 
     def take_node(self, node, place):
