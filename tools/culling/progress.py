@@ -30,7 +30,7 @@ def told(items, what, total):
 
 
 def counted(items, what, total):
-    """The items, with a line that is cleared in the end. The cursor stays at its beginning, for what else is written."""
+    """The items, with a line that is cleared in the end. The cursor stays at its beginning, for other words."""
     begin, last = time.monotonic(), 0.0
     try:
         for number, item in enumerate(items, 1):
