@@ -3,6 +3,7 @@ import re
 
 COUNTS = ("frames", "vertices", "occluder triangles", "object triangles", "objects", "batches")
 LIMITS = ("1 to 256", "0 to 262,144", "0 to 65,536", "0 to 262,144", "0 to 65,536", "0 to 4,096")
+PLACES = ("14 and 15", "16 to 19", "20 to 23", "24 to 27", "28 to 31", "32 to 35")
 
 STATUSES = {
     0: "Done: the input was read, and all of the output written.",
@@ -31,7 +32,8 @@ REFUSALS = {
     (5, 1): lambda near: f"its near distance, in bytes 10 and 11, is {near}, and it is 1 to 1024",
     (6, 1): lambda byte: f"its byte 12 is {byte}: it is a winding of 0 to 2 in version 1, and 0 in version 2",
     (7, 1): lambda byte: f"its byte 13 is {byte}, and in version 1 it is 0",
-    (8, 2): lambda which, count: f"it has {count} {COUNTS[which]}, and a scene has {LIMITS[which]}",
+    (8, 2): lambda which, count: f"it has {count} {COUNTS[which]}, by bytes {PLACES[which]}, and a scene has"
+            f" {LIMITS[which]}",
     (9, 0): lambda: "bytes follow after its last camera",
     (10, 1): lambda number: f"vertex {number} has a number beyond 16,777,216 or -16,777,216",
     (11, 2): lambda table, number: f"{('occluder', 'object')[table]} triangle {number} names a vertex that isn't there",
