@@ -47,7 +47,8 @@ class Outcome:
     holes: int
 
     def shares(self):
-        return [f"{self.hidden:,}", f"{self.found:,}", percent(self.found, self.in_view)]
+        of_hidden, of_view = percent(self.found, self.hidden), percent(self.found, self.in_view)
+        return [f"{self.hidden:,}", f"{self.found:,}", of_hidden, of_view]
 
     def row(self, name):
         return [name, f"{self.occluders:,}", f"{self.pieces:,}", f"{percent(self.found, self.hidden)}", str(self.holes)]
@@ -116,6 +117,7 @@ def table(title, head, rows):
 
 
 USUAL = ("occluders", "occluder triangles", "pieces a frame", "found", "holes")
+SHARES = ("in view", "truly hidden", "found", "found, of what is truly hidden", "found, of what is in view")
 
 
 def with_boxes(model):
@@ -222,8 +224,7 @@ def objects(models):
         for kind, word in (("box", "boxes"), ("mesh", "meshes")):
             sums = outcome(*tested(models.town, parts, kind))
             rows.append([f"{name} as {word}", f"{sums.in_view:,}", *sums.shares()])
-    head = ("tested", "in view", "truly hidden", "found", "found, of what is in view")
-    table("Boxes and meshes, in the town:", head, rows)
+    table("Boxes and meshes, in the town:", ("tested", *SHARES), rows)
 
 
 def groups(models):
@@ -248,15 +249,16 @@ def groups(models):
 
 
 def near(models):
-    """The near distance."""
+    """The near distance, in either grade."""
     rows = []
     for metres in (0.1, 0.3, 1, 3):
-        scene = convert(models.town.model, Asked(occluders=BUILDING, near=metres)).scene
-        told = reports(models.town.program, scene)
-        # one step of nearness at 50 metres, in metres
-        step = 50**2 / (65535 * metres)
-        rows.append([f"{metres} m", f"{step:.2f} m", f"{called(told):,}"])
-    head = ("near distance", "one step of nearness at 50 m", "called occluded")
+        row = [f"{metres} m"]
+        for wide in (False, True):
+            scene = convert(models.town.model, Asked(occluders=BUILDING, near=metres, wide=wide)).scene
+            # one step of nearness at 50 metres, in millimetres
+            row += [f"{1000 * 50**2 / (scene.top * metres):.3g} mm", f"{called(reports(models.town.program, scene)):,}"]
+        rows.append(row)
+    head = ("near distance", "a step at 50 m, narrow", "called occluded", "a step, wide", "called occluded")
     table("The near distance, in the town (walls, roofs and the ground):", head, rows)
 
 
@@ -287,8 +289,7 @@ def when(models):
     for name, first, end in WALK:
         sums = outcome(scene, told[first:end], models.town.truth[first:end])
         rows.append([name, f"{sums.in_view:,}", *sums.shares()])
-    head = ("the eye is", "in view", "truly hidden", "found", "found, of what is in view")
-    table("Where one stands, in the town:", head, rows)
+    table("Where one stands, in the town:", ("the eye is", *SHARES), rows)
 
 
 TABLES = {table.__name__: table for table in (which, number, order, passes, sides, objects, groups, near, size, when)}

@@ -1,12 +1,15 @@
 #!/usr/bin/env python3
 """Draws the figures of docs/ALGORITHM.md: a command's bytes, spans of columns, a cell's words, bins and workers over
-time, frames side by side.
+time, frames side by side; and for README.md the times along a path.
 
-usage: docs/figures.py bytes|spans|cell|turns|windows > docs/NAME.svg
+usage: docs/figures.py bytes|spans|cell|turns|windows|paths > docs/NAME.svg
 
 The turns are computed by the rule that docs/ALGORITHM.md tells, for the pieces and the times below, and so are the
-spans and the frames; the words of the cell are packed as docs/DEFINITIONS.md tells it."""
+spans and the frames; the words of the cell are packed as docs/DEFINITIONS.md tells it. The times are those of the table
+in docs/PERFORMANCE.md."""
 import math
+import pathlib
+import re
 import sys
 
 STYLE = """
@@ -348,8 +351,40 @@ def spans_figure():
                " column on, without those from its end on.", "small")
 
 
+# The times along a path.
+
+PAGE = pathlib.Path(__file__).resolve().parent / "PERFORMANCE.md"
+PATH_HEAD = "| ms a frame, along a path of 64 frames | 1 thread | 4 threads |"
+PATH_ROW = re.compile(r"\| ([^|]+) \| ([\d.]+) \| ([\d.]+) \|")
+
+
+def path_times():
+    """Of each row of the table: its scene, and milliseconds by one thread and by four, as they stand there."""
+    table = PAGE.read_text().split(PATH_HEAD)[1].split("\n\n")[0]
+    return [found.groups() for row in table.splitlines()[2:] if (found := PATH_ROW.match(row))]
+
+
+def paths_figure():
+    rows, left, top, height = path_times(), 330, 56, 50
+    most = max(float(time) for _, *times in rows for time in times)
+    bottom = top + height * len(rows)
+    yield 880, bottom + 54, "Milliseconds a frame along a path, by one thread and by four"
+    yield text(24, 30, "Milliseconds a frame along a path of 64 frames, without reading the scene", "strong")
+    for number, (scene, *times) in enumerate(rows):
+        y = top + number * height
+        yield text(left - 12, y + 24, scene, anchor="end")
+        for place, (time, shade) in enumerate(zip(times, ("one", "two"))):
+            width = 470 * float(time) / most
+            yield rect(left, y + 18 * place, width, 16, shade)
+            yield text(left + width + 8, y + 18 * place + 13, time, "small")
+    yield line(left, top - 4, left, bottom - 8, "thin")
+    for place, shade, told in ((0, "one", "1 thread"), (110, "two", "4 threads, each on frames of its own")):
+        yield rect(left + place, bottom + 14, 16, 16, shade)
+        yield text(left + place + 24, bottom + 27, told)
+
+
 FIGURES = {"bytes": bytes_figure, "spans": spans_figure, "cell": cell_figure, "turns": turns_figure,
-           "windows": windows_figure}
+           "windows": windows_figure, "paths": paths_figure}
 
 
 def main():

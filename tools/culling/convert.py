@@ -3,26 +3,29 @@ import dataclasses
 import json
 import math
 
-from . import gltf, transforms, views
+from . import lenses, transforms, views
 from .document import ModelError
 from .objects import Objects, Vertices
 from .occluders import Choice, largest, ordered
+from .progress import watched
 from .scene import FAR, MOST_FRAMES, MOST_OCCLUDERS, NARROW_TOP, WIDE_TOP, Scene, msoc
 
-# The near distance, where none is asked for, and the side of a cell: these parts of the model's diagonal.
-NEAR_PART, CELL_PART = 1000, 16
+# The side of a cell, where none is asked for: this part of the model's diagonal.
+CELL_PART = 16
 # The scene's 0, 0, 0 lies so many units off the middle of the model and the eyes on each axis, so that an eye in the
 # middle has no small numbers: a change of one in a camera's row then moves the row's sum there, which `views` needs.
 MARGIN = 40503
 MOST_METRES = 1e15
 FINENESSES = (4, 2, 1)
+# The least near distance that fits is found to this factor.
+CLOSE = 1.001
 
 
 @dataclasses.dataclass
 class Asked:
     """What is asked of a conversion; `None` where the model decides."""
 
-    size: tuple = (640, 360)
+    size: tuple = None
     near: float = None
     height: float = None
     orbit: int = None
@@ -31,11 +34,11 @@ class Asked:
     occluders: str = None
     clear: str = None
     sides: str = "material"
-    order: str = "file"
+    order: str = "near"
     cell: float = None
     passes: int = 1
     keep: int = None
-    wide: bool = False
+    wide: bool = True
 
 
 @dataclasses.dataclass
@@ -57,13 +60,16 @@ def convert(model, asked):
         raise ModelError("The model has no mesh with a point in the scene that it shows.")
     box = transforms.bounds(points)
     test_reach("The model", box)
-    seen = chosen_views(model, asked, box)
+    eyes = lenses.own_eyes(model, asked)
+    size, notes = lenses.screen(eyes, asked)
+    aspect = size[0] / size[1]
+    seen = chosen_views(eyes, asked, box, aspect)
     test_reach("A view", [view.eye for view in seen])
     diagonal = math.dist(*box)
-    near = asked.near or diagonal / NEAR_PART or 1.0
-    chosen, notes = chosen_occluders(model, asked, [view.eye for view in seen], diagonal)
-    aspect = asked.size[0] / asked.size[1]
-    frame, cameras = fitting_frame(near, box, seen, aspect)
+    chosen, share = chosen_occluders(model, asked, [view.eye for view in seen], diagonal)
+    near, may_rise, told = lenses.near_distance(eyes, asked, diagonal)
+    frame, cameras = fitting_frame(near, box, seen, aspect, may_rise)
+    notes += told if frame.near == near else [lenses.raised(near, frame.near)]
     vertices = Vertices()
     triangles, winding = drawn(chosen, frame, vertices, asked)
     objects = Objects(frame, vertices)
@@ -71,10 +77,8 @@ def convert(model, asked):
     top = WIDE_TOP if asked.wide else NARROW_TOP
     batches = [(len(triangles), winding)]
     things = [thing.numbers for thing in objects.things]
-    scene = Scene(
-        asked.size, views.NEAR_UNITS, top, batches, vertices.rows, triangles, objects.triangles, things, cameras
-    )
-    notes = model.notes + notes + objects.notes
+    scene = Scene(size, views.NEAR_UNITS, top, batches, vertices.rows, triangles, objects.triangles, things, cameras)
+    notes = model.notes + notes + share + objects.notes
     return Converted(scene, names_of(model, frame, objects.things, seen), notes)
 
 
@@ -84,14 +88,13 @@ def test_reach(what, points):
         raise ModelError(f"{what} reaches further than {MOST_METRES:.0e} metres from the middle.")
 
 
-def chosen_views(model, asked, box):
+def chosen_views(eyes, asked, box, aspect):
     """The views that are asked for; else those of the model's cameras; else eight around it."""
     height = asked.height or math.radians(60)
-    aspect = asked.size[0] / asked.size[1]
     if asked.path is not None:
         seen = views.along(asked.path, height)
-    elif asked.orbit is None and model.eyes:
-        seen = [views.of_model(eye, asked.height) for eye in model.eyes]
+    elif eyes:
+        seen = [views.of_model(eye, asked.height) for eye in eyes]
     else:
         seen = views.around(box, asked.orbit or 8, height, aspect)
     if not 0 < len(seen) <= MOST_FRAMES:
@@ -129,26 +132,41 @@ def drawn(occluders, frame, vertices, asked):
     triples = both_ways(occluders, asked.sides)
     hides_twice = asked.sides == "both" or all(occluder.is_double_sided for occluder in occluders)
     triangles = []
-    for points in triples:
+    for points in watched(triples, "occluder triangles"):
         corners = tuple(map(vertices.number, frame.vertices(points)))
         if len(set(corners)) == 3:
             triangles.append(corners)
     return triangles * asked.passes, msoc.KEEPS_BOTH if hides_twice else msoc.DROPS_CLOCKWISE
 
 
-def fitting_frame(near, box, seen, aspect):
-    """The finest units in which the model and the eyes fit a scene, and the cameras in these units."""
+def fitting_frame(near, box, seen, aspect, may_rise=False):
+    """The finest units in which the model and the eyes fit a scene, and the cameras in these units. Where they don't
+    fit, and the near distance may rise, it becomes the least greater one at which they do."""
     ends = transforms.bounds([*box, *(view.eye for view in seen)])
     fitting = finest_frame(near, ends, seen, aspect)
     if fitting:
         return fitting
     reach = max(b - a for a, b in zip(*ends))
     enough = next((near * 2**k for k in range(1, 60) if finest_frame(near * 2**k, ends, seen, aspect)), None)
+    if enough and may_rise:
+        return least_frame(enough / 2, enough, ends, seen, aspect)
     advice = f"take --near {enough:.3g}" if enough else "take a much larger --near"
     raise ModelError(
         f"The model and the eyes reach over {reach:.6g} metres, which is too far for a near distance of {near:.6g}"
         f" and this field of view: {advice}."
     )
+
+
+def least_frame(low, high, ends, seen, aspect):
+    """The frame of the least near distance between one that is too small and one that fits."""
+    found = finest_frame(high, ends, seen, aspect)
+    while high > CLOSE * low:
+        middle = math.sqrt(low * high)
+        if fitting := finest_frame(middle, ends, seen, aspect):
+            found, high = fitting, middle
+        else:
+            low = middle
+    return found
 
 
 def finest_frame(near, ends, seen, aspect):
@@ -157,7 +175,7 @@ def finest_frame(near, ends, seen, aspect):
         frame = views.Frame(near, fineness, ends[0])
         frame.origin = tuple((a + b) / 2 + MARGIN / frame.scale for a, b in zip(*ends))
         if all(abs(part) < FAR for corner in frame.vertices(ends) for part in corner):
-            cameras = [frame.camera(view, aspect) for view in seen]
+            cameras = [frame.camera(view, aspect) for view in watched(seen, "cameras")]
             if all(abs(number) <= FAR for camera in cameras for number in camera):
                 return frame, cameras
     return None

@@ -6,6 +6,7 @@ coverage), in whole numbers, and keeps for each sample the greatest depth of the
 The rows of a picture run from the top."""
 import subprocess
 
+from .progress import watched
 from .scene import NARROW_TOP
 
 GUARD = 16384
@@ -158,7 +159,7 @@ def buffer_of(scene, frame):
     rows = [[0] * width for _ in range(height)]
     pieces = frame_pieces(scene, frame)
     # near ones first: most of the others are then told to be behind them by one comparison
-    for piece in sorted(pieces, key=lambda piece: -min(point[2] for point in piece)):
+    for piece in watched(sorted(pieces, key=lambda piece: -min(point[2] for point in piece)), "pieces of the frame"):
         for number, begin, depths in spans_of(piece, scene.size):
             row, end = rows[number], begin + len(depths)
             drawn = row[begin:end]

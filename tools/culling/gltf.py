@@ -4,9 +4,12 @@ import dataclasses
 from . import transforms
 from .accessors import INDEX_COMPONENTS, read_accessor, read_scalars
 from .document import MOST_REAL, Document, ModelError
+from .progress import watched
 
 POINTS, TRIANGLES, STRIP, FAN = 0, 4, 5, 6
 JOINT_COMPONENTS = (5121, 5123)
+# What a camera's numbers may be: an angle, a distance in metres, a ratio.
+LEAST_OF_LENS, MOST_NEAR = 1e-9, 1e9
 # What a model may require and still has its shapes where they are without it.
 HARMLESS = ("KHR_materials_", "KHR_texture_", "KHR_lights_", "EXT_texture_", "EXT_lights_", "KHR_xmp", "KHR_technique")
 KNOWN = ("KHR_mesh_quantization", "EXT_mesh_gpu_instancing")
@@ -47,11 +50,14 @@ class Part:
 
 @dataclasses.dataclass
 class Eye:
-    """A camera of the model: its map into the model, and the height of its view in radians."""
+    """A camera of the model: its map into the model, the height of its view in radians, its near distance, and how many
+    times as wide as high its view is, or None where it doesn't say."""
 
     name: str
     place: tuple
     height: float
+    near: float
+    ratio: float
 
 
 class Model:
@@ -60,6 +66,7 @@ class Model:
     def __init__(self, path):
         self.document = Document(path)
         self.parts, self.eyes, self.notes = [], [], []
+        self.has_flat_eyes = False
         self.primitives, self.places = {}, {}
         test_extensions(self.document.root)
         self.materials = [material_of(entry) for entry in self.document.table("materials", "material")]
@@ -81,7 +88,7 @@ class Model:
                 raise ModelError(f"{node.label} is moved or scaled past all bounds.")
             order.append((number, node))
             waiting += [(child, node, self.places[number]) for child in reversed(node.wholes("children"))]
-        for number, node in order:
+        for number, node in watched(order, "nodes of the model"):
             self.take_node(node, self.places[number])
 
     def take_node(self, node, place):
@@ -216,12 +223,15 @@ class Model:
         camera = self.document.pick("cameras", "camera", node.whole("camera"), node)
         name = node.text("name", "") or camera.text("name", "") or camera.label
         if camera.text("type") != "perspective":
+            self.has_flat_eyes = True
             self.notes.append(f"{name}: no perspective camera, so left out")
             return
-        height = camera.entry("perspective").real("yfov")
-        if not 0 < height < 3.1:
-            raise ModelError(f"{camera.label} has a yfov of {height}.")
-        self.eyes.append(Eye(name, place, height))
+        lens = camera.entry("perspective")
+        height, near, ratio = lens.real("yfov"), lens.real("znear"), lens.real("aspectRatio", None)
+        for member, number, most in (("yfov", height, 3.1), ("znear", near, MOST_NEAR), ("aspectRatio", ratio, 1e4)):
+            if number is not None and not LEAST_OF_LENS <= number < most:
+                raise ModelError(f"{camera.label} has a {member} of {number}.")
+        self.eyes.append(Eye(name, place, height, near, ratio))
 
 
 def test_extensions(root):

@@ -3,6 +3,7 @@ import dataclasses
 import math
 
 from . import transforms
+from .progress import watched
 from .scene import MOST_OBJECT_TRIANGLES, MOST_OBJECTS, MOST_VERTICES, msoc
 
 KINDS = ("box", "mesh", "both")
@@ -48,7 +49,7 @@ class Objects:
         if len(parts) > most:
             parts = largest_parts(parts, most)
             self.notes.append(f"objects: only the {most} parts with the largest boxes, since a scene holds no more")
-        for part in parts:
+        for part in watched(parts, "objects"):
             shape = self.shape_of(part) if kind != "box" else None
             if kind != "mesh" or shape is None:
                 self.add_box(part)

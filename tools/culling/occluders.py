@@ -5,6 +5,7 @@ import re
 
 from . import transforms
 from .document import ModelError
+from .progress import watched
 
 ORDERS = ("file", "near", "area", "cells")
 
@@ -47,7 +48,7 @@ class Choice:
     def occluders(self, parts):
         """The triangles of these surfaces that have an area, in the order of the file."""
         found = []
-        for part in parts:
+        for part in watched(parts, "parts that may hide"):
             for surface in part.surfaces:
                 if self.takes(part, surface):
                     found += of_surface(surface)

@@ -62,7 +62,8 @@ class Show {
     }
 
     step(now) {
-        const passed = now - this.#before;
+        // the first frame's time may be from before the show began, and the eye never moves backwards
+        const passed = Math.max(0, now - this.#before);
         this.#before = now;
         this.camera.pass(Math.min(passed, MOST_PASSED) / 1000);
         part('fly').checked = this.camera.isFlying;
