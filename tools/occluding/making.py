@@ -1,0 +1,109 @@
+"""From a model to its occluders."""
+import dataclasses
+import sys
+import time
+
+import numpy
+
+from culling import transforms, views
+from culling.document import ModelError
+from culling.gltf import Model
+from culling.occluders import Choice
+
+from . import choice
+from .covers import pieces_of
+from .eyes import eyes_anywhere
+from .order import ordered
+from .patches import coplanar_sets, patches_of
+from .pool import Pool
+from .sights import nearest, sight_of
+from .soup import soup_of
+from .writing import glb_of
+
+ASPECT, NEAR_PART = 16 / 9, 1000
+# So many samples over all views, and in a view at most.
+SAMPLES, MOST_SAMPLES = 480_000, 30_000
+
+
+@dataclasses.dataclass
+class Wanted:
+    """What is asked for."""
+
+    most: int = 1000
+    path: str = None
+    anywhere: bool = False
+    clear: str = None
+    occluders: str = None
+
+
+def told(what):
+    """Goes through a list; on a terminal it shows how far it is."""
+
+    def through(rows):
+        if not sys.stderr.isatty():
+            yield from rows
+            return
+        last = 0.0
+        for number, row in enumerate(rows, 1):
+            if time.monotonic() - last > 0.2 or number == len(rows):
+                last = time.monotonic()
+                print(f"\r{what}: {number} of {len(rows)} ", end="", file=sys.stderr, flush=True)
+            yield row
+        print("\r\033[K", end="", file=sys.stderr, flush=True)
+
+    return through
+
+
+def views_for(model, wanted, soup):
+    """The views for which occluders are chosen, and a word on which these are."""
+    if wanted.path is not None:
+        found = views.along(wanted.path, numpy.radians(60))
+        return found, f"{len(found)} views along the path"
+    if model.eyes and not wanted.anywhere:
+        return [views.of_model(eye, None) for eye in model.eyes], f"the model's {len(model.eyes)} cameras"
+    found = eyes_anywhere(soup)
+    return found, f"{len(found)} views from anywhere"
+
+
+def boxes_of(model):
+    """The box around each part: what is to be hidden."""
+    ends = [transforms.bounds([p for surface in part.surfaces for p in surface.points]) for part in model.parts]
+    return numpy.array([(*low, *high) for low, high in ends], float)
+
+
+def made(path, wanted):
+    """The bytes of the occluders of a model, and lines on what was done."""
+    model = Model(path)
+    soup, moving = soup_of(model, Choice(wanted.occluders, wanted.clear))
+    found, which = views_for(model, wanted, soup)
+    if not found:
+        raise ModelError("There is no view.")
+    samples = min(MOST_SAMPLES, max(2000, SAMPLES // len(found)))
+    sights = [sight_of(view, ASPECT, samples, soup.size() / NEAR_PART) for view in found]
+    drawn = [nearest(sight, soup.corners(), soup.is_double) for sight in told("seen from")(sights)]
+    seen = numpy.unique(numpy.concatenate([owner for _, owner in drawn]))
+    pool = pool_of(soup, seen[seen >= 0])
+    worth = choice.Worth(sights, [depth for depth, _ in drawn], boxes_of(model))
+    gains = choice.Gains(pool, sights, worth, told("pieces seen from"))
+    pieces = choice.chosen_pieces(gains, wanted.most)
+    eyes = numpy.array([sight.eye for sight in sights])
+    corners, is_double = pool.triangles_of(ordered(pool, pieces, eyes))
+    if not len(corners):
+        raise ModelError("The model has nothing that hides anything from there.")
+    closed = [float(numpy.concatenate([depth > 0 for depth, _ in drawn]).mean()),
+              choice.share_closed(sights, corners, is_double)]
+    lines = [f"{moving} parts that move are left out"] if moving else []
+    lines += [f"chosen for {which}",
+              f"triangles: {len(soup.triangles)} in, {len(corners)} out; of the views' pixels {100 * closed[0]:.1f} %"
+              f" closed by the model, {100 * closed[1]:.1f} % by these"]
+    return glb_of(corners, is_double, "occluders"), lines
+
+
+def pool_of(soup, seen):
+    """The pieces of what is seen."""
+    pool = Pool()
+    labels = coplanar_sets(soup)
+    for number, patch in enumerate(patches_of(soup, labels, seen, told("planes"))):
+        for ring in pieces_of(patch.polygon):
+            pool.add(patch.plane.solid(ring), patch.is_double, number)
+    return pool.close()
