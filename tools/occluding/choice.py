@@ -130,6 +130,16 @@ def filled(gains, chosen, most):
     return chosen
 
 
+def with_whole_sheets(pool, chosen, most):
+    """With the rest of each sheet of which something is taken, where it fits: other eyes see it too."""
+    left, chosen = most - int(pool.cost[chosen].sum()), list(chosen)
+    for group in sorted(set(pool.group[chosen].tolist()) & pool.sheets):
+        rest = sorted(set(numpy.flatnonzero(pool.group == group).tolist()) - set(chosen))
+        chosen += rest[:left]
+        left -= len(rest[:left])
+    return chosen
+
+
 def held_by(gains, chosen):
     held = numpy.zeros(gains.count, numpy.float32)
     for piece in chosen:

@@ -16,6 +16,7 @@ from .eyes import eyes_anywhere
 from .order import ordered
 from .patches import coplanar_sets, patches_of
 from .pool import Pool
+from .sheets import net_under, surfaces_of
 from .sights import nearest, sight_of
 from .soup import soup_of
 from .writing import glb_of
@@ -23,6 +24,8 @@ from .writing import glb_of
 ASPECT, NEAR_PART = 16 / 9, 1000
 # So many samples over all views, and in a view at most.
 SAMPLES, MOST_SAMPLES = 480_000, 30_000
+# A net has so many of the triangles that are asked for.
+NET_SHARE = 0.96
 
 
 @dataclasses.dataclass
@@ -82,10 +85,10 @@ def made(path, wanted):
     sights = [sight_of(view, ASPECT, samples, soup.size() / NEAR_PART) for view in found]
     drawn = [nearest(sight, soup.corners(), soup.is_double) for sight in told("seen from")(sights)]
     seen = numpy.unique(numpy.concatenate([owner for _, owner in drawn]))
-    pool = pool_of(soup, seen[seen >= 0])
+    pool = pool_of(soup, seen[seen >= 0], wanted.most)
     worth = choice.Worth(sights, [depth for depth, _ in drawn], boxes_of(model))
     gains = choice.Gains(pool, sights, worth, told("pieces seen from"))
-    pieces = choice.chosen_pieces(gains, wanted.most)
+    pieces = choice.with_whole_sheets(pool, choice.chosen_pieces(gains, wanted.most), wanted.most)
     eyes = numpy.array([sight.eye for sight in sights])
     corners, is_double = pool.triangles_of(ordered(pool, pieces, eyes))
     if not len(corners):
@@ -99,11 +102,24 @@ def made(path, wanted):
     return glb_of(corners, is_double, "occluders"), lines
 
 
-def pool_of(soup, seen):
-    """The pieces of what is seen."""
+def pool_of(soup, seen, most):
+    """The pieces of what is seen: of patches, and of nets below surfaces."""
     pool = Pool()
+    surfaces = surfaces_of(soup)
     labels = coplanar_sets(soup)
+    counts = numpy.bincount(labels[labels >= 0])
+    for surface in surfaces:
+        # what is left of a surface for patches is flat parts of it
+        lone = surface.members[labels[surface.members] >= 0]
+        labels[lone[counts[labels[lone]] <= 2]] = -1
+    number = 0
     for number, patch in enumerate(patches_of(soup, labels, seen, told("planes"))):
         for ring in pieces_of(patch.polygon):
             pool.add(patch.plane.solid(ring), patch.is_double, number)
+    share = numpy.array([surface.outline.area for surface in surfaces])
+    for surface, part in zip(surfaces, share / share.sum() if len(share) else ()):
+        number += 1
+        for triangle in net_under(surface, NET_SHARE * most * part):
+            pool.add(triangle, False, number)
+            pool.sheets.add(number)
     return pool.close()

@@ -3,10 +3,11 @@ import numpy
 
 
 class Pool:
-    """Pieces, each a fan of triangles with a front; `group` is what a piece is a part of."""
+    """Pieces, each a fan of triangles with a front; `group` is what a piece is a part of, `sheets`
+    are the groups that are nets below surfaces."""
 
     def __init__(self):
-        self.fans, self.is_double, self.group = [], [], []
+        self.fans, self.is_double, self.group, self.sheets = [], [], [], set()
 
     def add(self, ring, is_double, group):
         """A ring of points in space, counterclockwise from its front."""
