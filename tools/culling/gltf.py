@@ -37,13 +37,15 @@ class Surface:
 
 @dataclasses.dataclass
 class Part:
-    """A node with a mesh. A loose one has points or lines beside its triangles, a moving one is animated."""
+    """A node with a mesh. A loose one has points or lines beside its triangles, a moving one is animated.
+    `place` is the map from the mesh into the model, but for a skin's."""
 
     name: str
     mesh: str
     surfaces: list
     is_loose: bool
     is_moving: bool = False
+    place: tuple = transforms.IDENTITY
 
 
 @dataclasses.dataclass
@@ -119,7 +121,7 @@ class Model:
 
     def take_mesh(self, name, node, mesh, place):
         primitives = mesh.entries("primitives", "primitive")
-        part = Part(name, mesh.text("name", ""), [], False)
+        part = Part(name, mesh.text("name", ""), [], False, place=place)
         for primitive in primitives:
             primitive.label += f" of {mesh.label}"
             mode = primitive.whole("mode", TRIANGLES)

@@ -18,6 +18,7 @@ from .patches import coplanar_sets, patches_of
 from .pool import Pool
 from .sheets import net_under, surfaces_of
 from .sights import nearest, sight_of
+from .solids import Solids
 from .soup import soup_of
 from .writing import glb_of
 
@@ -96,16 +97,34 @@ def made(path, wanted):
     closed = [float(numpy.concatenate([depth > 0 for depth, _ in drawn]).mean()),
               choice.share_closed(sights, corners, is_double)]
     lines = [f"{moving} parts that move are left out"] if moving else []
-    lines += [f"chosen for {which}",
-              f"triangles: {len(soup.triangles)} in, {len(corners)} out; of the views' pixels {100 * closed[0]:.1f} %"
+    lines += [f"chosen for {which}", *where_it_holds(pool, pieces)]
+    lines += [f"triangles: {len(soup.triangles)} in, {len(corners)} out; of the views' pixels {100 * closed[0]:.1f} %"
               f" closed by the model, {100 * closed[1]:.1f} % by these"]
     return glb_of(corners, is_double, "occluders"), lines
+
+
+def where_it_holds(pool, pieces):
+    """Lines on which kinds were taken, and for which eyes they hide only what is hidden."""
+    cost, groups = pool.cost[pieces], pool.group[pieces]
+    sheets, solids = (numpy.isin(groups, sorted(kind)) for kind in (pool.sheets, pool.solids))
+    if pool.open_parts:
+        yield f"{pool.open_parts} parts have an edge that isn't shared by two triangles as it should, so they make no box"
+    if pool.torn:
+        yield f"{pool.torn} surfaces have holes or notches in their outline, so they get no net"
+    if (~sheets & ~solids).any():
+        yield f"patches: {cost[~sheets & ~solids].sum()} triangles, for every eye"
+    if solids.any():
+        yield (f"boxes in closed parts: {cost[solids].sum()} triangles, for eyes outside of these parts, and farther"
+               " from them than the near distance")
+    if sheets.any():
+        yield (f"nets below surfaces: {cost[sheets].sum()} triangles, for eyes above the surface, within its border,"
+               " and farther from it than the near distance")
 
 
 def pool_of(soup, seen, most):
     """The pieces of what is seen: of patches, and of nets below surfaces."""
     pool = Pool()
-    surfaces = surfaces_of(soup)
+    surfaces, pool.torn = surfaces_of(soup)
     labels = coplanar_sets(soup)
     counts = numpy.bincount(labels[labels >= 0])
     for surface in surfaces:
@@ -122,4 +141,12 @@ def pool_of(soup, seen, most):
         for triangle in net_under(surface, NET_SHARE * most * part):
             pool.add(triangle, False, number)
             pool.sheets.add(number)
+    solids = Solids(soup)
+    for part in told("parts")(numpy.unique(soup.part[seen]).tolist()):
+        if solids.is_round(part, labels):
+            number += 1
+            for face in solids.faces_of(part):
+                pool.add(face, False, number)
+                pool.solids.add(number)
+    pool.open_parts = solids.open_parts
     return pool.close()

@@ -4,10 +4,11 @@ import numpy
 
 class Pool:
     """Pieces, each a fan of triangles with a front; `group` is what a piece is a part of, `sheets`
-    are the groups that are nets below surfaces."""
+    are the groups that are nets below surfaces, `solids` those that are boxes in a part."""
 
     def __init__(self):
         self.fans, self.is_double, self.group, self.sheets = [], [], [], set()
+        self.solids, self.open_parts, self.torn = set(), 0, 0
 
     def add(self, ring, is_double, group):
         """A ring of points in space, counterclockwise from its front."""

@@ -32,19 +32,24 @@ class Surface:
 
 
 def surfaces_of(soup):
-    """The connected surfaces that are a height over a plane, the largest first."""
+    """The connected surfaces that are a height over a plane, the largest first, and how many more have an outline with
+    a hole or a notch: through that an eye sees below the surface, where a net may be."""
     first, second = neighbours(soup.triangles)
     labels = components(len(soup.triangles), first, second)
     counts = numpy.bincount(labels)
     normals, areas, _ = planes_of(soup.corners())
     large = [label for label in numpy.flatnonzero(counts >= LEAST)]
     large.sort(key=lambda label: (-areas[labels == label].sum(), label))
-    found = []
-    for label in large:
-        surface = surface_in(soup, numpy.flatnonzero(labels == label), normals, areas)
-        if surface is not None:
-            found.append(surface)
-    return found
+    found = [surface_in(soup, numpy.flatnonzero(labels == label), normals, areas) for label in large]
+    found = [surface for surface in found if surface is not None]
+    whole = [surface for surface in found if is_convex(surface)]
+    return whole, len(found) - len(whole)
+
+
+def is_convex(surface):
+    """Whether an outline has neither holes nor notches, up to the rounding."""
+    outline = surface.outline.buffer(2 * surface.rounding)
+    return outline.geom_type == "Polygon" and not outline.interiors and outline.contains(surface.outline.convex_hull)
 
 
 def surface_in(soup, triangles, normals, areas):

@@ -20,6 +20,7 @@ class Soup:
     part: numpy.ndarray
     rounding: float
     names: list
+    places: list
 
     def corners(self, chosen=slice(None)):
         return self.points[self.triangles[chosen]]
@@ -31,8 +32,7 @@ class Soup:
 def soup_of(model, choice):
     """The triangles that hide and don't move, of the surfaces that a choice takes, and how many moving parts are
     left out."""
-    points, triangles, double, part, names, moving = [], [], [], [], [], 0
-    count = 0
+    points, triangles, double, part, names, places, moving, count = [], [], [], [], [], [], 0, 0
     for one in model.parts:
         surfaces = [surface for surface in one.surfaces if surface.triangles and choice.takes(one, surface)]
         if one.is_moving:
@@ -45,23 +45,24 @@ def soup_of(model, choice):
             part.append(numpy.full(len(surface.triangles), len(names)))
             count += len(surface.points)
         names.append(one.name)
+        places.append(numpy.array(one.place, float).reshape(3, 4))
     if not triangles:
         raise ModelError("The model has no triangle that hides and stands still.")
     arrays = [numpy.concatenate(rows) for rows in (points, triangles, double, part)]
-    return joined(*arrays, names), moving
+    return joined(*arrays, names, places), moving
 
 
-def joined(points, triangles, double, part, names):
+def joined(points, triangles, double, part, names, places):
     """One point for all at a place, up to an eighth of the rounding; without triangles that have no area."""
     used = points[numpy.unique(triangles)]
     reach = max(float(numpy.linalg.norm(numpy.ptp(used, axis=0))), float(numpy.abs(used).max()))
     rounding = ROUNDING * (reach or 1.0)
-    places = numpy.round(points / (rounding / 8)).astype(numpy.int64)
-    _, first, number = numpy.unique(places, axis=0, return_index=True, return_inverse=True)
+    cells = numpy.round(points / (rounding / 8)).astype(numpy.int64)
+    _, first, number = numpy.unique(cells, axis=0, return_index=True, return_inverse=True)
     points, triangles = points[first], number.reshape(-1)[triangles]
     a, b, c = (triangles[:, k] for k in range(3))
     kept = (a != b) & (b != c) & (c != a)
-    return Soup(points, triangles[kept], double[kept], part[kept], rounding, names)
+    return Soup(points, triangles[kept], double[kept], part[kept], rounding, names, places)
 
 
 def planes_of(corners):
