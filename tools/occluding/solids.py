@@ -33,6 +33,12 @@ class Solids:
         planes = len(numpy.unique(labels[members]))
         return len(members) >= LEAST_TRIANGLES and planes > LEAST_PLANES * len(members)
 
+    def in_own_place(self, part, turn, move, is_mirror):
+        """The points of a part in the coordinates of its mesh, and its triangles as they are there."""
+        triangles = self.soup.triangles[self.members[part]]
+        points, triangles = in_order(triangles[:, [0, 2, 1]] if is_mirror else triangles)
+        return numpy.linalg.solve(turn, (self.soup.points[points] - move).T).T, triangles
+
     def faces_of(self, part):
         """The faces of the boxes of a part, each four corners in the model, counterclockwise from outside."""
         place = self.soup.places[part]
@@ -40,22 +46,19 @@ class Solids:
         flips = numpy.linalg.det(turn)
         if flips == 0:
             return
-        members = self.members[part]
-        points, numbers = numpy.unique(self.soup.triangles[members], return_inverse=True)
-        own = numpy.linalg.solve(turn, (self.soup.points[points] - move).T).T
-        # in its own coordinates, so mirrored parts are turned about
-        triangles = numbers.reshape(-1, 3)[:, :: 1 if flips > 0 else -1]
-        size = float(numpy.ptp(own, axis=0).max())
+        own, triangles = self.in_own_place(part, turn, move, flips < 0)
+        size, scale = float(numpy.ptp(own, axis=0).max()), float(numpy.linalg.svd(turn, compute_uv=False).min())
         if not size:
             return
-        # equal meshes have equal points, up to what the maps round
-        key = (len(own), triangles.tobytes(), numpy.round(own / size * 2**14).astype(int).tobytes())
-        scale = float(numpy.linalg.svd(turn, compute_uv=False).min())
-        if key not in self.known:
-            self.known[key] = boxes_in(own, triangles)
-        boxes, has_open = self.known[key]
+        near = self.soup.rounding / scale
+        key = (len(own), triangles.tobytes())
+        found = [boxes for other, boxes in self.known.get(key, ()) if numpy.abs(other - own).max() <= near]
+        if not found:
+            found = [boxes_in(own, triangles)]
+            self.known.setdefault(key, []).append((own, found[0]))
+        boxes, has_open = found[0]
         self.open_parts += has_open
-        inset = 2 * self.soup.rounding / scale
+        inset = 3 * near
         for low, high in boxes:
             low, high = low + inset, high - inset
             if (low < high).all():
@@ -63,6 +66,15 @@ class Solids:
                 solid = corners @ turn.T + move
                 for face in FACES:
                     yield solid[list(face[:: 1 if flips > 0 else -1])]
+
+
+def in_order(triangles):
+    """The points in the order in which triangles first name them, and the triangles by their places there."""
+    points, first, numbers = numpy.unique(triangles, return_index=True, return_inverse=True)
+    order = numpy.argsort(first)
+    place = numpy.empty(len(points), numpy.int64)
+    place[order] = numpy.arange(len(points))
+    return points[order], place[numbers.reshape(-1, 3)]
 
 
 def boxes_in(points, triangles):
