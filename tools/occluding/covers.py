@@ -6,6 +6,7 @@ from .triangulation import convex_parts
 # A polygon is simplified inwards by these parts of its width too, and no finer grid than this is laid into it.
 STEPS, MOST_LINES, MOST_POINTS, MOST_RECTANGLES = (0.01, 0.04), 26, 80, 30
 MITRE = 2
+SLIGHTLY_LESS = 1 - 1e-8
 
 
 def pieces_of(polygon):
@@ -92,7 +93,8 @@ def free_cells(rings, xs, ys):
     ends = numpy.concatenate([numpy.roll(ring, -1, axis=0) for ring in rings])
     middle_x, middle_y = (xs[1:] + xs[:-1]) / 2, (ys[1:] + ys[:-1]) / 2
     x, y = numpy.meshgrid(middle_x, middle_y)
-    half_x, half_y = numpy.meshgrid((xs[1:] - xs[:-1]) / 2, (ys[1:] - ys[:-1]) / 2)
+    # a little less, so that an edge along a line of the grid isn't said to cross a cell beside it
+    half_x, half_y = numpy.meshgrid((xs[1:] - xs[:-1]) * SLIGHTLY_LESS / 2, (ys[1:] - ys[:-1]) * SLIGHTLY_LESS / 2)
     inside, crossed = numpy.zeros(x.shape, bool), numpy.zeros(x.shape, bool)
     for (ax, ay), (bx, by) in zip(begins, ends):
         if (ay > 0) != (by > 0) or ay != by:
