@@ -5,7 +5,7 @@ import numpy
 
 from culling import views
 
-AROUND, WITHIN, HEIGHT = 8, 56, math.radians(60)
+AROUND, WITHIN, HEIGHT = 8, 192, math.radians(60)
 # Steps of a sequence that fills a cube evenly, and how high eyes are, as a part of the model's height: mostly low.
 STEPS, HIGHEST = (0.8191725134, 0.6710436067, 0.5497004779), 0.5
 

@@ -13,7 +13,6 @@ from culling.occluders import Choice
 from . import choice
 from .covers import pieces_of
 from .eyes import eyes_anywhere
-from .order import ordered
 from .patches import coplanar_sets, patches_of
 from .pool import Pool
 from .sheets import net_under, surfaces_of
@@ -90,8 +89,7 @@ def made(path, wanted):
     worth = choice.Worth(sights, [depth for depth, _ in drawn], boxes_of(model))
     gains = choice.Gains(pool, sights, worth, told("pieces seen from"))
     pieces = choice.with_whole_sheets(pool, choice.chosen_pieces(gains, wanted.most), wanted.most)
-    eyes = numpy.array([sight.eye for sight in sights])
-    corners, is_double = pool.triangles_of(ordered(pool, pieces, eyes))
+    corners, is_double = pool.triangles_of(pieces)
     if not len(corners):
         raise ModelError("The model has nothing that hides anything from there.")
     closed = [float(numpy.concatenate([depth > 0 for depth, _ in drawn]).mean()),
