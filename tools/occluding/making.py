@@ -1,5 +1,6 @@
 """From a model to its occluders."""
 import dataclasses
+import math
 import sys
 import time
 
@@ -15,7 +16,7 @@ from .covers import pieces_of
 from .eyes import eyes_anywhere
 from .patches import coplanar_sets, patches_of
 from .pool import Pool
-from .sheets import net_under, surfaces_of
+from .sheets import is_below_all, net_under, surfaces_of
 from .sights import nearest, sight_of
 from .solids import Solids
 from .soup import soup_of
@@ -37,6 +38,7 @@ class Wanted:
     anywhere: bool = False
     clear: str = None
     occluders: str = None
+    height: float = None
 
 
 def told(what):
@@ -60,10 +62,10 @@ def told(what):
 def views_for(model, wanted, soup):
     """The views for which occluders are chosen, and a word on which these are."""
     if wanted.path is not None:
-        found = views.along(wanted.path, numpy.radians(60))
+        found = views.along(wanted.path, wanted.height or math.radians(60))
         return found, f"{len(found)} views along the path"
     if model.eyes and not wanted.anywhere:
-        return [views.of_model(eye, None) for eye in model.eyes], f"the model's {len(model.eyes)} cameras"
+        return [views.of_model(eye, wanted.height) for eye in model.eyes], f"the model's {len(model.eyes)} cameras"
     found = eyes_anywhere(soup)
     return found, f"{len(found)} views from anywhere"
 
@@ -85,7 +87,9 @@ def made(path, wanted):
     sights = [sight_of(view, ASPECT, samples, soup.size() / NEAR_PART) for view in found]
     drawn = [nearest(sight, soup.corners(), soup.is_double) for sight in told("seen from")(sights)]
     seen = numpy.unique(numpy.concatenate([owner for _, owner in drawn]))
-    pool = pool_of(soup, seen[seen >= 0], wanted.most)
+    # of eyes anywhere some may be in a part, or below a surface: nobody's eyes have to be there
+    eyes = numpy.zeros((0, 3)) if which.endswith("anywhere") else numpy.array([sight.eye for sight in sights])
+    pool = pool_of(soup, seen[seen >= 0], wanted.most, eyes)
     worth = choice.Worth(sights, [depth for depth, _ in drawn], boxes_of(model))
     gains = choice.Gains(pool, sights, worth, told("pieces seen from"))
     pieces = choice.with_whole_sheets(pool, choice.chosen_pieces(gains, wanted.most), wanted.most)
@@ -107,8 +111,12 @@ def where_it_holds(pool, pieces):
     sheets, solids = (numpy.isin(groups, sorted(kind)) for kind in (pool.sheets, pool.solids))
     if pool.open_parts:
         yield f"{pool.open_parts} parts have an edge that isn't shared by two triangles as it should, so they make no box"
+    if pool.parts_with_eyes:
+        yield f"{pool.parts_with_eyes} closed parts have an eye in them, so they make no box"
     if pool.torn:
         yield f"{pool.torn} surfaces have holes or notches in their outline, so they get no net"
+    if pool.with_eyes_below:
+        yield f"{pool.with_eyes_below} surfaces have an eye below them or beyond their border, so they get no net"
     if (~sheets & ~solids).any():
         yield f"patches: {cost[~sheets & ~solids].sum()} triangles, for every eye"
     if solids.any():
@@ -119,8 +127,8 @@ def where_it_holds(pool, pieces):
                " and farther from it than the near distance")
 
 
-def pool_of(soup, seen, most):
-    """The pieces of what is seen: of patches, and of nets below surfaces."""
+def pool_of(soup, seen, most, eyes):
+    """The pieces of what is seen."""
     pool = Pool()
     surfaces, pool.torn = surfaces_of(soup)
     labels = coplanar_sets(soup)
@@ -129,22 +137,32 @@ def pool_of(soup, seen, most):
         # what is left of a surface for patches is flat parts of it
         lone = surface.members[labels[surface.members] >= 0]
         labels[lone[counts[labels[lone]] <= 2]] = -1
-    number = 0
     for number, patch in enumerate(patches_of(soup, labels, seen, told("planes"))):
         for ring in pieces_of(patch.polygon):
             pool.add(patch.plane.solid(ring), patch.is_double, number)
-    share = numpy.array([surface.outline.area for surface in surfaces])
-    for surface, part in zip(surfaces, share / share.sum() if len(share) else ()):
-        number += 1
-        for triangle in net_under(surface, NET_SHARE * most * part):
+    fitting = [surface for surface in surfaces if is_below_all(surface, eyes)]
+    pool.with_eyes_below = len(surfaces) - len(fitting)
+    add_nets(pool, fitting, most)
+    add_boxes(pool, Solids(soup, eyes), numpy.unique(soup.part[seen]), labels)
+    return pool.close()
+
+
+def add_nets(pool, surfaces, most):
+    """A net below each surface, with as much of the triangles as the surface has of their area."""
+    whole = sum(surface.outline.area for surface in surfaces)
+    for surface in surfaces:
+        number = pool.next_group()
+        for triangle in net_under(surface, NET_SHARE * most * surface.outline.area / whole):
             pool.add(triangle, False, number)
             pool.sheets.add(number)
-    solids = Solids(soup)
-    for part in told("parts")(numpy.unique(soup.part[seen]).tolist()):
+
+
+def add_boxes(pool, solids, parts, labels):
+    """The faces of boxes in parts that are more than their flat sides."""
+    for part in told("parts")(parts.tolist()):
         if solids.is_round(part, labels):
-            number += 1
+            number = pool.next_group()
             for face in solids.faces_of(part):
                 pool.add(face, False, number)
                 pool.solids.add(number)
-    pool.open_parts = solids.open_parts
-    return pool.close()
+    pool.open_parts, pool.parts_with_eyes = solids.open_parts, solids.parts_with_eyes

@@ -8,13 +8,17 @@ class Pool:
 
     def __init__(self):
         self.fans, self.is_double, self.group, self.sheets = [], [], [], set()
-        self.solids, self.open_parts, self.torn = set(), 0, 0
+        self.solids = set()
+        self.open_parts = self.parts_with_eyes = self.torn = self.with_eyes_below = 0
 
     def add(self, ring, is_double, group):
         """A ring of points in space, counterclockwise from its front."""
         self.fans.append([(ring[0], ring[k], ring[k + 1]) for k in range(1, len(ring) - 1)])
         self.is_double.append(is_double)
         self.group.append(group)
+
+    def next_group(self):
+        return max(self.group, default=-1) + 1
 
     def close(self):
         """The triangles of all pieces, and for each the number of its piece."""

@@ -101,6 +101,18 @@ def over(corners, place):
     return numpy.flatnonzero(inside)
 
 
+def is_below_all(surface, eyes):
+    """Whether each eye is above the surface, and within its border."""
+    corners = surface.flat[surface.triangles]
+    for *place, height in (eyes @ surface.axes.T).tolist():
+        under = over(corners, place)
+        if not len(under):
+            return False
+        if max(height_at(surface, *surface.triangles[k], numpy.array(place)) for k in under) >= height:
+            return False
+    return True
+
+
 class Net:
     """Square cells over a surface's outline, each of two triangles, where these lie in the outline."""
 

@@ -20,12 +20,12 @@ FACES = ((0, 4, 6, 2), (1, 3, 7, 5), (0, 1, 5, 4), (2, 6, 7, 3), (0, 2, 3, 1), (
 class Solids:
     """The boxes of parts; those of equal meshes are found once."""
 
-    def __init__(self, soup):
-        self.soup, self.known = soup, {}
+    def __init__(self, soup, eyes):
+        self.soup, self.eyes, self.known = soup, eyes, {}
         order = numpy.argsort(soup.part, kind="stable")
         begins = numpy.searchsorted(soup.part[order], numpy.arange(len(soup.names) + 1))
         self.members = [order[begin:end] for begin, end in zip(begins, begins[1:])]
-        self.open_parts = 0
+        self.open_parts = self.parts_with_eyes = 0
 
     def is_round(self, part, labels):
         """Whether a part is more than its flat sides."""
@@ -38,6 +38,13 @@ class Solids:
         triangles = self.soup.triangles[self.members[part]]
         points, triangles = in_order(triangles[:, [0, 2, 1]] if is_mirror else triangles)
         return numpy.linalg.solve(turn, (self.soup.points[points] - move).T).T, triangles
+
+    def holds_eye(self, corners, turn, move):
+        """Whether one of the eyes is in a part, from where its boxes would hide what is seen."""
+        low, high = corners.min(axis=(0, 1)), corners.max(axis=(0, 1))
+        eyes = numpy.linalg.solve(turn, (self.eyes - move).T).T
+        within = ((eyes > low) & (eyes < high)).all(axis=1)
+        return any(goes_around(corners, eye) for eye in eyes[within])
 
     def faces_of(self, part):
         """The faces of the boxes of a part, each four corners in the model, counterclockwise from outside."""
@@ -58,6 +65,9 @@ class Solids:
             self.known.setdefault(key, []).append((own, found[0]))
         boxes, has_open = found[0]
         self.open_parts += has_open
+        if boxes and self.holds_eye(own[triangles], turn, move):
+            self.parts_with_eyes += 1
+            return
         inset = 3 * near
         for low, high in boxes:
             low, high = low + inset, high - inset
@@ -153,14 +163,27 @@ def windings(corners, low, step, cells):
     flat_step[0], flat_cells[0] = 1.0, 1
     for owner, cell in cells_by_triangle(flat, flat_low, flat_step, flat_cells.astype(int)):
         place = low[1:] + (cell[:, 1:] + 0.5) * step[1:]
-        sides = [side_of(corners[owner, k, 1:], corners[owner, (k + 1) % 3, 1:], place) for k in range(3)]
-        turn = numpy.where(sides[0] & sides[1] & sides[2], 1, numpy.where(sides[0] | sides[1] | sides[2], 0, -1))
+        turn = turns_over(corners[owner], place)
         owner, cell, place, turn = (part[turn != 0] for part in (owner, cell, place, turn))
         at = level_at(corners[owner], place)
         reached = numpy.clip(numpy.ceil((at - low[0]) / step[0] - 0.5), 0, cells[0]).astype(int)
         # a front that looks along x is left by the ray: it adds one for all cells before it
         numpy.add.at(passed, (reached, cell[:, 1], cell[:, 2]), turn)
     return passed[::-1].cumsum(axis=0)[::-1][1:]
+
+
+def goes_around(corners, point):
+    """Whether a closed surface goes around a point, fronts outwards."""
+    place = numpy.broadcast_to(point[1:], (len(corners), 2))
+    turn = turns_over(corners, place)
+    passed = turn != 0
+    return bool(turn[passed][level_at(corners[passed], place[passed]) > point[0]].sum() >= 1)
+
+
+def turns_over(corners, place):
+    """Of triangles over places of the last two coordinates 1 for a front along the first one, -1 for a back, else 0."""
+    sides = [side_of(corners[:, k, 1:], corners[:, (k + 1) % 3, 1:], place) for k in range(3)]
+    return numpy.where(sides[0] & sides[1] & sides[2], 1, numpy.where(sides[0] | sides[1] | sides[2], 0, -1))
 
 
 def side_of(a, b, place):
