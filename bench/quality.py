@@ -363,7 +363,8 @@ def other_eyes(count):
 
 def made(models):
     """Occluders that tools/occluders makes of a model."""
-    head = ("occluders", "triangles", "pieces a frame", "found", "holes", "ms a frame", "of the model's pixels closed")
+    head = ("occluders", "triangles", "pieces a frame", "found", "holes", "ms a frame",
+            "of the model's pixels closed")
     for name, asked in MADE:
         subject = Made(models, name, asked)
         rows = [["all that is opaque", *subject.own(), "100 %"]]

@@ -110,7 +110,8 @@ def where_it_holds(pool, pieces):
     cost, groups = pool.cost[pieces], pool.group[pieces]
     sheets, solids = (numpy.isin(groups, sorted(kind)) for kind in (pool.sheets, pool.solids))
     if pool.open_parts:
-        yield f"{pool.open_parts} parts have an edge that isn't shared by two triangles as it should, so they make no box"
+        yield (f"{pool.open_parts} parts have an edge that isn't shared by two triangles as it should, so they make no"
+               " box")
     if pool.parts_with_eyes:
         yield f"{pool.parts_with_eyes} closed parts have an eye in them, so they make no box"
     if pool.torn:

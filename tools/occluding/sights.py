@@ -87,7 +87,8 @@ def covered(sight, corners, is_double):
     x, y = sight.steps()
     for first, end in chunks(sizes):
         one = numpy.repeat(numpy.arange(first, end), sizes[first:end])
-        place = numpy.arange(len(one)) - numpy.repeat(numpy.cumsum(sizes[first:end]) - sizes[first:end], sizes[first:end])
+        some = sizes[first:end]
+        place = numpy.arange(len(one)) - numpy.repeat(numpy.cumsum(some) - some, some)
         number = drawn[one]
         column = low[0][number] + place % wide[number]
         row = low[1][number] + place // wide[number]
