@@ -385,7 +385,8 @@ def made(models):
         table(f"Made by tools/occluders, {name}:", head, rows)
 
 
-TABLES = {table.__name__: table for table in (which, number, order, passes, sides, objects, groups, near, size, when, made)}
+ALL = (which, number, order, passes, sides, objects, groups, near, size, when, made)
+TABLES = {table.__name__: table for table in ALL}
 
 
 class Models:

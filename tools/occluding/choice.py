@@ -9,6 +9,8 @@ from .sights import covered, nearest
 LAYERS = 16
 # What all closed samples of a view are worth, as a part of what all its hidden objects are.
 CLOSED_WORTH = 1.0
+# What each halving of a closed sample's distance adds, as a part of what closing it is worth: other things may come.
+CLOSER_WORTH = 0.03
 
 
 class Worth:
@@ -17,18 +19,20 @@ class Worth:
 
     def __init__(self, sights, depths, boxes):
         self.offsets = numpy.cumsum([0] + [sight.count() for sight in sights])
-        self.tables, self.steps = [], []
+        self.tables, self.steps, self.closer = [], [], []
         for sight, depth in zip(sights, depths):
             steps, table = layers_of(sight, depth, boxes)
             total = max(float(table[-1].sum()), 1.0)
             closed = depth > 0
-            table += CLOSED_WORTH * total / max(int(closed.sum()), 1)
+            each = CLOSED_WORTH * total / max(int(closed.sum()), 1)
             self.steps.append(steps)
-            self.tables.append(table)
+            self.tables.append(table + numpy.float32(each))
+            self.closer.append((CLOSER_WORTH * each, depth[closed].min(initial=1.0)))
 
     def values(self, view, sample, nearness):
         layer = numpy.searchsorted(self.steps[view], nearness)
-        return self.tables[view][layer, sample]
+        each, farthest = self.closer[view]
+        return self.tables[view][layer, sample] + each * numpy.log2(numpy.maximum(nearness / farthest, 1))
 
 
 def layers_of(sight, depth, boxes):

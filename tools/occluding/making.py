@@ -24,7 +24,7 @@ from .writing import glb_of
 
 ASPECT, NEAR_PART = 16 / 9, 1000
 # So many samples over all views, and in a view at most.
-SAMPLES, MOST_SAMPLES = 480_000, 30_000
+SAMPLES, MOST_SAMPLES = 480_000, 240_000
 # A net has so many of the triangles that are asked for.
 NET_SHARE = 0.96
 
@@ -145,7 +145,8 @@ def pool_of(soup, seen, most, eyes):
     pool.with_eyes_below = len(surfaces) - len(fitting)
     add_nets(pool, fitting, most)
     add_boxes(pool, Solids(soup, eyes), numpy.unique(soup.part[seen]), labels)
-    return pool.close()
+    pool.close().meet_points(soup.points, 3 * soup.rounding)
+    return pool
 
 
 def add_nets(pool, surfaces, most):

@@ -1,5 +1,6 @@
 """What there is to choose from: convex pieces in space, each of some triangles."""
 import numpy
+from scipy.spatial import cKDTree
 
 
 class Pool:
@@ -29,6 +30,16 @@ class Pool:
         self.is_double, self.group = numpy.array(self.is_double, bool), numpy.array(self.group, numpy.int64)
         del self.fans
         return self
+
+    def meet_points(self, points, reach):
+        """Corners of patches that are as near as this to one of some points are moved there, so that neighbours which
+        share points in the model do here too."""
+        is_patch = ~numpy.isin(self.group, sorted(self.sheets | self.solids))[self.owner]
+        corners = self.corners[is_patch].reshape(-1, 3)
+        distance, number = cKDTree(points).query(corners, distance_upper_bound=reach)
+        met = numpy.isfinite(distance)
+        corners[met] = points[number[met]]
+        self.corners[is_patch] = corners.reshape(-1, 3, 3)
 
     def triangles_of(self, pieces):
         """The triangles of some pieces, in their order, and whether each is double."""
