@@ -5,6 +5,7 @@ import sys
 
 sys.path.insert(0, str(pathlib.Path(__file__).resolve().parent.parent / "scenes"))
 import msoc  # noqa: E402
+from town import BOTH_SIDES, GLASS, Builder, Shape, block  # noqa: E402
 
 SIZE, NEAR, BOXES = (1280, 720), 1024, 500
 
@@ -97,6 +98,25 @@ def hall(numbers, things):
         across, along = math.cos(angle), math.sin(angle)
         cameras.append(camera((side / 2 + 9000 * across, 16000, side / 2 + 9000 * along), (across, -0.1, along)))
     return surface, boxes, cameras
+
+
+def furnished_hall(numbers, things, metre=5000):
+    """The bytes of a hall as a model, its boxes as glass, which hides nothing."""
+    surface, boxes, _ = hall(numbers, things)
+    builder, shape = Builder(), Shape()
+    shape.points = [tuple(part / metre for part in point) for point in surface.vertices]
+    shape.indices = [number for row in surface.rows for number in row]
+    roots = [builder.node("hall", mesh=builder.mesh("hall", (shape, BOTH_SIDES)))]
+    for number, (_, *ends) in enumerate(boxes):
+        low, high = (tuple(part / metre for part in ends[k : k + 3]) for k in (0, 3))
+        roots.append(builder.node(f"box {number}", mesh=builder.mesh(f"box {number}", (block(low, high), GLASS))))
+    middle = 160000 / metre / 2
+    for turn in range(4):
+        angle = 0.3 + math.pi / 2 * turn
+        eye = (middle + 1.8 * math.cos(angle), 3.2, middle + 1.8 * math.sin(angle))
+        at = (eye[0] + math.cos(angle), 3.1, eye[2] + math.sin(angle))
+        roots.append(builder.camera(f"look {turn}", eye, at))
+    return builder.glb(roots)
 
 
 def scene(parts, frames):

@@ -3,22 +3,25 @@
 
 usage: bench/quality.py PROGRAM                      the tables of docs/OCCLUDERS.md, from two models that it makes
        bench/quality.py PROGRAM --only order,passes  some of them: which, number, order, passes, sides, objects,
-                                                     groups, near, size, when
+                                                     groups, near, size, when, made
        bench/quality.py PROGRAM --scene FILE..       scenes of yours, a row each
 
 An object is truly hidden in a frame if each of its samples lies behind all that the model draws, by a z-buffer in plain
 Python (`tools/culling/depths.py`) with one depth for each sample. "Found" is the share of these that the program calls
 occluded. "Holes" counts what it calls occluded and isn't hidden: none, as long as the occluders are part of what is
-drawn. Pieces are the average of a frame. Nothing here is a time, so the machine doesn't matter. All tables take some
-minutes."""
+drawn. Pieces are the average of a frame. Nothing here is a time but the last column of `made`, so else the machine
+doesn't matter. All tables take some minutes. `made` runs tools/occluders, which wants numpy, scipy and shapely."""
 import argparse
 import dataclasses
 import functools
+import math
 import pathlib
+import random
 import re
 import subprocess
 import sys
 import tempfile
+import time
 
 TOP = pathlib.Path(__file__).resolve().parent.parent
 sys.path[:0] = [str(TOP / "tools"), str(TOP / "scenes")]
@@ -28,6 +31,9 @@ from culling.depths import buffer_of  # noqa: E402
 from culling.gltf import Material, Model, Part, Surface  # noqa: E402
 from culling.scene import read_report, read_scene  # noqa: E402
 from culling.truth import hidden_objects  # noqa: E402
+from frames import Numbers  # noqa: E402
+from hills import height as hills_at  # noqa: E402
+from models import furnished_hall  # noqa: E402
 from town import block  # noqa: E402
 
 BUILDING = "walls|roof|ground"
@@ -292,7 +298,96 @@ def when(models):
     table("Where one stands, in the town:", ("the eye is", *SHARES), rows)
 
 
-TABLES = {table.__name__: table for table in (which, number, order, passes, sides, objects, groups, near, size, when)}
+# Models for which tools/occluders makes occluders, each with what its scenes are fixed to.
+FIXED = {"wide": True, "order": "file"}
+MADE = (
+    ("town", {**FIXED, "near": 0.3}),
+    ("hills", {**FIXED, "near": 0.4}),
+    ("hall", {**FIXED, "near": 0.05}),
+    ("abbey", {**FIXED, "near": 0.2}),
+)
+
+
+class Made:
+    """A model, what is truly hidden in it by fixed options, and what other triangles find of that."""
+
+    def __init__(self, models, name, asked):
+        self.models, self.name, self.asked = models, name, asked
+        self.path, self.program = models.path(name), models.program
+        self.model = Model(self.path)
+        self.truth = truths(convert(self.model, Asked(**asked)).scene)
+
+    def own(self, **more):
+        """The outcome by the model's own triangles, all that are opaque or some."""
+        return self.by(None, **more)
+
+    def by(self, hiding, **more):
+        scene = convert(self.model, Asked(hiding=hiding, **{**self.asked, **more})).scene
+        sums = outcome(scene, reports(self.program, scene), self.truth)
+        return [f"{len(scene.occluders):,}", f"{sums.pieces:,}", percent(sums.found, sums.hidden), str(sums.holes),
+                f"{frame_time(self.program, scene):.2f}"]
+
+    def occluders(self, count, *words):
+        """The parts that the tool makes, and of the pixels that the model closes in its views, which share they do."""
+        out = self.models.room / f"{self.name}.{count}.occluders.glb"
+        words = [TOP / "tools" / "occluders", self.path, out, "--triangles", count, *words]
+        run = subprocess.run(list(map(str, words)), stdout=subprocess.PIPE, check=True, text=True)
+        whole, closed = map(float, re.findall(r"([\d.]+) %", run.stdout))
+        return Model(out).parts, f"{100 * closed / whole:.1f} %"
+
+
+def frame_time(program, scene):
+    """Milliseconds that a frame takes, reading not counted: the shortest of five runs of many frames, less of few."""
+    turns = [scene.cameras[number % len(scene.cameras)] for number in range(64)]
+    many, few = (dataclasses.replace(scene, cameras=turns[:count]).as_bytes() for count in (64, 16))
+    return 1000 * (shortest(program, many) - shortest(program, few)) / 48
+
+
+def shortest(program, stored):
+    times = []
+    for _ in range(5):
+        begin = time.perf_counter()
+        subprocess.run([program, "cull"], input=stored, stdout=subprocess.DEVNULL, check=True)
+        times.append(time.perf_counter() - begin)
+    return min(times)
+
+
+def other_eyes(count):
+    """A path in the hills: eyes at the height of a man, elsewhere than those of the cameras."""
+    dice, lines = random.Random(5), []
+    for _ in range(count):
+        x, z, turn = dice.uniform(60, 340), dice.uniform(60, 340), dice.uniform(0, 2 * math.pi)
+        eye = hills_at(x, z) + 1.7
+        lines.append(f"{x} {eye} {z} {x + 40 * math.cos(turn)} {eye - 1} {z + 40 * math.sin(turn)}")
+    return "\n".join(lines)
+
+
+def made(models):
+    """Occluders that tools/occluders makes of a model."""
+    head = ("occluders", "triangles", "pieces a frame", "found", "holes", "ms a frame",
+            "of the model's pixels closed")
+    for name, asked in MADE:
+        subject = Made(models, name, asked)
+        rows = [["all that is opaque", *subject.own(), "100 %"]]
+        for count in (250, 500, 1000, 2000):
+            parts, closed = subject.occluders(count)
+            rows.append([f"made, at most {count:,}", *subject.by(parts), closed])
+        if name == "town":
+            rows[1:1] = [["walls, roofs and the ground", *subject.own(occluders=BUILDING), ""]]
+            rows.append(["the same, `--passes 2`", *subject.by(parts, passes=2), closed])
+            parts, closed = subject.occluders(2000, "--anywhere")
+            rows.append(["made without cameras, at most 2,000", *subject.by(parts), closed])
+        if name == "hills":
+            parts, closed = subject.occluders(2500)
+            rows.append(["made, at most 2,500", *subject.by(parts), closed])
+            elsewhere = Made(models, name, {**asked, "path": other_eyes(16)})
+            rows.append(["all, from 16 other eyes", *elsewhere.own(), ""])
+            rows.append(["these 2,500, from 16 other eyes", *elsewhere.by(parts), ""])
+        table(f"Made by tools/occluders, {name}:", head, rows)
+
+
+ALL = (which, number, order, passes, sides, objects, groups, near, size, when, made)
+TABLES = {table.__name__: table for table in ALL}
 
 
 class Models:
@@ -302,9 +397,20 @@ class Models:
         self.room, self.program = pathlib.Path(room), program
 
     def made(self, name, script, *words):
+        return Subject(name, self.by_script(name, script, *words), self.program)
+
+    def by_script(self, name, script, *words):
         path = self.room / f"{name}.glb"
         subprocess.run([sys.executable, TOP / "scenes" / script, path, *words], check=True)
-        return Subject(name, path, self.program)
+        return path
+
+    def path(self, name):
+        """A model of scenes/, or the furnished hall."""
+        if name != "hall":
+            return self.by_script(name, f"{name}.py")
+        path = self.room / "hall.glb"
+        path.write_bytes(furnished_hall(Numbers(1), 200))
+        return path
 
     @functools.cached_property
     def town(self):

@@ -15,11 +15,12 @@ import random
 import struct
 
 WALL, HIGH, SIDE, PLOT, STREET = 0.2, 2.8, 10.0, 18.0, 10.0
-OPAQUE, GLASS, LEAVES = 0, 1, 2
+OPAQUE, GLASS, LEAVES, BOTH_SIDES = 0, 1, 2, 3
 MATERIALS = [
     {"name": "plaster"},
     {"name": "glass", "alphaMode": "BLEND"},
     {"name": "leaves", "alphaMode": "MASK", "doubleSided": True},
+    {"name": "shell", "doubleSided": True},
 ]
 FLOAT, SHORT, LONG, TRIANGLES = 5126, 5123, 5125, 4
 # The faces of a block by its corners: bit 0, 1 and 2 of a corner's number take the greater x, y and z.

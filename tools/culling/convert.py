@@ -39,6 +39,7 @@ class Asked:
     passes: int = 1
     keep: int = None
     wide: bool = True
+    hiding: list = None
 
 
 @dataclasses.dataclass
@@ -104,7 +105,7 @@ def chosen_views(eyes, asked, box, aspect):
 
 def chosen_occluders(model, asked, eyes, diagonal):
     """The triangles that hide, in the order that is asked for, and a note on how much was kept."""
-    found = Choice(asked.occluders, asked.clear).occluders(model.parts)
+    found = Choice(asked.occluders, asked.clear).occluders(model.parts if asked.hiding is None else asked.hiding)
     chosen = largest(found, asked.keep or MOST_OCCLUDERS)
     # a triangle that hides by both sides may stand twice
     while (count := asked.passes * len(both_ways(chosen, asked.sides))) > MOST_OCCLUDERS:

@@ -40,12 +40,15 @@ class Surface:
 
 @dataclasses.dataclass
 class Part:
-    """A node with a mesh. A loose one has points or lines beside its triangles."""
+    """A node with a mesh. A loose one has points or lines beside its triangles, a moving one is animated.
+    `place` is the map from the mesh into the model, but for a skin's."""
 
     name: str
     mesh: str
     surfaces: list
     is_loose: bool
+    is_moving: bool = False
+    place: tuple = transforms.IDENTITY
 
 
 @dataclasses.dataclass
@@ -67,7 +70,7 @@ class Model:
         self.document = Document(path)
         self.parts, self.eyes, self.notes = [], [], []
         self.has_flat_eyes = False
-        self.primitives, self.places = {}, {}
+        self.primitives, self.places, self.animated = {}, {}, animated_nodes(self.document)
         test_extensions(self.document.root)
         self.materials = [material_of(entry) for entry in self.document.table("materials", "material")]
         self.walk()
@@ -86,16 +89,21 @@ class Model:
             self.places[number] = transforms.product(above, place_of(node))
             if not all(abs(part) < MOST_REAL for part in self.places[number]):
                 raise ModelError(f"{node.label} is moved or scaled past all bounds.")
+            if number in self.animated:
+                self.animated.update(node.wholes("children"))
             order.append((number, node))
             waiting += [(child, node, self.places[number]) for child in reversed(node.wholes("children"))]
         for number, node in watched(order, "nodes of the model"):
-            self.take_node(node, self.places[number])
+            self.take_node(number, node, self.places[number])
 
-    def take_node(self, node, place):
+    def take_node(self, number, node, place):
+        first = len(self.parts)
         if node.has("mesh"):
             mesh = self.document.pick("meshes", "mesh", node.whole("mesh"), node)
             for name, at in self.instances(node, place, node.text("name", "") or mesh.text("name", "") or node.label):
                 self.take_mesh(name, node, mesh, at)
+        for part in self.parts[first:]:
+            part.is_moving |= number in self.animated or node.has("skin")
         if node.has("camera"):
             self.take_camera(node, place)
 
@@ -120,13 +128,14 @@ class Model:
 
     def take_mesh(self, name, node, mesh, place):
         primitives = mesh.entries("primitives", "primitive")
-        part = Part(name, mesh.text("name", ""), [], False)
+        part = Part(name, mesh.text("name", ""), [], False, place=place)
         for primitive in primitives:
             primitive.label += f" of {mesh.label}"
             mode = primitive.whole("mode", TRIANGLES)
             if mode > FAN:
                 raise ModelError(f"{primitive.label} has the mode {mode}.")
             part.is_loose |= mode < TRIANGLES
+            part.is_moving |= bool(primitive.entries("targets", "target"))
             points, triangles = self.shape_of(mesh, primitive, mode, node)
             if node.has("skin") and primitive.entry("attributes").has("JOINTS_0"):
                 points, mirrored = self.at_rest(node, primitive, points), False
@@ -256,6 +265,13 @@ def first_nodes(document):
     nodes = document.table("nodes", "node")
     children = {child for node in nodes for child in node.wholes("children")}
     return [(number, root) for number in range(len(nodes)) if number not in children]
+
+
+def animated_nodes(document):
+    """The numbers of nodes that an animation moves."""
+    animations = document.table("animations", "animation")
+    targets = [channel.entry("target") for entry in animations for channel in entry.entries("channels", "channel")]
+    return {target.whole("node") for target in targets if target.has("node")}
 
 
 def place_of(node):
