@@ -1,15 +1,16 @@
 // All that checks/web tests, behind web/build. A fault ends it.
 //
-//     node [--experimental-wasm-memory64] web/tests/all.mjs PROGRAM SCENES
+//     node [--experimental-wasm-memory64] web/tests/all.mjs PROGRAM SCENES [MODULE]    a file's name in web/out
 import { checkFaults, checkSafety } from './faults.mjs';
 import { checkFirst } from './first.mjs';
-import { checkModule, checkRoom } from './module.mjs';
+import { checkChoice, checkModule, checkRoom } from './module.mjs';
 import { checkRounding } from './rounding.mjs';
 import { checkScenes } from './scenes.mjs';
 import { checkStreet } from './street.mjs';
 
 const [program, scenes] = process.argv.slice(2);
 checkModule();
+await checkChoice();
 await checkRoom();
 checkFirst();
 await checkStreet();
