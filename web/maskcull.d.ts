@@ -43,8 +43,8 @@ export class MaskcullError extends Error {
 }
 
 /**
- * Compiles the module. If neither an address nor bytes are given, it is out/maskcull.wasm beside maskcull.js, or where the
- * browser has no 64-bit memories out/maskcull32.wasm, which has SIMD and which the toolchain's verdict doesn't name.
+ * Compiles the module. If neither an address nor bytes are given, it is out/maskcull.wasm beside maskcull.js; or where
+ * the browser has no 64-bit memories out/maskcull32.wasm, which has SIMD, and which the toolchain's verdict doesn't name.
  */
 export function loadModule(source?: string | URL | BufferSource): Promise<WebAssembly.Module>;
 
