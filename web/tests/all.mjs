@@ -9,6 +9,9 @@ import { checkScenes } from './scenes.mjs';
 import { checkStreet } from './street.mjs';
 
 const [program, scenes] = process.argv.slice(2);
+// Without it node 20 may hang: where nothing but a compilation is waited for, its main thread waits for all that other
+// threads compile, and one of these may wait for the main thread to collect garbage.
+const timer = setInterval(() => {}, 1000);
 checkModule();
 await checkChoice();
 await checkRoom();
@@ -18,4 +21,5 @@ await checkFaults();
 await checkSafety();
 await checkRounding();
 await checkScenes(program, Number(scenes));
+clearInterval(timer);
 console.log('web: all agrees');
