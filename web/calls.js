@@ -34,11 +34,38 @@ export class MaskcullError extends Error {
 
 // The least module with a 64-bit memory.
 const WITH_LARGE_MEMORY = Uint8Array.of(0, 0x61, 0x73, 0x6d, 1, 0, 0, 0, 5, 3, 1, 4, 1);
+const SECTIONS = 8, MEMORIES = 5, IS_LARGE = 4;
 
-function demandEngine() {
-    if (typeof WebAssembly === 'object' && WebAssembly.validate(WITH_LARGE_MEMORY)) return;
-    throw new MaskcullError('engine', 'This browser has no 64-bit memories for WebAssembly, which maskcull needs: '
-        + 'Chrome and Edge have them from version 133 on, Firefox from 134.');
+const hasLargeMemories = () => typeof WebAssembly === 'object' && WebAssembly.validate(WITH_LARGE_MEMORY);
+
+/**
+ * Whether bytes are a module with a 64-bit memory, as a flag in its section of memories says.
+ * @param {Uint8Array} bytes
+ */
+function needsLargeMemory(bytes) {
+    let place = SECTIONS;
+    const next = () => {
+        let number = 0, scale = 1, byte;
+        do {
+            byte = bytes[place++] ?? 0;
+            number += (byte & 127) * scale;
+            scale *= 128;
+        } while (byte & 128);
+        return number;
+    };
+    while (place < bytes.length) {
+        const section = next(), length = next();
+        if (section === MEMORIES) return next() > 0 && (next() & IS_LARGE) !== 0;
+        place += length;
+    }
+    return false;
+}
+
+/** @param {Uint8Array} bytes */
+function demandEngine(bytes) {
+    if (hasLargeMemories() || (typeof WebAssembly === 'object' && !needsLargeMemory(bytes))) return;
+    throw new MaskcullError('engine', 'This browser has no 64-bit memories for WebAssembly, which this module needs: '
+        + 'Chrome and Edge have them from version 133 on, Firefox from 134. Others run out/maskcull32.wasm.');
 }
 
 /** @param {string | URL} place */
@@ -48,17 +75,20 @@ async function bytesAt(place) {
     });
     if (answer.ok) return answer.arrayBuffer();
     throw new MaskcullError('module', `The module at ${place} can't be loaded, the server answers ${answer.status}: `
-        + 'web/build makes it.');
+        + '`web/build` makes the one with a 64-bit memory, `web/build simd` that for other browsers too.');
 }
 
 /**
  * Compiles the module, from its address or its bytes. Once is enough for any number of frames.
- * @param {string | URL | BufferSource} [source] out/maskcull.wasm beside this file if it is left out
+ * @param {string | URL | BufferSource} [source] if it is left out, out/maskcull.wasm beside this file, or where the
+ *     browser has no 64-bit memories out/maskcull32.wasm
  * @returns {Promise<WebAssembly.Module>}
  */
-export async function loadModule(source = new URL('out/maskcull.wasm', import.meta.url)) {
-    demandEngine();
-    const bytes = typeof source === 'string' || source instanceof URL ? await bytesAt(source) : source;
+export async function loadModule(source) {
+    const place = source ?? new URL(`out/maskcull${hasLargeMemories() ? '' : '32'}.wasm`, import.meta.url);
+    const bytes = typeof place === 'string' || place instanceof URL ? await bytesAt(place) : place;
+    demandEngine(ArrayBuffer.isView(bytes) ? new Uint8Array(bytes.buffer, bytes.byteOffset, bytes.byteLength)
+        : new Uint8Array(bytes));
     return WebAssembly.compile(bytes).catch((error) => {
         throw new MaskcullError('module', `This isn't a module of WebAssembly: ${error.message}.`);
     });

@@ -42,7 +42,10 @@ export class MaskcullError extends Error {
         | 'number';
 }
 
-/** Compiles the module: out/maskcull.wasm beside maskcull.js if neither an address nor bytes are given. */
+/**
+ * Compiles the module. If neither an address nor bytes are given, it is out/maskcull.wasm beside maskcull.js; or where
+ * the browser has no 64-bit memories out/maskcull32.wasm, which has SIMD, and which the toolchain's verdict doesn't name.
+ */
 export function loadModule(source?: string | URL | BufferSource): Promise<WebAssembly.Module>;
 
 /** A screen's tiles, for coordinates in floats. Matrices have 16 numbers, column by column, and lead to clip space. */

@@ -1,7 +1,8 @@
 // Bad input of each kind gets its sentence, and leaves what was drawn; what is no number takes the safe way.
 import assert from 'node:assert/strict';
+import fs from 'node:fs';
 import { Calls, Frame, MaskcullError, OCCLUDED, OUTSIDE, VISIBLE, loadModule } from '../maskcull.js';
-import { CLIP_FROM_VIEW, bytes, module } from './module.mjs';
+import { CLIP_FROM_VIEW, bytes, module, withMemories } from './module.mjs';
 
 const SCREEN = { width: 64, height: 32, near: 1 };
 const WALL = Float32Array.of(-9, -9, 3, 9, -9, 3, 9, 9, 3, -9, 9, 3), QUAD = Uint16Array.of(0, 1, 2, 0, 2, 3);
@@ -24,7 +25,7 @@ function withFullMemory() {
         if (bytes[section] === 5) {
             const least = bytes.subarray(body + 2, body + length);
             const limits = [bytes[body], bytes[body + 1] | 1, ...least, ...least];
-            assert.equal(bytes[body + 1], 4); // 64 bits, no most
+            assert([0, 4].includes(bytes[body + 1])); // 32 or 64 bits, no most
             return Buffer.concat([bytes.subarray(0, section + 1), Buffer.of(limits.length, ...limits),
                 bytes.subarray(body + length)]);
         }
@@ -32,11 +33,9 @@ function withFullMemory() {
     }
 }
 
-async function beWithoutLargeMemories() {
-    const { validate } = WebAssembly;
-    WebAssembly.validate = () => false;
-    await loadModule(bytes).finally(() => { WebAssembly.validate = validate; });
-}
+/** Loads the module with a 64-bit memory in an engine that has none. */
+const beWithoutLargeMemories = () => withMemories(false,
+    () => loadModule(fs.readFileSync(new URL('../out/maskcull.wasm', import.meta.url))));
 
 function drawnFrame() {
     return Frame.make(module, SCREEN).then((frame) => {
@@ -53,6 +52,8 @@ const ATTEMPTS = {
     engine: [beWithoutLargeMemories],
     module: [
         () => loadModule(Uint8Array.of(1, 2, 3)),
+        () => withMemories(false, () => loadModule(Uint8Array.of(1, 2, 3))),
+        () => withMemories(false, () => loadModule(bytes.subarray(0, 100))),
         () => loadModule('http://127.0.0.1:1/none.wasm'),
         async () => Frame.make(await WebAssembly.compile(Uint8Array.of(0, 0x61, 0x73, 0x6d, 1, 0, 0, 0)), SCREEN),
         () => Frame.make(undefined, SCREEN),

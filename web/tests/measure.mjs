@@ -1,7 +1,7 @@
 // How long calls take, in node or in a browser: the least of some rounds. The triangles are those of
 // examples/c/measure.c, so its times by one thread are to be compared. Measure on a quiet machine.
 //
-//     node [--experimental-wasm-memory64] web/tests/measure.mjs
+//     node [--experimental-wasm-memory64] web/tests/measure.mjs [MODULE]    a file's name in web/out
 import { Calls, Frame, OCCLUDED, loadModule } from '../maskcull.js';
 
 const WIDTH = 1280, HEIGHT = 720, NEAR = 16, TRIANGLES = 20000, ROUNDS = 15;
@@ -91,7 +91,8 @@ export async function measure(module) {
 
 if (typeof process === 'object') {
     const fs = await import('node:fs');
-    const module = await loadModule(fs.readFileSync(new URL('../out/maskcull.wasm', import.meta.url)));
+    const [file = 'maskcull.wasm'] = process.argv.slice(2);
+    const module = await loadModule(fs.readFileSync(new URL(`../out/${file}`, import.meta.url)));
     const times = Object.entries(await measure(module));
     for (const [what, time] of times) console.log(`${what}: ${Number(time.toPrecision(3))}`);
 }

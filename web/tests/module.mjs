@@ -1,11 +1,12 @@
-// The module that web/build made: its size, what it exports and imports, and that the greatest of everything has room.
+// A module that web/build made: its size, what it exports and imports, and that the greatest of everything has room.
 import assert from 'node:assert/strict';
 import fs from 'node:fs';
 import { Frame, VISIBLE, loadModule } from '../maskcull.js';
 
 export const CLIP_FROM_VIEW = [1, 0, 0, 0, 0, 1, 0, 0, 0, 0, 0, 1, 0, 0, 0, 0]; // x, y and w of (x, y, z)
 
-export const bytes = fs.readFileSync(new URL('../out/maskcull.wasm', import.meta.url));
+const [file = 'maskcull.wasm'] = process.argv.slice(4);
+export const bytes = fs.readFileSync(new URL(`../out/${file}`, import.meta.url));
 export const module = await loadModule(bytes);
 
 const CALLS = ['maskcull_clear', 'maskcull_draw', 'maskcull_draw_band', 'maskcull_draw_pieces', 'maskcull_nearness',
@@ -18,7 +19,30 @@ export function checkModule() {
     assert.deepEqual(names, ['__heap_base (global)', ...CALLS.map((name) => `${name} (function)`), 'memory (memory)']);
     assert.deepEqual(WebAssembly.Module.imports(module), []);
     assert(bytes.length <= MOST_BYTES);
-    console.log(`the module has ${bytes.length} bytes, exports ${names.join(', ')}, and imports nothing`);
+    console.log(`${file} has ${bytes.length} bytes, exports ${names.join(', ')}, and imports nothing`);
+}
+
+/** Makes a call in an engine with 64-bit memories, or without. */
+export async function withMemories(areLarge, call) {
+    const { validate } = WebAssembly;
+    WebAssembly.validate = () => areLarge;
+    return call().finally(() => { WebAssembly.validate = validate; });
+}
+
+/** Where no module is named, the wrapper takes the one that the engine can run. */
+export async function checkChoice() {
+    const { fetch } = globalThis, empty = Uint8Array.of(0, 0x61, 0x73, 0x6d, 1, 0, 0, 0);
+    let taken;
+    globalThis.fetch = async (place) => {
+        taken = place.href;
+        return new Response(empty);
+    };
+    for (const [areLarge, name] of [[true, 'maskcull.wasm'], [false, 'maskcull32.wasm']]) {
+        await withMemories(areLarge, loadModule);
+        assert.equal(taken, new URL(`../out/${name}`, import.meta.url).href);
+    }
+    globalThis.fetch = fetch;
+    console.log('the module that is taken is the one for the engine');
 }
 
 /** The greatest screen, and as many vertices and triangles as a scene of the program may have. */
