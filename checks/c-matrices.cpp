@@ -5,8 +5,9 @@
 //     c++ -std=gnu++17 -O2 -Iinclude checks/c-matrices.cpp crates/maskcull_c/out/libmaskcull_c.a -o matrices
 //     ./matrices [SCENES] [SEED]
 //
-// A scene is one triangle, or a parallelogram of two, and a box and a mesh behind it or about it, each taken through a
-// matrix of whole numbers with the determinant 1 or -1. So all coordinates are whole numbers that floats hold as they
+// A scene is a window of any size and one triangle, or a parallelogram of two, and a box and a mesh behind it or about
+// it, each taken through a matrix of whole numbers with the determinant 1 or -1. Half of the frames got their near
+// distance by a clearing. So all coordinates are whole numbers that floats hold as they
 // are, and the truth is reckoned in whole numbers of 128 bits, whatever flags this file is compiled with. In the
 // matrix's row for z there is no number: it may not be read. Looked at is
 //
@@ -166,9 +167,9 @@ bool is_within(const scene &s, const maskcull_triangle &t, std::int64_t px, std:
     for (const vertex(&e)[2] : edges) {
         const wide x = static_cast<wide>(e[0].y) * e[1].w - static_cast<wide>(e[0].w) * e[1].y;
         const wide y = static_cast<wide>(e[0].w) * e[1].x - static_cast<wide>(e[0].x) * e[1].w;
-        // by 65/1024 of a pixel and 1/2048 of the screen: a pixel is 2 height of the ray's x, and 2 width of its y
-        const wide across = s.height * (130 + s.width) * (x < 0 ? -x : x);
-        const wide down = s.width * (130 + s.height) * (y < 0 ? -y : y);
+        // by 65/1024 of a pixel and 1/2048 of the tiles: a pixel is 2 height of the ray's x, and 2 width of its y
+        const wide across = s.height * (130 + (s.width + 7) / 8 * 8) * (x < 0 ? -x : x);
+        const wide down = s.width * (130 + (s.height + 3) / 4 * 4) * (y < 0 ? -y : y);
         if (sign * determinant(ray, e[0], e[1]) * 1024 < -(across + down)) return false;
     }
     return true;
@@ -262,9 +263,7 @@ verdict asked_without_margin(const scene &s, const maskcull::frame &frame, const
         return static_cast<std::int32_t>(std::floor(std::min(std::max(number, -1e9), 1e9)));
     };
     const maskcull_area area = {whole(left + 0.5), whole(top + 0.5), whole(right + 0.5), whole(bottom + 0.5)};
-    const maskcull_setup setup = {static_cast<std::uint32_t>(s.width), static_cast<std::uint32_t>(s.height), 1024,
-                                  MASKCULL_WIDE};
-    const auto answer = maskcull_test(&setup, frame.tiles().data(), frame.tiles().size(), &area, whole(nearest));
+    const auto answer = maskcull_test(&frame.setup(), frame.tiles().data(), frame.tiles().size(), &area, whole(nearest));
     return answer == MASKCULL_OCCLUDED ? verdict::occluded : verdict::visible;
 }
 
@@ -370,7 +369,7 @@ void make_flat_corners(scene &s) {
 
 // False where floats can't hold it, or the truth has too many digits.
 bool make_scene(scene &s) {
-    s = {8 * between(1, 12), 4 * between(2, 12), 1, {}, {}, {}, {}, {}};
+    s = {between(1, 96), between(1, 48), 1, {}, {}, {}, {}, {}};
     if (is_one_of(32)) s.width = 2048;
     const std::int64_t kind = below(4);
     kind == 0 ? make_far_corners(s) : kind == 1 ? make_flat_corners(s) : make_near_corners(s);
@@ -405,8 +404,10 @@ void look_at(const scene &s, counts &all) {
     maskcull::options chosen;
     chosen.matrices = is_one_of(2) ? maskcull::matrix_layout::rows : maskcull::matrix_layout::columns;
     chosen.y_is_down = is_one_of(2);
+    const bool is_cleared = is_one_of(2);
     auto frame = maskcull::frame::make(static_cast<std::uint32_t>(s.width), static_cast<std::uint32_t>(s.height),
-                                       static_cast<float>(s.near_w), chosen);
+                                       is_cleared ? 7.0f : static_cast<float>(s.near_w), chosen);
+    if (is_cleared) frame->clear(static_cast<float>(s.near_w));
     const handed h(s, chosen, s.points, s.triangles);
     maskcull::occluders made;
     frame->prepare_into(made, h.numbers, h.mesh(is_one_of(2)));

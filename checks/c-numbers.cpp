@@ -475,6 +475,366 @@ void try_room() {
     expect(are_same(by_one, one_by_one) && !are_same(by_one, frame_of()), "two meshes are drawn otherwise at once");
 }
 
+// A wall whose upper triangle runs clockwise on the screen and its lower one the other way round.
+constexpr std::uint32_t one_each_way[] = {0, 1, 2, 0, 3, 2};
+
+// What the calls in C leave of it, with a winding for each of two draws.
+std::vector<maskcull_tile> drawn_in_c(const maskcull::frame &frame, const maskcull::occluders &made,
+                                      std::uint32_t first, std::uint32_t second) {
+    std::vector<maskcull_tile> tiles(frame.tiles().size());
+    for (const std::uint32_t winding : {first, second}) {
+        maskcull_setup setup = frame.setup();
+        setup.winding = setup.winding / MASKCULL_WIDE * MASKCULL_WIDE + winding;
+        const auto status = maskcull_draw(&setup, tiles.data(), tiles.size(), made.vertices.data(),
+                                          made.vertices.size(), made.triangles.data(), made.triangles.size());
+        expect(status == MASKCULL_DONE, "a draw in C is refused", winding);
+    }
+    return tiles;
+}
+
+bool has_tiles(const maskcull::frame &frame, const std::vector<maskcull_tile> &tiles) {
+    const auto &held = frame.tiles();
+    return held.size() == tiles.size() && std::memcmp(held.data(), tiles.data(), held.size() * sizeof held[0]) == 0;
+}
+
+// One way to draw with a winding: all rows, bands, a mesh, or pieces of two slices.
+std::uint32_t draw_in_a_way(maskcull::frame &frame, unsigned way, const maskcull::occluders &made,
+                            const maskcull::mesh_view &mesh, std::optional<maskcull_winding> winding) {
+    const plain_matrix m;
+    if (way == 0) return frame.draw(made, winding);
+    if (way == 1) return frame.draw(m.numbers, mesh, winding);
+    if (way == 2) {
+        const auto status = frame.draw_band(0, 3, made, winding);
+        return status == MASKCULL_DONE ? frame.draw_band(3, frame.row_count() - 3, made, winding) : status;
+    }
+    maskcull_piece pieces[4];
+    for (const std::size_t first : {std::size_t{0}, std::size_t{1}}) {
+        std::size_t count = 0;
+        auto status = frame.set_up(made, first, 1, pieces, 4, count, winding);
+        if (status == MASKCULL_DONE) status = frame.draw_pieces(0, frame.row_count(), pieces, count);
+        if (status != MASKCULL_DONE) return status;
+    }
+    return MASKCULL_DONE;
+}
+
+// A winding for each draw: the tiles of the same calls in C. Without one it is the frame's.
+void try_windings() {
+    const wall w;
+    const plain_matrix m;
+    const maskcull::mesh_view mesh(w.corners, sizeof(clip_point), 4, one_each_way, 6);
+    for (const auto grade : {MASKCULL_NARROW, MASKCULL_WIDE}) {
+        for (unsigned k = 0; k < 4 * 3 * 3 * 4; k++) {
+            const auto of_frame = static_cast<maskcull_winding>(k / 4 % 3), first = of_frame;
+            const auto second = static_cast<maskcull_winding>(k / 12 % 3);
+            float near_distance = 1;
+            auto frame = maskcull::frame::make(128, 64, near_distance, of_frame, grade);
+            if (!frame) return expect(false, "no frame of a good winding", k);
+            maskcull::occluders made;
+            frame->prepare_into(made, m.numbers, mesh);
+            const auto expected = drawn_in_c(*frame, made, first, second);
+            expect(draw_in_a_way(*frame, k % 4, made, mesh, std::nullopt) == MASKCULL_DONE
+                       && draw_in_a_way(*frame, k % 4, made, mesh, second) == MASKCULL_DONE,
+                   "a draw with a winding is refused", k);
+            expect(has_tiles(*frame, expected), "a winding of a draw leaves other tiles", k);
+            expect(draw_in_a_way(*frame, k % 4, made, mesh, static_cast<maskcull_winding>(3)) == MASKCULL_BAD_SETUP
+                       && has_tiles(*frame, expected),
+                   "a draw with a winding that isn't one", k);
+        }
+    }
+}
+
+// A scene has a batch for each run of draws with one winding, at most 4,096.
+void try_batches() {
+    const wall w;
+    auto frame = frame_of();
+    if (!frame) return;
+    const auto made = frame->prepare(w.corners, 4, &upper, 1);
+    maskcull::recorder recorder;
+    frame->record_to(&recorder);
+    for (const std::size_t runs : {std::size_t{1}, std::size_t{2}, std::size_t{4096}, std::size_t{4097}}) {
+        frame->clear();
+        for (std::size_t k = 0; k < runs; k++) {
+            const auto winding = k % 2 == 0 ? MASKCULL_DROPS_COUNTERCLOCKWISE : MASKCULL_KEEPS_BOTH;
+            frame->draw(made, winding), frame->draw(made, winding);
+            frame->draw(frame->prepare(w.corners, 4, &upper, 0), MASKCULL_DROPS_CLOCKWISE);
+        }
+        const auto bytes = recorder.scene();
+        if (runs == 4097) return expect(bytes.empty(), "a scene of more batches than there can be");
+        std::uint32_t numbers[6];
+        expect(bytes.size() > 36, "no scene of so many batches", static_cast<unsigned>(runs));
+        if (bytes.size() <= 36) continue;
+        std::memcpy(numbers, bytes.data() + 12, sizeof numbers);
+        const std::size_t triangles = numbers[2], first = 36 + 12 * numbers[1] + 12 * triangles;
+        expect(numbers[5] == runs && triangles == 2 * runs, "batches of a scene", static_cast<unsigned>(runs));
+        for (std::size_t k = 0; k < runs && first + 5 * k + 5 <= bytes.size(); k++) {
+            const unsigned char *at = bytes.data() + first + 5 * k;
+            expect(at[0] == 2 && at[1] + at[2] + at[3] == 0 && at[4] == (k % 2 == 0 ? 2 : 0), "a batch",
+                   static_cast<unsigned>(k));
+        }
+    }
+}
+
+// Each reason why there is no frame.
+void try_reasons() {
+    using maskcull::refusal;
+    const auto reason = [](std::uint32_t width, std::uint32_t height, const float &near_distance,
+                           const maskcull::options &chosen, maskcull_grade grade = MASKCULL_WIDE) {
+        refusal why = refusal::none;
+        const auto frame = maskcull::frame::make(width, height, near_distance, chosen, grade, &why);
+        expect(frame.has_value() == (why == refusal::none), "a frame and a reason, or neither", width, height);
+        return why;
+    };
+    maskcull::options plain, odd_winding, flat;
+    odd_winding.winding = static_cast<maskcull_winding>(3);
+    flat.orthographic.emplace();
+    float one = 1, bad_one;
+    put(bad_one, bad[0]);
+    for (const auto &size : {std::pair{1u, 1u}, {2048u, 2048u}, {1366u, 767u}, {5u, 2047u}}) {
+        expect(reason(size.first, size.second, one, plain) == refusal::none, "no frame", size.first, size.second);
+    }
+    for (const auto &size : {std::pair{0u, 9u}, {9u, 0u}, {0u, 0u}}) {
+        expect(reason(size.first, size.second, one, plain) == refusal::no_pixels, "no pixels", size.first, size.second);
+    }
+    for (const auto &size : {std::pair{2049u, 9u}, {9u, 2049u}, {3840u, 2160u}, {0xffffffffu, 1u}, {1u, 0xfffffffcu}}) {
+        expect(reason(size.first, size.second, one, plain) == refusal::too_large, "too large", size.first, size.second);
+    }
+    expect(reason(9, 9, bad_one, plain) == refusal::bad_near_distance, "a bad near distance");
+    expect(reason(9, 9, bad_one, flat) == refusal::none, "an orthographic frame of any near distance");
+    expect(reason(9, 9, one, odd_winding) == refusal::bad_winding, "a bad winding");
+    expect(reason(9, 9, one, plain, static_cast<maskcull_grade>(1)) == refusal::bad_grade, "a bad grade");
+    for (const std::uint32_t bits : bad) {
+        for (const bool is_near : {true, false}) {
+            maskcull::options odd = flat;
+            put(is_near ? odd.orthographic->at_near : odd.orthographic->at_far, bits);
+            expect(reason(9, 9, one, odd) == refusal::bad_depths, "a bad depth", 0, 0, bits);
+        }
+    }
+    for (const auto &[at_near, at_far] : {std::pair{1.0f, 1.0f}, {0.0f, 0.0f}, {-3.0f, -3.0f}, {5000.0f, 5001.0f}}) {
+        flat.orthographic = maskcull::depth_range{at_near, at_far};
+        expect(reason(9, 9, one, flat) == refusal::bad_depths, "depths that are the same");
+    }
+    for (unsigned k = 0; k <= static_cast<unsigned>(refusal::bad_depths); k++) {
+        expect(std::strlen(maskcull::text_of(static_cast<refusal>(k))) > 10, "a reason without words", k);
+    }
+}
+
+// A near distance for a clearing: as a frame that was made with it, without memory. After a bad one nothing hides.
+void try_clearings() {
+    const plain_matrix m;
+    const wall w(false);
+    auto frame = frame_of();
+    if (!frame || frame->draw(m.numbers, mesh_of(w)) != MASKCULL_DONE) return expect(false, "no frame");
+    unsigned long before = memory_asked;
+    for (const int power : {-3, 1, 0, -131, -1}) {
+        float near_distance;
+        put(near_distance, bits_of(64, power));
+        const auto other = maskcull::frame::make(128, 64, near_distance);
+        auto made = maskcull::frame::make(128, 64, near_distance);
+        expect(made && made->draw(m.numbers, mesh_of(w)) == MASKCULL_DONE, "a wall isn't drawn");
+        before = memory_asked;
+        expect(frame->clear(near_distance), "a good near distance", 0, 0, bits_of(64, power));
+        expect(are_same(frame, other), "a frame isn't empty");
+        expect(frame->draw(m.numbers, mesh_of(w)) == MASKCULL_DONE && are_same(frame, made), "another near distance");
+        expect(memory_asked == before, "memory is asked for by a clearing");
+        frame->clear();
+        expect(frame->draw(m.numbers, mesh_of(w)) == MASKCULL_DONE && are_same(frame, made), "a near distance is kept");
+        const box behind = box_between(-4 * 64, 64, 8 * 64);
+        const bool is_within = power != -131;
+        expect(is_hidden(*frame, behind) == is_within, "a box behind the wall", 0, 0, bits_of(64, power));
+        for (const std::uint32_t bits : {bad[0], bad[6], bad[7], 0u, sign, 0xbf800000u}) {
+            float odd;
+            put(odd, bits);
+            expect(!frame->clear(odd) && are_same(frame, other), "a bad near distance", 0, 0, bits);
+            frame->clear();
+            expect(frame->draw(m.numbers, mesh_of(w)) == MASKCULL_DONE && are_same(frame, other), "a wall is drawn");
+            expect(frame->draw(frame->prepare(w.corners, 4, &upper, 1)) == MASKCULL_DONE && are_same(frame, other),
+                   "a triangle is drawn");
+            expect(!is_hidden(*frame, behind) && verdict_of(*frame, m, behind) == maskcull::verdict::visible
+                       && frame->test_mesh(m.numbers, mesh_of(w)) == maskcull::verdict::visible,
+                   "something is hidden or outside", 0, 0, bits);
+        }
+    }
+}
+
+// Windows of any size. The wall covers their left half: what is drawn at a sample is what a window of the next sizes
+// that needn't be rounded up has there, by a matrix that takes pixels to the same places.
+void try_sizes() {
+    using maskcull::verdict;
+    float near_distance = 1;
+    const plain_matrix m;
+    for (const auto &size : {std::pair{1u, 1u}, {2u, 3u}, {7u, 5u}, {9u, 4u}, {31u, 33u}, {100u, 50u}, {127u, 63u},
+                             {129u, 65u}, {1366u, 767u}, {2047u, 2045u}}) {
+        const std::uint32_t width = size.first, height = size.second;
+        auto frame = maskcull::frame::make(width, height, near_distance);
+        if (!frame || frame->setup().width % 8 != 0 || frame->setup().height % 4 != 0) {
+            expect(false, "no frame", width, height);
+            continue;
+        }
+        const wall half(false), whole;
+        frame->draw(m.numbers, mesh_of(whole));
+        std::vector<std::uint16_t> picture(frame->setup().width * frame->setup().height);
+        const auto show = [&] {
+            const auto status = maskcull_nearness(&frame->setup(), frame->tiles().data(), frame->tiles().size(),
+                                                  picture.data(), picture.size(), frame->setup().width);
+            expect(status == MASKCULL_DONE, "no picture", width, height);
+        };
+        show();
+        bool is_covered = true;
+        for (std::uint32_t y = 0; y < height; y++) {
+            for (std::uint32_t x = 0; x < width; x++) is_covered &= picture[y * frame->setup().width + x] != 0;
+        }
+        expect(is_covered, "a wall over all of a window has a gap", width, height);
+        const float low[3] = {-20, -20, 8}, high[3] = {20, 20, 9};
+        expect(frame->test_aabb(m.numbers, low, high) == verdict::occluded, "a box past the window", width, height);
+        const float beside[3] = {8.5f, -1, 8}, end[3] = {8.8f, 1, 8.1f};
+        const auto found = frame->test_aabb(m.numbers, beside, end);
+        expect(width < 64 || found == verdict::outside, "a box beside the window isn't outside", width, height);
+        frame->clear();
+        for (const maskcull_triangle &t : {upper, lower}) frame->draw(frame->prepare(half.corners, 4, &t, 1));
+        show();
+        bool is_half = true;
+        for (std::uint32_t y = 0; y < height; y++) {
+            for (std::uint32_t x = 0; x < width; x++) {
+                if (2 * x + 1 == width) continue; // at the edge
+                is_half &= (picture[y * frame->setup().width + x] != 0) == (2 * x + 1 < width);
+            }
+        }
+        expect(is_half, "a wall over half of a window covers other pixels", width, height);
+    }
+}
+
+// A matrix of an orthographic view, by columns: it leaves x and y and takes z to what is asked for.
+struct flat_matrix {
+    float numbers[16] = {1, 0, 0, 0, 0, 1, 0, 0, 0, 0, 1, 0, 0, 0, 0, 1};
+
+    // a depth of z from 0 to 10
+    explicit flat_matrix(const maskcull::depth_range &range, bool y_is_down = false) {
+        numbers[10] = (range.at_far - range.at_near) / 10, numbers[14] = range.at_near;
+        if (y_is_down) numbers[5] = -1;
+    }
+
+    void turn() {
+        for (int j = 0; j < 4; j++) {
+            for (int k = 0; k < j; k++) std::swap(numbers[4 * j + k], numbers[4 * k + j]);
+        }
+    }
+};
+
+// Orthographic views of each convention: a wall at z = 4 over the left half, and boxes about it.
+void try_orthographic() {
+    using maskcull::verdict;
+    float bad_distance;
+    put(bad_distance, bad[0]);
+    const float at[4][3] = {{-2, 2, 4}, {0, 2, 4}, {0, -2, 4}, {-2, -2, 4}};
+    const float from_near[4][3] = {{-1, 2, -4}, {0, 2, 4}, {0, -2, 4}, {-1, -2, -4}};
+    const float to_far[4][3] = {{-1, 2, 4}, {-0.25f, 2, 13}, {-0.25f, -2, 13}, {-1, -2, 4}};
+    const auto mesh_at = [](const float (&places)[4][3]) {
+        return maskcull::mesh_view(places, sizeof places[0], 4, wall_indices, 6);
+    };
+    const auto box_at = [](maskcull::frame &frame, const flat_matrix &m, float x, float y, float z) {
+        const float low[3] = {x - 0.1f, y - 0.1f, z}, high[3] = {x + 0.1f, y + 0.1f, z + 0.5f};
+        return frame.test_aabb(m.numbers, low, high);
+    };
+    for (const auto &range : {maskcull::depth_range{-1, 1}, {0, 1}, {1, 0}, {100, 300}}) {
+        for (unsigned k = 0; k < 4; k++) {
+            maskcull::options chosen;
+            chosen.orthographic = range;
+            chosen.y_is_down = k % 2 == 1;
+            chosen.matrices = k / 2 == 1 ? maskcull::matrix_layout::rows : maskcull::matrix_layout::columns;
+            flat_matrix m(range, chosen.y_is_down);
+            if (k / 2 == 1) m.turn();
+            auto frame = maskcull::frame::make(k < 2 ? 128 : 127, k < 2 ? 64 : 61, bad_distance, chosen);
+            if (!frame) return expect(false, "no orthographic frame", k);
+            const auto none = frame->tiles();
+            expect(frame->draw(m.numbers, mesh_at(at)) == MASKCULL_DONE, "a wall isn't drawn", k);
+            expect(box_at(*frame, m, -0.5f, 0.5f, 5) == verdict::occluded, "a box behind the wall", k);
+            expect(box_at(*frame, m, -0.5f, 0.5f, 4.01f) == verdict::occluded, "a box just behind the wall", k);
+            expect(box_at(*frame, m, -0.5f, 0.5f, 50) == verdict::occluded, "a box past the far plane", k);
+            expect(box_at(*frame, m, -0.5f, 0.5f, 4) == verdict::visible, "a box at the wall", k);
+            expect(box_at(*frame, m, -0.5f, 0.5f, 2) == verdict::visible, "a box before the wall", k);
+            expect(box_at(*frame, m, -0.5f, 0.5f, -2) == verdict::visible, "a box before the near plane", k);
+            expect(box_at(*frame, m, 0.5f, 0.5f, 5) == verdict::visible, "a box beside the wall", k);
+            expect(box_at(*frame, m, 0, 0.5f, 5) == verdict::visible, "a box past the wall's edge", k);
+            expect(box_at(*frame, m, 1.5f, 0.5f, 5) == verdict::outside, "a box beside the window", k);
+            expect(box_at(*frame, m, -0.5f, 1.5f, 5) == verdict::outside, "a box above the window", k);
+            expect(frame->test_mesh(m.numbers, mesh_at(at)) == verdict::visible, "the wall itself", k);
+            expect(frame->test_mesh(m.numbers, {at, 12, 4, wall_indices, 2}) == verdict::outside, "no triangle", k);
+            const float behind[3][3] = {{-0.9f, 0.9f, 5}, {-0.1f, 0.9f, 5}, {-0.5f, -0.9f, 9}};
+            expect(frame->test_mesh(m.numbers, {behind, 12, 3, wall_indices, 3}) == verdict::occluded, "a mesh", k);
+            for (unsigned place = 0; place < 16; place++) {
+                for (const std::uint32_t bits : bad) {
+                    flat_matrix odd = m;
+                    put(odd.numbers[place], bits);
+                    expect(box_at(*frame, odd, -0.5f, 0.5f, 5) == verdict::visible, "a bad matrix", place, 0, bits);
+                    expect(frame->test_mesh(odd.numbers, {behind, 12, 3, wall_indices, 3}) == verdict::visible,
+                           "a mesh by a bad matrix", place, 0, bits);
+                }
+            }
+            flat_matrix deep = m;
+            deep.numbers[k / 2 == 1 ? 14 : 11] = 0.25f;
+            expect(box_at(*frame, deep, -0.5f, 0.5f, 5) == verdict::visible, "a box by a matrix in perspective", k);
+            frame->clear();
+            expect(frame->draw(deep.numbers, mesh_at(at)) == MASKCULL_DONE && has_tiles(*frame, none),
+                   "a wall by a matrix in perspective", k);
+            expect(frame->clear(bad_distance), "a near distance of an orthographic view", k);
+            // cut at the near plane, in the middle of the left half
+            expect(frame->draw(m.numbers, mesh_at(from_near)) == MASKCULL_DONE, "a wall through the near plane", k);
+            expect(box_at(*frame, m, -0.2f, 0.5f, 5) == verdict::occluded, "a box behind what is shown of it", k);
+            expect(box_at(*frame, m, -0.35f, 0.5f, 3.5f) == verdict::occluded, "a box behind it, near its cut", k);
+            expect(box_at(*frame, m, -0.35f, 0.5f, 1) == verdict::visible, "a box through it, near its cut", k);
+            expect(box_at(*frame, m, -0.7f, 0.5f, 9) == verdict::visible, "a box behind what is cut off", k);
+            frame->clear();
+            // and at the far one, there too
+            expect(frame->draw(m.numbers, mesh_at(to_far)) == MASKCULL_DONE, "a wall through the far plane", k);
+            expect(box_at(*frame, m, -0.85f, 0.5f, 9.5f) == verdict::occluded, "a box behind what is shown of it", k);
+            expect(box_at(*frame, m, -0.35f, 0.5f, 14) == verdict::visible, "a box behind what is cut off", k);
+        }
+    }
+}
+
+// A bad corner of an orthographic wall or object; points that are given without a matrix have z in place of w.
+void try_bad_flat_corners() {
+    maskcull::options chosen;
+    chosen.orthographic = maskcull::depth_range{0, 1};
+    float near_distance = 1;
+    auto frame = maskcull::frame::make(128, 64, near_distance, chosen);
+    auto other = maskcull::frame::make(128, 64, near_distance, chosen);
+    if (!frame || !other) return expect(false, "no orthographic frame");
+    const clip_point corners[4] = {{-2, 2, 0.25f}, {2, 2, 0.25f}, {2, -2, 0.25f}, {-2, -2, 0.25f}};
+    const std::vector<maskcull_triangle> both = {upper, lower};
+    const auto draw = [&](maskcull::frame &onto, const clip_point (&of)[4], const std::vector<maskcull_triangle> &all) {
+        onto.clear();
+        return onto.draw(onto.prepare(of, 4, all.data(), all.size())) == MASKCULL_DONE;
+    };
+    expect(draw(*frame, corners, both), "a wall isn't drawn");
+    const clip_point behind[4] = {{-0.5f, 0.5f, 0.3f}, {0.5f, 0.5f, 2}, {0.5f, -0.5f, 0.3f}, {-0.5f, -0.5f, 0.5f}};
+    expect(frame->is_hidden(behind, 4), "points behind a wall aren't hidden");
+    for (unsigned k = 0; k < 4; k++) {
+        for (unsigned axis = 0; axis < 3; axis++) {
+            for (const std::uint32_t bits : bad) {
+                clip_point odd[4];
+                std::copy(behind, behind + 4, odd);
+                put(odd[k], axis, bits);
+                expect(!frame->is_hidden(odd, 4), "a bad point is hidden", k, axis, bits);
+                std::copy(corners, corners + 4, odd);
+                put(odd[k], axis, bits);
+                const std::vector<maskcull_triangle> left = k == 1   ? std::vector{lower}
+                                                            : k == 3 ? std::vector{upper}
+                                                                     : std::vector<maskcull_triangle>{};
+                auto third = maskcull::frame::make(128, 64, near_distance, chosen);
+                expect(third && draw(*third, corners, left) && draw(*other, odd, both) && are_same(third, other),
+                       "a bad corner of a wall", k, axis, bits);
+            }
+        }
+        for (const std::uint32_t bits : {0x3e4ccccdu, 0u, 0xbf800000u}) { // .2, 0 and -1: before the wall
+            clip_point odd[4];
+            std::copy(behind, behind + 4, odd);
+            put(odd[k], 2, bits);
+            expect(!frame->is_hidden(odd, 4), "a point before the wall is hidden", k, 2, bits);
+        }
+    }
+}
+
 } // namespace
 
 int main() {
@@ -494,6 +854,13 @@ int main() {
     try_mesh_units();
     try_ground();
     try_room();
+    try_windings();
+    try_batches();
+    try_reasons();
+    try_clearings();
+    try_sizes();
+    try_orthographic();
+    try_bad_flat_corners();
     std::printf("%u answers, %u of them wrong\n", answers, wrong);
     return wrong == 0 ? 0 : 1;
 }

@@ -4,7 +4,7 @@
 //     ./recorder SCENE
 //
 // Drawn are a ground that reaches past the guard and walls across it, each as a mesh through a matrix, some of them by
-// bands and some from pieces; tested are boxes and meshes before the walls, behind them, beside the screen and around
+// bands and some from pieces, with windings that change from draw to draw, onto a frame whose size is rounded up; tested are boxes and meshes before the walls, behind them, beside the screen and around
 // the eye.
 #include "maskcull.hpp"
 
@@ -32,12 +32,12 @@ struct wall {
 };
 
 // In two slices, each onto all rows.
-bool draw_pieces(maskcull::frame &frame, const maskcull::occluders &drawn) {
+bool draw_pieces(maskcull::frame &frame, const maskcull::occluders &drawn, maskcull_winding winding) {
     const std::size_t all = drawn.triangles.size(), slices[2][2] = {{0, all / 2}, {all / 2, all - all / 2}};
     std::vector<maskcull_piece> pieces(2 * all);
     for (const auto &[first, triangles] : slices) {
         std::size_t count;
-        if (frame.set_up(drawn, first, triangles, pieces.data(), pieces.size(), count) != MASKCULL_DONE
+        if (frame.set_up(drawn, first, triangles, pieces.data(), pieces.size(), count, winding) != MASKCULL_DONE
             || frame.draw_pieces(0, frame.row_count(), pieces.data(), count) != MASKCULL_DONE) {
             return false;
         }
@@ -51,16 +51,21 @@ bool draw_all(maskcull::frame &frame) {
     maskcull::occluders many, others;
     for (int k = 0; k < 60; k++) {
         const float z = between(3, 60), x = between(-z, z);
-        const wall one(x - between(1, 6), x + between(1, 6), -2, between(-1, 4), z);
+        // some of them turn their back
+        const float left = x - between(1, 6), right = x + between(1, 6);
+        const wall one(k % 5 == 0 ? right : left, k % 5 == 0 ? left : right, -2, between(-1, 4), z);
         if (k % 3 == 0) {
-            is_drawn = is_drawn && frame.draw(to_clip, one.mesh()) == MASKCULL_DONE;
+            const auto winding = static_cast<maskcull_winding>(k / 3 % 3);
+            is_drawn = is_drawn && frame.draw(to_clip, one.mesh(), winding) == MASKCULL_DONE;
         } else {
             frame.prepare_more_into(k % 3 == 1 ? many : others, to_clip, one.mesh());
         }
     }
     const std::uint32_t half = frame.row_count() / 2;
-    return is_drawn && frame.draw_band(0, half, many) == MASKCULL_DONE
-           && frame.draw_band(half, frame.row_count() - half, many) == MASKCULL_DONE && draw_pieces(frame, others);
+    const auto dropped = MASKCULL_DROPS_COUNTERCLOCKWISE;
+    return is_drawn && frame.draw_band(0, half, many, dropped) == MASKCULL_DONE
+           && frame.draw_band(half, frame.row_count() - half, many, dropped) == MASKCULL_DONE
+           && draw_pieces(frame, others, MASKCULL_KEEPS_BOTH);
 }
 
 unsigned ask_all(const maskcull::frame &frame) {
@@ -82,7 +87,7 @@ const char *word_of(std::uint32_t answer) {
 } // namespace
 
 int main(int count, char **words) {
-    auto frame = maskcull::frame::make(640, 360, 0.1f);
+    auto frame = maskcull::frame::make(637, 359, 0.1f);
     maskcull::recorder recorder;
     if (count != 2 || !frame) return 2;
     frame->record_to(&recorder);

@@ -59,11 +59,35 @@ enum class verdict { visible, occluded, outside };
 /// DirectXMath, is the transposed one: where its rows follow each other, these are columns here.
 enum class matrix_layout { columns, rows };
 
+/// z / w in clip space at the near plane and at the far one: -1 and 1 in OpenGL, 0 and 1 in Vulkan and Direct3D, and 1
+/// and 0 where z is reversed.
+struct depth_range {
+    float at_near = -1, at_far = 1;
+};
+
 struct options {
     maskcull_winding winding = MASKCULL_KEEPS_BOTH;         // of occluders, as they run on the screen
     matrix_layout matrices = matrix_layout::columns;        // of every matrix that is passed
     bool y_is_down = false;                                 // y / w is 1 at the lower edge, as in Vulkan
+    std::optional<depth_range> orthographic = std::nullopt; // an orthographic view, and how z runs in it
 };
+
+/// Why `frame::make` made no frame.
+enum class refusal { none, no_pixels, too_large, bad_near_distance, bad_winding, bad_grade, bad_depths };
+
+/// A reason in words.
+inline const char *text_of(refusal why) {
+    switch (why) {
+    case refusal::none: return "a frame was made";
+    case refusal::no_pixels: return "the width or the height is 0";
+    case refusal::too_large: return "the width or the height is above 2048: make a frame of half the window's size";
+    case refusal::bad_near_distance: return "the near distance isn't a finite number above 0";
+    case refusal::bad_winding: return "the winding isn't one of maskcull_winding";
+    case refusal::bad_grade: return "the grade is neither MASKCULL_NARROW nor MASKCULL_WIDE";
+    case refusal::bad_depths: return "the depths of the near and the far plane aren't finite, or are (nearly) the same";
+    }
+    return "no reason of this version";
+}
 
 /// A mesh where it lies: its vertices' positions, three floats each and `stride` bytes from one to the next, and the
 /// numbers of three vertices for each triangle, from 0. Nothing is copied; any alignment will do.
@@ -122,17 +146,19 @@ struct occluders {
 /// behind the eye, isn't recorded.
 ///
 /// The program draws all before it tests, so its verdicts are these answers where nothing was drawn after a test. What
-/// was tested farther than the guard is written as at the guard, so it may be visible there.
+/// was tested farther than the guard is written as at the guard, so it may be visible there. A frame whose size was
+/// rounded up is a scene of that size.
 class recorder {
 public:
     /// What each test returned: MASKCULL_VISIBLE or MASKCULL_OCCLUDED.
     const std::vector<std::uint32_t> &answers() const { return answers_; }
 
     /// The bytes of the scene; none where nothing was recorded, or more than a scene can have: 262,144 vertices, 65,536
-    /// triangles and as many tests.
+    /// triangles, as many tests, and 4,096 batches. A batch is a run of draws with one winding.
     std::vector<unsigned char> scene() const {
         std::lock_guard<std::mutex> lock(busy_);
-        if (setup_.width == 0 || vertices_.size() > 262144 || triangles_.size() > 65536 || areas_.size() > 65536) {
+        if (setup_.width == 0 || vertices_.size() > 262144 || triangles_.size() > 65536 || areas_.size() > 65536
+            || batches_.size() > 4096) {
             return {};
         }
         std::vector<unsigned char> bytes = {'M', 'S', 'O', 'C'};
@@ -145,13 +171,15 @@ public:
         for (const std::size_t count : {vertices_.size(), triangles_.size(), std::size_t{0}, areas_.size()}) {
             put(bytes, static_cast<std::uint32_t>(count), 4);
         }
-        put(bytes, 1, 4); // one batch of all triangles
+        put(bytes, static_cast<std::uint32_t>(batches_.size()), 4);
         for (const maskcull_vertex &v : vertices_) put_all(bytes, {v.x, v.y, v.w});
         for (const maskcull_triangle &t : triangles_) {
             for (const std::uint32_t number : {t.a, t.b, t.c}) put(bytes, number, 4);
         }
-        put(bytes, static_cast<std::uint32_t>(triangles_.size()), 4);
-        put(bytes, setup_.winding % MASKCULL_WIDE, 1);
+        for (const batch &b : batches_) {
+            put(bytes, b.triangles, 4);
+            put(bytes, b.winding, 1);
+        }
         for (const question &q : areas_) {
             bytes.push_back(0); // a rectangle
             put_all(bytes, {q.area.x0, q.area.y0, q.area.x1, q.area.y1, q.w, 0});
@@ -179,6 +207,10 @@ private:
         std::int32_t w;
     };
 
+    struct batch {
+        std::uint32_t triangles, winding;
+    };
+
     static void put(std::vector<unsigned char> &bytes, std::uint32_t number, int size) {
         for (int k = 0; k < size; k++) bytes.push_back(static_cast<unsigned char>(number >> (8 * k)));
     }
@@ -191,16 +223,21 @@ private:
         std::lock_guard<std::mutex> lock(busy_);
         setup_ = setup;
         vertices_.clear(), triangles_.clear(), areas_.clear(), answers_.clear();
+        batches_.assign(1, {0, setup.winding % MASKCULL_WIDE});
     }
 
     static bool is_within(const maskcull_vertex &v) {
         return std::max({v.x, v.y, v.w}) <= guard && std::min({v.x, v.y, v.w}) >= -guard;
     }
 
-    void add(const occluders &drawn) { add(drawn, 0, drawn.triangles.size()); }
+    void add(const maskcull_setup &by, const occluders &drawn) { add(by, drawn, 0, drawn.triangles.size()); }
 
-    void add(const occluders &drawn, std::size_t first, std::size_t count) {
+    void add(const maskcull_setup &by, const occluders &drawn, std::size_t first, std::size_t count) {
         std::lock_guard<std::mutex> lock(busy_);
+        if (count == 0 || batches_.empty()) return;
+        const std::uint32_t winding = by.winding % MASKCULL_WIDE;
+        if (batches_.back().triangles == 0) batches_.back().winding = winding;
+        if (batches_.back().winding != winding) batches_.push_back({0, winding});
         const std::uint32_t none = 0xffffffff;
         std::vector<std::uint32_t> places(drawn.vertices.size(), none);
         for (std::size_t j = first; j < first + count; j++) {
@@ -215,6 +252,7 @@ private:
                 vertices_.push_back(drawn.vertices[k]);
             }
             triangles_.push_back({places[t.a], places[t.b], places[t.c]});
+            batches_.back().triangles++;
         }
     }
 
@@ -231,6 +269,7 @@ private:
     maskcull_setup setup_{0, 0, 0, 0};
     std::vector<maskcull_vertex> vertices_;
     std::vector<maskcull_triangle> triangles_;
+    std::vector<batch> batches_;
     std::vector<question> areas_;
     std::vector<std::uint32_t> answers_;
 };
@@ -240,25 +279,30 @@ private:
 /// other rows. Any number of threads may prepare and test at the same time.
 class frame {
 public:
-    /// An empty frame; nothing where the size isn't allowed (see maskcull_setup), or the near distance isn't a finite
-    /// number above 0.
+    /// An empty frame for a window of any width and height from 1 to 2048; nothing where they are others, or the near
+    /// distance isn't a finite number above 0: `why` gets the reason. A larger window takes a frame of half its width
+    /// and height: what shows only through a slit below two of its pixels may then be called hidden.
     static std::optional<frame> make(std::uint32_t width, std::uint32_t height, const float &near_distance,
                                      maskcull_winding winding = MASKCULL_KEEPS_BOTH,
-                                     maskcull_grade grade = MASKCULL_WIDE) {
+                                     maskcull_grade grade = MASKCULL_WIDE, refusal *why = nullptr) {
         options chosen;
         chosen.winding = winding;
-        return make(width, height, near_distance, chosen, grade);
+        return make(width, height, near_distance, chosen, grade, why);
     }
 
-    /// The narrow grade is for programs whose answers, or whose numbers of tiles(), are to stay what they were.
+    /// The narrow grade is for programs whose answers, or whose numbers of tiles(), are to stay what they were. Of an
+    /// orthographic view the near distance isn't read, but its depths, which are finite and differ by a thousandth of
+    /// the greater one or more.
     static std::optional<frame> make(std::uint32_t width, std::uint32_t height, const float &near_distance,
-                                     const options &chosen, maskcull_grade grade = MASKCULL_WIDE) {
-        const std::uint32_t count = maskcull_tile_count(width, height);
-        double distance;
-        if (count == 0 || !load(hidden_from_compiler(&near_distance), distance) || !(distance > 0)) return std::nullopt;
+                                     const options &chosen, maskcull_grade grade = MASKCULL_WIDE,
+                                     refusal *why = nullptr) {
+        viewing view;
+        const refusal found = view_of(width, height, near_distance, chosen, grade, view);
+        if (why != nullptr) *why = found;
+        if (found != refusal::none) return std::nullopt;
         const auto drawn = static_cast<std::uint32_t>(chosen.winding) + static_cast<std::uint32_t>(grade);
-        const maskcull_setup setup{width, height, finest, drawn};
-        return frame(setup, finest / (beyond_near * distance), chosen, count);
+        const maskcull_setup setup{(width + 7) / 8 * 8, (height + 3) / 4 * 4, finest, drawn};
+        return frame(setup, view, chosen, maskcull_tile_count(setup.width, setup.height));
     }
 
     frame(frame &&) = default;
@@ -271,12 +315,29 @@ public:
         if (recorder_ != nullptr) recorder_->begin(setup_);
     }
 
+    /// The same, with another near distance from here on, of what is prepared, drawn and tested. False where it isn't a
+    /// finite number above 0: then nothing is drawn and all is visible, up to a clearing with one that is. It asks for
+    /// no memory. An orthographic view has none: then it is ignored.
+    bool clear(const float &near_distance) {
+        clear();
+        if (is_flat_) return true;
+        double distance;
+        const bool is_one = load(hidden_from_compiler(&near_distance), distance) && distance > 0;
+        scale_ = is_one ? finest / (beyond_near * distance) : 0;
+        up_scale_ = is_down_ ? -scale_ : scale_;
+        return is_one;
+    }
+
     /// From the next clearing on all that is drawn and tested is recorded too; nullptr ends it. Precondition: the
     /// recorder lives as long as the frame writes to it.
     void record_to(recorder *where) { recorder_ = where; }
 
     /// For maskcull_subtile and maskcull_nearness. What maskcull.h says of copies holds of these tiles too.
     const std::vector<maskcull_tile> &tiles() const { return tiles_; }
+
+    /// The setup of these tiles: its width is a multiple of 8 and its height one of 4, the window's or the next ones.
+    /// The window is the upper left part.
+    const maskcull_setup &setup() const { return setup_; }
 
     std::uint32_t row_count() const { return (setup_.height + 7) / 8; }
 
@@ -311,32 +372,37 @@ public:
         prepare_behind(place_of(made), made, model_to_clip, mesh);
     }
 
-    /// Draws prepared occluders onto all tiles: MASKCULL_DONE, or why nothing was drawn.
-    std::uint32_t draw(const occluders &drawn) {
+    /// Draws prepared occluders onto all tiles: MASKCULL_DONE, or why nothing was drawn. Without a winding the frame's
+    /// is taken, in the calls below too.
+    std::uint32_t draw(const occluders &drawn, std::optional<maskcull_winding> winding = std::nullopt) {
+        const maskcull_setup by = setup_with(winding);
         const std::uint32_t status = maskcull_checked_draw(
-            &setup_, tiles_.data(), tiles_.size(), drawn.vertices.data(), drawn.vertices.size(), drawn.triangles.data(),
+            &by, tiles_.data(), tiles_.size(), drawn.vertices.data(), drawn.vertices.size(), drawn.triangles.data(),
             drawn.triangles.size());
-        if (recorder_ != nullptr && status == MASKCULL_DONE) recorder_->add(drawn);
+        if (recorder_ != nullptr && status == MASKCULL_DONE) recorder_->add(by, drawn);
         return status;
     }
 
     /// Draws a mesh: MASKCULL_DONE, MASKCULL_NULL, or MASKCULL_BAD_INDEX where it names a vertex that isn't there.
     /// Where an element of the matrix is infinite or NaN nothing is drawn. Memory for it is kept in the frame.
-    std::uint32_t draw(const float model_to_clip[16], const mesh_view &mesh) {
+    std::uint32_t draw(const float model_to_clip[16], const mesh_view &mesh,
+                       std::optional<maskcull_winding> winding = std::nullopt) {
         if (model_to_clip == nullptr || !mesh.is_there()) return MASKCULL_NULL;
         prepare_into(room_, model_to_clip, mesh);
-        return draw(room_);
+        return draw(room_, winding);
     }
 
     /// Draws prepared occluders onto some rows of tiles. Threads may do so at the same time, each onto rows of its own.
     /// Each of them sets all triangles up; with many triangles it is set_up and draw_pieces that share this too.
-    std::uint32_t draw_band(std::uint32_t first_row, std::uint32_t rows, const occluders &drawn) {
+    std::uint32_t draw_band(std::uint32_t first_row, std::uint32_t rows, const occluders &drawn,
+                            std::optional<maskcull_winding> winding = std::nullopt) {
         if (!has_rows(first_row, rows)) return MASKCULL_BAD_TILES;
+        const maskcull_setup by = setup_with(winding);
         const std::uint32_t status = maskcull_checked_draw_band(
-            &setup_, tiles_.data() + columns() * first_row, columns() * rows, first_row, drawn.vertices.data(),
+            &by, tiles_.data() + columns() * first_row, columns() * rows, first_row, drawn.vertices.data(),
             drawn.vertices.size(), drawn.triangles.data(), drawn.triangles.size());
         // all bands draw the same: it is recorded once
-        if (recorder_ != nullptr && status == MASKCULL_DONE && first_row == 0 && rows > 0) recorder_->add(drawn);
+        if (recorder_ != nullptr && status == MASKCULL_DONE && first_row == 0 && rows > 0) recorder_->add(by, drawn);
         return status;
     }
 
@@ -345,12 +411,14 @@ public:
     /// so at the same time, each into room of its own. A recorder takes triangles in the order in which they are set
     /// up.
     std::uint32_t set_up(const occluders &drawn, std::size_t first, std::size_t count, maskcull_piece *pieces,
-                         std::size_t room, std::size_t &piece_count) const {
+                         std::size_t room, std::size_t &piece_count,
+                         std::optional<maskcull_winding> winding = std::nullopt) const {
         if (first > drawn.triangles.size() || count > drawn.triangles.size() - first) return MASKCULL_BAD_INDEX;
+        const maskcull_setup by = setup_with(winding);
         const std::uint32_t status = maskcull_checked_set_up(
-            &setup_, drawn.vertices.data(), drawn.vertices.size(), drawn.triangles.data() + first, count, pieces, room,
+            &by, drawn.vertices.data(), drawn.vertices.size(), drawn.triangles.data() + first, count, pieces, room,
             &piece_count);
-        if (recorder_ != nullptr && status == MASKCULL_DONE) recorder_->add(drawn, first, count);
+        if (recorder_ != nullptr && status == MASKCULL_DONE) recorder_->add(by, drawn, first, count);
         return status;
     }
 
@@ -369,6 +437,7 @@ public:
     /// can be.
     bool is_hidden(const clip_point *points, std::size_t count) const {
         if (tiles_.empty() || count == 0) return false;
+        if (is_flat_) return are_flat_hidden(points, count);
         const unsigned char *at = hidden_from_compiler(points);
         extent e;
         for (std::size_t k = 0; k < count; k++, at += sizeof(clip_point)) {
@@ -388,8 +457,8 @@ public:
     verdict test_aabb(const float world_to_clip[16], const float low[3], const float high[3]) const {
         hull<8> h;
         if (tiles_.empty() || world_to_clip == nullptr) return verdict::visible;
-        if (!set_plain_corners(h, world_to_clip, low, high) && !set_corners(h, world_to_clip, low, high)) {
-            return verdict::visible;
+        if (is_flat_ || !set_plain_corners(h, world_to_clip, low, high)) {
+            if (!set_corners(h, world_to_clip, low, high)) return verdict::visible;
         }
         return verdict_of(h);
     }
@@ -432,10 +501,68 @@ private:
     // As much as a triangle may have to be moved away from the eye. What is seen more from its edge is cut off.
     static constexpr double steepest = 1.0 / 16;
 
-    frame(const maskcull_setup &setup, double scale, const options &chosen, std::size_t count)
-        : setup_(setup), half_sizes_{setup.width * 0.5, setup.height * 0.5, setup.width * 0.5, setup.height * 0.5},
-          margins_{margin(setup.width), margin(setup.height), margin(setup.width), margin(setup.height)}, scale_(scale),
-          up_scale_(chosen.y_is_down ? -scale : scale), matrices_(chosen.matrices), tiles_(count) {}
+    // An orthographic view: a point at x, y and at a depth from 0 at the near plane to 1 at the far one becomes
+    // (x w, y w, w) with w = flat_near / (1 - flat_part depth), in units. So it keeps its place on the screen, planes
+    // stay planes, and what is farther has a greater w, up to four times flat_near. There rounding moves a corner by
+    // less than a sixtieth of a pixel, and a step of nearness is a 200,000th of the depths.
+    static constexpr double flat_near = 64.0 * finest, flat_part = 3.0 / 4;
+    // Sums of coordinates and depths up to here are known to 2^-34, and so well enough. A point beyond is lost.
+    static constexpr double known_flat = 0x1p16;
+    // In place of a factor: the point is farther than the far plane, and has its depth in place of w.
+    static constexpr float past_far_plane = 2.5f;
+
+    // Of a window and its view: what takes numbers of clip space to units.
+    struct viewing {
+        double width, height;
+        // in perspective
+        double scale = 1;
+        // z * depth_scale + depth_start is a depth; depth_terms is what the terms of it come to without z's own
+        double depth_scale = 0, depth_start = 0, depth_terms = 0;
+    };
+
+    static refusal view_of(std::uint32_t width, std::uint32_t height, const float &near_distance,
+                           const options &chosen, maskcull_grade grade, viewing &view) {
+        if (width == 0 || height == 0) return refusal::no_pixels;
+        if (width > 2048 || height > 2048) return refusal::too_large;
+        if (static_cast<std::uint32_t>(chosen.winding) > MASKCULL_DROPS_COUNTERCLOCKWISE) return refusal::bad_winding;
+        if (grade != MASKCULL_NARROW && grade != MASKCULL_WIDE) return refusal::bad_grade;
+        view.width = width, view.height = height;
+        if (!chosen.orthographic) {
+            double distance;
+            if (!load(hidden_from_compiler(&near_distance), distance) || !(distance > 0)) {
+                return refusal::bad_near_distance;
+            }
+            view.scale = finest / (beyond_near * distance);
+            return refusal::none;
+        }
+        double at_near, at_far;
+        const bool is_near_known = load(hidden_from_compiler(&chosen.orthographic->at_near), at_near);
+        const bool is_far_known = load(hidden_from_compiler(&chosen.orthographic->at_far), at_far);
+        if (!is_near_known || !is_far_known) return refusal::bad_depths;
+        const double way = at_far - at_near, most_depth = std::max(std::fabs(at_near), std::fabs(at_far));
+        if (!(std::fabs(way) * 1000 >= most_depth) || most_depth == 0) return refusal::bad_depths;
+        view.depth_scale = 1 / way, view.depth_start = -at_near / way, view.depth_terms = most_depth / std::fabs(way);
+        return refusal::none;
+    }
+
+    frame(const maskcull_setup &setup, const viewing &view, const options &chosen, std::size_t count)
+        : setup_(setup), view_(view), half_sizes_{view.width * 0.5, view.height * 0.5, view.width * 0.5,
+                                                  view.height * 0.5},
+          margins_{margin(setup.width), margin(setup.height), margin(setup.width), margin(setup.height)},
+          width_(static_cast<std::int32_t>(view.width)), height_(static_cast<std::int32_t>(view.height)),
+          is_down_(chosen.y_is_down), is_flat_(chosen.orthographic.has_value()),
+          is_rounded_up_(view.width < setup.width || view.height < setup.height),
+          known_(chosen.orthographic ? known_flat : known), scale_(view.scale),
+          up_scale_(chosen.y_is_down ? -view.scale : view.scale), matrices_(chosen.matrices), tiles_(count) {}
+
+    // A winding that isn't one stays none beside either grade.
+    maskcull_setup setup_with(std::optional<maskcull_winding> winding) const {
+        maskcull_setup made = setup_;
+        if (!winding) return made;
+        const std::uint32_t number = std::min<std::uint32_t>(*winding, MASKCULL_WIDE - 1);
+        made.winding = made.winding / MASKCULL_WIDE * MASKCULL_WIDE + number;
+        return made;
+    }
 
     std::size_t columns() const { return (setup_.width + 31) / 32; }
 
@@ -508,6 +635,7 @@ private:
     bool read(const float *matrix, matrix_rows &r) const {
         const unsigned char *at = hidden_from_compiler(matrix);
         if (at == nullptr) return false;
+        if (is_flat_) return read_flat(at, r);
         const std::size_t row = matrices_ == matrix_layout::rows ? 4 : 1, column = 5 - row;
         std::uint32_t all[16], bits[12], odd = 0;
         std::memcpy(all, at, sizeof all);
@@ -531,6 +659,39 @@ private:
         return are_numbers;
     }
 
+    // Of an orthographic view: the rows for x, y upwards and the depth. False too where it isn't such a view's matrix:
+    // in its last row there is but one number, which is above 0.
+    bool read_flat(const unsigned char *at, matrix_rows &r) const {
+        const std::size_t row = matrices_ == matrix_layout::rows ? 16 : 4, column = 20 - row;
+        double n[4][4];
+        bool are_numbers = true;
+        for (std::size_t j = 0; j < 4; j++) {
+            for (std::size_t k = 0; k < 4; k++) are_numbers &= load(at + j * row + k * column, n[j][k]);
+        }
+        if (!are_numbers || n[3][0] != 0 || n[3][1] != 0 || n[3][2] != 0 || !(n[3][3] > 0)) return false;
+        const double part = 1 / n[3][3], up = is_down_ ? -part : part, depth = view_.depth_scale * part;
+        for (std::size_t k = 0; k < 4; k++) r.x[k] = n[0][k] * part, r.y[k] = n[1][k] * up, r.w[k] = n[2][k] * depth;
+        r.w[3] += view_.depth_start;
+        return true;
+    }
+
+    // Of points as they are.
+    matrix_rows point_rows() const {
+        if (!is_flat_) return {{scale_, 0, 0, 0}, {0, up_scale_, 0, 0}, {0, 0, scale_, 0}};
+        return {{1, 0, 0, 0}, {0, is_down_ ? -1.0 : 1.0, 0, 0}, {0, 0, view_.depth_scale, view_.depth_start}};
+    }
+
+    // From the window's clip space to that of the tiles, of which the window is the upper left part: a pixel keeps its
+    // place. Only for what is drawn: what is tested is taken to pixels of the window.
+    void fit(matrix_rows &r) const {
+        if (!is_rounded_up_) return;
+        const double across = view_.width / setup_.width, up = view_.height / setup_.height;
+        for (std::size_t k = 0; k < 4; k++) {
+            const double w = is_flat_ ? (k == 3 ? 1 : 0) : r.w[k];
+            r.x[k] = across * r.x[k] + (across - 1) * w, r.y[k] = up * r.y[k] + (1 - up) * w;
+        }
+    }
+
     // The uppermost bit is set where a float is infinite or no number.
     static std::uint32_t upper_bit(std::uint32_t bits) { return (bits & 0x7fffffff) + (0x80000000 - infinity); }
 
@@ -550,11 +711,12 @@ private:
 
     // The most that the terms of products come to, for points up to so far from 0.
     static double reach_of(const matrix_rows &r, const double3 &far_off) {
-        const auto of = [&](const double (&row)[4]) {
-            return std::fabs(row[0]) * far_off.x + std::fabs(row[1]) * far_off.y + std::fabs(row[2]) * far_off.w
-                   + std::fabs(row[3]);
-        };
-        return std::max({of(r.x), of(r.y), of(r.w)});
+        return std::max({reach_of(r.x, far_off), reach_of(r.y, far_off), reach_of(r.w, far_off)});
+    }
+
+    static double reach_of(const double (&row)[4], const double3 &far_off) {
+        return std::fabs(row[0]) * far_off.x + std::fabs(row[1]) * far_off.y + std::fabs(row[2]) * far_off.w
+               + std::fabs(row[3]);
     }
 
     // The nearest whole number of what lies within twice the guard: above 0 the part behind the point is dropped,
@@ -577,10 +739,11 @@ private:
 
     void prepare_behind(const start &from, occluders &made, const clip_point *points, std::size_t point_count,
                         const maskcull_triangle *triangles, std::size_t triangle_count) const {
-        const matrix_rows r = {{scale_, 0, 0, 0}, {0, up_scale_, 0, 0}, {0, 0, scale_, 0}};
+        matrix_rows r = point_rows();
+        fit(r);
         if (points == nullptr) point_count = 0;
         if (triangles == nullptr) triangle_count = 0;
-        const knowledge known_to = fill_corners(made.corners, r, points, sizeof(clip_point), point_count);
+        const knowledge known_to = fill(made.corners, r, points, sizeof(clip_point), point_count);
         round_into(made, from, known_to, index_source<std::uint32_t>{triangles}, triangle_count);
     }
 
@@ -588,7 +751,8 @@ private:
         matrix_rows r;
         std::size_t vertex_count = mesh.vertex_count, triangle_count = mesh.index_count / 3;
         if (!mesh.is_there() || !read(model_to_clip, r)) vertex_count = 0, triangle_count = 0;
-        const knowledge known_to = fill_corners(made.corners, r, mesh.positions, mesh.stride, vertex_count);
+        fit(r);
+        const knowledge known_to = fill(made.corners, r, mesh.positions, mesh.stride, vertex_count);
         if (mesh.is_short) {
             round_into(made, from, known_to, index_source<std::uint16_t>{mesh.indices}, triangle_count);
         } else {
@@ -601,6 +765,12 @@ private:
         double reach;
         bool is_plain;
     };
+
+    knowledge fill(detail::corners &made, const matrix_rows &r, const void *positions, std::size_t stride,
+                   std::size_t count) const {
+        return is_flat_ ? fill_flat(made, r, positions, stride, count)
+                        : fill_corners(made, r, positions, stride, count);
+    }
 
     // The corners of a mesh.
     static knowledge fill_corners(detail::corners &made, const matrix_rows &r, const void *positions,
@@ -680,6 +850,50 @@ private:
         reach.y[0] = std::max(reach.y[0], static_cast<float>(std::fabs(p.y)));
         reach.z[0] = std::max(reach.z[0], static_cast<float>(std::fabs(p.w)));
         return far_off <= farthest;
+    }
+
+    // The corners of a mesh in an orthographic view. What x, y and depths lose is set against what is known of units:
+    // w is at most 2^18, and grows by less than 2^20 times the depth.
+    knowledge fill_flat(detail::corners &made, const matrix_rows &r, const void *positions, std::size_t stride,
+                        std::size_t count) const {
+        const unsigned char *at = hidden_from_compiler(positions);
+        made.resize(0);
+        double3 far_off = {0, 0, 0};
+        double away = 1;
+        for (std::size_t k = 0; k < count; k++, at += stride) {
+            double3 p, v;
+            bool is_known = load(at, p);
+            if (is_known) v = product(r, p), is_known = size(v) < known_flat;
+            add_flat(made, is_known ? v : double3{0, 0, 0});
+            if (!is_known) {
+                made.factor[k] = lost;
+                continue;
+            }
+            away = std::max({away, std::fabs(v.x), std::fabs(v.y)});
+            far_off = {std::max(far_off.x, std::fabs(p.x)), std::max(far_off.y, std::fabs(p.y)),
+                       std::max(far_off.w, std::fabs(p.w))};
+        }
+        const double across = std::max(reach_of(r.x, far_off), reach_of(r.y, far_off)) + 1;
+        const double down = reach_of(r.w, far_off) + view_.depth_terms + 1;
+        return {std::max(guard, 0x1p18 * across + 0x1p21 * away * down), false};
+    }
+
+    static void add_flat(detail::corners &made, const double3 &p) {
+        const bool is_shown = p.w <= 1;
+        const double3 v = is_shown ? in_units(p) : p;
+        made.x.push_back(v.x), made.y.push_back(v.y), made.w.push_back(v.w);
+        made.factor.push_back(!is_shown ? past_far_plane : size(v) <= farthest ? 1 : beyond);
+    }
+
+    static double3 in_units(const double3 &p) {
+        const double w = flat_near / (1 - flat_part * p.w);
+        return {p.x * w, p.y * w, w};
+    }
+
+    // An object's corner: it isn't held to be farther than it is, nor than the far plane. What of it is nearer than the
+    // near plane isn't shown.
+    static double3 tested_in_units(const double3 &p) {
+        return in_units({p.x, p.y, std::min(std::max(p.w - 0x1p-32, 0.0), 1.0)});
     }
 
     template <class Number> static Number greater(Number p, Number q) { return p > q ? p : q; }
@@ -767,7 +981,7 @@ private:
         made.unclear.clear();
         maskcull_triangle *next = made.triangles.data() + from.triangle;
         std::size_t k = 0;
-        for (; is_within && k + lanes <= triangle_count; k += lanes) {
+        for (; is_within && !is_flat_ && k + lanes <= triangle_count; k += lanes) {
             std::uint32_t some[3 * lanes];
             source.copy(k, some);
             if (are_below(some, made.corners.factor.size())) {
@@ -778,7 +992,13 @@ private:
         }
         for (; k < triangle_count; k++) next = put_off(made, source.one(k), next);
         made.triangles.resize(static_cast<std::size_t>(next - made.triangles.data()));
-        for (const maskcull_triangle &t : made.unclear) take_one(made, t, known_to.reach, slip, from.vertex);
+        for (const maskcull_triangle &t : made.unclear) {
+            if (is_flat_) {
+                take_flat(made, t, known_to.reach, slip, from.vertex);
+            } else {
+                take_one(made, t, known_to.reach, slip, from.vertex);
+            }
+        }
         add_vertices(made.corners, made.vertices, from.vertex);
     }
 
@@ -955,12 +1175,49 @@ private:
         if (!(found.level > 0 && found.snapping * 2 * finest < room)) return;
         const double far_end = found.snapping * farthest < room ? farthest : room / found.snapping;
         if (worst == beyond || greatest_w(left_over) > far_end) cut_off(left_over, far_end);
+        if (is_flat_) cut_near_plane(left_over, found);
         if (left_over.count < 3) return;
         for (int k = 0; k < left_over.count; k++) add_corner(made.corners, left_over, k, found);
         for (int k = 2; k < left_over.count; k++) {
             const maskcull_triangle part = {left_over.numbers[0], left_over.numbers[k - 1], left_over.numbers[k]};
             made.triangles.push_back(number_from(part, first));
         }
+    }
+
+    // In an orthographic view: what is farther than the far plane is cut off before the corners get their distances,
+    // which beyond it are soon infinite.
+    void take_flat(occluders &made, const maskcull_triangle &t, double reach, double slip, std::size_t first) const {
+        const std::uint32_t numbers[3] = {t.a, t.b, t.c};
+        const detail::corners &all = made.corners;
+        polygon p;
+        p.count = 0;
+        float worst = 1;
+        for (const std::uint32_t k : numbers) {
+            worst = std::max(worst, all.factor[k]);
+            const double3 v = {all.x[k], all.y[k], all.w[k]};
+            const bool is_shown = all.factor[k] < past_far_plane;
+            add(p, is_shown ? double3{v.x / v.w, v.y / v.w, (1 - flat_near / v.w) / flat_part} : v, k);
+        }
+        if (worst < past_far_plane) return take_one(made, t, reach, slip, first);
+        if (worst == lost) return;
+        p = cut(p, &double3::w, 1, 1);
+        for (int k = 0; k < p.count; k++) {
+            if (p.numbers[k] != not_there) continue;
+            p.numbers[k] = static_cast<std::uint32_t>(all.factor.size());
+            add_flat(made.corners, {p.corners[k].x, p.corners[k].y, std::min(p.corners[k].w, 1.0)});
+        }
+        for (int k = 2; k < p.count; k++) {
+            take_one(made, {p.numbers[0], p.numbers[k - 1], p.numbers[k]}, reach, slip, first);
+        }
+    }
+
+    // In an orthographic view: nothing is drawn where the triangle lies before the near plane, although rounding and
+    // snapping move its corners. Behind the near plane by the factor there the plane through each drawn point is too.
+    static void cut_near_plane(polygon &p, const tilt<double> &found) {
+        const double near_end = flat_near * found.factor(flat_near) * (1 + 0x1p-16);
+        bool is_cut = false;
+        for (int k = 0; k < p.count; k++) is_cut |= p.corners[k].w < near_end;
+        if (is_cut) p = cut(p, &double3::w, -1, -near_end);
     }
 
     static double greatest_w(const polygon &p) {
@@ -1007,8 +1264,12 @@ private:
         const double3 far_off = {std::max(std::fabs(first.x), std::fabs(last.x)),
                                  std::max(std::fabs(first.y), std::fabs(last.y)),
                                  std::max(std::fabs(first.w), std::fabs(last.w))};
-        if (!(reach_of(r, far_off) < known)) return false;
+        if (!(reach_of(r, far_off) < known_)) return false;
         set_sums(h.x, r.x, first, last), set_sums(h.y, r.y, first, last), set_sums(h.w, r.w, first, last);
+        for (std::size_t k = 0; k < 8 && is_flat_; k++) {
+            const double3 v = tested_in_units({h.x[k], h.y[k], h.w[k]});
+            h.x[k] = v.x, h.y[k] = v.y, h.w[k] = v.w;
+        }
         return true;
     }
 
@@ -1098,8 +1359,7 @@ private:
             const double some = greater(inside[k] * half_sizes_[k] - margins_[k], 0.0), all = 2 * half_sizes_[k];
             pixels[k] = static_cast<std::int32_t>(some < all ? some : all);
         }
-        const maskcull_area area{pixels[0], pixels[1], static_cast<std::int32_t>(setup_.width) - pixels[2],
-                                 static_cast<std::int32_t>(setup_.height) - pixels[3]};
+        const maskcull_area area{pixels[0], pixels[1], width_ - pixels[2], height_ - pixels[3]};
         if (area.x0 >= area.x1 || area.y0 >= area.y1) return verdict::outside;
         const auto w = static_cast<std::int32_t>(e.nearest < most ? e.nearest : most);
         const std::uint32_t answer = maskcull_test(&setup_, tiles_.data(), tiles_.size(), &area, w);
@@ -1109,6 +1369,10 @@ private:
                                             : verdict::visible;
     }
 
+    bool are_flat_hidden(const clip_point *points, std::size_t count) const {
+        const std::uint16_t *none = nullptr;
+        return all_at_once(point_rows(), mesh_view(points, sizeof(clip_point), count, none, 0)) == verdict::occluded;
+    }
 
     // All vertices as one rectangle: visible where that can't be told.
     verdict all_at_once(const matrix_rows &r, const mesh_view &mesh) const {
@@ -1116,8 +1380,9 @@ private:
         extent e;
         for (std::size_t k = 0; k < mesh.vertex_count; k++, at += mesh.stride) {
             double3 p;
-            if (!load(at, p) || !(reach_of(r, sizes(p)) < known)) return verdict::visible;
-            const double3 v = product(r, p);
+            if (!load(at, p) || !(reach_of(r, sizes(p)) < known_)) return verdict::visible;
+            double3 v = product(r, p);
+            if (is_flat_) v = tested_in_units(v);
             if (!(v.w >= finest)) return verdict::visible;
             const double part = 1 / v.w, x = v.x * part, y = v.y * part;
             e.left = std::min(e.left, x), e.right = std::max(e.right, x);
@@ -1138,10 +1403,12 @@ private:
             for (int corner = 0; corner < 3; corner++) {
                 double3 p;
                 if (numbers[corner] >= mesh.vertex_count || !load(at + numbers[corner] * mesh.stride, p)
-                    || !(reach_of(r, sizes(p)) < known)) {
+                    || !(reach_of(r, sizes(p)) < known_)) {
                     return verdict::visible;
                 }
-                h.x[corner] = product(r.x, p), h.y[corner] = product(r.y, p), h.w[corner] = product(r.w, p);
+                double3 v = product(r, p);
+                if (is_flat_) v = tested_in_units(v);
+                h.x[corner] = v.x, h.y[corner] = v.y, h.w[corner] = v.w;
             }
             const verdict one = verdict_of(h);
             if (one == verdict::visible) return one;
@@ -1155,8 +1422,13 @@ private:
     static double size(const double3 &p) { return std::max({std::fabs(p.x), std::fabs(p.y), std::fabs(p.w)}); }
 
     maskcull_setup setup_;
-    // For the left, upper, right and lower edge of what is tested.
+    viewing view_;
+    // For the left, upper, right and lower edge of what is tested: half the window, and the margin.
     double half_sizes_[4], margins_[4];
+    std::int32_t width_, height_; // of the window
+    bool is_down_, is_flat_, is_rounded_up_;
+    double known_; // how far the terms of a tested point may reach
+    // From clip space to units, in perspective.
     double scale_, up_scale_;
     matrix_layout matrices_;
     std::vector<maskcull_tile> tiles_;
