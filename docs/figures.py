@@ -5,7 +5,7 @@ time, frames side by side.
 usage: docs/figures.py bytes|spans|cell|turns|windows > docs/NAME.svg
 
 The turns are computed by the rule that docs/ALGORITHM.md tells, for the pieces and the times below, and so are the
-spans and the frames; the words of the cell are packed as docs/DEFINITIONS.md tells it."""
+spans and the frames; the words of the cell are packed as docs/WORKER_DEFINITIONS.md tells it."""
 import math
 import sys
 
