@@ -5,8 +5,8 @@ time, frames side by side; and for README.md the times along a path.
 usage: docs/figures.py bytes|spans|cell|turns|windows|paths > docs/NAME.svg
 
 The turns are computed by the rule that docs/ALGORITHM.md tells, for the pieces and the times below, and so are the
-spans and the frames; the words of the cell are packed as docs/DEFINITIONS.md tells it. The times are those of the table
-in docs/PERFORMANCE.md."""
+spans and the frames; the words of the cell are packed as docs/WORKER_DEFINITIONS.md tells it. The times are those of
+the table in docs/PERFORMANCE.md."""
 import math
 import pathlib
 import re
