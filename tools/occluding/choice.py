@@ -27,7 +27,7 @@ class Worth:
             each = CLOSED_WORTH * total / max(int(closed.sum()), 1)
             self.steps.append(steps)
             self.tables.append(table + numpy.float32(each))
-            self.closer.append((CLOSER_WORTH * each, depth[closed].min(initial=1.0)))
+            self.closer.append((CLOSER_WORTH * each, depth[closed].min(initial=numpy.inf)))
 
     def values(self, view, sample, nearness):
         layer = numpy.searchsorted(self.steps[view], nearness)
