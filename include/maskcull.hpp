@@ -13,15 +13,21 @@
 //     if (frame->test_aabb(world_to_clip, low, high) == maskcull::verdict::visible) draw_the_house();
 //
 // A matrix takes (x, y, z, 1) to clip space, as projection times view times model does. `options` says how it lies in
-// memory and whether y runs downwards, as in Vulkan. The view has to be one in perspective, with w the distance along
-// it: x / w from -1 to 1 to the right, y / w from -1 to 1 upwards. z in clip space isn't read: reversed z, any range of
-// depth and a far plane at infinity need no care.
+// memory and whether y runs downwards, as in Vulkan. The view is one in perspective, with w the distance along it: x /
+// w from -1 to 1 to the right, y / w from -1 to 1 upwards. z in clip space isn't read: reversed z, any range of depth
+// and a far plane at infinity need no care. Or it is an orthographic one, by `options`: then w is the same everywhere,
+// and z is read.
 //
 // Occluders reach from 8/7 of a near distance to 16384 near distances, 1.6 km for 10 cm; what of one lies farther is
-// cut off, and so is what is seen too much from its edge to say how far it is. What shows only through a slit between
-// two occluders, or between one and the screen's edge, may be called hidden where the slit is narrower than a pixel,
-// since a pixel is tested at its middle; or than three where occluders are at the near plane and rounding moves their
-// edges.
+// cut off, and so is what is seen too much from its edge to say how far it is. In an orthographic view they reach from
+// the near plane to the far one, and sixteen times as far to the sides as the screen.
+//
+// What is called occluded is hidden by the pieces that are drawn, whose corners are snapped to sixteenths of a pixel. A
+// renderer's edges lie elsewhere, by 1/32 of a pixel along each axis, and by up to a pixel at the near plane, where
+// rounding moves corners too. So what a renderer shows only through a slit between two occluders, or between one and
+// the screen's edge, may be called hidden where the slit is as thin: as between meshes whose common corners differ a
+// little. Where pixels have more samples than one it may be so too where the slit is narrower than a pixel, or three at
+// the near plane, since a pixel is tested at its middle.
 //
 // All this holds too in a program that is compiled with -ffast-math, -ffinite-math-only or -Ofast: what is infinite or
 // no number is found by its bits as they lie in memory, and what a compiler may round otherwise is within the slack of
@@ -45,7 +51,8 @@
 
 namespace maskcull {
 
-/// A point of clip space as a vertex shader returns it, without z.
+/// A point of clip space as a vertex shader returns it, without z. In an orthographic view, where w is 1, z stands in
+/// its place.
 struct clip_point {
     float x, y, w;
 };
@@ -434,7 +441,7 @@ public:
 
     /// Whether all within some points is hidden, as within the eight corners of a box. False also where it isn't on the
     /// screen, and where a point is infinite, NaN or before 8/7 of the near distance. It may be farther than occluders
-    /// can be.
+    /// can be. In an orthographic view what is before the near plane is taken to be at it, and is visible.
     bool is_hidden(const clip_point *points, std::size_t count) const {
         if (tiles_.empty() || count == 0) return false;
         if (is_flat_) return are_flat_hidden(points, count);
@@ -503,9 +510,10 @@ private:
 
     // An orthographic view: a point at x, y and at a depth from 0 at the near plane to 1 at the far one becomes
     // (x w, y w, w) with w = flat_near / (1 - flat_part depth), in units. So it keeps its place on the screen, planes
-    // stay planes, and what is farther has a greater w, up to four times flat_near. There rounding moves a corner by
-    // less than a sixtieth of a pixel, and a step of nearness is a 200,000th of the depths.
-    static constexpr double flat_near = 64.0 * finest, flat_part = 3.0 / 4;
+    // stay planes, and what is farther has a greater w, up to sixteen times flat_near; with four times tiles would
+    // hide less. Rounding moves a corner by less than a sixtieth of a pixel, and a step of nearness is a 245,000th of
+    // the depths.
+    static constexpr double flat_near = 64.0 * finest, flat_part = 15.0 / 16;
     // Sums of coordinates and depths up to here are known to 2^-34, and so well enough. A point beyond is lost.
     static constexpr double known_flat = 0x1p16;
     // In place of a factor: the point is farther than the far plane, and has its depth in place of w.
@@ -853,7 +861,7 @@ private:
     }
 
     // The corners of a mesh in an orthographic view. What x, y and depths lose is set against what is known of units:
-    // w is at most 2^18, and grows by less than 2^20 times the depth.
+    // w is at most 2^20, and grows by less than 2^24 times the depth.
     knowledge fill_flat(detail::corners &made, const matrix_rows &r, const void *positions, std::size_t stride,
                         std::size_t count) const {
         const unsigned char *at = hidden_from_compiler(positions);
@@ -875,7 +883,7 @@ private:
         }
         const double across = std::max(reach_of(r.x, far_off), reach_of(r.y, far_off)) + 1;
         const double down = reach_of(r.w, far_off) + view_.depth_terms + 1;
-        return {std::max(guard, 0x1p18 * across + 0x1p21 * away * down), false};
+        return {std::max(guard, 0x1p20 * across + 0x1p23 * away * down), false};
     }
 
     static void add_flat(detail::corners &made, const double3 &p) {
