@@ -91,21 +91,15 @@ public:
     Tiles(int width, int height)
         : width_(width), height_(height), columns_((width + TILE_WIDTH - 1) / TILE_WIDTH),
           rows_((height + TILE_HEIGHT - 1) / TILE_HEIGHT), stride_((columns_ + 7) / 8 * 8 + 8),
-          tiles_(std::size_t(columns_) * rows_), least_(std::size_t(stride_) * rows_) {}
+          tiles_(std::size_t(columns_) * rows_), least_(std::size_t(stride_) * rows_, FAR_AWAY) {}
 
     void clear() {
-        std::fill(least_.begin(), least_.end(), FAR_AWAY);
-        const Whole across = _mm256_setr_epi32(0, 8, 16, 24, 0, 8, 16, 24);
-        const Whole down = _mm256_setr_epi32(0, 0, 0, 0, 4, 4, 4, 4);
-        for (int row = 0; row < rows_; ++row)
-            for (int column = 0; column < columns_; ++column) {
-                const Whole in_x = _mm256_cmpgt_epi32(all(width_ - TILE_WIDTH * column), across);
-                const Whole in_y = _mm256_cmpgt_epi32(all(height_ - TILE_HEIGHT * row), down);
-                const Floats on_screen = floats(_mm256_and_si256(in_x, in_y));
-                tiles_[std::size_t(row) * columns_ + column] = {_mm256_andnot_ps(on_screen, all(FAR_AWAY)), all(0.0f),
-                                                                all(0)};
-                least_[std::size_t(row) * stride_ + column] = 0;
-            }
+        std::fill(tiles_.begin(), tiles_.end(), Tile{all(0.0f), all(0.0f), all(0)});
+        if (width_ % TILE_WIDTH != 0)
+            for (int row = 0; row < rows_; ++row) put_beside(row, columns_ - 1);
+        if (height_ % TILE_HEIGHT != 0)
+            for (int column = 0; column < columns_; ++column) put_beside(rows_ - 1, column);
+        for (int row = 0; row < rows_; ++row) std::fill_n(&least_[std::size_t(row) * stride_], columns_, 0.0f);
     }
 
     // A bit for each of up to eight tiles of a row, from a column to before an end, that has a reference below a depth.
@@ -161,6 +155,16 @@ public:
     }
 
 private:
+    // The subtiles of a tile that are beside the screen take nothing.
+    void put_beside(int row, int column) {
+        const Whole across = _mm256_setr_epi32(0, 8, 16, 24, 0, 8, 16, 24);
+        const Whole down = _mm256_setr_epi32(0, 0, 0, 0, 4, 4, 4, 4);
+        const Whole in_x = _mm256_cmpgt_epi32(all(width_ - TILE_WIDTH * column), across);
+        const Whole in_y = _mm256_cmpgt_epi32(all(height_ - TILE_HEIGHT * row), down);
+        const Floats on_screen = floats(_mm256_and_si256(in_x, in_y));
+        tiles_[std::size_t(row) * columns_ + column].reference = _mm256_andnot_ps(on_screen, all(FAR_AWAY));
+    }
+
     bool tile_hides(int row, int column, const Area& area) const {
         const Tile& tile = tiles_[std::size_t(row) * columns_ + column];
         const Whole rows = _mm256_add_epi32(all(TILE_HEIGHT * row), _mm256_cvtps_epi32(counting()));
@@ -634,6 +638,8 @@ int main(int count, char** words) {
     return rivals::guarded([&] {
         const rivals::Words given = rivals::words_of(count, words);
         if (given.exact) throw std::runtime_error("floats have no exact mode");
+        if (!__builtin_cpu_supports("avx2") || !__builtin_cpu_supports("fma") || !__builtin_cpu_supports("bmi2"))
+            throw std::runtime_error("this processor has no AVX2");
         return rivals::run<rivals::Culler>(rivals::read_scene(stdin), given);
     });
 }

@@ -16,14 +16,12 @@ public:
           rows_((height_ + TILE_HEIGHT - 1) / TILE_HEIGHT), tiles_(std::size_t(columns_) * rows_), least_(tiles_.size()) {}
 
     void clear() {
-        for (int row = 0; row < rows_; ++row)
-            for (int column = 0; column < columns_; ++column) {
-                // a subtile beside the screen takes no piece
-                const Eight on_screen = (Eight{0, 8, 16, 24, 0, 8, 16, 24} + TILE_WIDTH * column < all(width_)) &
-                                        (Eight{0, 0, 0, 0, 4, 4, 4, 4} + TILE_HEIGHT * row < all(height_));
-                tiles_[place(column, row)] = {~on_screen & all(BESIDE), all(0), all(0)};
-            }
+        std::fill(tiles_.begin(), tiles_.end(), Tile{all(0), all(0), all(0)});
         std::fill(least_.begin(), least_.end(), 0);
+        if (width_ % TILE_WIDTH != 0)
+            for (int row = 0; row < rows_; ++row) put_beside(columns_ - 1, row);
+        if (height_ % TILE_HEIGHT != 0)
+            for (int column = 0; column < columns_; ++column) put_beside(column, rows_ - 1);
     }
 
     void draw(const Piece& piece) {
@@ -65,6 +63,13 @@ private:
     static constexpr int FEW = 8;
 
     std::size_t place(int column, int row) const { return std::size_t(row) * std::size_t(columns_) + std::size_t(column); }
+
+    // The subtiles of a tile that are beside the screen take no piece.
+    void put_beside(int column, int row) {
+        const Eight on_screen = (Eight{0, 8, 16, 24, 0, 8, 16, 24} + TILE_WIDTH * column < all(width_)) &
+                                (Eight{0, 0, 0, 0, 4, 4, 4, 4} + TILE_HEIGHT * row < all(height_));
+        tiles_[place(column, row)].reference = ~on_screen & all(BESIDE);
+    }
 
     static bool is_small(const Piece& piece, const Rect& rect) {
         const Point &a = piece.points[0], &b = piece.points[1], &c = piece.points[2];
