@@ -13,9 +13,9 @@
 //     if (frame->test_aabb(world_to_clip, low, high) == maskcull::verdict::visible) draw_the_house();
 //
 // A matrix takes (x, y, z, 1) to clip space, as projection times view times model does. `options` says how it lies in
-// memory and whether y runs downwards, as in Vulkan. The view has to be one in perspective, with w the distance along
-// it: x / w from -1 to 1 to the right, y / w from -1 to 1 upwards. z in clip space isn't read: reversed z, any range of
-// depth and a far plane at infinity need no care.
+// memory and whether y runs downwards, as in Vulkan. The view is one in perspective, with w the distance along it:
+// x / w from -1 to 1 to the right, y / w from -1 to 1 upwards; or the options name an orthographic one. In perspective
+// z in clip space isn't read: reversed z, any range of depth and a far plane at infinity need no care.
 //
 // Occluders reach from 8/7 of a near distance to 16384 near distances, 1.6 km for 10 cm; what of one lies farther is
 // cut off, and so is what is seen too much from its edge to say how far it is. What shows only through a slit between
