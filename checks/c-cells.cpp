@@ -14,8 +14,8 @@
 //   and isn't is wrong, but where each sample that sees it is within a sixteenth of a pixel of a triangle's edge. One
 //   that is called outside has no sample.
 //
-// Nine of ten boxes that are hidden have to be found, but in a quarter of the scenes, which have small windows, and walls
-// that lean or are steep to the sight. With -DWRONG=1 a frame in perspective is asked with the same
+// Nine of ten boxes that are hidden have to be found, but in a quarter of the scenes: these have small windows, and
+// walls that lean or are steep to the sight. With -DWRONG=1 a frame in perspective is asked with the same
 // distance everywhere, which hides nothing; with -DWRONG=2 the depths run the other way: then it has to fail.
 #include "maskcull.hpp"
 
