@@ -15,8 +15,8 @@
 //   that is called outside has no sample.
 //
 // Nine of ten boxes that are hidden have to be found, but in a quarter of the scenes: these have small windows, and
-// walls that lean or are steep to the sight. With -DWRONG=1 a frame in perspective is asked with the same
-// distance everywhere, which hides nothing; with -DWRONG=2 the depths run the other way: then it has to fail.
+// walls that lean or are steep to the sight. With -DWRONG=1 a frame in perspective is asked with the same distance
+// everywhere, which hides nothing; with -DWRONG=2 the depths run the other way: then it has to fail.
 #include "maskcull.hpp"
 
 #include <cstdio>
