@@ -14,9 +14,9 @@
 //   and isn't is wrong, but where each sample that sees it is within a sixteenth of a pixel of a triangle's edge. One
 //   that is called outside has no sample.
 //
-// Nine of ten boxes that are hidden have to be found, but in a quarter of the scenes, which have small windows and walls
-// steep to the sight. With -DWRONG=1 a frame in perspective is asked with the same
-// distance everywhere, which hides nothing; with -DWRONG=2 the depths run the other way: then it has to fail.
+// Nine of ten boxes that are hidden have to be found, but in a quarter of the scenes: these have small windows, and
+// walls that lean or are steep to the sight. With -DWRONG=1 a frame in perspective is asked with the same distance
+// everywhere, which hides nothing; with -DWRONG=2 the depths run the other way: then it has to fail.
 #include "maskcull.hpp"
 
 #include <cstdio>
@@ -59,7 +59,7 @@ std::int64_t between(std::int64_t low, std::int64_t high) { return low + below(h
 
 struct scene {
     std::int64_t width, height;
-    bool is_odd; // small, or with walls that are steep to the sight
+    bool is_odd; // small, with walls that lean, or are steep to the sight
     std::vector<triangle> triangles;
 
     // the middle of a pixel is this over the width, and over the height, in units
@@ -194,7 +194,7 @@ void look_at_box(const scene &s, const maskcull::frame &frame, const float (&m)[
 void add_wall(scene &s) {
     const std::int64_t x = between(-unit, unit), y = between(-unit, unit), z = between(unit / 20, unit * 9 / 10);
     const std::int64_t a = between(unit / 20, unit * 7 / 10), b = between(unit / 20, unit * 7 / 10);
-    const std::int64_t lean = unit / 10, steep = s.is_odd && below(3) == 0 ? unit : unit / 20;
+    const std::int64_t lean = s.is_odd ? unit / 10 : 0, steep = s.is_odd && below(3) == 0 ? unit : unit / 20;
     const vertex p = {a, between(-lean, lean), between(-steep, steep)};
     const vertex q = {between(-lean, lean), b, between(-steep, steep)};
     const auto corner = [&](int j, int k) {

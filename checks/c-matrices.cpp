@@ -263,7 +263,8 @@ verdict asked_without_margin(const scene &s, const maskcull::frame &frame, const
         return static_cast<std::int32_t>(std::floor(std::min(std::max(number, -1e9), 1e9)));
     };
     const maskcull_area area = {whole(left + 0.5), whole(top + 0.5), whole(right + 0.5), whole(bottom + 0.5)};
-    const auto answer = maskcull_test(&frame.setup(), frame.tiles().data(), frame.tiles().size(), &area, whole(nearest));
+    const auto &tiles = frame.tiles();
+    const auto answer = maskcull_test(&frame.setup(), tiles.data(), tiles.size(), &area, whole(nearest));
     return answer == MASKCULL_OCCLUDED ? verdict::occluded : verdict::visible;
 }
 

@@ -4,8 +4,8 @@
 //     ./recorder SCENE
 //
 // Drawn are a ground that reaches past the guard and walls across it, each as a mesh through a matrix, some of them by
-// bands and some from pieces, with windings that change from draw to draw, onto a frame whose size is rounded up; tested are boxes and meshes before the walls, behind them, beside the screen and around
-// the eye.
+// bands and some from pieces, with windings that change from draw to draw, onto a frame whose size is rounded up;
+// tested are boxes and meshes before the walls, behind them, beside the screen and around the eye.
 #include "maskcull.hpp"
 
 #include <cstdio>

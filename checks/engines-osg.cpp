@@ -3,9 +3,9 @@
 //     engines-osg LIST CAMERAS WIDTH HEIGHT [--auto] [--unstable]
 //
 // checks/engines-model makes the list; a line of the cameras has the eye, what it looks at, and what is up. An object's
-// colour is its number. With --auto OpenSceneGraph computes near and far plane, with --unstable it sorts blended objects
-// as without maskcull. It prints how many frames and pixels differ, and how many drawables are rendered; its status is 1
-// where a frame differs.
+// colour is its number. With --auto OpenSceneGraph computes near and far plane, with --unstable it sorts blended
+// objects as without maskcull. It prints how many frames and pixels differ, and how many drawables are rendered; its
+// status is 1 where a frame differs.
 #include "osg/maskcull_osg.hpp"
 
 #include <osgUtil/Statistics>

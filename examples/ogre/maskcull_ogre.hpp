@@ -6,8 +6,8 @@
 //     culler.add(entity);                             // one that is created later
 //
 // OGRE tells a SceneManager::Listener before it looks for visible objects: then the occluders are drawn. It asks a
-// MovableObject::Listener of each object that its own frustum test leaves: then the object's box is tested. An object has
-// one listener: one that has another isn't tested. docs/ENGINES.md tells what a scene has to heed.
+// MovableObject::Listener of each object that its own frustum test leaves: then the object's box is tested. An object
+// has one listener: one that has another isn't tested. docs/ENGINES.md tells what a scene has to heed.
 #ifndef MASKCULL_OGRE_HPP
 #define MASKCULL_OGRE_HPP
 
@@ -145,9 +145,8 @@ private:
     static void read(mesh &m, const Ogre::SubMesh &part) {
         const Ogre::VertexData *vertices = part.useSharedVertices ? part.parent->sharedVertexData : part.vertexData;
         const Ogre::IndexData *list = part.indexData;
-        if (vertices == nullptr || list->indexCount == 0 || part.operationType != Ogre::RenderOperation::OT_TRIANGLE_LIST) {
-            return;
-        }
+        const bool is_list = part.operationType == Ogre::RenderOperation::OT_TRIANGLE_LIST;
+        if (vertices == nullptr || list->indexCount == 0 || !is_list) return;
         const Ogre::VertexElement *place = vertices->vertexDeclaration->findElementBySemantic(Ogre::VES_POSITION);
         if (place == nullptr || place->getType() != Ogre::VET_FLOAT3) return;
         const auto buffer = vertices->vertexBufferBinding->getBuffer(place->getSource());

@@ -5,9 +5,9 @@
 //     maskcull_osg::install();    // before a viewer is made
 //
 // It puts a subclass of CullVisitor in place of OpenSceneGraph's own, which clones it for each view. A frame is
-// traversed twice. In the first turn opaque drawables are drawn as occluders, in the second each drawable's bounding box
-// is tested. Both turns go where OpenSceneGraph goes, past masks, switches, levels of detail and its own culling: so
-// only what is rendered hides. docs/ENGINES.md tells what a scene has to heed.
+// traversed twice. In the first turn opaque drawables are drawn as occluders, in the second each drawable's bounding
+// box is tested. Both turns go where OpenSceneGraph goes, past masks, switches, levels of detail and its own culling:
+// so only what is rendered hides. docs/ENGINES.md tells what a scene has to heed.
 #ifndef MASKCULL_OSG_HPP
 #define MASKCULL_OSG_HPP
 
