@@ -57,17 +57,21 @@ void draw_and_test(MOC *moc) {
     is("no triangle", moc->RenderTriangles(wall, quad, 0), MOC::VIEW_CULLED);
     const float far_quad[] = {-6, 1, -8, -6, -1, -8, -2, -1, -8, -2, 1, -8};
     const float back[] = {-6, 1, 8, -6, -1, 8, -2, -1, 8, -2, 1, 8};
-    is("a quad behind", moc->TestTriangles(far_quad, quad, 2, to_clip, MOC::BACKFACE_CW, all, packed), MOC::OCCLUDED);
-    is("behind the eye", moc->TestTriangles(back, quad, 2, to_clip, MOC::BACKFACE_CW, all, packed), MOC::VIEW_CULLED);
+    is("a quad behind", moc->TestTriangles(far_quad, quad, 2, to_clip, MOC::BACKFACE_CW, all, packed),
+       MOC::OCCLUDED);
+    is("behind the eye", moc->TestTriangles(back, quad, 2, to_clip, MOC::BACKFACE_CW, all, packed),
+       MOC::VIEW_CULLED);
     is("drawn behind the eye", moc->RenderTriangles(back, quad, 2, to_clip, MOC::BACKFACE_NONE, all, packed),
        MOC::VIEW_CULLED);
-    is("a hidden one that faces away", moc->RenderTriangles(far_quad, turned, 2, to_clip, MOC::BACKFACE_CW, all, packed),
-       MOC::VISIBLE);
+    is("a hidden one that faces away",
+       moc->RenderTriangles(far_quad, turned, 2, to_clip, MOC::BACKFACE_CW, all, packed), MOC::VISIBLE);
     const float behind[] = {-6, 1, 0, 8, -6, -1, 0, 8, -2, -1, 0, 8};
     is("a triangle behind", moc->TestTriangles(behind, quad, 1), MOC::OCCLUDED);
     const float scattered[] = {9, -6, 9, 8, 1, 9, -6, 9, 8, -1, 9, -2, 9, 8, -1};
-    is("by another layout", moc->TestTriangles(scattered + 1, quad, 1, nullptr, MOC::BACKFACE_NONE, MOC::CLIP_PLANE_NONE,
-                                               MOC::VertexLayout(20, 12, 8)), MOC::OCCLUDED);
+    const MOC::VertexLayout other(20, 12, 8);
+    is("by another layout",
+       moc->TestTriangles(scattered + 1, quad, 1, nullptr, MOC::BACKFACE_NONE, MOC::CLIP_PLANE_NONE, other),
+       MOC::OCCLUDED);
 }
 
 void draw_by_windings(MOC *moc) {

@@ -1,13 +1,13 @@
 /* SPDX-License-Identifier: MIT OR Apache-2.0
  *
- * maskcull::frame of maskcull.hpp for C, and so for each language that calls C: a matrix and a mesh of floats are passed
- * as they are, and rounded as that header says. bindings/c/maskcull_frame.cpp has the calls; no proof covers it.
+ * maskcull::frame of maskcull.hpp for C, and so for each language that calls C: a matrix and a mesh of floats are
+ * passed as they are, and rounded as that header says. bindings/c/maskcull_frame.cpp has the calls; no proof covers it.
  *
  *     maskcull_frame *frame = maskcull_frame_make(1280, 720, 0.1f, NULL, NULL);     // near distance 0.1
  *     if (frame == NULL) return 1;
  *     for (;;) {                                                                    // each frame
  *         maskcull_frame_clear(frame);
- *         maskcull_frame_draw(frame, wall_to_clip, positions, 12, 4, indices, sizeof indices[0], 6, MASKCULL_OWN_WINDING);
+ *         maskcull_frame_draw(frame, wall_to_clip, positions, 12, 4, indices, 2, 6, MASKCULL_OWN_WINDING);
  *         maskcull_frame_test_boxes(frame, world_to_clip, boxes, box_count, verdicts);
  *     }
  *     maskcull_frame_free(frame);
@@ -46,9 +46,9 @@ typedef struct maskcull_frame_options {
     uint32_t by_rows;      /* matrices lie row by row, for column vectors; usually column by column */
     uint32_t y_is_down;    /* y / w is 1 at the lower edge, as in Vulkan; usually at the upper one */
     uint32_t narrow;       /* the narrow grade, whose nearness goes to 65535; usually the wide one */
-    uint32_t orthographic; /* an orthographic view, in which z / w is `at_near` at the near plane, `at_far` at the far */
-    float at_near;         /* one; the near distance isn't read then. Else both are 0. */
-    float at_far;
+    uint32_t orthographic; /* an orthographic view: then the near distance isn't read, but these two, else they are 0 */
+    float at_near;         /* z / w at the near plane */
+    float at_far;          /* and at the far one */
 } maskcull_frame_options;
 
 /* Why there is no frame. */

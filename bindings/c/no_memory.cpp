@@ -1,5 +1,5 @@
-// The calls with an allocator that fails at the n-th call, for each n until none fails: each call returns what the header
-// says, what is tested then is visible, the frame can be used on, and nothing leaks.
+// The calls with an allocator that fails at the n-th call, for each n until none fails: each call returns what the
+// header says, what is tested then is visible, the frame can be used on, and nothing leaks.
 #include "maskcull_frame.h"
 
 #include <cstdint>

@@ -63,7 +63,7 @@ _library = _load(os.environ.get("MASKCULL_LIBRARY", _FILES.get(os.name, "libmask
 
 
 class _Numbers:
-    """Some numbers where they lie, as long as this is held: `place`, `count` groups of `each`, of `size` bytes."""
+    """Where some numbers lie as long as this is held: `count` groups of `each` numbers of `size` bytes at `place`."""
     __slots__ = ("place", "count", "size", "held")
 
     def __init__(self, what, given, kinds, each, groups=None):
@@ -75,10 +75,9 @@ class _Numbers:
             raise ValueError(f"{what}: {bytes_ // self.size} numbers are given, and {wanted} are wanted")
         if bytes_ == 0:
             self.held = ctypes.c_uint32(0)
-        elif view.readonly:
-            self.held = (ctypes.c_char * bytes_).from_buffer_copy(view.tobytes())
         else:
-            self.held = (ctypes.c_char * bytes_).from_buffer(view)
+            # of the first byte; as long as it is there the array can't be made shorter
+            self.held = ctypes.c_char.from_buffer(bytearray(view.tobytes()) if view.readonly else view)
         self.place = ctypes.addressof(self.held)
 
 
@@ -91,9 +90,9 @@ def _view_of(what, given, kinds):
         return copied, copied.itemsize
     form = view.format.lstrip("@=<")
     if kinds.get(form) != view.itemsize:
-        raise TypeError(f"{what}: the array has numbers of kind '{view.format}', and one of {', '.join(kinds)} is wanted")
+        raise TypeError(f"{what}: the array's numbers are of kind '{view.format}', and not {' or '.join(kinds)}")
     if not view.c_contiguous:
-        raise TypeError(f"{what}: the array's numbers don't follow one another: copy it, as numpy.ascontiguousarray does")
+        raise TypeError(f"{what}: the array's numbers don't follow one another; numpy.ascontiguousarray copies it")
     return view, view.itemsize
 
 
@@ -170,9 +169,10 @@ class Frame:
         matrix, given = _matrix(world_to_clip), _Numbers("boxes", boxes, _FLOATS, 6)
         verdicts = bytearray(given.count)
         if given.count:
-            into = (ctypes.c_char * given.count).from_buffer(verdicts)
+            into = ctypes.c_char.from_buffer(verdicts)
             with self._lock:
-                _library.maskcull_frame_test_boxes(self._frame, matrix.place, given.place, given.count, into)
+                _library.maskcull_frame_test_boxes(self._frame, matrix.place, given.place, given.count,
+                                                   ctypes.addressof(into))
         return verdicts
 
     def test_mesh(self, positions, indices, model_to_clip):

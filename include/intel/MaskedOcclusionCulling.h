@@ -13,15 +13,15 @@
 //   OCCLUDED.
 // - TestRect is by the pixels' middles, as all tests are.
 // - TestTriangles tests both sides of a triangle, whatever the winding: it may say VISIBLE more often.
-// - ComputeBinWidthHeight, BinTriangles, RenderTrilist leave the same picture as RenderTriangles. Bins share rows of the
-//   screen alone: lists of columns behind the first stay empty. Threads may bin side by side, and render lists of
+// - ComputeBinWidthHeight, BinTriangles, RenderTrilist leave the same picture as RenderTriangles. Bins share rows of
+//   the screen alone: lists of columns behind the first stay empty. Threads may bin side by side, and render lists of
 //   different rows side by side.
 // - ComputePixelDepthBuffer writes 1 / w, or -1 where nothing is known.
 // - ClipPlanes aren't read: what reaches past one is cut.
 //
 // Not here, so that a program that needs them doesn't compile: MergeBuffer (a tile keeps two depths, so two tiles can't
-// be merged without loss), own allocation (maskcull allocates in vectors), statistics, recorders (maskcull::recorder has
-// another form).
+// be merged without loss), own allocation (maskcull allocates in vectors), statistics, recorders (maskcull::recorder
+// has another form).
 #ifndef MASKCULL_MASKED_OCCLUSION_CULLING_H
 #define MASKCULL_MASKED_OCCLUSION_CULLING_H
 
@@ -94,7 +94,8 @@ public:
     /// From -1 to 1 along x and upwards along y, at distance w.
     CullingResult TestRect(float xmin, float ymin, float xmax, float ymax, float w) const {
         if (xmax < -1 || xmin > 1 || ymax < -1 || ymin > 1) return VIEW_CULLED;
-        const maskcull::clip_point corners[2] = {{below(xmin * w), below(ymin * w), w}, {above(xmax * w), above(ymax * w), w}};
+        const maskcull::clip_point corners[2] = {{below(xmin * w), below(ymin * w), w},
+                                                 {above(xmax * w), above(ymax * w), w}};
         return IsReady() && frame_->is_hidden(corners, 2) ? OCCLUDED : VISIBLE;
     }
 
@@ -178,7 +179,8 @@ private:
     static float above(float at) { return std::nextafter(at, std::numeric_limits<float>::max()); }
 
     static void take(float (&v)[3], const float *vertices, std::size_t k, const VertexLayout &layout) {
-        const auto *at = reinterpret_cast<const unsigned char *>(vertices) + k * static_cast<std::size_t>(layout.mStride);
+        const auto stride = static_cast<std::size_t>(layout.mStride);
+        const auto *at = reinterpret_cast<const unsigned char *>(vertices) + k * stride;
         std::memcpy(&v[0], at, 4), std::memcpy(&v[1], at + layout.mOffsetY, 4);
         std::memcpy(&v[2], at + layout.mOffsetZ, 4);
     }
