@@ -57,12 +57,12 @@ enum maskcull_frame_reason {
     MASKCULL_FRAME_NO_PIXELS = 1,         /* the width or the height is 0 */
     MASKCULL_FRAME_TOO_LARGE = 2,         /* one is above 2048 */
     MASKCULL_FRAME_BAD_NEAR_DISTANCE = 3, /* it isn't a finite number above 0 */
-    MASKCULL_FRAME_BAD_WINDING = 4,
+    MASKCULL_FRAME_BAD_WINDING = 4,       /* it isn't one of maskcull_winding */
     MASKCULL_FRAME_BAD_DEPTHS = 5,        /* those of an orthographic view are nearly the same, or no numbers */
     MASKCULL_FRAME_BAD_SIZE = 6,          /* the struct's size is below 4, above 1024 or no multiple of 4 */
     MASKCULL_FRAME_BAD_FIELD = 7,         /* a field that is yes or no is neither 1 nor 0, or one isn't known */
     MASKCULL_FRAME_NO_EXACT = 8,          /* exact frames aren't in this version */
-    MASKCULL_FRAME_NOT_EXACT = 9,         /* reach or share are set, or depths, of a frame that has none */
+    MASKCULL_FRAME_STRAY_FIELD = 9,       /* reach or share without exact, or depths without orthographic */
     MASKCULL_FRAME_NO_MEMORY = 10
 };
 

@@ -49,8 +49,8 @@ std::uint32_t fault_of(const maskcull_frame_options &o) {
         if (field > 1) return MASKCULL_FRAME_BAD_FIELD;
     }
     if (o.exact != 0) return MASKCULL_FRAME_NO_EXACT;
-    if (o.reach != 0 || o.share != 0) return MASKCULL_FRAME_NOT_EXACT;
-    if (o.orthographic == 0 && !(is_zero(o.at_near) && is_zero(o.at_far))) return MASKCULL_FRAME_NOT_EXACT;
+    if (o.reach != 0 || o.share != 0) return MASKCULL_FRAME_STRAY_FIELD;
+    if (o.orthographic == 0 && !(is_zero(o.at_near) && is_zero(o.at_far))) return MASKCULL_FRAME_STRAY_FIELD;
     return o.winding > MASKCULL_DROPS_COUNTERCLOCKWISE ? MASKCULL_FRAME_BAD_WINDING : MASKCULL_FRAME_MADE;
 }
 
@@ -141,7 +141,7 @@ const char *maskcull_frame_text(uint32_t reason) {
     case MASKCULL_FRAME_BAD_SIZE: return "the size of the options isn't one that a version has";
     case MASKCULL_FRAME_BAD_FIELD: return "an option is neither 0 nor 1, or isn't known in this version";
     case MASKCULL_FRAME_NO_EXACT: return "exact frames aren't in this version";
-    case MASKCULL_FRAME_NOT_EXACT: return "reach and share are for exact frames, depths for orthographic ones";
+    case MASKCULL_FRAME_STRAY_FIELD: return "reach and share are for exact frames, depths for orthographic ones";
     case MASKCULL_FRAME_NO_MEMORY: return "out of memory";
     default: return "no reason of this version";
     }

@@ -71,8 +71,8 @@ static void try_options(void)
     is("no option", WITH(exact, 0), MASKCULL_FRAME_MADE);
     is("exact", WITH(exact, 1), MASKCULL_FRAME_NO_EXACT);
     is("exact 2", WITH(exact, 2), MASKCULL_FRAME_BAD_FIELD);
-    is("reach", WITH(reach, 8), MASKCULL_FRAME_NOT_EXACT);
-    is("share", WITH(share, 1), MASKCULL_FRAME_NOT_EXACT);
+    is("reach", WITH(reach, 8), MASKCULL_FRAME_STRAY_FIELD);
+    is("share", WITH(share, 1), MASKCULL_FRAME_STRAY_FIELD);
     is("clockwise", WITH(winding, 1), MASKCULL_FRAME_MADE);
     is("counterclockwise", WITH(winding, 2), MASKCULL_FRAME_MADE);
     is("both windings", WITH(winding, 3), MASKCULL_FRAME_BAD_WINDING);
@@ -85,7 +85,7 @@ static void try_options(void)
     is("narrow 16", WITH(narrow, 16), MASKCULL_FRAME_BAD_FIELD);
     is("orthographic 2", WITH(orthographic, 2), MASKCULL_FRAME_BAD_FIELD);
     is("depths 0 and 0", WITH(orthographic, 1), MASKCULL_FRAME_BAD_DEPTHS);
-    is("a depth of a view in perspective", WITH(at_far, 0x3f800000), MASKCULL_FRAME_NOT_EXACT);
+    is("a depth of a view in perspective", WITH(at_far, 0x3f800000), MASKCULL_FRAME_STRAY_FIELD);
     is("size 0", WITH(size, 0), MASKCULL_FRAME_BAD_SIZE);
     is("size 43", WITH(size, 43), MASKCULL_FRAME_BAD_SIZE);
     is("size 2^32 - 4", WITH(size, 0xfffffffc), MASKCULL_FRAME_BAD_SIZE);
@@ -100,7 +100,7 @@ static void try_options(void)
     /* of an older version, whose struct ends here; nothing lies behind it */
     const uint32_t size_alone[1] = {sizeof size_alone}, short_one[3] = {sizeof short_one, 0, 8};
     is("a struct of its size alone", reason_of(0.1f, size_alone), MASKCULL_FRAME_MADE);
-    is("a short struct with a reach", reason_of(0.1f, short_one), MASKCULL_FRAME_NOT_EXACT);
+    is("a short struct with a reach", reason_of(0.1f, short_one), MASKCULL_FRAME_STRAY_FIELD);
     uint32_t long_one[20] = {sizeof long_one};
     is("a longer struct", reason_of(0.1f, long_one), MASKCULL_FRAME_MADE);
     long_one[19] = 1;

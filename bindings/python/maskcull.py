@@ -139,6 +139,9 @@ class Frame:
             _library.maskcull_frame_free(self._frame)
             self._frame = None
 
+    def __reduce__(self):
+        raise TypeError("a frame can't be copied: it has memory of its own")
+
     @property
     def width(self):
         return self._size[0]

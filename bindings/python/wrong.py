@@ -1,7 +1,10 @@
 #!/usr/bin/env python3
 """What isn't allowed is an error of Python, and nothing is read past an array."""
 import array
+import copy
 import ctypes
+import pickle
+import threading
 
 import maskcull
 
@@ -34,6 +37,8 @@ CASES = [
     (ValueError, make(64, 32, near=0)), (ValueError, make(64, 32, near=float("nan"))),
     (ValueError, make(64, 32, near=1e300)), (TypeError, make(64, 32, near="far")), (TypeError, make(64, 32)),
     (ValueError, make(64, 32, near=0.1, winding=3)), (ValueError, make(64, 32, depths=(1, 1))),
+    (TypeError, lambda: copy.copy(frame)), (TypeError, lambda: copy.deepcopy(frame)),
+    (TypeError, lambda: pickle.dumps(frame)), (AttributeError, lambda: setattr(frame, "width", 4096)),
     (ValueError, make(64, 32, near=0.1, exact=True)), (ValueError, make(64, 32, near=0.1, reach=8)),
     # lengths
     (ValueError, draw(WALL[1:])), (ValueError, draw(indices=QUAD[1:])), (ValueError, draw(matrix=CLIP[1:])),
@@ -75,6 +80,12 @@ def wrong_numpy():
             (IndexError, draw(indices=quad + 2))]
 
 
+def draw_and_test(shared, times):
+    for _ in range(times):
+        shared.draw(WALL, QUAD, CLIP)
+        assert shared.test_boxes(BOX, CLIP)[0] == maskcull.OCCLUDED
+
+
 def main():
     cases = CASES + wrong_numpy()
     for number, (wanted, call) in enumerate(cases):
@@ -92,6 +103,11 @@ def main():
     assert frame.test_boxes(BOX + BOX, CLIP) == bytes(2 * [maskcull.OCCLUDED])
     assert frame.test_mesh([-1, 1, -8, 1, 1, -8, 0, -1, -8], [0, 1, 2], CLIP) == maskcull.OCCLUDED
     assert frame.test_mesh(WALL, [0, 1, 4], CLIP) == maskcull.VISIBLE
+    threads = [threading.Thread(target=draw_and_test, args=(frame, 200)) for _ in range(4)]
+    for thread in threads:
+        thread.start()
+    for thread in threads:
+        thread.join()
     odd = maskcull.Frame(61, 31, near=0.1, by_rows=True, y_is_down=True, narrow=True)
     odd.draw(iter([WALL[at:at + 3] for at in (0, 3, 6, 9)]), QUAD, [CLIP[k % 4 * 4 + k // 4] for k in range(16)])
     assert len(odd.picture()) == 61 * 31 and min(odd.picture()) > 0
