@@ -1,7 +1,7 @@
 #!/usr/bin/env python3
 """Compares the rivals' verdicts with maskcull's, and the floats' with those of an exact z-buffer.
 
-usage: bench/rivals/compare PROGRAM SCENE.. [--out bench/rivals/out]
+usage: bench/rivals/compare.py PROGRAM SCENE.. [--out bench/rivals/out]
 
 PROGRAM is a built maskcull, and the rivals are in --out. For each scene: whether the rival in whole numbers gives the
 report's bytes; of how many verdicts, all frames taken together, so many of the rival in floats aren't maskcull's; and
