@@ -16,6 +16,8 @@ using Whole = __m256i;
 constexpr float FAR_AWAY = std::numeric_limits<float>::max();
 // Below this a triangle or an edge is flat.
 constexpr float FLAT = 1e-6f;
+// Of so many columns of tiles each is visited, without a look which of them a row's spans reach.
+constexpr int FEW = 4;
 
 Floats all(float number) { return _mm256_set1_ps(number); }
 Whole all(int number) { return _mm256_set1_epi32(number); }
@@ -196,7 +198,7 @@ public:
         for (int row = setup_.row[lane_] / TILE_HEIGHT; row < row_end; ++row)
             for (int strip = left; strip < right; strip += 8)
                 if (unsigned found = tiles_.below(row, strip, std::min(right, strip + 8), greatest))
-                    draw_strip(row, strip, found, right - left > 2);
+                    draw_strip(row, strip, found, right - left > FEW);
     }
 
 private:
