@@ -33,14 +33,13 @@ private:
     static constexpr std::int64_t LIMIT = 1 << 30;
 
     Eight one_by_one(int column, int row) const {
-        Eight bounds;
+        Eight bounds = {};
         for (int k = 0; k < 8; ++k) {
             const int x = 16 * (TILE_WIDTH * column + 8 * (k & 3)) + plane_.least_x();
             const int y = 16 * (TILE_HEIGHT * row + 4 * (k >> 2)) + plane_.least_y();
-            const std::int64_t whole = fits_ ? divisor_.floor(std::int64_t(plane_.at(x, y)))
-                                             : std::int64_t(std::clamp<Wide>(floor_of<Wide>(plane_.at(x, y), plane_.area),
-                                                                             -LIMIT, LIMIT));
-            bounds[k] = std::int32_t(std::clamp<std::int64_t>(whole, least_, HELD_TOP));
+            const Wide value = plane_.at(x, y);
+            const Wide whole = fits_ ? divisor_.floor(std::int64_t(value)) : floor_of<Wide>(value, plane_.area);
+            bounds[k] = std::int32_t(std::clamp<Wide>(whole, least_, HELD_TOP));
         }
         return bounds;
     }

@@ -28,10 +28,13 @@ inline Eight masks_of(const Spans& spans, int column) {
     const Eight first = lesser(greater(spans.first - left, none), most);
     const Eight end = lesser(greater(spans.end - left, none), most);
     const auto row = [&](int k) { return std::int32_t(BITS.from[first[k]] & BITS.before[end[k]]); };
-    const Octets upper = Octets(Four{row(0), row(1), row(2), row(3)});
-    const Octets lower = Octets(Four{row(4), row(5), row(6), row(7)});
-    const Four above = Four(__builtin_shufflevector(upper, upper, 0, 4, 8, 12, 1, 5, 9, 13, 2, 6, 10, 14, 3, 7, 11, 15));
-    const Four below = Four(__builtin_shufflevector(lower, lower, 0, 4, 8, 12, 1, 5, 9, 13, 2, 6, 10, 14, 3, 7, 11, 15));
+    // from four rows of 32 samples to four subtiles of four rows each
+    const auto turned = [](Four rows) {
+        const Octets bytes = Octets(rows);
+        return Four(__builtin_shufflevector(bytes, bytes, 0, 4, 8, 12, 1, 5, 9, 13, 2, 6, 10, 14, 3, 7, 11, 15));
+    };
+    const Four above = turned(Four{row(0), row(1), row(2), row(3)});
+    const Four below = turned(Four{row(4), row(5), row(6), row(7)});
     return __builtin_shufflevector(above, below, 0, 1, 2, 3, 4, 5, 6, 7);
 }
 
@@ -49,10 +52,10 @@ public:
         is_near_ = std::abs(number_) < std::int64_t(1) << 30 && width_ < 1 << 20 &&
                    std::abs(step_) < std::int64_t(1) << 20 && std::abs(step_) <= width_ << 18;
         if (!is_near_) return;
-        // parts of 2^-32 of a pixel: each row's rounding loses one at most, so 2^11 for 2048 rows reach no other column
+        // a row's rounding loses one part at most: 2048 for all rows are added, which reach no other column
         const Divisor divisor(width_);
-        column_ = divisor.floor(number_ << 32) + (std::int64_t(1) << 32) + 2048;
-        slope_ = divisor.floor(step_ << 32);
+        column_ = divisor.floor(number_ * PARTS) + PARTS + 2048;
+        slope_ = divisor.floor(step_ * PARTS);
     }
 
     bool is_left() const { return is_left_; }
@@ -83,6 +86,9 @@ public:
     }
 
 private:
+    // Of a pixel.
+    static constexpr std::int64_t PARTS = std::int64_t(1) << 32;
+
     bool is_left_ = false, is_near_ = true;
     int first_row_ = 0;
     std::int64_t number_ = 0, step_ = 0, width_ = 1, column_ = 0, slope_ = 0;

@@ -16,6 +16,8 @@ using Whole = __m256i;
 constexpr float FAR_AWAY = std::numeric_limits<float>::max();
 // Below this a triangle or an edge is flat.
 constexpr float FLAT = 1e-6f;
+// Of so many columns of tiles each is visited, without a look which of them a row's spans reach.
+constexpr int FEW = 4;
 
 Floats all(float number) { return _mm256_set1_ps(number); }
 Whole all(int number) { return _mm256_set1_epi32(number); }
@@ -133,9 +135,8 @@ public:
         const Floats full = floats(_mm256_cmpeq_epi32(mask, all(-1)));
         tile.working = select(alive, _mm256_andnot_ps(full, layer), working);
         tile.mask = bits(select(alive, _mm256_andnot_ps(full, floats(mask)), floats(tile.mask)));
-        const Floats closed = _mm256_and_ps(alive, full);
-        if (!_mm256_movemask_ps(closed)) return;
-        tile.reference = select(closed, layer, reference);
+        // whether a layer closes is as good as random: no branch
+        tile.reference = select(_mm256_and_ps(alive, full), layer, reference);
         least_[std::size_t(row) * stride_ + column] = least_of(tile.reference);
     }
 
@@ -197,7 +198,7 @@ public:
         for (int row = setup_.row[lane_] / TILE_HEIGHT; row < row_end; ++row)
             for (int strip = left; strip < right; strip += 8)
                 if (unsigned found = tiles_.below(row, strip, std::min(right, strip + 8), greatest))
-                    draw_strip(row, strip, found, right - left > 2);
+                    draw_strip(row, strip, found, right - left > FEW);
     }
 
 private:
@@ -537,7 +538,8 @@ private:
             for (int axis = 0; axis < 3; ++axis)
                 for (int end = 0; end < 2; ++end) {
                     const Floats add = all(axis == 2 ? view.row[row][3] : 0);
-                    part[row][axis][end] = _mm256_fmadd_ps(sides_[3 * end + axis].at(first), all(view.row[row][axis]), add);
+                    const Floats side = sides_[3 * end + axis].at(first);
+                    part[row][axis][end] = _mm256_fmadd_ps(side, all(view.row[row][axis]), add);
                 }
         Reach reach;
         for (int corner = 0; corner < 8; ++corner) {

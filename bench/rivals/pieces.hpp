@@ -76,7 +76,7 @@ public:
 
     bool is_past_guard(const Clip& clip) const {
         const std::int64_t reach = GUARD * near_;
-        const auto is_far = [&](std::int64_t number) { return std::uint64_t(number + reach) > std::uint64_t(2 * reach); };
+        const auto is_far = [&](std::int64_t number) { return number < -reach || number > reach; };
         return is_far(clip.x) || is_far(clip.y) || is_far(clip.w);
     }
     bool is_behind(const Clip& clip) const { return clip.w < near_; }
@@ -110,7 +110,8 @@ public:
         for (int k = 0; k < 3; ++k) {
             const Clip &from = clips[k], &to = clips[(k + 1) % 3];
             if (!is_behind(from)) out[size++] = snap(from, side);
-            if (is_behind(from) != is_behind(to)) out[size++] = is_behind(to) ? cut(from, to, side) : cut(to, from, side);
+            if (is_behind(from) != is_behind(to))
+                out[size++] = is_behind(to) ? cut(from, to, side) : cut(to, from, side);
         }
         return size;
     }
@@ -199,7 +200,8 @@ inline std::int32_t greatest_nearness(const Piece& p) {
 inline Rect samples_around(const Piece& piece, int width, int height) {
     const Point &a = piece.points[0], &b = piece.points[1], &c = piece.points[2];
     return {std::max((std::min({a.x, b.x, c.x}) + 7) >> 4, 0), std::max((std::min({a.y, b.y, c.y}) + 7) >> 4, 0),
-            std::min((std::max({a.x, b.x, c.x}) + 8) >> 4, width), std::min((std::max({a.y, b.y, c.y}) + 8) >> 4, height)};
+            std::min((std::max({a.x, b.x, c.x}) + 8) >> 4, width),
+            std::min((std::max({a.y, b.y, c.y}) + 8) >> 4, height)};
 }
 
 // The pixels that points reach, on the screen.

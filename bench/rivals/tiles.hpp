@@ -13,7 +13,8 @@ class Tiles {
 public:
     explicit Tiles(const Scene& scene)
         : width_(scene.width), height_(scene.height), columns_((width_ + TILE_WIDTH - 1) / TILE_WIDTH),
-          rows_((height_ + TILE_HEIGHT - 1) / TILE_HEIGHT), tiles_(std::size_t(columns_) * rows_), least_(tiles_.size()) {}
+          rows_((height_ + TILE_HEIGHT - 1) / TILE_HEIGHT), tiles_(std::size_t(columns_) * std::size_t(rows_)),
+          least_(tiles_.size()) {}
 
     void clear() {
         std::fill(tiles_.begin(), tiles_.end(), Tile{all(0), all(0), all(0)});
@@ -62,7 +63,7 @@ private:
     // A piece that reaches no more subtiles is drawn subtile by subtile.
     static constexpr int FEW = 8;
 
-    std::size_t place(int column, int row) const { return std::size_t(row) * std::size_t(columns_) + std::size_t(column); }
+    std::size_t place(int column, int row) const { return std::size_t(row * columns_ + column); }
 
     // The subtiles of a tile that are beside the screen take no piece.
     void put_beside(int column, int row) {

@@ -12,13 +12,14 @@ template <class Buffer>
 class Culler {
 public:
     explicit Culler(const Scene& scene)
-        : scene_(scene), snapping_(scene), buffer_(scene), screen_(scene.vertices.size()) {}
+        : scene_(scene), snapping_(scene), buffer_(scene),
+          screen_(scene.vertices.size() < 3 * scene.occluders.size() ? scene.vertices.size() : 0) {}
 
     void cull(const Camera& camera, Frame& frame) {
         frame.pieces = 0;
         buffer_.clear();
         for (std::size_t k = 0; k < screen_.size(); ++k)
-            screen_[k] = snapping_.place(Snapping::clip(camera, scene_.vertices[k]));
+            screen_[k] = placed(camera, k);
         const Triangle* triangle = scene_.occluders.data();
         for (const Batch& batch : scene_.batches)
             for (std::uint32_t k = 0; k < batch.count; ++k, ++triangle)
@@ -28,13 +29,20 @@ public:
     }
 
 private:
+    ScreenVertex placed(const Camera& camera, std::size_t number) const {
+        return snapping_.place(Snapping::clip(camera, scene_.vertices[number]));
+    }
+
     void clips_of(const Camera& camera, const Triangle& triangle, Clip out[3]) const {
         for (std::size_t k = 0; k < 3; ++k) out[k] = Snapping::clip(camera, scene_.vertices[triangle[k]]);
     }
 
     // Draws a triangle; gives how many pieces it has.
     std::size_t draw(const Camera& camera, const Triangle& triangle, Winding winding) {
-        const ScreenVertex &a = screen_[triangle[0]], &b = screen_[triangle[1]], &c = screen_[triangle[2]];
+        const auto corner = [&](std::size_t k) {
+            return screen_.empty() ? placed(camera, triangle[k]) : screen_[triangle[k]];
+        };
+        const ScreenVertex a = corner(0), b = corner(1), c = corner(2);
         if (int(a.state) + int(b.state) + int(c.state) == 0) {
             Piece piece;
             if (!Snapping::set_up(a.point, b.point, c.point, winding, piece)) return 0;
@@ -144,6 +152,7 @@ private:
     const Scene& scene_;
     Snapping snapping_;
     Buffer buffer_;
+    // The vertices of a frame, where triangles share some; otherwise each is put on the screen as it is drawn.
     std::vector<ScreenVertex> screen_;
 };
 

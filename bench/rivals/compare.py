@@ -1,11 +1,11 @@
 #!/usr/bin/env python3
 """Compares the rivals' verdicts with maskcull's, and the floats' with those of an exact z-buffer.
 
-usage: bench/rivals/compare PROGRAM SCENE.. [--out bench/rivals/out]
+usage: bench/rivals/compare.py PROGRAM SCENE.. [--out bench/rivals/out]
 
 PROGRAM is a built maskcull, and the rivals are in --out. For each scene: whether the rival in whole numbers gives the
 report's bytes; of how many verdicts, all frames taken together, so many of the rival in floats aren't maskcull's; and
-so many objects are called occluded, by floats and by maskcull, that aren't hidden at each of their samples."""
+how often floats, and maskcull, call an object occluded that has a sample which isn't hidden."""
 import argparse
 import pathlib
 import subprocess
@@ -25,8 +25,8 @@ def verdicts(text):
 
 
 def wrong(given, exact):
-    """How many are called occluded that aren't hidden."""
-    return sum(one == "occluded" != other for one, other in zip(given, exact, strict=True))
+    """How many are called occluded that have a sample which isn't hidden."""
+    return sum((one, other) == ("occluded", "visible") for one, other in zip(given, exact, strict=True))
 
 
 def main():
