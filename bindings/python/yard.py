@@ -65,7 +65,7 @@ def main():
     print("visible {} occluded {} outside {}".format(*counts))
     print("picture", total)
     if "--time" in sys.argv:
-        print("boxes", microseconds(lambda: frame.test_boxes(boxes, to_clip)))
+        print(f"boxes {microseconds(lambda: frame.test_boxes(boxes, to_clip)):.1f}")
 
 
 if __name__ == "__main__":
