@@ -34,29 +34,30 @@ use Rattle.command_words.specs.declared.words.Refusal.{Refusal}
 use Rattle.command_words.specs.declared.words.Refusal.TheVariants as refusals
 use Rattle.demo_scene.proofs.DemoScene.{demo_is_scene}
 use Rattle.demo_scene.specs.Demo.{demo_of, frame_count}
-use Rattle.culling.specs.declared.failure.Failure.{Failure}
-use Rattle.culling.specs.declared.failure.Failure.TheVariants.{Scene, ReadFault, ReportFault, Memory, Log, Frame}
-use Rattle.culling.specs.declared.failure.Status.{Status}
-use Rattle.culling.specs.declared.failure.Status.TheVariants as statuses
+use Rattle.frame_reports.specs.declared.failure.Failure.{Failure}
+use Rattle.frame_reports.specs.declared.failure.Failure.TheVariants.{Scene, ReadFault, ReportFault, Memory, Log, Frame}
+use Rattle.frame_reports.specs.declared.failure.Status.{Status}
+use Rattle.frame_reports.specs.declared.failure.Status.TheVariants as statuses
 use Rattle.culling.specs.Checking.{IsNoNumber}
-use Rattle.culling.specs.FrameRuns.{LeavesFrames, LeavesTexts}
-use Rattle.culling.specs.Frames.{beside_of, lines_of}
-use Rattle.culling.specs.NotedLines.{CountsStay}
-use Rattle.culling.specs.Notes.{IsNotedBehind, IsNotedFirst, missing_text, note_by, note_text, refusal_text, status_text, usage_text}
-use Rattle.culling.specs.Outcome.{failure_of, log_failure, refusal_status, sink_failure, status_by, status_of}
-use Rattle.culling.specs.Outcomes.{Ends, EndsBy, EndsByScene, HasFault, HasScene, IfAsked, IfBytes, IsAbout, IsTrue, Makes, MakesBy, Making, OutcomeOf, ReadsScene, answer_alone, answer_text, group_frames, joined, live_frames, note_alone, notes_at, notes_before, pictured, report_and, report_before, report_of, scene_bytes, scene_bytes_by, text_alone, work_of}
+use Rattle.frame_reports.specs.FrameRuns.{LeavesFrames, LeavesTexts}
+use Rattle.frame_reports.specs.Frames.{beside_of, lines_of}
+use Rattle.frame_reports.specs.NotedLines.{CountsStay}
+use Rattle.frame_reports.specs.Notes.{IsNotedBehind, IsNotedFirst, missing_text, note_by, note_text, refusal_text, status_text, usage_text}
+use Rattle.frame_reports.specs.Failures.{failure_of, log_failure, sink_failure, status_by, status_of}
+use Rattle.culling.specs.Runs.{refusal_status, Comes, HasCause, IsComplete, IsUnasked, Streams, WithoutFault, streams}
+use Rattle.frame_reports.specs.OutcomeOf.{OutcomeOf, joined, notes_at, notes_before, report_before, report_of, text_alone}
+use Rattle.culling.specs.Outcomes.{Ends, EndsBy, EndsByScene, HasFault, HasScene, IfAsked, IfBytes, IsAbout, IsTrue, Makes, MakesBy, Making, ReadsScene, answer_alone, answer_text, group_frames, live_frames, note_alone, pictured, report_and, scene_bytes, scene_bytes_by, work_of}
 use Rattle.culling.specs.Picture.{frame_picture}
-use Rattle.culling.specs.Runs.{AwaitsNote, Comes, HasCause, IsComplete, IsUnasked, Leaves, LeavesFront, Streams, WithoutFault, streams}
+use Rattle.frame_reports.specs.Leaves.{AwaitsNote, Leaves, LeavesFront}
 use Rattle.culling.specs.Summary.{demo_line, frames_summary, summary_text}
-use Rattle.culling.specs.declared.frames.Beside.TheVariants.{Nothing, Looks}
-use Rattle.culling.specs.declared.frames.FrameLines.TheVariants.{Report, Summary}
+use Rattle.frame_reports.specs.declared.frames.Beside.TheVariants.{Nothing, Looks}
+use Rattle.frame_reports.specs.declared.frames.FrameLines.TheVariants.{Report, Summary}
 use Rattle.culling.proofs.Checking.{short_fault}
-use Rattle.culling.proofs.FrameByFrame.{are_empty, unseen, unseen_rises}
-use Rattle.culling.proofs.FrameTexts.{as_one_text, counts_same, front_unnoted, never_done, none_at, unwritten, whole_leaves, without_notes}
-use Rattle.culling.proofs.Fronts.{nothing_appended, rose_later}
-use Rattle.culling.proofs.GroupLines.{group_frames_are}
-use Rattle.culling.proofs.OutcomeTexts.{ended_by, header_some, joined_is, live_frames_are, not_empty, summary_some}
-use Rattle.culling.proofs.ScenePieces.{all_are_pieces, lines_hide}
+use Rattle.frame_reports.proofs.FrameByFrame.{are_empty, unseen, unseen_rises}
+use Rattle.frame_reports.proofs.FrameTexts.{as_one_text, counts_same, front_unnoted, never_done, none_at, unwritten, whole_leaves, without_notes}
+use Rattle.frame_reports.proofs.Fronts.{nothing_appended, rose_later}
+use Rattle.culling.proofs.OutcomeTexts.{group_frames_are, ended_by, header_some, joined_is, live_frames_are, not_empty, summary_some}
+use Rattle.frame_reports.proofs.ScenePieces.{all_are_pieces, lines_hide}
 use Rattle.culling.proofs.Shown.{picture_not_empty, shows_truly}
 
 -- ---- what waits for its note

@@ -25,17 +25,18 @@ use Rattle.command_words.specs.declared.table.CullWords.{CullWords}
 use Rattle.command_words.specs.declared.table.DemoWords.{DemoWords}
 use Rattle.command_words.specs.declared.table.LiveWords.{LiveWords}
 use Rattle.command_words.specs.declared.table.PictureWords.{PictureWords}
-use Rattle.culling.specs.Notes.{IsNotedBehind}
-use Rattle.culling.specs.Outcomes.{Ends, EndsBy, EndsByScene, HasScene, IfBytes, Makes, Making, OutcomeOf, ReadsScene, answer_alone, answer_status, answer_text, group_frames, group_notes, input_fault, input_fault_by, joined, live_frames, log_bytes, pictured, report_of, scene_bytes, scene_bytes_by, work_of}
+use Rattle.frame_reports.specs.Notes.{IsNotedBehind}
+use Rattle.frame_reports.specs.OutcomeOf.{OutcomeOf, joined, report_of}
+use Rattle.culling.specs.Outcomes.{Ends, EndsBy, EndsByScene, HasScene, IfBytes, Makes, Making, ReadsScene, answer_alone, answer_status, answer_text, group_frames, group_notes, input_fault, input_fault_by, live_frames, log_bytes, pictured, scene_bytes, scene_bytes_by, work_of}
 use Rattle.culling.specs.Picture.{ShowsTruly, frame_picture}
-use Rattle.culling.specs.Runs.{Comes, IsCut, Leaves, LeavesWhole, Streams}
+use Rattle.frame_reports.specs.Leaves.{IsCut, Leaves, LeavesWhole}
+use Rattle.culling.specs.Runs.{Comes, Streams}
 use Rattle.culling.specs.Summary.{summary_text}
-use Rattle.culling.specs.declared.failure.Status.{Status}
-use Rattle.culling.specs.declared.failure.Status.TheVariants as statuses
+use Rattle.frame_reports.specs.declared.failure.Status.{Status}
+use Rattle.frame_reports.specs.declared.failure.Status.TheVariants as statuses
 use Rattle.culling.proofs.Comings.{layout_some, pictured_missing, pictured_there}
-use Rattle.culling.proofs.GroupLines.{group_notes_are}
-use Rattle.culling.proofs.OutcomeTexts.{live_is, report_is}
-use Rattle.culling.proofs.ScenePieces.{all_are_pieces, lines_hide}
+use Rattle.culling.proofs.OutcomeTexts.{group_notes_are, live_is, report_is}
+use Rattle.frame_reports.proofs.ScenePieces.{all_are_pieces, lines_hide}
 use Rattle.culling.proofs.Shown.{shows_truly}
 
 -- ---- by the status

@@ -1,17 +1,5 @@
-pub mod ClosedCells
-pub mod LiveLooks
-pub mod Marks
-pub mod LiveTexts
-pub mod ScenePieces
 pub mod Shown
-pub mod SlotFacts
-pub mod Rounds
-pub mod Fronts
 pub mod OutcomeTexts
-pub mod GroupLines
-pub mod FrameTexts
-pub mod FrameByFrame
-pub mod WindowBeside
 pub mod Checking
 pub mod Comings
 pub mod Corollaries

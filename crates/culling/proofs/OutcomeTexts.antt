@@ -1,5 +1,5 @@
 -- The texts of an outcome.
-use Rattle.std.proofs.Common.{◌≡◌, ℕ, ◌<◌, ◌++◌, ◌∷◌, List, [], length, map, arith, ap}
+use Rattle.std.proofs.Common.{◌≡◌, ℕ, ◌<◌, ◌++◌, ◌∷◌, List, [], length, map, Option, Some, None, arith, refl, ap}
 use Rattle.std.specs.Prelude.{codes}
 use Rattle.std.specs.Fmt.{decimal}
 use Rattle.std.specs.List.{flat_map, join_with_byte, range_with_len}
@@ -12,7 +12,9 @@ use Rattle.cull_report.specs.Scene.{frame_report, frames_text, report_text, scen
 use Rattle.cull_report.specs.Text.{header_text}
 use Rattle.demo_scene.specs.Demo.{box_count, demo_of, frame_count}
 use Rattle.scene_reader.specs.Layout.{Parts}
-use Rattle.culling.specs.Outcomes.{joined, live_frames, report_and, report_of}
+use Rattle.group_query.specs.Text.{frame_groups}
+use Rattle.frame_reports.specs.OutcomeOf.{joined, report_of}
+use Rattle.culling.specs.Outcomes.{group_frames, group_notes, live_frames, report_and}
 use Rattle.culling.specs.Summary.{demo_line, frames_summary, summary_text}
 
 -- ---- texts of a list that is a function's
@@ -32,6 +34,15 @@ live_is s rounds watch counts = joined_is (λ frame. frame_live s rounds watch (
 
 pub live_frames_are : (s : Parts) (rounds watch : ℕ) (counts : Counts) → length (live_frames s rounds watch counts) ≡ length s.cameras
 live_frames_are s rounds watch counts = length-map-range_with_len (λ frame. frame_live s rounds watch (counts frame) frame) 0 (length s.cameras)
+
+-- ---- the lines of groups of all frames
+
+pub group_frames_are : (s : Parts) (most : ℕ) → length (group_frames s (Some most)) ≡ length s.cameras
+group_frames_are s most = length-map-range_with_len (frame_groups s most) 0 (length s.cameras)
+
+pub group_notes_are : (s : Parts) (group : Option ℕ) → joined (group_frames s group) ≡ group_notes s group
+group_notes_are s None = refl
+group_notes_are s (Some most) = joined_is (frame_groups s most) (length s.cameras)
 
 -- ---- texts that aren't empty
 

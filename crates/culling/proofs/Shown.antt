@@ -1,5 +1,5 @@
 -- The picture of a frame: that of what its tiles hold, whose bounds are within the grade's top and no nearer than what is drawn.
-use Rattle.std.proofs.Common.{◌≡◌, ℕ, ◌<◌, ◌≤◌, length, arith, ap, ◌∙◌, sym, subst, inl, inr}
+use Rattle.std.proofs.Common.{◌≡◌, ℕ, ◌<◌, ◌≤◌, length, arith, ap, ◌∙◌, subst, inl, inr}
 use Rattle.std.specs.List.{Contains}
 use Rattle.cull_base.specs.declared.nearness.Grade.{Grade}
 use Rattle.cull_base.specs.declared.nearness.Grade.TheVariants.{Narrow, Wide}
@@ -11,7 +11,7 @@ use Rattle.cull_base.specs.Piece.{Piece, Point, middle}
 use Rattle.cull_base.specs.Pixels.{sample_of_pixel, sub_of_pixel}
 use Rattle.cull_base.specs.Screen.{Dimensions, tile_count_of}
 use Rattle.cull_base.specs.State.{State, bound_at}
-use Rattle.cull_base.specs.Tiles.{PieceList, tile_after}
+use Rattle.cull_base.specs.Tiles.{tile_after}
 use Rattle.cull_base.proofs.Pixels.{sample_below, sample_is_middle}
 use Rattle.masked_update.specs.TileOf.{TileOf}
 use Rattle.masked_update.specs.Views.{state_in}
@@ -23,9 +23,8 @@ use Rattle.depth_image.proofs.Pictures.{picture_alike, picture_some}
 use Rattle.scene_reader.specs.Layout.{Parts, IsScene}
 use Rattle.cull_report.specs.Scene.{frame_clips, frame_list, frame_pieces, size_of}
 use Rattle.cull_report.proofs.TileStates.{drawn_agrees}
-use Rattle.culling.specs.DrawnPieces.{DrawsAs}
 use Rattle.culling.specs.Picture.{ShowsTruly, frame_picture, frame_states, nearness_of_shade}
-use Rattle.culling.proofs.ScenePieces.{frame_pieces_are}
+use Rattle.frame_reports.proofs.ScenePieces.{frame_pieces_are}
 
 -- no piece of a frame is nearer than the top of the scene's grade
 frame_within : (s : Parts) (frame : ℕ) (t : Piece) → IsScene s → Contains (frame_pieces s frame) t → greatest_nearness t ≤ top_of s.grade
@@ -38,12 +37,6 @@ state_within : (s : Parts) (frame : ℕ) (u : Sub) (k : ℕ) → IsScene s → k
 state_within s frame u k scene lt =
     let all = frame_pieces_are s frame scene in
     bound_within u (frame_pieces s frame) (frame_states s frame u) (top_of s.grade) k all (λ t has. frame_within s frame t scene has) (after_is_sound u (frame_pieces s frame) all) lt
-
--- tiles that took the pieces that are drawn took the frame's
-pub took_drawn : (s : Parts) (frame : ℕ) (list : PieceList) (tile_of : ℕ → TileOf) → DrawsAs list (frame_list s frame) → ((t : ℕ) → t < tile_count_of list.size → (tile_of t).subs ≡ tile_after list.size t list.members)
-    → (t : ℕ) → t < tile_count_of (size_of s) → (tile_of t).subs ≡ tile_after (size_of s) t (frame_pieces s frame)
-unfolding frame_list
-took_drawn s frame list tile_of draws states t lt = states t (subst (λ (n : Dimensions). t < tile_count_of n) (sym draws.size) lt) ∙ draws.tiles t lt
 
 -- nor is a bound that tiles hold after them
 pub tiles_within : (s : Parts) (frame : ℕ) (tile_of : ℕ → TileOf) → IsScene s → ((t : ℕ) → t < tile_count_of (size_of s) → (tile_of t).subs ≡ tile_after (size_of s) t (frame_pieces s frame))

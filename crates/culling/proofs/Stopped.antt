@@ -19,19 +19,20 @@ use Rattle.command_words.specs.declared.table.Command.TheVariants.{Cull, Live, D
 use Rattle.command_words.specs.declared.table.CullWords.{CullWords}
 use Rattle.command_words.specs.declared.table.DemoWords.{DemoWords}
 use Rattle.command_words.specs.declared.table.LiveWords.{LiveWords}
-use Rattle.culling.specs.Notes.{IsNotedBehind, status_text}
-use Rattle.culling.specs.Outcomes.{Ends, EndsByScene, HasScene, Makes, OutcomeOf, answer_status, group_frames, group_notes, joined, live_frames, pictured, report_and, report_before, report_of, work_of}
+use Rattle.frame_reports.specs.Notes.{IsNotedBehind, status_text}
+use Rattle.frame_reports.specs.OutcomeOf.{OutcomeOf, joined, report_before, report_of}
+use Rattle.culling.specs.Outcomes.{Ends, EndsByScene, HasScene, Makes, answer_status, group_frames, group_notes, live_frames, pictured, report_and, work_of}
 use Rattle.culling.specs.Promises.{LeavesFronts, LeavesNote, Ran, StopsAtNotes}
-use Rattle.culling.specs.Runs.{Comes, IsCut, LeavesFront, Streams}
+use Rattle.frame_reports.specs.Leaves.{IsCut, LeavesFront}
+use Rattle.culling.specs.Runs.{Comes, Streams}
 use Rattle.culling.specs.Summary.{summary_text}
-use Rattle.culling.specs.declared.failure.Status.{Status}
-use Rattle.culling.specs.declared.failure.Status.TheVariants as statuses
+use Rattle.frame_reports.specs.declared.failure.Status.{Status}
+use Rattle.frame_reports.specs.declared.failure.Status.TheVariants as statuses
 use Rattle.culling.proofs.Comings.{pictured_missing, pictured_there}
-use Rattle.culling.proofs.FrameTexts.{joined-append, report_add}
-use Rattle.culling.proofs.Fronts.{front_of_more}
-use Rattle.culling.proofs.GroupLines.{group_notes_are}
-use Rattle.culling.proofs.OutcomeTexts.{joined_is, live_is, report_is}
-use Rattle.culling.proofs.ScenePieces.{lines_hide}
+use Rattle.frame_reports.proofs.FrameTexts.{joined-append, report_add}
+use Rattle.frame_reports.proofs.Fronts.{front_of_more}
+use Rattle.culling.proofs.OutcomeTexts.{group_notes_are, joined_is, live_is, report_is}
+use Rattle.frame_reports.proofs.ScenePieces.{lines_hide}
 
 -- ---- beginnings of texts
 

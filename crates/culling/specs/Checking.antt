@@ -3,8 +3,8 @@ use Rattle.std.specs.Prelude.{ℕ, ◌≡◌, ◌<◌, ◌⊎◌, List, length}
 use Rattle.cull_base.specs.Stream.{IsAtEnd, Rose, SourceSays, Takes}
 use Rattle.scene_reader.specs.Fault.{word_at}
 use Rattle.scene_reader.specs.declared.error.SceneError.TheVariants.{Truncated}
-use Rattle.culling.specs.declared.failure.Failure.{Failure}
-use Rattle.culling.specs.declared.failure.Failure.TheVariants.{Scene, ReadFault}
+use Rattle.frame_reports.specs.declared.failure.Failure.{Failure}
+use Rattle.frame_reports.specs.declared.failure.Failure.TheVariants.{Scene, ReadFault}
 
 -- four bytes were taken, which are this number, lowest byte first
 pub record TakesNumber (before after : SourceSays) (n : ℕ) : Type 0 where

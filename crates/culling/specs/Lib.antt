@@ -1,15 +1,6 @@
 pub mod Summary
-pub mod Frames
-pub mod DrawnPieces
-pub mod Windows
-pub mod LiveFrames
-pub mod Notes
 pub mod Picture
-pub mod Outcome
-pub mod Culling
-pub mod NotedLines
 pub mod Outcomes
 pub mod Checking
 pub mod Runs
-pub mod FrameRuns
 pub mod Promises

@@ -1,7 +1,7 @@
 -- What a command comes to: from what its input says to a status, and to what the report and the notes gain.
-use Rattle.std.specs.Prelude.{ℕ, ◌≡◌, ◌⊎◌, ◌<◌, ◌≤◌, ◌∷◌, ◌++◌, nat_lt, if◌then◌else◌, List, [], length, map, take, drop, codes, slice_index_or, Option, Some, None, IfSome}
+use Rattle.std.specs.Prelude.{ℕ, ◌≡◌, ◌⊎◌, ◌<◌, ◌≤◌, ◌∷◌, nat_lt, if◌then◌else◌, List, [], length, map, take, drop, codes, Option, Some, None, IfSome}
 use Rattle.std.specs.Fmt.{decimal}
-use Rattle.std.specs.List.{flat_map, range_with_len}
+use Rattle.std.specs.List.{range_with_len}
 use Rattle.cull_base.specs.Stream.{SourceSays}
 use Rattle.scene_reader.specs.Layout.{Parts, IsScene, layout, upgraded}
 use Rattle.scene_reader.specs.Fault.{IsRefusal, first_fault, word_at}
@@ -21,47 +21,18 @@ use Rattle.command_words.specs.declared.table.Command.{Command}
 use Rattle.command_words.specs.declared.table.BareCommand.TheVariants as bare
 use Rattle.command_words.specs.declared.table.Command.TheVariants.{Cull, Live, Demo, Check, Picture, Bare}
 use Rattle.demo_scene.specs.Demo.{demo_of}
-use Rattle.culling.specs.Notes.{missing_text, refusal_text, status_text}
+use Rattle.frame_reports.specs.Notes.{missing_text, refusal_text, status_text}
+use Rattle.frame_reports.specs.OutcomeOf.{OutcomeOf, text_alone}
 use Rattle.culling.specs.Picture.{ShowsTruly, frame_picture}
 use Rattle.culling.specs.Summary.{summary_text}
-use Rattle.culling.specs.declared.failure.Status.{Status}
-use Rattle.culling.specs.declared.failure.Status.TheVariants as statuses
-
--- A status, and what is noted of it; the report's text, which is a head and a text of each frame; and the notes' text of each frame.
-pub record OutcomeOf : Type 0 where
-  pub status : Status
-  pub note : List ℕ
-  pub head : List ℕ
-  pub frames : List (List ℕ)
-  pub notes : List (List ℕ)
-
--- one text behind the other
-abbrev pub joined : List (List ℕ) → List ℕ
-joined texts = flat_map (λ t. t) texts
-
--- the report, whole and before a frame
-abbrev pub report_of : OutcomeOf → List ℕ
-report_of o = o.head ++ joined o.frames
-
-abbrev pub report_before : OutcomeOf → ℕ → List ℕ
-report_before o frame = o.head ++ joined (take frame o.frames)
-
--- the notes' text, before a frame and of it
-abbrev pub notes_before : OutcomeOf → ℕ → List ℕ
-notes_before o frame = joined (take frame o.notes)
-
-abbrev pub notes_at : OutcomeOf → ℕ → List ℕ
-notes_at o frame = slice_index_or o.notes frame []
+use Rattle.frame_reports.specs.declared.failure.Status.{Status}
+use Rattle.frame_reports.specs.declared.failure.Status.TheVariants as statuses
 
 -- ---- what the commands come to
 
 -- a status with its note, and no text
 abbrev pub note_alone : Status → List ℕ → OutcomeOf
 note_alone status note = record { status = status; note = note; head = []; frames = []; notes = [] }
-
--- one text on the report
-abbrev pub text_alone : List ℕ → OutcomeOf
-text_alone text = record { status = statuses.Done; note = []; head = text; frames = []; notes = [] }
 
 -- a scene's report, and notes of its frames
 abbrev pub report_and : Parts → List (List ℕ) → OutcomeOf

@@ -18,13 +18,15 @@ use Rattle.command_words.specs.declared.table.CullWords.{CullWords}
 use Rattle.command_words.specs.declared.table.DemoWords.{DemoWords}
 use Rattle.command_words.specs.declared.table.LiveWords.{LiveWords}
 use Rattle.command_words.specs.declared.table.PictureWords.{PictureWords}
-use Rattle.culling.specs.Notes.{IsNotedBehind, status_text}
-use Rattle.culling.specs.Outcomes.{Ends, HasScene, IfBytes, OutcomeOf, ReadsScene, answer_text, group_notes, input_fault, joined, log_bytes, report_of}
+use Rattle.frame_reports.specs.Notes.{IsNotedBehind, status_text}
+use Rattle.frame_reports.specs.OutcomeOf.{OutcomeOf, joined, report_of}
+use Rattle.culling.specs.Outcomes.{Ends, HasScene, IfBytes, ReadsScene, answer_text, group_notes, input_fault, log_bytes}
 use Rattle.culling.specs.Picture.{ShowsTruly, frame_picture}
-use Rattle.culling.specs.Runs.{Comes, IsCut, Streams}
+use Rattle.frame_reports.specs.Leaves.{IsCut}
+use Rattle.culling.specs.Runs.{Comes, Streams}
 use Rattle.culling.specs.Summary.{summary_text}
-use Rattle.culling.specs.declared.failure.Status.{Status}
-use Rattle.culling.specs.declared.failure.Status.TheVariants as statuses
+use Rattle.frame_reports.specs.declared.failure.Status.{Status}
+use Rattle.frame_reports.specs.declared.failure.Status.TheVariants as statuses
 
 -- what `run` says of a command, by what its streams say before and after
 abbrev pub Ran : Command → Status → Streams → Streams → Type 0

@@ -1,10 +1,11 @@
 //! The top call: from a command line's words and the bytes of a scene to the report.
 ghost use Rattle.std.specs.Prelude.{◌≡◌, None, Some, map, string_bytes};
 ghost use Rattle.command_words.specs.Words.{ArePlain, IsRefused, IsWithinLimits, command_of};
-ghost use Rattle.culling.specs.Notes.{IsNotedBehind};
-ghost use Rattle.culling.specs.Outcome.{status_by};
+ghost use Rattle.frame_reports.specs.Notes.{IsNotedBehind};
+ghost use Rattle.frame_reports.specs.Failures.{status_by};
 ghost use Rattle.culling.specs.Outcomes.{Asks, IfAsked, IsTrue, ReadsScene};
-ghost use Rattle.culling.specs.Runs.{AwaitsNote, Comes, IsComplete, IsUnasked, WithoutFault, streams};
+ghost use Rattle.frame_reports.specs.Leaves.{AwaitsNote};
+ghost use Rattle.culling.specs.Runs.{Comes, IsComplete, IsUnasked, WithoutFault, streams};
 
 mod bare;
 mod check;
@@ -13,13 +14,14 @@ mod demo;
 mod live;
 mod picture;
 
-use crate::failure::{Failure, Status, end_refused};
+use crate::refusal::end_refused;
 use bare::carry_out;
 use check::check;
 use command_words::{Command, command_of};
 use cull::cull;
 use cull_base::{Sink, Source};
 use demo::demo;
+use frame_reports::{Failure, Status};
 use live::live;
 use picture::picture;
 use std::alloc::Global;

@@ -3,19 +3,9 @@
 #![tactic(auto)]
 
 mod commands;
-mod drawing;
-mod failure;
-mod frame_by_frame;
-mod frame_pool;
-mod frames;
-mod heap;
 mod laws;
-mod live_caller;
-mod live_frame;
-mod noting;
-mod summary;
-mod window;
+mod refusal;
 
 pub use commands::run;
-pub use failure::{Failure, Status};
+pub use frame_reports::{Failure, Status};
 pub use laws::{cuts_leave_fronts, done_is_whole, runs_end_by_their_input};

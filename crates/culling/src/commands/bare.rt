@@ -1,11 +1,12 @@
 //! The commands without options.
 ghost use Rattle.std.specs.Prelude.{◌≡◌};
-ghost use Rattle.culling.specs.Outcome.{status_by};
-ghost use Rattle.culling.specs.Runs.{AwaitsNote, Comes, streams};
+ghost use Rattle.frame_reports.specs.Failures.{status_by};
+ghost use Rattle.frame_reports.specs.Leaves.{AwaitsNote};
+ghost use Rattle.culling.specs.Runs.{Comes, streams};
 
-use crate::failure::Failure;
 use command_words::{BareCommand, Command};
 use cull_base::{Sink, Source};
+use frame_reports::Failure;
 use scene_reader::{read_scene, upgrade, write_scene};
 use std::alloc::Global;
 

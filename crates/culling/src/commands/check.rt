@@ -3,14 +3,15 @@ ghost use Rattle.std.specs.Prelude.{◌≡◌, ◌≤◌, IfOk, IfErr};
 ghost use Rattle.cull_base.specs.Stream.{Writes};
 ghost use Rattle.command_words.specs.Words.{IsWithinLimits};
 ghost use Rattle.culling.specs.Checking.{IsNoNumber, TakesNumber};
-ghost use Rattle.culling.specs.Outcome.{status_by};
+ghost use Rattle.frame_reports.specs.Failures.{status_by};
 ghost use Rattle.culling.specs.Outcomes.{answer_text};
-ghost use Rattle.culling.specs.Runs.{AwaitsNote, Comes, streams};
+ghost use Rattle.frame_reports.specs.Leaves.{AwaitsNote};
+ghost use Rattle.culling.specs.Runs.{Comes, streams};
 
-use crate::failure::Failure;
 use byteorder::{ByteOrder, LittleEndian};
 use command_words::{CheckWords, Command};
 use cull_base::{Sink, SinkError, Source, fill};
+use frame_reports::Failure;
 use live_check::{LogAnswer, check_log};
 use scene_reader::{SceneError, read_part};
 use std::alloc::Global;

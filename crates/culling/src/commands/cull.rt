@@ -2,18 +2,16 @@
 ghost use Rattle.std.specs.Prelude.{◌≡◌, length};
 ghost use Rattle.cull_report.specs.Scene.{scene_header};
 ghost use Rattle.command_words.specs.Words.{IsWithinLimits};
-ghost use Rattle.culling.specs.FrameRuns.{LeavesFrames};
-ghost use Rattle.culling.specs.Outcome.{status_by};
-ghost use Rattle.culling.specs.Runs.{AwaitsNote, Comes, streams};
-ghost use Rattle.culling.specs.declared.frames.Beside.TheVariants.{Nothing};
+ghost use Rattle.frame_reports.specs.FrameRuns.{LeavesFrames};
+ghost use Rattle.frame_reports.specs.Failures.{status_by};
+ghost use Rattle.frame_reports.specs.Leaves.{AwaitsNote};
+ghost use Rattle.culling.specs.Runs.{Comes, streams};
+ghost use Rattle.frame_reports.specs.declared.frames.Beside.TheVariants.{Nothing};
 
-use crate::drawing::Plan;
-use crate::failure::Failure;
-use crate::frame_by_frame::report_frames;
-use crate::frames::{FrameLines, beside_of};
 use command_words::{Command, CullWords};
 use cull_base::{Sink, Source};
 use cull_report::write_header;
+use frame_reports::{Failure, FrameLines, Plan, beside_of, report_frames};
 use scene_reader::{Scene, read_scene};
 use std::alloc::Global;
 use std::sync::Wait;

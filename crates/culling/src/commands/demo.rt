@@ -1,22 +1,46 @@
 //! The command `demo`: a scene from a seed, culled; its summary is written.
 ghost use Rattle.std.specs.Prelude.{◌≡◌};
-ghost use Rattle.cull_base.specs.Stream.{SourceSays};
+ghost use Rattle.cull_base.specs.Stream.{SourceSays, Writes};
 ghost use Rattle.command_words.specs.Words.{IsWithinLimits};
-ghost use Rattle.culling.specs.Outcome.{status_by};
-ghost use Rattle.culling.specs.Runs.{AwaitsNote, Comes, streams};
+ghost use Rattle.frame_reports.specs.Failures.{status_by};
+ghost use Rattle.frame_reports.specs.Leaves.{AwaitsNote};
+ghost use Rattle.culling.specs.Runs.{Comes, streams};
+ghost use Rattle.culling.specs.Summary.{demo_line};
 
-use crate::drawing::Plan;
-use crate::failure::Failure;
-use crate::frame_by_frame::report_frames;
-use crate::frames::{Beside, FrameLines};
-use crate::summary::write_demo_line;
 use command_words::{Command, DemoWords};
-use cull_base::Sink;
-use demo_scene::demo_scene;
+use cull_base::{Sink, SinkError};
+use demo_scene::{BOXES, FRAMES, demo_scene};
+use frame_reports::{Beside, Failure, FrameLines, Plan, report_frames};
 use std::alloc::Global;
 use std::sync::Wait;
 use std::thread::Threads;
+use text_lines::Line;
 use tile_queues::Gate;
+
+#[tactic(auto, unfolding(crate::specs::Summary::demo_line))]
+fn demo_line(seed: u32, triangles: u32) -> Line
+    ensures { result ≡ demo_line seed triangles }
+{
+    let mut line = Line::begin(b"demo");
+    line.word(b"seed");
+    line.number(u64::from(seed));
+    line.word(b"triangles");
+    line.number(u64::from(triangles));
+    line.word(b"boxes");
+    line.number(u64::from(BOXES));
+    line.word(b"frames");
+    line.number(u64::from(FRAMES));
+    line.end();
+    line
+}
+
+// Writes the summary's first line. Failed and Memory are the sink's; after an error a beginning of the line that isn't
+// the whole was appended.
+fn write_demo_line<W: Sink>(sink: &mut W, seed: u32, triangles: u32) -> Result<(), SinkError>
+    ensures { Writes (W.says sink.old) (W.says sink.new) result (demo_line seed triangles) }
+{
+    demo_line(seed, triangles).write_to(sink)
+}
 
 /// Makes the scene of a seed, draws it and writes its summary; nothing is noted.
 pub fn demo<R: Threads + Wait + Sync, W: Sink, E: Sink, G: Gate>(

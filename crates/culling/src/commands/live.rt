@@ -1,15 +1,14 @@
 //! Culling a scene with looks at its first objects while its frames are drawn.
 ghost use Rattle.std.specs.Prelude.{◌≡◌};
 ghost use Rattle.command_words.specs.Words.{IsWithinLimits};
-ghost use Rattle.culling.specs.Outcome.{status_by};
-ghost use Rattle.culling.specs.Runs.{AwaitsNote, Comes, streams};
+ghost use Rattle.frame_reports.specs.Failures.{status_by};
+ghost use Rattle.frame_reports.specs.Leaves.{AwaitsNote};
+ghost use Rattle.culling.specs.Runs.{Comes, streams};
 
 use crate::commands::cull::report_scene;
-use crate::drawing::Plan;
-use crate::failure::Failure;
-use crate::frames::{Beside, FrameLines};
 use command_words::{Command, LiveWords};
 use cull_base::{Sink, Source};
+use frame_reports::{Beside, Failure, FrameLines, Plan};
 use scene_reader::read_scene;
 use std::alloc::Global;
 use std::sync::Wait;

@@ -2,19 +2,19 @@
 ghost use Rattle.std.specs.Prelude.{◌≡◌, ◌<◌, length};
 ghost use Rattle.cull_base.specs.Stream.{SinkSays};
 ghost use Rattle.command_words.specs.Words.{AreInRange, IsWithinLimits};
-ghost use Rattle.culling.specs.FrameRuns.{LeavesTexts};
-ghost use Rattle.culling.specs.Outcome.{status_by};
-ghost use Rattle.culling.specs.Outcomes.{text_alone};
+ghost use Rattle.frame_reports.specs.FrameRuns.{LeavesTexts};
+ghost use Rattle.frame_reports.specs.Failures.{status_by};
+ghost use Rattle.frame_reports.specs.OutcomeOf.{text_alone};
 ghost use Rattle.culling.specs.Picture.{frame_picture};
-ghost use Rattle.culling.specs.Runs.{AwaitsNote, Comes, streams};
+ghost use Rattle.frame_reports.specs.Leaves.{AwaitsNote};
+ghost use Rattle.culling.specs.Runs.{Comes, streams};
 
-use crate::failure::Failure;
-use crate::frames::drawn_pieces;
 use binning::batch_size;
 use command_words::{Command, PictureWords, Settings};
 use cull_base::{ClipVertex, Sink, Source};
 use cull_report::clip_frame;
 use depth_image::write_picture;
+use frame_reports::{Failure, drawn_pieces};
 use scene_reader::{Scene, read_scene};
 use std::alloc::Global;
 use std::sync::Wait;

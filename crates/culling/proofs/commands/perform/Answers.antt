@@ -1,7 +1,8 @@
 use Rattle.std.proofs.Common.{◌≡◌, subst, sym}
 use Rattle.command_words.specs.declared.table.Command.{Command}
-use Rattle.culling.specs.Outcome.{status_by}
-use Rattle.culling.specs.Runs.{AwaitsNote, Comes, streams}
+use Rattle.frame_reports.specs.Failures.{status_by}
+use Rattle.frame_reports.specs.Leaves.{AwaitsNote}
+use Rattle.culling.specs.Runs.{Comes, streams}
 use Rattle.culling.proofs.commands.perform.Goals as goal
 
 pub returns-in-Demo-clause-outcome : goal.returns-in-Demo-clause-outcome

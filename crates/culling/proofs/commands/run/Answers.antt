@@ -1,6 +1,6 @@
 use Rattle.std.proofs.Common.{◌≡◌, map, string_bytes, refl, inl, inr}
-use Rattle.culling.specs.declared.failure.Status.TheVariants as statuses
-use Rattle.culling.specs.Notes.{IsNotedBehind}
+use Rattle.frame_reports.specs.declared.failure.Status.TheVariants as statuses
+use Rattle.frame_reports.specs.Notes.{IsNotedBehind}
 use Rattle.culling.specs.Outcomes.{IsTrue}
 use Rattle.culling.specs.Runs.{Comes, streams}
 use Rattle.culling.proofs.Comings.{asked_all, asked_by, comes_done, comes_noted, failed_as, refused_comes, refused_complete, refused_is, refused_noted, truth}

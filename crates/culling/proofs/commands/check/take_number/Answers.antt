@@ -3,7 +3,7 @@ use Rattle.std.specs.Int.{from_le_bytes}
 use Rattle.std.proofs.lemmas.List.{length-take, take_all}
 use Rattle.cull_base.specs.Stream.{Takes}
 use Rattle.scene_reader.specs.declared.error.SceneError.TheVariants.{Truncated}
-use Rattle.culling.specs.declared.failure.Failure.TheVariants.{Scene}
+use Rattle.frame_reports.specs.declared.failure.Failure.TheVariants.{Scene}
 use Rattle.culling.proofs.Checking.{lowest_first}
 use Rattle.culling.proofs.commands.check.take_number.Goals as goal
 

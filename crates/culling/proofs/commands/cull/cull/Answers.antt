@@ -3,9 +3,9 @@ use Rattle.std.specs.Prelude.{IfSome}
 use Rattle.std.proofs.lemmas.Result.{err_from_is_err_and}
 use Rattle.command_words.specs.declared.table.Command.TheVariants.{Cull}
 use Rattle.cull_report.specs.Scene.{scene_header}
-use Rattle.culling.specs.FrameRuns.{LeavesFrames}
-use Rattle.culling.specs.declared.frames.Beside.{Beside}
-use Rattle.culling.specs.declared.frames.FrameLines.TheVariants.{Report}
+use Rattle.frame_reports.specs.FrameRuns.{LeavesFrames}
+use Rattle.frame_reports.specs.declared.frames.Beside.{Beside}
+use Rattle.frame_reports.specs.declared.frames.FrameLines.TheVariants.{Report}
 use Rattle.culling.proofs.Comings.{cull_comes, read_failed}
 use Rattle.culling.proofs.commands.cull.cull.Goals as goal
 

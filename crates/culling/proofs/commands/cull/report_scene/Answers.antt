@@ -3,7 +3,7 @@ use Rattle.std.proofs.lemmas.List.{append-nil}
 use Rattle.std.proofs.lemmas.Result.{err_from_is_err_and}
 use Rattle.cull_base.specs.Stream.{Appends}
 use Rattle.cull_report.specs.Scene.{scene_header}
-use Rattle.culling.proofs.FrameByFrame.{head_unwritten, wrote_head, wrote_then}
+use Rattle.frame_reports.proofs.FrameByFrame.{head_unwritten, wrote_head, wrote_then}
 use Rattle.culling.proofs.commands.cull.report_scene.Goals as goal
 
 pub returns-in_err-write_header-clause-reported : goal.returns-in_err-write_header-clause-reported

@@ -3,13 +3,13 @@ use Rattle.std.proofs.lemmas.List.{append-nil}
 use Rattle.std.proofs.lemmas.Result.{err_from_is_err_and}
 use Rattle.cull_base.specs.Stream.{Appends}
 use Rattle.demo_scene.specs.Demo.{demo_of}
-use Rattle.culling.specs.Outcome.{sink_failure}
+use Rattle.frame_reports.specs.Failures.{sink_failure}
 use Rattle.culling.specs.Summary.{demo_line}
-use Rattle.culling.specs.declared.failure.Failure.TheVariants as failures
-use Rattle.culling.specs.declared.frames.Beside.TheVariants.{Nothing}
-use Rattle.culling.specs.declared.frames.FrameLines.TheVariants.{Summary}
+use Rattle.frame_reports.specs.declared.failure.Failure.TheVariants as failures
+use Rattle.frame_reports.specs.declared.frames.Beside.TheVariants.{Nothing}
+use Rattle.frame_reports.specs.declared.frames.FrameLines.TheVariants.{Summary}
 use Rattle.culling.proofs.Comings.{demo_comes}
-use Rattle.culling.proofs.FrameByFrame.{frames_no_memory, head_unwritten, wrote_head, wrote_then}
+use Rattle.frame_reports.proofs.FrameByFrame.{frames_no_memory, head_unwritten, wrote_head, wrote_then}
 use Rattle.culling.proofs.commands.demo.demo.Goals as goal
 
 pub returns-in_err-scene : goal.returns-in_err-scene

@@ -13,10 +13,11 @@ use Rattle.bin_tiles.specs.Plain.{StandsPlain}
 use Rattle.depth_image.specs.Picture.{AreUpTo}
 use Rattle.cull_report.specs.Scene.{frame_list, size_of}
 use Rattle.culling.specs.Picture.{frame_picture}
-use Rattle.culling.specs.declared.failure.Failure.TheVariants.{Memory}
+use Rattle.frame_reports.specs.declared.failure.Failure.TheVariants.{Memory}
 use Rattle.culling.proofs.Comings.{text_unwritten, text_written}
-use Rattle.culling.proofs.FrameTexts.{no_memory, out_of_memory}
-use Rattle.culling.proofs.Shown.{text_shows, tiles_within, took_drawn}
+use Rattle.frame_reports.proofs.FrameTexts.{no_memory, out_of_memory}
+use Rattle.frame_reports.proofs.DrawnPieces.{took_drawn}
+use Rattle.culling.proofs.Shown.{text_shows, tiles_within}
 use Rattle.culling.proofs.commands.picture.show_frame.Goals as goal
 
 pub returns-in_err-room : goal.returns-in_err-room

@@ -1,0 +1,13 @@
+pub mod ClosedCells
+pub mod LiveLooks
+pub mod Marks
+pub mod LiveTexts
+pub mod ScenePieces
+pub mod DrawnPieces
+pub mod SlotFacts
+pub mod Rounds
+pub mod Fronts
+pub mod GroupLines
+pub mod FrameTexts
+pub mod FrameByFrame
+pub mod WindowBeside

@@ -1,0 +1,12 @@
+pub mod SummaryLine
+pub mod DrawnPieces
+pub mod DrawnFrames
+pub mod LiveFrames
+pub mod Frames
+pub mod Windows
+pub mod Failures
+pub mod Notes
+pub mod NotedLines
+pub mod OutcomeOf
+pub mod Leaves
+pub mod FrameRuns
