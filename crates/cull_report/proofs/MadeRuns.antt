@@ -1,11 +1,11 @@
--- Runs of verdicts: how one is made, those that wait or are made, and runs one after the other.
+-- Runs of verdicts: how one is made, and runs one after the other.
 use Rattle.std.proofs.Common.{◌≡◌, ℕ, ◌+◌, ◌-◌, ◌*◌, ◌<◌, ◌≤◌, min, List, [], ◌∷◌, ◌++◌, map, length, take, drop, get_or, arith, refl, sym, ap, subst, ◌∙◌}
 use Rattle.std.proofs.Math.Seq.{take-add}
 use Rattle.std.proofs.lemmas.List.{take_all, take_min, take_more, length-append, length-drop, length-map, length-take, get_or-drop, get_or-map}
 use Rattle.std.proofs.lemmas.Nat.{mul-le}
 use Rattle.cull_base.specs.declared.scene_types.Object.{Object}
 use Rattle.cull_base.specs.declared.scene_types.Verdict.{Verdict}
-use Rattle.cull_report.specs.Runs.{AreRunsOf, AreToldRuns, IsMadeRun, IsRunOf, IsToldRun, IsWaitingRun, run_of, run_place}
+use Rattle.cull_report.specs.Runs.{AreRunsOf, AreToldRuns, IsMadeRun, IsToldRun, run_of, run_place}
 use Rattle.cull_report.specs.Tallies.{Adds, IsFew}
 use Rattle.cull_report.specs.Text.{verdict_lines}
 use Rattle.cull_report.specs.declared.runs.Run.{Run}
@@ -43,32 +43,6 @@ pub run_length : (old all more : List Verdict) (first count : ℕ) → more ≡ 
 run_length old all more first count is =
     let n = ap length is in
     omega (arith, n, length-append old (take count (drop first all)), length-take count (drop first all))
-
--- ---- runs that wait or are made
-
--- a run that waits
-pub waiting_is_run : (all : List Verdict) (told : ℕ → Tally) (size number : ℕ) (r : Run) → size * number < length all → r.number ≡ number → IsWaitingRun all size r → IsRunOf all told size number r
-waiting_is_run all told size number r some is waits = record {
-  number_is = is;
-  some = some;
-  waits = λ none. waits;
-  made = λ no. absurd (no waits.no_verdicts);
-  counted = λ no. absurd (no waits.no_verdicts);
-}
-
--- a run that is made has a verdict
-pub made_is_run : (all : List Verdict) (told : ℕ → Tally) (size number : ℕ) (r : Run) → 0 < size → size * number < length all → r.number ≡ number → IsMadeRun all size number r → IsToldRun (length all) told size number r
-    → IsRunOf all told size number r
-made_is_run all told size number r sized some is made counted = record {
-  number_is = is;
-  some = some;
-  waits = λ none.
-      let rest = drop (size * number) all in
-      let empty = ap length (sym made.verdicts_are ∙ none) in
-      absurd (omega (arith, empty, length-take size rest, length-drop (size * number) all, sized, some));
-  made = λ no. made;
-  counted = λ no. counted;
-}
 
 -- ---- runs one after the other
 

@@ -1,5 +1,6 @@
 -- Runs of a frame's objects, so many each, with their verdicts and lines, and what is counted of them.
 use Rattle.std.specs.Prelude.{ℕ, ◌≡◌, ◌*◌, ◌+◌, ◌<◌, ◌≤◌, min, List, [], length, take, drop, vec_capacity, slice_index_or}
+use Rattle.std.proofs.Props.{props}
 use Rattle.cull_base.specs.declared.scene_types.Verdict.{Verdict}
 use Rattle.cull_report.specs.Tallies.{Adds}
 use Rattle.cull_report.specs.Text.{verdict_lines}
@@ -19,9 +20,8 @@ run_of all size number = take size (drop (size * number) all)
 abbrev pub run_place : ℕ → ℕ → ℕ → ℕ
 run_place objects size number = min (size * number) objects
 
--- a run that waits: it has an object, and room for the verdicts and the lines of so many
-pub record IsWaitingRun (all : List Verdict) (size : ℕ) (r : Run) : Type 0 where
-  pub some : size * r.number < length all
+-- a run that waits: it has room for the verdicts and the lines of so many objects
+pub record IsWaitingRun (size : ℕ) (r : Run) : Type 0 where
   pub no_verdicts : r.verdicts.items ≡ []
   pub no_lines : r.lines.items ≡ []
   pub verdict_room : size ≤ vec_capacity r.verdicts
@@ -36,13 +36,19 @@ pub record IsMadeRun (all : List Verdict) (size number : ℕ) (r : Run) : Type 0
 abbrev pub IsToldRun : ℕ → (ℕ → Tally) → ℕ → ℕ → Run → Type 0
 IsToldRun objects told size number r = Adds (told (run_place objects size number)) r.tally (told (run_place objects size (number + 1)))
 
--- a run of a number, which waits or is made
-pub record IsRunOf (all : List Verdict) (told : ℕ → Tally) (size number : ℕ) (r : Run) : Type 0 where
-  pub number_is : r.number ≡ number
-  pub some : size * number < length all
-  pub waits : r.verdicts.items ≡ [] → IsWaitingRun all size r
-  pub made : (r.verdicts.items ≡ [] → ⊥) → IsMadeRun all size number r
-  pub counted : (r.verdicts.items ≡ [] → ⊥) → IsToldRun (length all) told size number r
+-- the run of a number waits, and it has an object
+abbrev pub Waits : ℕ → ℕ → ℕ → Run → Type 0
+Waits objects size number r = (size * number < objects) × IsWaitingRun size r
+
+pub Waits-prop : (objects size number : ℕ) (r : Run) → IsProp (Waits objects size number r)
+Waits-prop objects size number r = hlevel props
+
+-- or it is made
+abbrev pub IsWhole : List Verdict → (ℕ → Tally) → ℕ → ℕ → Run → Type 0
+IsWhole all told size number r = IsMadeRun all size number r × IsToldRun (length all) told size number r
+
+pub IsWhole-prop : (all : List Verdict) (told : ℕ → Tally) (size number : ℕ) (r : Run) → IsProp (IsWhole all told size number r)
+IsWhole-prop all told size number r = hlevel props
 
 -- so many runs have all objects, and each has one
 pub record AreRunsFor (objects size count : ℕ) : Type 0 where

@@ -1,8 +1,6 @@
 //! Runs of a frame's objects, each with its verdicts, their lines and what is counted of it.
-ghost use Rattle.std.specs.Prelude.{◌≡◌, ℕ, List, ◌+◌, ◌*◌, ◌-◌, ◌/◌, ◌<◌, length, IfOk};
-ghost use Rattle.cull_base.specs.declared.scene_types.Verdict.{Verdict};
-ghost use Rattle.cull_report.specs.Runs.{AreRunsFor, AreToldRuns, IsMadeRun, IsRunOf, IsRunSize, IsToldRun};
-ghost use Rattle.cull_report.specs.Runs.{IsWaitingRun};
+ghost use Rattle.std.specs.Prelude.{◌+◌, ◌*◌, ◌-◌, ◌/◌, ◌<◌, length, IfOk};
+ghost use Rattle.cull_report.specs.Runs.{AreRunsFor, AreToldRuns, IsMadeRun, IsRunSize, IsToldRun, IsWaitingRun};
 ghost use Rattle.cull_report.specs.Tallies.{Adds};
 
 use crate::answering::Answering;
@@ -15,7 +13,6 @@ use std::alloc::Global;
 /// begins at object size * k.
 #[derive(Drop)]
 pub(crate) struct Run {
-    pub(crate) number: usize,
     pub(crate) verdicts: Vec<Verdict>,
     pub(crate) lines: Vec<u8>,
     pub(crate) tally: Tally,
@@ -49,16 +46,14 @@ pub(crate) fn run_count(objects: u32, size: usize) -> usize
 }
 
 impl Run {
-    /// A run that waits to be made. Err where memory gave out. Condition: it has an object.
-    pub(crate) fn with_room(alloc: Global, size: usize, number: usize) -> Result<Run, Memory>
+    /// A run that waits to be made. Err where memory gave out.
+    pub(crate) fn with_room(alloc: Global, size: usize) -> Result<Run, Memory>
         requires { IsRunSize size }
-        ensures number { IfOk result (λ r. r.number ≡ number) }
-        ensures waits { IfOk result (λ r. (all : List Verdict) → size * number < length all → IsWaitingRun all size r) }
+        ensures { IfOk result (IsWaitingRun size) }
     {
         let verdicts = Vec::with_capacity(alloc, size).map_err(|_| Memory)?;
         let lines = Vec::with_capacity(alloc, LINE * size).map_err(|_| Memory)?;
         Ok(Run {
-            number,
             verdicts,
             lines,
             tally: Tally {
@@ -68,35 +63,23 @@ impl Run {
         })
     }
 
-    // Makes a run that waits: the verdicts of its objects, their lines, and what is counted of them.
-    fn make<A: Answering>(&mut self, size: usize, asked: &A)
+    /// Makes a run that waits: the verdicts of its objects, their lines, and what is counted of them. Condition: it has
+    /// an object.
+    pub(crate) fn make<A: Answering>(&mut self, size: usize, number: usize, asked: &A)
         requires size { IsRunSize size }
-        requires waits { IsWaitingRun (A.all asked.now) size self.old }
-        ensures number { self.new.number ≡ self.old.number }
-        ensures made { IsMadeRun (A.all asked.now) size self.old.number self.new }
-        ensures counted { IsToldRun (length (A.all asked.now)) (A.told asked.now) size self.old.number self.new }
+        requires some { size * number < length (A.all asked.now) }
+        requires waits { IsWaitingRun size self.old }
+        ensures made { IsMadeRun (A.all asked.now) size number self.new }
+        ensures counted { IsToldRun (length (A.all asked.now)) (A.told asked.now) size number self.new }
     {
         let objects = asked.count();
-        let first = size * self.number;
+        let first = size * number;
         let count = size.min(objects as usize - first);
         self.tally = asked.answer(first as u32, count as u32, &mut self.verdicts);
         let lines = lines_from(first, self.verdicts.as_slice());
         let Ok(()) = self.lines.extend_from_slice(lines.as_slice()) else {
             unreachable!()
         };
-    }
-
-    /// Makes a run that isn't made yet.
-    pub(crate) fn make_unless_made<A: Answering>(&mut self, size: usize, asked: &A)
-        requires size { IsRunSize size }
-        requires run { IsRunOf (A.all asked.now) (A.told asked.now) size self.old.number self.old }
-        ensures run { IsRunOf (A.all asked.now) (A.told asked.now) size self.old.number self.new }
-        ensures made { IsMadeRun (A.all asked.now) size self.old.number self.new }
-        ensures counted { IsToldRun (length (A.all asked.now)) (A.told asked.now) size self.old.number self.new }
-    {
-        if self.verdicts.is_empty() {
-            self.make(size, asked);
-        }
     }
 }
 

@@ -35,6 +35,13 @@ first_pushed holds seats o are new = record {
       ];
 }
 
+-- and so a new task in the seat after them
+pub first_more : {X : Type 0} (holds : ℕ → X → Type 0) (seats after : List (Option (Loan X))) (n : ℕ) (l : Loan X) (x : X) → after ≡ seats ++ Some l ∷ [] → length seats ≡ n → AreFirst holds seats
+    → l.seat ≡ n → l.seal.parts ≡ 1 → l.task ≡ x → holds n x → AreFirst holds after
+first_more {X} holds seats after n l x is count are seat seal task at =
+    let begins : BeginsWith holds n (Some l) = record { seat_is = seat; seal_parts = seal; at = subst (holds n) (sym task) at } in
+    subst (λ (xs : List (Option (Loan X))). AreFirst holds xs) (sym is) (first_pushed holds seats (Some l) are (subst (λ m. BeginsWith holds m (Some l)) (sym count) begins))
+
 seal_at : {X : Type 0} (seats : List (Option (Loan X))) (i : ℕ) (d : Option (Loan X)) → i < length seats → seal_of (get_or seats i d) ≡ slice_index (seals_of seats) i
 seal_at [] i d lt = absurd (omega arith)
 seal_at (x ∷ xs) zero d lt = refl
