@@ -212,8 +212,8 @@ pub fn make_each<
     requires { (k : ℕ) → k < count → M.has maker.now k }
     ensures { IfOk result (λ v. AreAllMade (M.made maker.now) count v.items) }
 {
-    let slots = first_things(alloc, maker, count)?;
+    let waiting = first_things(alloc, maker, count)?;
     let blank = Blank::new(u64::from(threads) + 1);
-    let slots = make_under::<Brand, W, T, R, M>(rt, alloc, blank, slots, maker, threads)?;
-    all_made(alloc, maker, slots)
+    let done = make_under::<Brand, W, T, R, M>(rt, alloc, blank, waiting, maker, threads)?;
+    all_made(alloc, maker, done)
 }
