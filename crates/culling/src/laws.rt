@@ -8,9 +8,9 @@ ghost use Rattle.culling.specs.Promises.{SceneIsRefused, UpgradeIsComplete, Upgr
 
 /// A run that is done wrote all that its command writes of its input: of `cull` the report, and of groups the line of
 /// each frame; of `live` the report and a live text, by counts that rise; the summary of `demo`, the upgraded scene,
-/// the picture of a frame. What is called occluded is hidden, and what a picture shows is drawn; other commands note
-/// nothing. `check` accepts only a log that `live` may have noted, and refuses only another, with the number of its
-/// good lines.
+/// the picture of a frame. What is called occluded is hidden, and what a picture shows is drawn. But for the lines of
+/// `live` and of groups nothing is noted. `check` accepts only a log that `live` may have noted, and refuses only
+/// another, with the number of its good lines.
 pub fn done_is_whole()
     ensures cull { CullIsWhole }
     ensures live { LiveIsWhole }
