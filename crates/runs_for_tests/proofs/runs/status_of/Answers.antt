@@ -1,0 +1,12 @@
+use Rattle.std.proofs.Common.{◌≡◌, map, string_bytes, ap}
+use Rattle.culling.specs.Runs.{streams}
+use Rattle.culling.proofs.Endings.{asked_ran}
+use Rattle.runs_for_tests.proofs.runs.status_of.Goals as goal
+
+pub returns : goal.returns
+returns g c =
+    let before = streams (g.S.Source.says c.args.input.now) (g.W.Sink.says c.args.report.now) (g.E.Sink.says c.args.notes.now) in
+    let after = streams (g.S.Source.says c.run.new.input) (g.W.Sink.says c.run.new.report) (g.E.Sink.says c.run.new.notes) in
+    let P : Type 0 = c.run.new.report ≡ c.args.report.now in
+    let Q : Type 0 = c.run.new.notes ≡ c.args.notes.now in
+    record { ran = asked_ran (map string_bytes c.args.words.now) c.run.result before after P Q (ap g.W.Sink.says) (ap g.E.Sink.says) c.run.ensures.outcome }
