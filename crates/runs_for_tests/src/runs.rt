@@ -61,7 +61,7 @@ fn text_of(alloc: Global, bytes: &[u8]) -> Result<String, Fail> {
     }
 }
 
-/// How a command ends, by the words of its command line: as the laws of `culling` tell, which begin with this clause.
+/// How a command ends, by the words of its command line: its clause is where the laws of `culling` begin.
 pub fn status_of<R: Threads + Wait + Sync, S: Source, W: Sink, E: Sink, G: Gate>(
     rt: &R,
     alloc: Global,
