@@ -7,6 +7,7 @@ pub returns : goal.returns
 returns g c =
     let before = streams (g.S.Source.says c.args.input.now) (g.W.Sink.says c.args.report.now) (g.E.Sink.says c.args.notes.now) in
     let after = streams (g.S.Source.says c.run.new.input) (g.W.Sink.says c.run.new.report) (g.E.Sink.says c.run.new.notes) in
-    let P : Type 0 = c.run.new.report ≡ c.args.report.now in
-    let Q : Type 0 = c.run.new.notes ≡ c.args.notes.now in
-    record { ran = asked_ran (map string_bytes c.args.words.now) c.run.result before after P Q (ap g.W.Sink.says) (ap g.E.Sink.says) c.run.ensures.outcome }
+    record {
+      ran = asked_ran (map string_bytes c.args.words.now) c.run.result before after (c.run.new.report ≡ c.args.report.now) (c.run.new.notes ≡ c.args.notes.now)
+          (λ same. ap g.W.Sink.says same) (λ same. ap g.E.Sink.says same) c.run.ensures.outcome;
+    }
