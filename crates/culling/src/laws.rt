@@ -21,10 +21,10 @@ pub fn done_is_whole()
     ensures refused { CheckRefuses }
 {}
 
-/// An input with a first fault ends as that, unless it failed or memory ran out, and no other does. A scene ends as
-/// done where memory lasts and no count of faults rises of a stream that its command reads or writes: of `picture` one
-/// that has the frame, else it ends as Frame, and only then; of `check` one with a log that is accepted, else it ends
-/// as Log.
+/// An input with a first fault ends as that, unless it failed or memory ran out, and no other does. A read fault has
+/// its cause. A scene ends as done where memory lasts and no count of faults rises of a stream that its command reads
+/// or writes: of `picture` one that has the frame, else it ends as Frame, and only then; of `check` one with a log that
+/// is accepted, else it ends as Log.
 pub fn runs_end_by_their_input()
     ensures refused { FaultsAreTold }
     ensures scene { SceneIsRefused }
