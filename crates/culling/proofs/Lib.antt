@@ -4,3 +4,5 @@ pub mod Checking
 pub mod Comings
 pub mod Corollaries
 pub mod Stopped
+pub mod ByInput
+pub mod Endings

@@ -8,8 +8,10 @@ use Rattle.std.proofs.lemmas.List.FromFn.{get_or-map-range_with_len, length-map-
 use Rattle.std.proofs.Math.Seq.{take-append-add}
 use Rattle.cull_base.specs.Stream.{SinkSays, SourceSays, Appends, Rose}
 use Rattle.scene_reader.specs.Layout.{Parts, IsScene}
+use Rattle.cull_report.specs.Hiding.{HidesTruly}
 use Rattle.cull_report.specs.Live.{Counts, HidesLive, IsRising, frame_live, live_text}
 use Rattle.cull_report.specs.Scene.{frame_report, frames_text, report_text, scene_header}
+use Rattle.cull_report.proofs.Occluders.{hides_truly}
 use Rattle.group_query.specs.Text.{frame_groups}
 use Rattle.live_check.specs.declared.answer.LogAnswer.{LogAnswer}
 use Rattle.live_check.specs.declared.answer.LogAnswer.TheVariants.{Accepted, Refused}
@@ -20,11 +22,11 @@ use Rattle.command_words.specs.declared.table.CullWords.{CullWords}
 use Rattle.command_words.specs.declared.table.DemoWords.{DemoWords}
 use Rattle.command_words.specs.declared.table.LiveWords.{LiveWords}
 use Rattle.frame_reports.specs.Notes.{IsNotedBehind, status_text}
-use Rattle.frame_reports.specs.OutcomeOf.{OutcomeOf, joined, report_before, report_of}
 use Rattle.culling.specs.Outcomes.{Ends, EndsByScene, HasScene, Makes, answer_status, group_frames, group_notes, live_frames, pictured, report_and, work_of}
-use Rattle.culling.specs.Promises.{LeavesFronts, LeavesNote, Ran, StopsAtNotes}
-use Rattle.frame_reports.specs.Leaves.{IsCut, LeavesFront}
+use Rattle.frame_reports.specs.OutcomeOf.{OutcomeOf, joined, report_before, report_of}
+use Rattle.culling.specs.Promises.{LeavesFronts, LeavesMemory, Ran, StopsAtNotes}
 use Rattle.culling.specs.Runs.{Comes, Streams}
+use Rattle.frame_reports.specs.Leaves.{IsCut, LeavesFront}
 use Rattle.culling.specs.Summary.{summary_text}
 use Rattle.frame_reports.specs.declared.failure.Status.{Status}
 use Rattle.frame_reports.specs.declared.failure.Status.TheVariants as statuses
@@ -32,7 +34,7 @@ use Rattle.culling.proofs.Comings.{pictured_missing, pictured_there}
 use Rattle.frame_reports.proofs.FrameTexts.{joined-append, report_add}
 use Rattle.frame_reports.proofs.Fronts.{front_of_more}
 use Rattle.culling.proofs.OutcomeTexts.{group_notes_are, joined_is, live_is, report_is}
-use Rattle.frame_reports.proofs.ScenePieces.{lines_hide}
+use Rattle.frame_reports.proofs.ScenePieces.{all_are_pieces, lines_hide}
 
 -- ---- beginnings of texts
 
@@ -74,19 +76,19 @@ fronts_left o status before after w =
 
 -- ---- no outcome has the status of a cut
 
-done_uncut : IsCut statuses.Done → ⊥
+pub done_uncut : IsCut statuses.Done → ⊥
 done_uncut cut = elim cut [ inl a ↦ absurd cc | inr rest ↦ elim rest [ inl b ↦ absurd cc | inr c ↦ absurd cc ] ]
 
-scene_uncut : IsCut statuses.Scene → ⊥
+pub scene_uncut : IsCut statuses.Scene → ⊥
 scene_uncut cut = elim cut [ inl a ↦ absurd cc | inr rest ↦ elim rest [ inl b ↦ absurd cc | inr c ↦ absurd cc ] ]
 
-unread_uncut : IsCut statuses.ReadFault → ⊥
+pub unread_uncut : IsCut statuses.ReadFault → ⊥
 unread_uncut cut = elim cut [ inl a ↦ absurd cc | inr rest ↦ elim rest [ inl b ↦ absurd cc | inr c ↦ absurd cc ] ]
 
-log_uncut : IsCut statuses.Log → ⊥
+pub log_uncut : IsCut statuses.Log → ⊥
 log_uncut cut = elim cut [ inl a ↦ absurd cc | inr rest ↦ elim rest [ inl b ↦ absurd cc | inr c ↦ absurd cc ] ]
 
-missing_uncut : IsCut statuses.Frame → ⊥
+pub missing_uncut : IsCut statuses.Frame → ⊥
 missing_uncut cut = elim cut [ inl a ↦ absurd cc | inr rest ↦ elim rest [ inl b ↦ absurd cc | inr c ↦ absurd cc ] ]
 
 -- by an equation of outcomes
@@ -148,6 +150,12 @@ pub cut_report : (c : Command) (before after : Streams) → Ran c statuses.Repor
 cut_report c before after h =
     let cause = h.causes.report refl in (h.outcome, h.ends, cause.0, cause.1, fronts_of c statuses.ReportFault before after _ _ h (inl refl))
 
+pub cut_notes : (c : Command) (before after : Streams) → Ran c statuses.NotesFault before after
+    → (o : OutcomeOf) × Ends c before.input o × (o.notes ≡ [] → ⊥) × Rose before.notes.faults after.notes.faults
+    × LeavesFronts statuses.NotesFault before after (report_of o) (joined o.notes)
+cut_notes c before after h =
+    let cause = h.causes.notes refl in (h.outcome, h.ends, cause.0, cause.1, fronts_of c statuses.NotesFault before after _ _ h (inr (inl refl)))
+
 -- ---- of a scene's report, or no text at all
 
 -- an outcome without texts: memory ran out, and its note stands alone
@@ -155,16 +163,20 @@ take_none : (k : ℕ) (t : List ℕ) → t ≡ [] → take k t ≡ []
 take_none zero t is = refl
 take_none (suc k) t is = ap (take (suc k)) is
 
-note_left : (c : Command) (status : Status) (before after : Streams) (h : Ran c status before after) → IsCut status → report_of h.outcome ≡ [] → h.outcome.notes ≡ [] → LeavesNote status before after
+pub note_left : (c : Command) (status : Status) (before after : Streams) (h : Ran c status before after) → IsCut status → report_of h.outcome ≡ [] → h.outcome.notes ≡ []
+    → LeavesMemory status before after
 note_left c status before after h cut no_report no_notes =
     let f = fronts_of c status before after _ _ h cut in
+    let memory : status ≡ statuses.Memory = elim cut [
+      | inl report ↦ absurd ((h.causes.report report).0 no_report)
+      | inr rest ↦ elim rest [ inl notes ↦ absurd ((h.causes.notes notes).0 no_notes) | inr memory ↦ memory ]
+    ] in
+    let noted : IsNotedBehind before.notes after.notes [] (status_text status) =
+    subst (λ (t : List ℕ). IsNotedBehind before.notes after.notes t (status_text status)) (take_none f.size (joined h.outcome.notes) (ap joined no_notes)) f.noted in
     record {
-      memory = elim cut [
-        | inl report ↦ absurd ((h.causes.report report).0 no_report)
-        | inr rest ↦ elim rest [ inl notes ↦ absurd ((h.causes.notes notes).0 no_notes) | inr memory ↦ memory ]
-      ];
+      is_told = memory;
       report = h.untouched no_report;
-      noted = subst (λ (t : List ℕ). IsNotedBehind before.notes after.notes t (status_text status)) (take_none f.size (joined h.outcome.notes) (ap joined no_notes)) f.noted;
+      noted = subst (λ (x : Status). IsNotedBehind before.notes after.notes [] (status_text x)) memory noted;
     }
 
 -- what is left of an outcome is left of another with the same texts
@@ -175,7 +187,7 @@ fronts_as status before after report report' notes notes' same same' f =
 
 -- by what the input says: a scene, or no text
 cut_by_scene : (c : Command) (status : Status) (before after : Streams) (h : Ran c status before after) (made : Parts → Type 0) → IsCut status → EndsByScene c before.input h.outcome made
-    → ((s : Parts) × HasScene c before.input s × made s) ⊎ LeavesNote status before after
+    → ((s : Parts) × HasScene c before.input s × made s) ⊎ LeavesMemory status before after
 cut_by_scene c status before after h made cut ends = elim ends [
   | inl scene ↦ inl scene
   | inr rest ↦ elim rest [
@@ -187,7 +199,8 @@ cut_by_scene c status before after h made cut ends = elim ends [
 ]
 
 pub cut_cull : (words : CullWords) (status : Status) (before after : Streams) → IsCut status → Ran (Cull words) status before after
-    → ((s : Parts) × HasScene (Cull words) before.input s × LeavesFronts status before after (report_text s) (group_notes s words.group)) ⊎ LeavesNote status before after
+    → ((s : Parts) × HasScene (Cull words) before.input s × HidesTruly s × LeavesFronts status before after (report_text s) (group_notes s words.group))
+    ⊎ LeavesMemory status before after
 cut_cull words status before after cut h =
     elim (cut_by_scene (Cull words) status before after h (Makes (work_of (Cull words)) before.input.left h.outcome) cut h.ends) [
       | inl scene ↦
@@ -197,6 +210,7 @@ cut_cull words status before after cut h =
           inl (
             s,
             has,
+            hides_truly s has.scene (all_are_pieces s has.scene),
             fronts_as status before after (report_of h.outcome) (report_text s) (joined h.outcome.notes) (group_notes s words.group) (ap report_of is ∙ report_is s notes)
                 (ap (λ (o : OutcomeOf). joined o.notes) is ∙ group_notes_are s words.group) (fronts_of (Cull words) status before after _ _ h cut),
           )
@@ -204,10 +218,10 @@ cut_cull words status before after cut h =
     ]
 
 pub cut_live : (words : LiveWords) (status : Status) (before after : Streams) → IsCut status → Ran (Live words) status before after
-    → ((s : Parts) × HasScene (Live words) before.input s
+    → ((s : Parts) × HasScene (Live words) before.input s × HidesTruly s
     × ((counts : Counts) × IsRising s words.rounds words.watch counts × HidesLive s words.rounds words.watch counts
     × LeavesFronts status before after (report_text s) (live_text s words.rounds words.watch counts)))
-    ⊎ LeavesNote status before after
+    ⊎ LeavesMemory status before after
 cut_live words status before after cut h =
     elim (cut_by_scene (Live words) status before after h (Makes (work_of (Live words)) before.input.left h.outcome) cut h.ends) [
       | inl scene ↦
@@ -217,6 +231,7 @@ cut_live words status before after cut h =
           inl (
             s,
             has,
+            hides_truly s has.scene (all_are_pieces s has.scene),
             (
               counts,
               rising,
@@ -284,12 +299,13 @@ stops s lines o before after scene is rose front =
     }
 
 -- it isn't out of memory
-not_memory : (before after : Streams) → LeavesNote statuses.NotesFault before after → ⊥
-not_memory before after note = let bad : statuses.NotesFault ≡ statuses.Memory = note.memory in absurd cc
+not_memory : (before after : Streams) → LeavesMemory statuses.NotesFault before after → ⊥
+not_memory before after note = let bad : statuses.NotesFault ≡ statuses.Memory = note.is_told in absurd cc
 
 pub stopped_live : (words : LiveWords) (before after : Streams) → Ran (Live words) statuses.NotesFault before after
-    → (s : Parts) × HasScene (Live words) before.input s
-    × ((counts : Counts) × IsRising s words.rounds words.watch counts × StopsAtNotes s (λ frame. frame_live s words.rounds words.watch (counts frame) frame) before after)
+    → (s : Parts) × HasScene (Live words) before.input s × HidesTruly s
+    × ((counts : Counts) × IsRising s words.rounds words.watch counts × HidesLive s words.rounds words.watch counts
+    × StopsAtNotes s (λ frame. frame_live s words.rounds words.watch (counts frame) frame) before after)
 stopped_live words before after h =
     let cut : IsCut statuses.NotesFault = inr (inl refl) in
     elim (cut_by_scene (Live words) statuses.NotesFault before after h (Makes (work_of (Live words)) before.input.left h.outcome) cut h.ends) [
@@ -298,9 +314,11 @@ stopped_live words before after h =
           let (counts, rising, is) = makes in (
             s,
             has,
+            hides_truly s has.scene (all_are_pieces s has.scene),
             (
               counts,
               rising,
+              lines_hide s words.rounds words.watch counts has.scene,
               stops s (λ frame. frame_live s words.rounds words.watch (counts frame) frame) h.outcome before after has.scene is (h.causes.notes refl).1
                   (front_of (Live words) statuses.NotesFault before after _ _ h cut),
             ),
@@ -314,7 +332,7 @@ some_groups s None notes is some = absurd (some is)
 some_groups s (Some most) notes is some = (most, refl)
 
 pub stopped_groups : (words : CullWords) (before after : Streams) → Ran (Cull words) statuses.NotesFault before after
-    → (s : Parts) × HasScene (Cull words) before.input s × ((most : ℕ) × (words.group ≡ Some most) × StopsAtNotes s (frame_groups s most) before after)
+    → (s : Parts) × HasScene (Cull words) before.input s × HidesTruly s × ((most : ℕ) × (words.group ≡ Some most) × StopsAtNotes s (frame_groups s most) before after)
 stopped_groups words before after h =
     let cut : IsCut statuses.NotesFault = inr (inl refl) in
     elim (cut_by_scene (Cull words) statuses.NotesFault before after h (Makes (work_of (Cull words)) before.input.left h.outcome) cut h.ends) [
@@ -326,6 +344,7 @@ stopped_groups words before after h =
           let same : h.outcome ≡ report_and s (group_frames s (Some most)) = is ∙ ap (λ (group : Option ℕ). report_and s (group_frames s group)) some in (
             s,
             has,
+            hides_truly s has.scene (all_are_pieces s has.scene),
             (most, some, stops s (frame_groups s most) h.outcome before after has.scene same cause.1 (front_of (Cull words) statuses.NotesFault before after _ _ h cut)),
           )
       | inr note ↦ absurd (not_memory before after note)

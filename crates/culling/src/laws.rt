@@ -1,14 +1,11 @@
 //! What a user has of a run, command by command: it follows from the clause `outcome` of `run`.
-ghost use Rattle.culling.specs.Promises.{CheckAccepts, CheckRefuses, CullIsComplete, CullIsCut, CullIsWhole};
-ghost use Rattle.culling.specs.Promises.{CutsLeaveFronts, DemoIsComplete, DemoIsCut, DemoIsWhole, FaultsAreTold};
-ghost use Rattle.culling.specs.Promises.{GroupsStopAtNotes, LiveIsComplete, LiveIsCut, LiveIsWhole};
-ghost use Rattle.culling.specs.Promises.{LiveStopsAtNotes, PictureIsMissing, PictureIsWhole, ReportFaultsRose};
-ghost use Rattle.culling.specs.Promises.{UpgradeIsWhole};
+ghost use Rattle.culling.specs.Promises.{CheckAccepts, CheckIsComplete, CheckRefuses, CullIsComplete, CullIsCut, CullIsWhole, CutsLeaveFronts, DemoIsComplete, DemoIsCut, DemoIsWhole, FaultsAreTold, FrameIsMissing, GroupsStopAtNotes, LiveIsComplete, LiveIsCut, LiveIsWhole, LiveStopsAtNotes, NotesFaultsRose, PictureIsComplete, PictureIsMissing, PictureIsWhole, ReadFaultsRose, ReportFaultsRose, SceneIsRefused, UpgradeIsComplete, UpgradeIsWhole};
 
 /// A run that is done wrote all that its command writes of its input: of `cull` the report, and of groups the line of
 /// each frame; of `live` the report and a live text, by counts that rise; the summary of `demo`, the upgraded scene,
-/// the picture of a frame. What is called occluded is hidden, and what a picture shows is drawn. `check` accepts only a
-/// log that `live` may have noted, and refuses only another, with the number of its good lines.
+/// the picture of a frame. What is called occluded is hidden, and what a picture shows is drawn. But for the lines of
+/// `live` and of groups nothing is noted. `check` accepts only a log that `live` may have noted, and refuses only
+/// another, with the number of its good lines.
 pub fn done_is_whole()
     ensures cull { CullIsWhole }
     ensures live { LiveIsWhole }
@@ -19,25 +16,34 @@ pub fn done_is_whole()
     ensures refused { CheckRefuses }
 {}
 
-/// A scene that is refused ends as that, unless the input failed or memory ran out; one that isn't ends as done, unless
-/// a count of faults rose or memory ran out, or as the frame that it doesn't have.
+/// An input with a first fault ends as that, unless it failed or memory ran out, and no other does. A read fault has
+/// its cause. A scene ends as done where memory lasts and no count of faults rises of a stream that its command reads
+/// or writes: of `picture` one that has the frame, else it ends as Frame, and only then; of `check` one with a log that
+/// is accepted, else it ends as Log.
 pub fn runs_end_by_their_input()
     ensures refused { FaultsAreTold }
+    ensures scene { SceneIsRefused }
+    ensures unread { ReadFaultsRose }
     ensures cull { CullIsComplete }
     ensures live { LiveIsComplete }
     ensures demo { DemoIsComplete }
+    ensures checked { CheckIsComplete }
+    ensures upgrade { UpgradeIsComplete }
+    ensures picture { PictureIsComplete }
     ensures missing { PictureIsMissing }
+    ensures frame { FrameIsMissing }
 {}
 
 /// Where a sink failed or memory ran out, a beginning of the report stands, and of the notes' lines a beginning, with
-/// the status's note behind it. A report fault has its cause. Where the notes failed, the report stands up to the frame
-/// whose lines are cut.
+/// the status's note behind it. A fault of the report or of the notes has its cause. Where the notes of `live` or of
+/// groups failed, the report stands up to the frame whose lines are cut.
 pub fn cuts_leave_fronts()
     ensures any { CutsLeaveFronts }
     ensures cull { CullIsCut }
     ensures live { LiveIsCut }
     ensures demo { DemoIsCut }
     ensures report { ReportFaultsRose }
+    ensures notes { NotesFaultsRose }
     ensures live_notes { LiveStopsAtNotes }
     ensures group_notes { GroupsStopAtNotes }
 {}

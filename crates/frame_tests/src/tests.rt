@@ -1,2 +1,1 @@
 mod frames;
-mod queues;

@@ -1,5 +1,6 @@
 //! Groups of boxes that follow on one another: where the hull of a group is hidden, those of its members that count are
-//! occluded. None of these is tested by itself if the group is a run's first, or the group before was hidden too.
+//! occluded. None of these is tested by itself if the group is the first of the part that a worker takes, or the group
+//! before was hidden too.
 #![tactic(auto)]
 
 mod around;

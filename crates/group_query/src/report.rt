@@ -100,7 +100,7 @@ pub fn group_verdicts_with_lines<V: TileView>(
 }
 
 /// Each object's verdict in a frame over the view, as `verdicts` gives it, and how many groups are hidden, with how
-/// many members that count. These aren't tested if the group is a run's first, or the group before was hidden too.
+/// many members that count. These aren't tested if the group is the first, or the group before was hidden too.
 /// Condition: the groups are those that `groups` gives of the scene, or others in order.
 pub fn group_verdicts<'a, V: TileView>(
     alloc: Global,

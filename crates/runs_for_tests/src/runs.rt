@@ -1,7 +1,10 @@
 //! Runs of a command over bytes in memory, and what comes of them.
-ghost use Rattle.std.specs.Prelude.{◌≤◌};
+ghost use Rattle.std.specs.Prelude.{◌≤◌, map, string_bytes};
+ghost use Rattle.culling.specs.Outcomes.{IfAsked};
+ghost use Rattle.culling.specs.Promises.{Ran};
+ghost use Rattle.culling.specs.Runs.{streams};
 
-use cull_base::{BytesSink, BytesSource};
+use cull_base::{BytesSink, BytesSource, Sink, Source};
 use culling::{Status, run};
 use std::alloc::{AllocError, Global};
 use std::sync::Wait;
@@ -58,6 +61,23 @@ fn text_of(alloc: Global, bytes: &[u8]) -> Result<String, Fail> {
     }
 }
 
+/// How a command ends, by the words of its command line: its clause is where the laws of `culling` begin.
+pub fn status_of<R: Threads + Wait + Sync, S: Source, W: Sink, E: Sink, G: Gate>(
+    rt: &R,
+    alloc: Global,
+    words: &[String],
+    input: &mut S,
+    report: &mut W,
+    notes: &mut E,
+    gate: &G,
+) -> Status
+    ensures ran { let before = streams (S.says input.old) (W.says report.old) (E.says notes.old) in
+        let after = streams (S.says input.new) (W.says report.new) (E.says notes.new) in
+        IfAsked (map string_bytes words.now) (λ c. Ran c result before after) }
+{
+    run(rt, alloc, words, input, report, notes, gate)
+}
+
 /// How a command line over a source and two sinks ends, with a gate. The sinks hold what was written.
 pub fn status_over<R: Threads + Wait + Sync, G: Gate>(
     rt: &R,
@@ -69,7 +89,9 @@ pub fn status_over<R: Threads + Wait + Sync, G: Gate>(
     gate: &G,
 ) -> Result<Status, Fail> {
     let words = words_of(alloc, line)?;
-    Ok(run(rt, alloc, &words, input, report, notes, gate))
+    Ok(status_of(
+        rt, alloc, &words, input, report, notes, gate,
+    ))
 }
 
 /// What comes of a command line over a source and two sinks, with a gate.

@@ -19,8 +19,8 @@ use steal_pool::{draw_stolen, draw_stolen_plain};
 use tile_cells::{Snapshot, TileCells, TileReader};
 use tile_queues::{BinTable, BinView, Caller, Gate, OpenGate, draw_frame, draw_plain_frame};
 
-/// So many times pieces with boxes of these columns, in sixteenths of a pixel, each time nearer.
-pub fn columns(
+// So many times pieces with boxes of these columns, in sixteenths of a pixel, each time nearer.
+fn columns(
     rt: &HostRuntime,
     width: u16,
     columns: &[[i32; 3]],
@@ -41,8 +41,8 @@ pub fn columns(
     Ok(list)
 }
 
-/// Three pieces with boxes in x from 0 to 10, from 20 to 40 and from 33 to 50.
-pub const THREE: [[i32; 3]; 3] = [[0, 159, 159], [320, 639, 639], [528, 799, 799]];
+// Three pieces with boxes in x from 0 to 10, from 20 to 40 and from 33 to 50.
+const THREE: [[i32; 3]; 3] = [[0, 159, 159], [320, 639, 639], [528, 799, 799]];
 
 fn have_same_states(one: &TileState, other: &TileState) -> bool {
     (0..8).all(|j| one.sub(j).pack() == other.sub(j).pack())

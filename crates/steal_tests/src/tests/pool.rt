@@ -15,8 +15,8 @@ use steal_pool::{
 };
 use tile_queues::{BinTask, OpenGate};
 
-// Three pieces with boxes in x from 0 to 10, from 20 to 40 and from 33 to 50.
-fn three(rt: &HostRuntime) -> Result<FrameList, Fail> {
+/// Three pieces with boxes in x from 0 to 10, from 20 to 40 and from 33 to 50.
+pub fn three(rt: &HostRuntime) -> Result<FrameList, Fail> {
     let size = Size::new(64, 8).ok_or("a size")?;
     let mut list = FrameList::with_room(rt.alloc(), size, 3)?;
     for x in [[0, 159, 159], [320, 639, 639], [528, 799, 799]] {

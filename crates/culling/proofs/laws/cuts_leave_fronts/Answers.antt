@@ -1,4 +1,4 @@
-use Rattle.culling.proofs.Stopped.{cut_any, cut_cull, cut_demo, cut_live, cut_report, stopped_groups, stopped_live}
+use Rattle.culling.proofs.Stopped.{cut_any, cut_cull, cut_demo, cut_live, cut_notes, cut_report, stopped_groups, stopped_live}
 use Rattle.culling.proofs.laws.cuts_leave_fronts.Goals as goal
 
 pub returns-clause-any : goal.returns-clause-any
@@ -15,6 +15,9 @@ returns-clause-demo c = cut_demo
 
 pub returns-clause-report : goal.returns-clause-report
 returns-clause-report c = cut_report
+
+pub returns-clause-notes : goal.returns-clause-notes
+returns-clause-notes c = cut_notes
 
 pub returns-clause-live_notes : goal.returns-clause-live_notes
 returns-clause-live_notes c = stopped_live

@@ -5,7 +5,7 @@ ghost use Rattle.bin_queues.specs.Frames.{over};
 ghost use Rattle.bin_queues.specs.QueueParts.{batches_in};
 ghost use Rattle.bin_queues.specs.Tasks.{IsSubmitterOf};
 
-use crate::tests::frames::{THREE, columns};
+use crate::tests::pool::three;
 use bin_queues::Batched;
 use binning::{BinPart, Cut, batch_size, bin_batch};
 use cull_base::Memory;
@@ -194,7 +194,7 @@ fn drain_both<R: Wait, G: Gate>(
 #[test]
 fn both_bins_are_whole_after_both_batches(rt: HostRuntime) -> Result<(), Fail> {
     let alloc = rt.alloc();
-    let list = columns(&rt, 64, &THREE, 1)?;
+    let list = three(&rt)?;
     let cut = Cut::new(2, 1).ok_or("a cut")?;
     let size = batch_size(list.len(), 2);
     let frame = Batched {

@@ -2,7 +2,7 @@ use Rattle.std.proofs.Common.{◌≡◌, ◌<◌, ◌*◌, ◌+◌, min, length,
 use Rattle.bin_queues.specs.QueueParts.{batches_in}
 use Rattle.binning.proofs.Laws.{batch_begins}
 use Rattle.binning.specs.Parts.{batch_count_of, parts_of}
-use Rattle.frame_tests.proofs.tests.queues.submit_parts.Goals as goal
+use Rattle.steal_tests.proofs.tests.queues.submit_parts.Goals as goal
 
 pub submit-requires-clause-parts : goal.submit-requires-clause-parts
 submit-requires-clause-parts g c =

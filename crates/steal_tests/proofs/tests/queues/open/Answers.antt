@@ -5,7 +5,7 @@ use Rattle.bin_queues.specs.Frames.{over}
 use Rattle.bin_queues.specs.QueueParts.{BatchedFrame}
 use Rattle.tile_queues.proofs.Ending.{fresh_cells}
 use Rattle.tile_queues.proofs.Keeping.{first_are}
-use Rattle.frame_tests.proofs.tests.queues.open.Goals as goal
+use Rattle.steal_tests.proofs.tests.queues.open.Goals as goal
 
 pub returns-clause-frame : goal.returns-clause-frame
 returns-clause-frame g c =

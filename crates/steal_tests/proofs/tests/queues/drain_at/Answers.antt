@@ -1,6 +1,6 @@
 use Rattle.bin_queues.specs.Frames.{over}
 use Rattle.tile_queues.proofs.Keeping.{still_tasks}
-use Rattle.frame_tests.proofs.tests.queues.drain_at.Goals as goal
+use Rattle.steal_tests.proofs.tests.queues.drain_at.Goals as goal
 
 pub returns : goal.returns
 returns g c =
