@@ -1,4 +1,5 @@
-//! The queues of all bins over cells, through which batches go from the submitter to the bins' tasks.
+//! The queues of all bins over cells, through which batches go from the submitter to the bins' tasks. They are for
+//! callers that deal out tasks themselves, as steal_pool does: `draw_frame` draws from `PartQueues`.
 ghost use Rattle.std.specs.Prelude.{◌≡◌, ◌≤◌, ◌<◌, ◌+◌, max, length, IfOk};
 ghost use Rattle.binning.specs.Parts.{batch_count_of, parts_of};
 ghost use Rattle.bin_queues.specs.QueueParts.{batched, batches_in, taken_before};
