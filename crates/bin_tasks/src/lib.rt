@@ -7,5 +7,6 @@ mod draining;
 mod drawing;
 mod task;
 
+pub use batches::parts_at;
 pub use drawing::Drawing;
 pub use task::{Drained, Task};

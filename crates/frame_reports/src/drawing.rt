@@ -17,12 +17,12 @@ use cull_base::{ClipVertex, FrameList, Memory};
 use cull_report::Asked;
 use group_query::{Group, Grouped};
 use masked_update::Canvas;
+use plain_turns::draw_plain_frame;
 use scene_reader::Scene;
 use std::alloc::Global;
 use std::sync::Wait;
 use std::thread::Threads;
-use steal_pool::draw_stolen_plain;
-use tile_queues::{BinTable, BinView, Gate, draw_plain_frame};
+use tile_queues::{BinTable, BinView, Gate};
 
 /// How frames are drawn, what is written of each, and what is noted beside. Conditions: the settings are in range,
 /// there are at most 8 rounds of looks, at 8 objects, and groups may have a member.
@@ -52,8 +52,8 @@ pub struct Drawing<'a, R, G> {
     ghost are_groups: { groups.now ≡ groups_beside plan.now.beside scene.now },
 }
 
-// Draws a list into the plain tiles of bins, by workers as the settings ask: whoever comes takes a bin that waits, or
-// each draws the bins of its own, and then takes bins from the others.
+// Draws a list into the plain tiles of bins, by as many workers as the settings ask for: whoever comes takes a bin that
+// waits.
 fn draw_into_bins<R: Threads + Wait + Sync, G: Gate>(
     drawing: &Drawing<R, G>,
     list: &FrameList,
@@ -67,9 +67,6 @@ fn draw_into_bins<R: Threads + Wait + Sync, G: Gate>(
     let _len = list.len();
     let batch = batch_size(list.len(), settings.batch);
     let (cut, workers, gate) = (&settings.cut, settings.workers, drawing.gate);
-    if settings.steal {
-        return draw_stolen_plain(rt, alloc, list, cut, workers, batch, gate);
-    }
     draw_plain_frame(rt, alloc, list, cut, workers, batch, gate)
 }
 

@@ -24,7 +24,7 @@ use tile_queues::{BinTable, Gate};
 const LARGE: usize = 0x100_0000;
 
 // Draws a frame without looks at it and tests the objects, by workers as the settings ask. Where objects are settled
-// meanwhile it is drawn through cells, which the caller reads.
+// meanwhile, which takes a reader, or workers take bins from others, it is drawn through cells.
 fn draw_unseen<R: Threads + Wait + Sync, G: Gate>(
     drawing: &Drawing<R, G>,
     frame: u32,
@@ -38,7 +38,7 @@ fn draw_unseen<R: Threads + Wait + Sync, G: Gate>(
         (λ f. AreCounted drawing.now.scene.now frame drawing.now.groups.now f.frame.hidden f.frame.members) }
 {
     let settings = drawing.plan.settings;
-    if settings.early {
+    if settings.early || settings.steal {
         return draw_live(drawing, 0, 0, frame, clips);
     }
     let frame = draw_plainly(drawing, Asking::Workers(settings.workers), frame, clips)?;

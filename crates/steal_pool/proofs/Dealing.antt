@@ -38,15 +38,15 @@ dealt_many : (v v' : View) (b : ℕ) → v' ≡ owning v.of (v.pushed ++ b ∷ [
 dealt_many v v' b is = ap (λ (y : View). length y.pushed) is ∙ length-append v.pushed (b ∷ [])
 
 -- what the deque of a worker is good for
-pub record MayPush {K : Type 0} (s : Seat K) (x : Tasking) : Type 0 where
+pub record MayPush (s : Seat) (x : Tasking) : Type 0 where
   pub owns : (worker_view s.owner).role ≡ Owns
   pub told : IsToldIn (worker_view s.owner).of x
   pub short : length (worker_view s.owner).pushed < (worker_view s.owner).of.room
   pub room : worker_index s.owner < worker_capacity s.owner
 
-pub may_push : {K : Type 0} → (c : Call) (was ss : List (Seat K)) (all left left' : List Tasking) (x : Tasking) (w : ℕ) (r : Seat K) → AreFilling c was ss all left → left ≡ x ∷ left' → w < length ss → w ≡ x.of.bin % length was
+pub may_push : (c : Call) (was ss : List Seat) (all left left' : List Tasking) (x : Tasking) (w : ℕ) (r : Seat) → AreFilling c was ss all left → left ≡ x ∷ left' → w < length ss → w ≡ x.of.bin % length was
     → MayPush (get_or ss w r) x
-may_push {K} c was ss all left left' x w r at is lt own =
+may_push c was ss all left left' x w r at is lt own =
     let s = get_or ss w r in
     let f = at.filling w r lt in
     let of : (worker_view s.owner).of ≡ c = ap (λ (v : View). v.of) f.dealt.owns in
@@ -63,12 +63,12 @@ may_push {K} c was ss all left left' x w r at is lt own =
       room = omega (arith, here, one, more, index, slots);
     }
 
-pub dealt_more : {K : Type 0} → (c : Call) (was ss : List (Seat K)) (all left left' : List Tasking) (x : Tasking) (w : ℕ) (r q : Seat K) → AreFilling c was ss all left → left ≡ x ∷ left' → w < length ss → w ≡ x.of.bin % length was
+pub dealt_more : (c : Call) (was ss : List Seat) (all left left' : List Tasking) (x : Tasking) (w : ℕ) (r q : Seat) → AreFilling c was ss all left → left ≡ x ∷ left' → w < length ss → w ≡ x.of.bin % length was
     → q.list ≡ (get_or ss w r).list
     → SameWorker (get_or ss w r).owner q.owner × (worker_index q.owner ≡ worker_index (get_or ss w r).owner + 1)
     → (let v = worker_view (get_or ss w r).owner in worker_view q.owner ≡ owning v.of (v.pushed ++ x.of.bin ∷ []) v.taken v.out)
     → AreFilling c was (set ss w q) all left'
-dealt_more {K} c was ss all left left' x w r q at is lt own list same pushed =
+dealt_more c was ss all left left' x w r q at is lt own list same pushed =
     let p = get_or ss w r in
     let f = at.filling w r lt in
     let l = length-set ss w q in
@@ -90,28 +90,28 @@ dealt_more {K} c was ss all left left' x w r q at is lt own list same pushed =
     } in
     record {
       many = l ∙ at.many;
-      filling = λ i s long. each_put (λ (j : ℕ) (y : Seat K). IsFilling c (length was) y) ss w i q s lt (λ e. new) (λ ne. at.filling i s (omega (arith, long, l)));
+      filling = λ i s long. each_put (λ (j : ℕ) (y : Seat). IsFilling c (length was) y) ss w i q s lt (λ e. new) (λ ne. at.filling i s (omega (arith, long, l)));
       told = All-tail (IsToldIn c) x left' (subst (λ (z : List Tasking). All (IsToldIn c) z) is at.told);
       once = λ k.
-          let a = weigh_set (λ (s : Seat K). weigh k (worker_view s.owner).pushed) ss w p q (at_index ss w p lt is_p) in
+          let a = weigh_set (λ (s : Seat). weigh k (worker_view s.owner).pushed) ss w p q (at_index ss w p lt is_p) in
           let b : weigh k (worker_view q.owner).pushed ≡ weigh k ((worker_view p.owner).pushed ++ x.of.bin ∷ []) = ap (λ (y : View). weigh k y.pushed) pushed in
           let d = weigh_one k (worker_view p.owner).pushed x.of.bin in
           let e : tasks_weigh k left ≡ k x.of.bin + tasks_weigh k left' = ap (tasks_weigh k) is in
           let h = at.once k in
           omega arith;
       room = λ i s long.
-          each_put (λ (j : ℕ) (y : Seat K). length (worker_view y.owner).pushed + owned (length was) j left' ≤ c.room) ss w i q s lt
+          each_put (λ (j : ℕ) (y : Seat). length (worker_view y.owner).pushed + owned (length was) j left' ≤ c.room) ss w i q s lt
           (λ e. let a = at.room w r lt in let b = more w in omega (arith, a, b, many, one))
           (λ ne. let a = at.room i s (omega (arith, long, l)) in let b = more i in omega (arith, a, b));
       same = λ i s long.
-          each_put (λ (j : ℕ) (y : Seat K). worker_deque y.owner ≡ worker_deque (get_or was j s).owner) ss w i q s lt
-          (λ e. same.0.0 ∙ ap (λ (y : Seat K). worker_deque y.owner) (get_or_default ss w r s lt) ∙ at.same w s (omega (arith, lt)))
+          each_put (λ (j : ℕ) (y : Seat). worker_deque y.owner ≡ worker_deque (get_or was j s).owner) ss w i q s lt
+          (λ e. same.0.0 ∙ ap (λ (y : Seat). worker_deque y.owner) (get_or_default ss w r s lt) ∙ at.same w s (omega (arith, lt)))
           (λ ne. at.same i s (omega (arith, long, l)));
     }
 
 -- all are dealt
-pub none_left : {K : Type 0} → (c : Call) (was ss : List (Seat K)) (all : List Tasking) (done : ℕ) (k : ℕ → ℕ) → AreFilling c was ss all (drop done all) → length all ≤ done → pushed_weigh k ss ≡ tasks_weigh k all
-none_left {K} c was ss all done k at le =
+pub none_left : (c : Call) (was ss : List Seat) (all : List Tasking) (done : ℕ) (k : ℕ → ℕ) → AreFilling c was ss all (drop done all) → length all ≤ done → pushed_weigh k ss ≡ tasks_weigh k all
+none_left c was ss all done k at le =
     let none : tasks_weigh k (drop done all) ≡ 0 = ap (tasks_weigh k) (drop_all done all le) in
     let h = at.once k in
     omega (arith, none, h)

@@ -9,10 +9,10 @@ use Rattle.steal_pool.specs.Finish.{AreAt, pushed_weigh}
 use Rattle.steal_pool.specs.Making.{AreSeatsOn, HaveSameDeques}
 use Rattle.steal_pool.proofs.Weights.{weigh_each}
 
-pub at_same : {K : Type 0} → {S : Type 0} (f : S → RowsId × Global) (ds : List S) (was ss : List (Seat K)) → length ss ≡ length was → HaveSameDeques was ss → AreAt f ds was → AreAt f ds ss
-at_same {K} f ds was ss many same at i t s lt =
+pub at_same : {S : Type 0} (f : S → RowsId × Global) (ds : List S) (was ss : List Seat) → length ss ≡ length was → HaveSameDeques was ss → AreAt f ds was → AreAt f ds ss
+at_same f ds was ss many same at i t s lt =
     let here : i < length was = omega arith in
     same i s lt ∙ at i t s here
 
-pub pushed_on : {K : Type 0} → (k : ℕ → ℕ) (was ss : List (Seat K)) → AreSeatsOn was ss → pushed_weigh k ss ≡ pushed_weigh k was
-pushed_on {K} k was ss on = weigh_each (λ (s : Seat K). weigh k (worker_view s.owner).pushed) was ss on.many (λ i s lt. ap (weigh k) (on.each i s lt).pushed)
+pub pushed_on : (k : ℕ → ℕ) (was ss : List Seat) → AreSeatsOn was ss → pushed_weigh k ss ≡ pushed_weigh k was
+pushed_on k was ss on = weigh_each (λ (s : Seat). weigh k (worker_view s.owner).pushed) was ss on.many (λ i s lt. ap (weigh k) (on.each i s lt).pushed)

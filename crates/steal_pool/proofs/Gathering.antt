@@ -17,15 +17,15 @@ use Rattle.steal_pool.specs.Seats.{passes_weigh}
 use Rattle.steal_pool.specs.Gather.{owners_weigh, IsOut, AreOut, IsKept, AreKept, AreEnds}
 use Rattle.steal_pool.proofs.Weights.{weigh_set, weigh_one}
 
-pub each_put : {K : Type 0} → (F : ℕ → Seat K → Type 0) (ss : List (Seat K)) (d i : ℕ) (q s : Seat K) → d < length ss → (i ≡ d → F d q) → (i ≢ d → F i (get_or ss i s)) → F i (get_or (set ss d q) i s)
-each_put {K} F ss d i q s lt mine others =
+pub each_put : (F : ℕ → Seat → Type 0) (ss : List Seat) (d i : ℕ) (q s : Seat) → d < length ss → (i ≡ d → F d q) → (i ≢ d → F i (get_or ss i s)) → F i (get_or (set ss d q) i s)
+each_put F ss d i q s lt mine others =
     dite (ℕ_discrete i d)
     (λ e. subst (λ (j : ℕ). F j (get_or (set ss d q) j s)) (sym e) (subst (F d) (sym (get_or-set_same ss d q s lt)) (mine e)))
     (λ ne. subst (F i) (sym (get_or-set_other ss d i q s ne)) (others ne))
 
-pub out_put : {K : Type 0} → {S : Type 0} (f : S → RowsId × Global) (c : Call) (ds : List S) (out d : ℕ) (ss : List (Seat K)) (t : S) (q : Seat K) → AreOut f c ds (d + 1) out ss → d < length ss → d < length ds → t ≡ get_or ds d t
+pub out_put : {S : Type 0} (f : S → RowsId × Global) (c : Call) (ds : List S) (out d : ℕ) (ss : List Seat) (t : S) (q : Seat) → AreOut f c ds (d + 1) out ss → d < length ss → d < length ds → t ≡ get_or ds d t
     → IsOut (f t) c out q → AreOut f c ds d out (set ss d q)
-out_put {K} f c ds out d ss t q are lt in_ds is new =
+out_put f c ds out d ss t q are lt in_ds is new =
     record {
       before = λ i u s less long. each_put (λ j r. IsOut (f (get_or ds j u)) c (out + 1) r) ss d i q s lt (λ e. absurd (omega arith)) (λ ne. are.before i u s (omega arith) (let l = length-set ss d q in omega arith));
       after = λ i u s le long.
@@ -34,8 +34,8 @@ out_put {K} f c ds out d ss t q are lt in_ds is new =
           (λ ne. are.after i u s (omega arith) (let l = length-set ss d q in omega arith));
     }
 
-pub kept_put : {K : Type 0} → (was ss : List (Seat K)) (d : ℕ) (p q : Seat K) → length ss ≡ length was → AreKept was ss → d < length ss → p ≡ get_or ss d p → IsKept p q → AreKept was (set ss d q)
-kept_put {K} was ss d p q same are lt is new =
+pub kept_put : (was ss : List Seat) (d : ℕ) (p q : Seat) → length ss ≡ length was → AreKept was ss → d < length ss → p ≡ get_or ss d p → IsKept p q → AreKept was (set ss d q)
+kept_put was ss d p q same are lt is new =
     record {
       each = λ i s long. each_put (λ j r. IsKept (get_or was j s) r) ss d i q s lt
           (λ e.
@@ -45,12 +45,12 @@ kept_put {K} was ss d p q same are lt is new =
           (λ ne. are.each i s long);
     }
   where
-    over : (x y z : Seat K) → IsKept x y → IsKept y z → IsKept x z
+    over : (x y z : Seat) → IsKept x y → IsKept y z → IsKept x z
     over x y z a b = record { list = b.list ∙ a.list; passes = b.passes ∙ a.passes; pushed = b.pushed ∙ a.pushed; longer = let m = a.longer in let n = b.longer in omega arith }
 
-pub owners_put : {K : Type 0} → (k : ℕ → ℕ) (ss : List (Seat K)) (d : ℕ) (p q : Seat K) → d < length ss → p ≡ get_or ss d p
+pub owners_put : (k : ℕ → ℕ) (ss : List Seat) (d : ℕ) (p q : Seat) → d < length ss → p ≡ get_or ss d p
     → owners_weigh k (set ss d q) + bins_weigh k (worker_view p.owner).taken ≡ owners_weigh k ss + bins_weigh k (worker_view q.owner).taken
-owners_put {K} k ss d p q lt is = weigh_set (λ (s : Seat K). bins_weigh k (worker_view s.owner).taken) ss d p q (at_index ss d p lt is)
+owners_put k ss d p q lt is = weigh_set (λ (s : Seat). bins_weigh k (worker_view s.owner).taken) ss d p q (at_index ss d p lt is)
 
 module _ {S : Type 0} (f : S → RowsId × Global) (c : Call) (ds : List S) where
   pub ends_but_last : (ps ps' : List (Pass Tasking View Global)) (p : Pass Tasking View Global) → ps ≡ ps' ++ p ∷ [] → AreEnds f c ds ps → AreEnds f c ds ps'

@@ -18,14 +18,14 @@ use Rattle.steal_pool.proofs.Weights.{weigh_append, weigh_at, weigh_length, weig
 
 -- ---- the lists of seats
 
-module _ {K : Type 0} {X : Type 0} (items : X → List Tasking) (c : Call) (all : List (Seat K)) where
+module _ {X : Type 0} (items : X → List Tasking) (c : Call) (all : List Seat) where
   pub none_listed : (ls : List X) → ls ≡ [] → AreListed items c all all ls
   none_listed ls is = record {
     once = λ k. let none : drawn_weigh items k ls ≡ 0 = ap (drawn_weigh items k) is in omega (arith, none);
     whole = subst (AreDrawnLists items c) (sym is) (All-nil (λ (x : X). All (IsWholeIn c) (items x)));
   }
 
-  pub listed_more : (left left' : List (Seat K)) (ls : List X) (s : Seat K) (l : X) (n : ℕ) → AreListed items c all left ls → left ≡ s ∷ left' → items l ≡ s.list.items → s ≡ get_or all n s → n < length all → AreFinishedTo c (length all) all
+  pub listed_more : (left left' : List Seat) (ls : List X) (s : Seat) (l : X) (n : ℕ) → AreListed items c all left ls → left ≡ s ∷ left' → items l ≡ s.list.items → s ≡ get_or all n s → n < length all → AreFinishedTo c (length all) all
       → AreListed items c all left' (ls ++ l ∷ [])
   listed_more left left' ls s l n at is same here lt finished = record {
     once = λ k.
@@ -39,8 +39,8 @@ module _ {K : Type 0} {X : Type 0} (items : X → List Tasking) (c : Call) (all 
         All-push (λ (x : X). All (IsWholeIn c) (items x)) ls l at.whole (subst (λ (ts : List Tasking). All (IsWholeIn c) ts) (sym same) w);
   }
     where
-      ap_whole : (s t : Seat K) → t ≡ s → All (IsWholeIn c) t.list.items → All (IsWholeIn c) s.list.items
-      ap_whole s t e w = subst (λ (y : Seat K). All (IsWholeIn c) y.list.items) e w
+      ap_whole : (s t : Seat) → t ≡ s → All (IsWholeIn c) t.list.items → All (IsWholeIn c) s.list.items
+      ap_whole s t e w = subst (λ (y : Seat). All (IsWholeIn c) y.list.items) e w
 
   pub all_listed : (ls : List X) (done : ℕ) (k : ℕ → ℕ) → AreListed items c all (drop done all) ls → length all ≤ done → drawn_weigh items k ls ≡ lists_weigh k all
   all_listed ls done k at le =

@@ -86,11 +86,11 @@ pub pass_room : (count room i len first most cap before : ℕ) → i < count →
 pass_room count room i len first most cap before lt le all grew = let a = room_left i count room lt in omega (arith, a, le, all, grew)
 
 -- a worker that popped its own tasks, and went round
-pub worked : {K : Type 0} → {S : Type 0} (f : S → RowsId × Global) (c : Call) (ds : List S) (s t : Seat K) (mid : List Tasking) (len cap : ℕ) → IsOpen f c ds s → SameWorker s.owner t.owner → Drew s.list.items mid (worker_view s.owner) (worker_view t.owner)
+pub worked : {S : Type 0} (f : S → RowsId × Global) (c : Call) (ds : List S) (s t : Seat) (mid : List Tasking) (len cap : ℕ) → IsOpen f c ds s → SameWorker s.owner t.owner → Drew s.list.items mid (worker_view s.owner) (worker_view t.owner)
     → len + length (worker_view s.owner).taken ≡ vec_len s.list + length (worker_view t.owner).taken → vec_capacity s.list ≤ cap
     → ArePassesOf f c ds t.passes.items → ((k : ℕ → ℕ) → tasks_weigh k t.list.items + passes_weigh k s.passes.items ≡ tasks_weigh k mid + passes_weigh k t.passes.items) → All (IsWholeIn c) t.list.items
     → vec_len t.list ≤ len + length ds * c.room → cap ≤ vec_capacity t.list → IsWorked f c ds s t
-worked {K} f c ds s t mid len cap opened same drew count grew passes round whole long more =
+worked f c ds s t mid len cap opened same drew count grew passes round whole long more =
     let none : length (worker_view s.owner).taken ≡ 0 = ap (λ (v : View). length v.taken) opened.owns in
     record {
       same = same;
@@ -108,9 +108,9 @@ worked {K} f c ds s t mid len cap opened same drew count grew passes round whole
     }
 
 -- what the round needs of a worker that popped its own tasks
-pub round_room : {K : Type 0} → {S : Type 0} (f : S → RowsId × Global) (c : Call) (ds : List S) (s : Seat K) (v : View) (len cap : ℕ) → IsOpen f c ds s → v.of ≡ c → IsShort v → len + length (worker_view s.owner).taken ≡ vec_len s.list + length v.taken → vec_capacity s.list ≤ cap
+pub round_room : {S : Type 0} (f : S → RowsId × Global) (c : Call) (ds : List S) (s : Seat) (v : View) (len cap : ℕ) → IsOpen f c ds s → v.of ≡ c → IsShort v → len + length (worker_view s.owner).taken ≡ vec_len s.list + length v.taken → vec_capacity s.list ≤ cap
     → len + length ds * c.room ≤ cap
-round_room {K} f c ds s v len cap opened is short count grew =
+round_room f c ds s v len cap opened is short count grew =
     let none : length (worker_view s.owner).taken ≡ 0 = ap (λ (u : View). length u.taken) opened.owns in
     let e : v.of.room ≡ c.room = ap (λ (z : Call). z.room) is in
     let r = opened.room in

@@ -17,19 +17,19 @@ pick : {S : Type 0} (ds : List S) → 0 < length ds → S
 pick [] lt = absurd (omega arith)
 pick (x ∷ xs) lt = x
 
-module _ {K : Type 0} {S : Type 0} (f : S → RowsId × Global) (c : Call) (ds : List S) (ss ss' : List (Seat K)) (worked : AreWorked f c ds ss ss') where
+module _ {S : Type 0} (f : S → RowsId × Global) (c : Call) (ds : List S) (ss ss' : List Seat) (worked : AreWorked f c ds ss ss') where
   pub worked_lists : (k : ℕ → ℕ) → lists_weigh k ss' ≡ owners_weigh k ss' + all_passes_weigh k ss'
   worked_lists k =
       let m = worked.many in
-      weigh_both (λ (s : Seat K). tasks_weigh k s.list.items) (λ (s : Seat K). bins_weigh k (worker_view s.owner).taken) (λ (s : Seat K). passes_weigh k s.passes.items) ss' (λ i s lt. (worked.each i s (omega arith)).weighs k)
+      weigh_both (λ (s : Seat). tasks_weigh k s.list.items) (λ (s : Seat). bins_weigh k (worker_view s.owner).taken) (λ (s : Seat). passes_weigh k s.passes.items) ss' (λ i s lt. (worked.each i s (omega arith)).weighs k)
 
-  pub pushed_on : (ss'' : List (Seat K)) (k : ℕ → ℕ) → length ss'' ≡ length ss' → AreKeptAside ss' ss'' → pushed_weigh k ss'' ≡ pushed_weigh k ss
+  pub pushed_on : (ss'' : List Seat) (k : ℕ → ℕ) → length ss'' ≡ length ss' → AreKeptAside ss' ss'' → pushed_weigh k ss'' ≡ pushed_weigh k ss
   pushed_on ss'' k same kept =
       let m = worked.many in
-      weigh_each (λ (s : Seat K). weigh k (worker_view s.owner).pushed) ss ss'' (same ∙ m)
+      weigh_each (λ (s : Seat). weigh k (worker_view s.owner).pushed) ss ss'' (same ∙ m)
       (λ i s lt. ap (weigh k) ((kept.each i s (omega arith)).pushed ∙ ap (λ (v : View). v.pushed) (worked.each i s lt).owns))
 
-  pub are_left : (ss'' : List (Seat K)) → length ss'' ≡ length ss' → AreKeptAside ss' ss'' → AreOut f c ds 0 0 ss'' → length ss ≡ length ds → AreFinishedTo c 0 ss''
+  pub are_left : (ss'' : List Seat) → length ss'' ≡ length ss' → AreKeptAside ss' ss'' → AreOut f c ds 0 0 ss'' → length ss ≡ length ds → AreFinishedTo c 0 ss''
   are_left ss'' same kept out long =
       let m = worked.many in
       record {
@@ -49,5 +49,5 @@ module _ {K : Type 0} {S : Type 0} (f : S → RowsId × Global) (c : Call) (ds :
             };
       }
 
-pub lists_on : {K : Type 0} → (k : ℕ → ℕ) (ss' ss'' : List (Seat K)) → length ss'' ≡ length ss' → AreKeptAside ss' ss'' → lists_weigh k ss'' ≡ lists_weigh k ss'
-lists_on {K} k ss' ss'' same kept = weigh_each (λ (s : Seat K). tasks_weigh k s.list.items) ss' ss'' same (λ i s lt. ap (λ v. tasks_weigh k v.items) (kept.each i s lt).list)
+pub lists_on : (k : ℕ → ℕ) (ss' ss'' : List Seat) → length ss'' ≡ length ss' → AreKeptAside ss' ss'' → lists_weigh k ss'' ≡ lists_weigh k ss'
+lists_on k ss' ss'' same kept = weigh_each (λ (s : Seat). tasks_weigh k s.list.items) ss' ss'' same (λ i s lt. ap (λ v. tasks_weigh k v.items) (kept.each i s lt).list)

@@ -12,32 +12,32 @@ use Rattle.steal_pool.specs.Pools.{bins_weigh}
 use Rattle.steal_pool.specs.Seats.{passes_weigh, ArePassesOf}
 
 -- what the owners' views took, by the weights of the bins
-abbrev pub owners_weigh : {K : Type 0} → (ℕ → ℕ) → List (Seat K) → ℕ
-owners_weigh {K} k seats = weigh (λ (s : Seat K). bins_weigh k (worker_view s.owner).taken) seats
+abbrev pub owners_weigh : (ℕ → ℕ) → List Seat → ℕ
+owners_weigh k seats = weigh (λ (s : Seat). bins_weigh k (worker_view s.owner).taken) seats
 
 -- a seat whose deque is this, with so many stealers' views out
-pub record IsOut {K : Type 0} (deque : RowsId × Global) (c : Call) (out : ℕ) (s : Seat K) : Type 0 where
+pub record IsOut (deque : RowsId × Global) (c : Call) (out : ℕ) (s : Seat) : Type 0 where
   pub of : worker_deque s.owner ≡ deque
   pub fifo : worker_flavor s.owner ≡ 0
   pub owns : worker_view s.owner ≡ owning c (worker_view s.owner).pushed (worker_view s.owner).taken out
 
 -- one more is out of the first `from` deques than of the others
-pub record AreOut {K : Type 0} {S : Type 0} (deque : S → RowsId × Global) (c : Call) (deques : List S)
-    (from out : ℕ) (seats : List (Seat K)) : Type 0 where
-  pub before : (i : ℕ) (t : S) (s : Seat K) → i < from → i < length seats
+pub record AreOut {S : Type 0} (deque : S → RowsId × Global) (c : Call) (deques : List S)
+    (from out : ℕ) (seats : List Seat) : Type 0 where
+  pub before : (i : ℕ) (t : S) (s : Seat) → i < from → i < length seats
       → IsOut (deque (slice_index_or deques i t)) c (out + 1) (slice_index_or seats i s)
-  pub after : (i : ℕ) (t : S) (s : Seat K) → from ≤ i → i < length seats
+  pub after : (i : ℕ) (t : S) (s : Seat) → from ≤ i → i < length seats
       → IsOut (deque (slice_index_or deques i t)) c out (slice_index_or seats i s)
 
 -- all but what the owner's view took, which only grows
-pub record IsKept {K : Type 0} (s t : Seat K) : Type 0 where
+pub record IsKept (s t : Seat) : Type 0 where
   pub list : t.list ≡ s.list
   pub passes : t.passes ≡ s.passes
   pub pushed : (worker_view t.owner).pushed ≡ (worker_view s.owner).pushed
   pub longer : length (worker_view s.owner).taken ≤ length (worker_view t.owner).taken
 
-pub record AreKept {K : Type 0} (seats seats' : List (Seat K)) : Type 0 where
-  pub each : (i : ℕ) (s : Seat K) → i < length seats → IsKept (slice_index_or seats i s) (slice_index_or seats' i s)
+pub record AreKept (seats seats' : List Seat) : Type 0 where
+  pub each : (i : ℕ) (s : Seat) → i < length seats → IsKept (slice_index_or seats i s) (slice_index_or seats' i s)
 
 -- the passes that are left to end: those on the first deques
 pub record AreEnds {S A : Type 0} (deque : S → RowsId × A) (c : Call) (deques : List S)
@@ -49,23 +49,23 @@ pub record AreEnds {S A : Type 0} (deque : S → RowsId × A) (c : Call) (deques
       → view (slice_index_or passes i p) ≡ stealing c (view (slice_index_or passes i p)).taken
 
 -- what the passes of all seats took, by the weights of the bins
-abbrev pub all_passes_weigh : {K : Type 0} → (ℕ → ℕ) → List (Seat K) → ℕ
-all_passes_weigh {K} k seats = weigh (λ (s : Seat K). passes_weigh k s.passes.items) seats
+abbrev pub all_passes_weigh : (ℕ → ℕ) → List Seat → ℕ
+all_passes_weigh k seats = weigh (λ (s : Seat). passes_weigh k s.passes.items) seats
 
 -- from the `from`-th on, each seat has its passes; those before have none
-pub record HavePassesFrom {K : Type 0} {S : Type 0} (deque : S → RowsId × Global) (c : Call) (deques : List S)
-    (from : ℕ) (seats : List (Seat K)) : Type 0 where
-  pub none : (i : ℕ) (s : Seat K) → i < from → i < length seats
+pub record HavePassesFrom {S : Type 0} (deque : S → RowsId × Global) (c : Call) (deques : List S)
+    (from : ℕ) (seats : List Seat) : Type 0 where
+  pub none : (i : ℕ) (s : Seat) → i < from → i < length seats
       → (slice_index_or seats i s).passes.items ≡ []
-  pub each : (i : ℕ) (s : Seat K) → from ≤ i → i < length seats
+  pub each : (i : ℕ) (s : Seat) → from ≤ i → i < length seats
       → ArePassesOf deque c deques (slice_index_or seats i s).passes.items
 
 -- all but passes, and what the owner's view took, which only grows
-pub record IsKeptAside {K : Type 0} (s t : Seat K) : Type 0 where
+pub record IsKeptAside (s t : Seat) : Type 0 where
   pub list : t.list ≡ s.list
   pub pushed : (worker_view t.owner).pushed ≡ (worker_view s.owner).pushed
   pub longer : length (worker_view s.owner).taken ≤ length (worker_view t.owner).taken
 
-pub record AreKeptAside {K : Type 0} (seats seats' : List (Seat K)) : Type 0 where
-  pub each : (i : ℕ) (s : Seat K) → i < length seats
+pub record AreKeptAside (seats seats' : List Seat) : Type 0 where
+  pub each : (i : ℕ) (s : Seat) → i < length seats
       → IsKeptAside (slice_index_or seats i s) (slice_index_or seats' i s)

@@ -34,7 +34,7 @@ abbrev pub AreDrawnLists : {X : Type 0} → (X → List Tasking) → Call → Li
 AreDrawnLists {X} items c lists = All (λ (x : X). All (IsWholeIn c) (items x)) lists
 
 -- of all seats these are left, and the lists are those of the others
-pub record AreListed {K : Type 0} {X : Type 0} (items : X → List Tasking) (c : Call) (all left : List (Seat K)) (lists : List X)
+pub record AreListed {X : Type 0} (items : X → List Tasking) (c : Call) (all left : List Seat) (lists : List X)
     : Type 0 where
   pub once : (k : ℕ → ℕ) → drawn_weigh items k lists + lists_weigh k left ≡ lists_weigh k all
   pub whole : AreDrawnLists items c lists

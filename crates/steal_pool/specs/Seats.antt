@@ -29,7 +29,7 @@ AreFresh {A} passes =
     (i : ℕ) (p : Pass Tasking View A) → i < length passes → (view (slice_index_or passes i p)).taken ≡ []
 
 -- a worker before it begins: its deque is dealt, a pass of its own on each deque is out, and nothing is drawn
-pub record IsOpen {K : Type 0} {S : Type 0} (deque : S → RowsId × Global) (c : Call) (deques : List S) (s : Seat K) : Type 0 where
+pub record IsOpen {S : Type 0} (deque : S → RowsId × Global) (c : Call) (deques : List S) (s : Seat) : Type 0 where
   pub owns : worker_view s.owner ≡ owning c (worker_view s.owner).pushed [] (length deques)
   pub fifo : worker_flavor s.owner ≡ 0
   pub passes : ArePassesOf deque c deques s.passes.items
@@ -39,7 +39,7 @@ pub record IsOpen {K : Type 0} {S : Type 0} (deque : S → RowsId × Global) (c 
   pub room : c.room + length deques * c.room ≤ vec_capacity s.list
 
 -- and after it: what it drew is what its own view and its passes took
-pub record IsWorked {K : Type 0} {S : Type 0} (deque : S → RowsId × Global) (c : Call) (deques : List S) (s t : Seat K)
+pub record IsWorked {S : Type 0} (deque : S → RowsId × Global) (c : Call) (deques : List S) (s t : Seat)
     : Type 0 where
   pub same : SameWorker s.owner t.owner
   pub owns : worker_view t.owner
@@ -50,8 +50,8 @@ pub record IsWorked {K : Type 0} {S : Type 0} (deque : S → RowsId × Global) (
   pub whole : All (IsWholeIn c) t.list.items
   pub room : vec_len t.list + c.room ≤ vec_capacity t.list + length (worker_view t.owner).taken
 
-pub record AreWorked {K : Type 0} {S : Type 0} (deque : S → RowsId × Global) (c : Call) (deques : List S)
-    (seats seats' : List (Seat K)) : Type 0 where
+pub record AreWorked {S : Type 0} (deque : S → RowsId × Global) (c : Call) (deques : List S)
+    (seats seats' : List Seat) : Type 0 where
   pub many : length seats' ≡ length seats
-  pub each : (i : ℕ) (d : Seat K) → i < length seats
+  pub each : (i : ℕ) (d : Seat) → i < length seats
       → IsWorked deque c deques (slice_index_or seats i d) (slice_index_or seats' i d)

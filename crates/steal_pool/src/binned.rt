@@ -1,10 +1,11 @@
 //! The parts of batches, and slots for them that several threads fill.
 ghost use Rattle.std.specs.Prelude.{◌≡◌, ◌<◌, length, vec_items, IfOk};
-ghost use Rattle.binning.specs.Parts.{batch_count_of, parts_of};
+ghost use Rattle.binning.specs.Parts.{batch_count_of};
 ghost use Rattle.steal_pool.specs.Binned.{AreBinned, IsBinned};
 
 use bin_queues::Batched;
-use binning::{BinPart, bin_batch};
+use bin_tasks::parts_at;
+use binning::BinPart;
 use cull_base::Memory;
 use side_by_side::for_each_share;
 use std::alloc::Global;
@@ -17,28 +18,6 @@ pub type Slot = Option<Vec<BinPart>>;
 
 /// So many pieces are worth a thread's start.
 const SHARE: u32 = 1024;
-
-/// The parts of a batch, once the gate has returned. Err where memory gave out. Condition: there is such a batch.
-pub(crate) fn parts_at<G: Gate>(
-    alloc: Global,
-    frame: &Batched,
-    gate: &G,
-    batch: u32,
-) -> Result<Vec<BinPart>, Memory>
-    requires { batch < batch_count_of (length frame.now.list.now.list.members) frame.now.size }
-    ensures { IfOk result (λ v.
-        v.items ≡ parts_of frame.now.list.now.list frame.now.cut.now frame.now.size batch) }
-{
-    // an accessor tells that there are few batches
-    let _batches = frame.batches();
-    let (list, size) = (frame.list, frame.size);
-    gate.submits(batch);
-    let len = list.len();
-    let from = len.min(batch.saturating_mul(size));
-    let to = len.min((batch + 1).saturating_mul(size));
-    let parts = bin_batch(alloc, list, batch, from, to, frame.cut)?;
-    Ok(parts)
-}
 
 /// By how many threads the batches are binned: by no more than there are workers, and each has pieces enough and at
 /// least two batches. Where it is less than two, the caller bins them.

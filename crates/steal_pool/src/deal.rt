@@ -8,10 +8,10 @@ ghost use Rattle.steal_pool.specs.Pools.{call_of, tasks_weigh};
 use crate::deque_steps::push;
 use crate::pool::Pool;
 use crate::seat::Seat;
-use tile_queues::{BinTask, Held};
+use tile_queues::BinTask;
 
 // To which worker a task is dealt: bin b belongs to worker b modulo the workers.
-fn worker_of<K: Held + Drop>(task: &BinTask<K>, workers: usize) -> usize
+fn worker_of(task: &BinTask, workers: usize) -> usize
     requires { 0 < workers }
     ensures value { result ≡ task.now.of.bin % workers }
     ensures within { result < workers }
@@ -20,7 +20,7 @@ fn worker_of<K: Held + Drop>(task: &BinTask<K>, workers: usize) -> usize
 }
 
 // 1 where a task is dealt to a worker, and else 0.
-fn counted<K: Held + Drop>(task: &BinTask<K>, workers: usize, worker: usize) -> usize
+fn counted(task: &BinTask, workers: usize, worker: usize) -> usize
     requires { 0 < workers }
     ensures value { result ≡ belongs workers worker task.now.of.bin }
     ensures small { result ≤ 1 }
@@ -32,7 +32,7 @@ fn counted<K: Held + Drop>(task: &BinTask<K>, workers: usize, worker: usize) -> 
 }
 
 // How many tasks are dealt to a worker.
-fn owned_by<K: Held + Drop>(tasks: &[BinTask<K>], workers: usize, worker: usize) -> usize
+fn owned_by(tasks: &[BinTask], workers: usize, worker: usize) -> usize
     requires { 0 < workers }
     ensures value { result ≡ owned workers worker tasks.now }
     ensures few { result ≤ length tasks.now }
@@ -45,7 +45,7 @@ fn owned_by<K: Held + Drop>(tasks: &[BinTask<K>], workers: usize, worker: usize)
 }
 
 /// How many tasks are dealt to the worker that gets most.
-pub(crate) fn most_owned<K: Held + Drop>(tasks: &[BinTask<K>], workers: usize) -> usize
+pub(crate) fn most_owned(tasks: &[BinTask], workers: usize) -> usize
     requires { 0 < workers }
     ensures each { HaveRoom workers result tasks.now }
     ensures few { result ≤ length tasks.now }
@@ -61,10 +61,10 @@ pub(crate) fn most_owned<K: Held + Drop>(tasks: &[BinTask<K>], workers: usize) -
 
 /// Deals tasks to new seats, in their order: that of bin b to worker b modulo the workers. Conditions: each is told of
 /// all batches, and no worker gets more than a deque is for.
-pub(crate) fn deal<R, G, K: Held + Drop>(
+pub(crate) fn deal<R, G>(
     _pool: &Pool<R, G>,
-    seats: &mut [Seat<K>],
-    tasks: Vec<BinTask<K>>,
+    seats: &mut [Seat],
+    tasks: Vec<BinTask>,
     workers: usize,
 )
     requires some { 0 < workers }

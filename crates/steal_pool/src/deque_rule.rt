@@ -7,7 +7,7 @@ use std::alloc::Global;
 use std::collections::LinkedList;
 use std::marker::{Brand, Model, PhantomData};
 use tile_cells::TileCells;
-use tile_queues::{BinQueues, BinTask, Held};
+use tile_queues::{BinQueues, BinTask};
 
 /// A list that is drawn in batches into the bins of a cut screen, over the cells of its tiles. No value of it is made.
 pub struct Framed {
@@ -62,7 +62,7 @@ pub struct View {
 /// The rule of a worker's deque.
 pub struct EachOnce;
 
-impl<K: Held> Protocol<BinTask<K>, View> for EachOnce {
+impl Protocol<BinTask, View> for EachOnce {
     ghost use Rattle.steal_pool.specs.DequeRule.{DequeRule, nameless, ended};
 
     ghost holds = { DequeRule };
@@ -124,7 +124,7 @@ impl Join<View> for Return {
 /// The owner appends a task.
 pub(crate) struct Push;
 
-impl<K: Held> Outcome<BinTask<K>, View> for Push {
+impl Outcome<BinTask, View> for Push {
     ghost use Rattle.steal_pool.specs.DequeRule.{Pushed};
 
     ghost then = { Pushed };
@@ -133,7 +133,7 @@ impl<K: Held> Outcome<BinTask<K>, View> for Push {
 /// The owner takes a task, or finds the deque empty.
 pub(crate) struct Pop;
 
-impl<K: Held> Outcome<BinTask<K>, View> for Pop {
+impl Outcome<BinTask, View> for Pop {
     ghost use Rattle.steal_pool.specs.DequeRule.{Took, LooksEmpty};
 
     ghost then = { Took };
@@ -144,7 +144,7 @@ impl<K: Held> Outcome<BinTask<K>, View> for Pop {
 /// A stealer takes a task.
 pub(crate) struct Theft;
 
-impl<K: Held> Outcome<BinTask<K>, View> for Theft {
+impl Outcome<BinTask, View> for Theft {
     ghost use Rattle.steal_pool.specs.DequeRule.{Took, IsShort};
 
     ghost then = { Took };
@@ -153,10 +153,10 @@ impl<K: Held> Outcome<BinTask<K>, View> for Theft {
 }
 
 /// A worker's deque, by which its owner pushes and pops.
-pub type Owner<K> = Worker<BinTask<K>, Global, View, EachOnce>;
+pub type Owner = Worker<BinTask, Global, View, EachOnce>;
 
 /// A worker's deque, from which others steal.
-pub type Thief<K> = Stealer<BinTask<K>, Global, View, EachOnce>;
+pub type Thief = Stealer<BinTask, Global, View, EachOnce>;
 
 /// What is needed to steal. It has no bytes.
-pub type DequePass<K> = Pass<BinTask<K>, View>;
+pub type DequePass = Pass<BinTask, View>;

@@ -13,17 +13,17 @@ use crossbeam_deque::Steal;
 use std::alloc::{AllocError, Global};
 use std::marker::Brand;
 use std::sync::Wait;
-use tile_queues::{BinTask, Held};
+use tile_queues::BinTask;
 
 /// An empty deque, not named yet, with room for so many tasks.
-pub(crate) fn opened<K: Held + Drop>(alloc: Global, room: usize) -> Result<Owner<K>, AllocError>
+pub(crate) fn opened(alloc: Global, room: usize) -> Result<Owner, AllocError>
     ensures { IfOk result (λ w. (worker_view w ≡ nameless) × (worker_port w ≡ 0) × (worker_flavor w ≡ 0)
         × (worker_index w ≡ 0) × (room ≤ worker_capacity w)) }
 {
-    Owner::<K>::fifo_as(alloc, room)
+    Owner::fifo_as(alloc, room)
 }
 
-fn named<B: Naming, R, G, K: Held + Drop>(owner: &mut Owner<K>, _pool: &Pool<R, G>)
+fn named<B: Naming, R, G>(owner: &mut Owner, _pool: &Pool<R, G>)
     requires nameless { (worker_view owner.old ≡ nameless) × (worker_port owner.old ≡ 0) }
     ensures same { SameWorker owner.old owner.new × (worker_index owner.new ≡ worker_index owner.old) }
     ensures named { worker_view owner.new ≡ owning B.call [] [] 0 }
@@ -32,16 +32,16 @@ fn named<B: Naming, R, G, K: Held + Drop>(owner: &mut Owner<K>, _pool: &Pool<R, 
 }
 
 /// Names a new deque after a pool.
-pub(crate) fn name<R, G, K: Held + Drop>(owner: &mut Owner<K>, pool: &Pool<R, G>)
+pub(crate) fn name<R, G>(owner: &mut Owner, pool: &Pool<R, G>)
     requires nameless { (worker_view owner.old ≡ nameless) × (worker_port owner.old ≡ 0) }
     ensures same { SameWorker owner.old owner.new × (worker_index owner.new ≡ worker_index owner.old) }
     ensures named { worker_view owner.new ≡ owning (call_of pool.now) [] [] 0 }
 {
-    named::<Brand, R, G, K>(owner, pool);
+    named::<Brand, R, G>(owner, pool);
 }
 
 /// Appends a task. Conditions: it is of the named call, and there is room.
-pub(crate) fn push<K: Held + Drop>(owner: &mut Owner<K>, task: BinTask<K>)
+pub(crate) fn push(owner: &mut Owner, task: BinTask)
     requires owns { (worker_view owner.old).role ≡ Owns }
     requires told { IsToldIn (worker_view owner.old).of task }
     requires short { length (worker_view owner.old).pushed < (worker_view owner.old).of.room }
@@ -57,7 +57,7 @@ pub(crate) fn push<K: Held + Drop>(owner: &mut Owner<K>, task: BinTask<K>)
 }
 
 /// Takes the task at the front. None where the deque was empty: an owner with no stealer out then has every place.
-pub(crate) fn pop<K: Held + Drop>(owner: &mut Owner<K>) -> Option<BinTask<K>>
+pub(crate) fn pop(owner: &mut Owner) -> Option<BinTask>
     requires owns { (worker_view owner.old).role ≡ Owns }
     requires fifo { worker_flavor owner.old ≡ 0 }
     ensures same { SameWorker owner.old owner.new × (worker_index owner.new ≤ worker_index owner.old) }
@@ -69,7 +69,7 @@ pub(crate) fn pop<K: Held + Drop>(owner: &mut Owner<K>) -> Option<BinTask<K>>
 }
 
 /// What a stealer needs.
-pub(crate) fn lend<K: Held + Drop>(owner: &mut Owner<K>) -> DequePass<K>
+pub(crate) fn lend(owner: &mut Owner) -> DequePass
     requires owns { (worker_view owner.old).role ≡ Owns }
     ensures same { SameWorker owner.old owner.new × (worker_index owner.new ≡ worker_index owner.old) }
     ensures own { IsPassOf (worker_deque owner.old) result }
@@ -80,11 +80,7 @@ pub(crate) fn lend<K: Held + Drop>(owner: &mut Owner<K>) -> DequePass<K>
 }
 
 /// Steals the task at the front. None where the deque was empty.
-pub(crate) fn steal<R: Wait, K: Held + Drop>(
-    rt: &R,
-    thief: &Thief<K>,
-    pass: &mut DequePass<K>,
-) -> Option<BinTask<K>>
+pub(crate) fn steal<R: Wait>(rt: &R, thief: &Thief, pass: &mut DequePass) -> Option<BinTask>
     requires own { IsPassOf (stealer_deque thief.now) pass.old }
     requires steals { (view pass.old).role ≡ Steals }
     ensures own { IsPassOf (stealer_deque thief.now) pass.new }
@@ -103,7 +99,7 @@ pub(crate) fn steal<R: Wait, K: Held + Drop>(
 }
 
 /// A stealer's view ends in the owner's.
-pub(crate) fn take_back<K: Held + Drop>(owner: &mut Owner<K>, pass: DequePass<K>)
+pub(crate) fn take_back(owner: &mut Owner, pass: DequePass)
     requires roles { ((worker_view owner.old).role ≡ Owns) × ((view pass).role ≡ Steals) }
     requires own { IsPassOf (worker_deque owner.old) pass }
     ensures same { SameWorker owner.old owner.new × (worker_index owner.new ≡ worker_index owner.old) }

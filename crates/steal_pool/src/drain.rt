@@ -13,7 +13,6 @@ ghost use Rattle.steal_pool.specs.Seats.{IsOpen};
 
 use crate::deal::{deal, most_owned};
 use crate::deque_rule::{DequePass, Thief};
-use crate::draws::Draws;
 use crate::lend::{lend_all, rows_of};
 use crate::lists::lists_of;
 use crate::making::{empty_seats, thieves_of};
@@ -27,16 +26,16 @@ use std::mem;
 use std::sync::Wait;
 use std::thread::Threads;
 use tile_cells::TileCells;
-use tile_queues::{BinQueues, BinTask, Gate, Held};
+use tile_queues::{BinQueues, BinTask, Gate};
 
 /// Deals tasks to new seats and lends each worker its passes. Conditions: each seat owns the deque at its place, the
 /// tasks are told of all batches, no worker gets more than a deque is for, and there is room for each worker's passes.
-pub(crate) fn fill<R, G, K: Held + Drop>(
+pub(crate) fn fill<R, G>(
     pool: &Pool<R, G>,
-    thieves: &[Thief<K>],
-    seats: &mut [Seat<K>],
-    tasks: Vec<BinTask<K>>,
-    rows: Vec<Vec<DequePass<K>>>,
+    thieves: &[Thief],
+    seats: &mut [Seat],
+    tasks: Vec<BinTask>,
+    rows: Vec<Vec<DequePass>>,
 )
     requires some { 0 < length seats.old }
     requires many { length seats.old ≡ length thieves.now }
@@ -57,11 +56,11 @@ pub(crate) fn fill<R, G, K: Held + Drop>(
 }
 
 // The tasks are dealt to new seats and drawn. Err where memory gave out, and then they are as they were.
-fn run<R: Threads + Wait + Sync, G: Gate, K: Draws>(
+fn run<R: Threads + Wait + Sync, G: Gate>(
     pool: &Pool<R, G>,
     alloc: Global,
-    seats: &mut [Seat<K>],
-    tasks: &mut Vec<BinTask<K>>,
+    seats: &mut [Seat],
+    tasks: &mut Vec<BinTask>,
 ) -> Result<(), Memory>
     requires some { 0 < length seats.old }
     requires empty { All (IsEmptySeat (call_of pool.now) (length seats.old)) seats.old }
@@ -84,12 +83,12 @@ fn run<R: Threads + Wait + Sync, G: Gate, K: Draws>(
 /// Draws all tasks by so many workers, each in a thread of its own, and gives what each drew. Err where memory gave
 /// out, and then the tasks are as they were. Conditions: 1 to 64 workers, and the tasks are those of the pool's frame,
 /// told of all batches.
-pub(crate) fn drain_tasks<R: Threads + Wait + Sync, G: Gate, K: Draws>(
+pub(crate) fn drain_tasks<R: Threads + Wait + Sync, G: Gate>(
     pool: &Pool<R, G>,
     alloc: Global,
-    tasks: &mut Vec<BinTask<K>>,
+    tasks: &mut Vec<BinTask>,
     workers: usize,
-) -> Result<Vec<Vec<BinTask<K>>>, Memory>
+) -> Result<Vec<Vec<BinTask>>, Memory>
     requires some { 1 ≤ workers }
     requires few { pool.now.room ≤ 64 }
     requires small { workers * pool.now.room ≤ 4096 }
@@ -107,7 +106,7 @@ pub(crate) fn drain_tasks<R: Threads + Wait + Sync, G: Gate, K: Draws>(
 }
 
 // How the screen is cut for a task.
-fn cut_at<K: Held + Drop>(tasks: &[BinTask<K>], place: usize) -> Cut
+fn cut_at(tasks: &[BinTask], place: usize) -> Cut
     requires { place < length tasks.now }
     ensures { (t : Tasking) → result ≡ (slice_index_or tasks.now place t).of.frame.cut }
 {
@@ -115,7 +114,7 @@ fn cut_at<K: Held + Drop>(tasks: &[BinTask<K>], place: usize) -> Cut
 }
 
 // How many pieces a batch has for a task.
-fn size_at<K: Held + Drop>(tasks: &[BinTask<K>], place: usize) -> u32
+fn size_at(tasks: &[BinTask], place: usize) -> u32
     requires { place < length tasks.now }
     ensures { (t : Tasking) → result ≡ (slice_index_or tasks.now place t).of.frame.size }
 {
@@ -128,16 +127,16 @@ fn size_at<K: Held + Drop>(tasks: &[BinTask<K>], place: usize) -> u32
 /// first task is. Err where memory gave out: the tasks are as they were then, so none is drawn. Conditions: the tasks
 /// are those of all bins of the frame, in any order, each told of all batches; the cells and the list are the frame's;
 /// 1 to 64 workers.
-pub fn drain_pool<R: Threads + Wait + Sync, G: Gate, K: Draws>(
+pub fn drain_pool<R: Threads + Wait + Sync, G: Gate>(
     rt: &R,
     alloc: Global,
     queues: &BinQueues,
-    tasks: &mut Vec<BinTask<K>>,
+    tasks: &mut Vec<BinTask>,
     cells: &TileCells,
     list: &FrameList,
     workers: u32,
     gate: &G,
-) -> Result<Vec<Vec<BinTask<K>>>, Memory>
+) -> Result<Vec<Vec<BinTask>>, Memory>
     requires tasks { AreTold queues.now (frame_at tasks.old.items) tasks.old.items }
     requires cells { (frame_at tasks.old.items).cells ≡ cells.now }
     requires list { (frame_at tasks.old.items).list ≡ list.now.list }

@@ -5,7 +5,6 @@ ghost use Rattle.steal_pool.specs.Pools.{call_of, tasks_weigh, bins_weigh};
 ghost use Rattle.steal_pool.specs.Gather.{owners_weigh};
 ghost use Rattle.steal_pool.specs.Finish.{IsLeft, IsFinished, AreFinishedTo, lists_weigh, pushed_weigh};
 
-use crate::draws::Draws;
 use crate::pool::Pool;
 use crate::seat::Seat;
 use crate::worker::pop_all;
@@ -13,7 +12,7 @@ use std::sync::Wait;
 use tile_queues::Gate;
 
 // What is left in the deque of a seat is drawn, until it is found empty.
-fn finish<R: Wait, G: Gate, K: Draws>(pool: &Pool<R, G>, seat: &mut Seat<K>)
+fn finish<R: Wait, G: Gate>(pool: &Pool<R, G>, seat: &mut Seat)
     requires { IsLeft (call_of pool.now) seat.old }
     ensures finished { IsFinished (call_of pool.now) seat.new }
     ensures pushed { (worker_view seat.new.owner).pushed ≡ (worker_view seat.old.owner).pushed }
@@ -25,7 +24,7 @@ fn finish<R: Wait, G: Gate, K: Draws>(pool: &Pool<R, G>, seat: &mut Seat<K>)
 }
 
 /// What is left is drawn, seat by seat: all lists together have what was pushed.
-pub(crate) fn finish_all<R: Wait, G: Gate, K: Draws>(pool: &Pool<R, G>, seats: &mut [Seat<K>])
+pub(crate) fn finish_all<R: Wait, G: Gate>(pool: &Pool<R, G>, seats: &mut [Seat])
     requires left { AreFinishedTo (call_of pool.now) 0 seats.old }
     requires lists { (k : ℕ → ℕ) → lists_weigh k seats.old ≡ owners_weigh k seats.old }
     ensures many { length seats.new ≡ length seats.old }

@@ -20,7 +20,6 @@ ghost use Rattle.steal_pool.specs.Seats.{IsOpen};
 use crate::deal::most_owned;
 use crate::deque_rule::Thief;
 use crate::drain::fill;
-use crate::draws::Draws;
 use crate::lend::rows_of;
 use crate::lists::{join_lists, lists_of};
 use crate::making::{empty_seats, thieves_of};
@@ -65,11 +64,11 @@ pub(crate) fn open_frame<R: Threads + Wait + Sync, G: Gate>(
 }
 
 // All tasks of all deques are drawn, while the caller reads the cells. The caller has a thread of its own.
-fn drain_beside<R: Threads + Wait + Sync, G: Gate, C: Caller, K: Draws>(
+fn drain_beside<R: Threads + Wait + Sync, G: Gate, C: Caller>(
     pool: &Pool<R, G>,
     alloc: Global,
-    thieves: &[Thief<K>],
-    seats: &mut [Seat<K>],
+    thieves: &[Thief],
+    seats: &mut [Seat],
     reader: &mut TileReader,
     caller: &mut C,
 )
@@ -108,11 +107,11 @@ fn drain_beside<R: Threads + Wait + Sync, G: Gate, C: Caller, K: Draws>(
 
 // The tasks are dealt to new seats and drawn, while the caller reads the cells. Err where memory gave out: then the
 // tasks, the reader and the caller are as they were.
-fn run_beside<R: Threads + Wait + Sync, G: Gate, C: Caller, K: Draws>(
+fn run_beside<R: Threads + Wait + Sync, G: Gate, C: Caller>(
     pool: &Pool<R, G>,
     alloc: Global,
-    seats: &mut [Seat<K>],
-    tasks: &mut Vec<BinTask<K>>,
+    seats: &mut [Seat],
+    tasks: &mut Vec<BinTask>,
     reader: &mut TileReader,
     caller: &mut C,
 ) -> Result<(), Memory>
@@ -142,14 +141,14 @@ fn run_beside<R: Threads + Wait + Sync, G: Gate, C: Caller, K: Draws>(
 
 // All tasks, drawn by so many workers while the caller reads the cells. Err where memory gave out: then the tasks, the
 // reader and the caller are as they were. Conditions: those of `drain_tasks`.
-fn draw_tasks<R: Threads + Wait + Sync, G: Gate, C: Caller, K: Draws>(
+fn draw_tasks<R: Threads + Wait + Sync, G: Gate, C: Caller>(
     pool: &Pool<R, G>,
     alloc: Global,
-    tasks: &mut Vec<BinTask<K>>,
+    tasks: &mut Vec<BinTask>,
     workers: usize,
     reader: &mut TileReader,
     caller: &mut C,
-) -> Result<Vec<BinTask<K>>, Memory>
+) -> Result<Vec<BinTask>, Memory>
     requires some { 1 ≤ workers }
     requires few { pool.now.room ≤ 64 }
     requires small { workers * pool.now.room ≤ 4096 }
@@ -178,10 +177,9 @@ fn draw_tasks<R: Threads + Wait + Sync, G: Gate, C: Caller, K: Draws>(
 /// belonging to worker b mod workers, and when it is done with them those that are left to others; each bin is drawn
 /// whole, by one of them. The caller is lent these cells and this reader, in a thread of its own, and is done
 /// afterwards. The gate is asked before a batch is binned, and before a bin draws a member, with the number that it has
-/// drawn. Err where memory gave out: the writers are given up then, and the reader and the caller are as they were,
-/// since all memory is taken before a task is drawn. Conditions: the cells are of this list, the writers
-/// and the reader are those that were made with them, and no member is drawn; the caller is ready; 1 to 64 workers, and
-/// a batch has at least one piece, so that there are at most 2048.
+/// drawn. Err where memory gave out: the writers are given up then, and the reader and the caller are as they were.
+/// Conditions: the cells are of this list, the writers and the reader are those that were made with them, and no member
+/// is drawn; the caller is ready; 1 to 64 workers, and a batch has at least one piece, so that there are at most 2048.
 pub fn draw_stolen<R: Threads + Wait + Sync, G: Gate, C: Caller>(
     rt: &R,
     alloc: Global,

@@ -13,16 +13,9 @@ use crate::pool::Pool;
 use crate::seat::Seat;
 use std::alloc::Global;
 use std::mem;
-use tile_queues::Held;
 
 // A pass ends in the view of its deque's owner.
-fn take_at<R, G, K: Held + Drop>(
-    seat: &mut Seat<K>,
-    pass: DequePass<K>,
-    _pool: &Pool<R, G>,
-    _thief: &Thief<K>,
-    _left: usize,
-)
+fn take_at<R, G>(seat: &mut Seat, pass: DequePass, _pool: &Pool<R, G>, _thief: &Thief, _left: usize)
     requires pass { IsPassOf (stealer_deque _thief.now) pass
         × (view pass ≡ stealing (call_of _pool.now) (view pass).taken) }
     requires out { IsOut (stealer_deque _thief.now) (call_of _pool.now) (_left + 1) seat.old }
@@ -35,11 +28,11 @@ fn take_at<R, G, K: Held + Drop>(
 }
 
 // The passes of one worker end, each in the view of its deque's owner.
-fn take_row<R, G, K: Held + Drop>(
-    seats: &mut [Seat<K>],
-    mut passes: Vec<DequePass<K>>,
+fn take_row<R, G>(
+    seats: &mut [Seat],
+    mut passes: Vec<DequePass>,
     pool: &Pool<R, G>,
-    thieves: &[Thief<K>],
+    thieves: &[Thief],
     left: usize,
 )
     requires many { length seats.old ≡ length thieves.now }
@@ -58,11 +51,11 @@ fn take_row<R, G, K: Held + Drop>(
 }
 
 /// The passes of all workers end. Condition: as many are out of each deque as there are seats.
-pub(crate) fn take_all<R, G, K: Held + Drop>(
+pub(crate) fn take_all<R, G>(
     alloc: Global,
-    seats: &mut [Seat<K>],
+    seats: &mut [Seat],
     pool: &Pool<R, G>,
-    thieves: &[Thief<K>],
+    thieves: &[Thief],
 )
     requires many { length seats.old ≡ length thieves.now }
     requires passes { HavePassesFrom stealer_deque (call_of pool.now) thieves.now 0 seats.old }

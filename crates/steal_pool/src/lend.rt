@@ -14,15 +14,9 @@ use crate::seat::Seat;
 use cull_base::Memory;
 use std::alloc::Global;
 use std::mem;
-use tile_queues::Held;
 
 // A pass on the deque of a seat.
-fn lend_at<R, G, K: Held + Drop>(
-    seat: &mut Seat<K>,
-    _pool: &Pool<R, G>,
-    _workers: usize,
-    _out: usize,
-) -> DequePass<K>
+fn lend_at<R, G>(seat: &mut Seat, _pool: &Pool<R, G>, _workers: usize, _out: usize) -> DequePass
     requires { IsDealt (call_of _pool.now) _workers _out seat.old }
     ensures dealt { IsDealt (call_of _pool.now) _workers (_out + 1) seat.new }
     ensures on { IsLentOn seat.old seat.new }
@@ -33,10 +27,7 @@ fn lend_at<R, G, K: Held + Drop>(
 }
 
 /// Room for a row of passes for each of so many workers. Err where memory gave out.
-pub(crate) fn rows_of<K: Held + Drop>(
-    alloc: Global,
-    workers: usize,
-) -> Result<Vec<Vec<DequePass<K>>>, Memory>
+pub(crate) fn rows_of(alloc: Global, workers: usize) -> Result<Vec<Vec<DequePass>>, Memory>
     ensures count { IfOk result (λ v. length v.items ≡ workers) }
     ensures room { IfOk result (λ v. AreRoomy vec_items vec_capacity workers v.items) }
 {
@@ -49,7 +40,7 @@ pub(crate) fn rows_of<K: Held + Drop>(
 }
 
 // The room for one of the rows that are left.
-fn next_row<K: Held + Drop>(rows: &mut Vec<Vec<DequePass<K>>>, _workers: usize) -> Vec<DequePass<K>>
+fn next_row(rows: &mut Vec<Vec<DequePass>>, _workers: usize) -> Vec<DequePass>
     requires some { 0 < length rows.old.items }
     requires room { AreRoomy vec_items vec_capacity _workers rows.old.items }
     ensures fewer { length rows.old.items ≡ length rows.new.items + 1 }
@@ -64,13 +55,13 @@ fn next_row<K: Held + Drop>(rows: &mut Vec<Vec<DequePass<K>>>, _workers: usize) 
 }
 
 // A pass on the deque of each seat, in order. Condition: there is room for them.
-fn lend_row<R, G, K: Held + Drop>(
-    room: Vec<DequePass<K>>,
-    seats: &mut [Seat<K>],
+fn lend_row<R, G>(
+    room: Vec<DequePass>,
+    seats: &mut [Seat],
     pool: &Pool<R, G>,
-    _thieves: &[Thief<K>],
+    _thieves: &[Thief],
     out: usize,
-) -> Vec<DequePass<K>>
+) -> Vec<DequePass>
     requires many { length seats.old ≡ length _thieves.now }
     requires deques { AreAt stealer_deque _thieves.now seats.old }
     requires lent { AreLent (call_of pool.now) (length seats.old) 0 out seats.old }
@@ -92,11 +83,11 @@ fn lend_row<R, G, K: Held + Drop>(
 
 /// Lends a pass on each deque to each worker. Conditions: tasks are dealt, no pass is lent, each seat owns the deque at
 /// its place, and there is room for a row of passes for each worker.
-pub(crate) fn lend_all<R, G, K: Held + Drop>(
-    mut rows: Vec<Vec<DequePass<K>>>,
-    seats: &mut [Seat<K>],
+pub(crate) fn lend_all<R, G>(
+    mut rows: Vec<Vec<DequePass>>,
+    seats: &mut [Seat],
     pool: &Pool<R, G>,
-    thieves: &[Thief<K>],
+    thieves: &[Thief],
 )
     requires many { length seats.old ≡ length thieves.now }
     requires deques { AreAt stealer_deque thieves.now seats.old }

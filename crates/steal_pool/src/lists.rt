@@ -6,14 +6,14 @@ ghost use Rattle.steal_pool.specs.Pools.{call_of};
 
 use crate::pool::Pool;
 use crate::seat::Seat;
-use tile_queues::{BinTask, Held};
+use tile_queues::BinTask;
 
 /// The list of each worker, in order. Conditions: all tasks are drawn, and there is room for so many lists.
-pub(crate) fn lists_of<R, G, K: Held + Drop>(
+pub(crate) fn lists_of<R, G>(
     _pool: &Pool<R, G>,
-    seats: Vec<Seat<K>>,
-    room: Vec<Vec<BinTask<K>>>,
-) -> Vec<Vec<BinTask<K>>>
+    seats: Vec<Seat>,
+    room: Vec<Vec<BinTask>>,
+) -> Vec<Vec<BinTask>>
     requires finished { AreFinishedTo (call_of _pool.now) (length seats.items) seats.items }
     requires empty { room.items ≡ [] }
     requires room { length seats.items ≤ vec_capacity room }
@@ -31,7 +31,7 @@ pub(crate) fn lists_of<R, G, K: Held + Drop>(
 }
 
 // Appends a list. Condition: there is room.
-fn append<K: Held + Drop>(all: &mut Vec<BinTask<K>>, mut list: Vec<BinTask<K>>)
+fn append(all: &mut Vec<BinTask>, mut list: Vec<BinTask>)
     requires { vec_len all.old + vec_len list ≤ vec_capacity all.old }
     ensures items { all.new.items ≡ all.old.items ++ list.items }
     ensures capacity { vec_capacity all.old ≤ vec_capacity all.new }
@@ -43,10 +43,7 @@ fn append<K: Held + Drop>(all: &mut Vec<BinTask<K>>, mut list: Vec<BinTask<K>>)
 }
 
 /// The lists one behind the other. Condition: there is room for all.
-pub(crate) fn join_lists<K: Held + Drop>(
-    room: Vec<BinTask<K>>,
-    lists: Vec<Vec<BinTask<K>>>,
-) -> Vec<BinTask<K>>
+pub(crate) fn join_lists(room: Vec<BinTask>, lists: Vec<Vec<BinTask>>) -> Vec<BinTask>
     requires empty { room.items ≡ [] }
     requires room { length (joined vec_items lists.items) ≤ vec_capacity room }
     ensures { result.items ≡ joined vec_items lists.items }

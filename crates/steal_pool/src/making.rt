@@ -13,10 +13,9 @@ use crate::pool::Pool;
 use crate::seat::Seat;
 use cull_base::Memory;
 use std::alloc::Global;
-use tile_queues::Held;
 
 // A deque for a pool.
-fn open_deque<R, G, K: Held + Drop>(alloc: Global, pool: &Pool<R, G>) -> Result<Owner<K>, Memory>
+fn open_deque<R, G>(alloc: Global, pool: &Pool<R, G>) -> Result<Owner, Memory>
     ensures { IfOk result (λ w. (worker_view w ≡ owning (call_of pool.now) [] [] 0) × (worker_flavor w ≡ 0)
         × (worker_index w ≡ 0) × (pool.now.room ≤ worker_capacity w)) }
 {
@@ -26,11 +25,7 @@ fn open_deque<R, G, K: Held + Drop>(alloc: Global, pool: &Pool<R, G>) -> Result<
 }
 
 // A seat of one of so many workers. It has no pass yet.
-fn empty_seat<R, G, K: Held + Drop>(
-    alloc: Global,
-    pool: &Pool<R, G>,
-    workers: usize,
-) -> Result<Seat<K>, Memory>
+fn empty_seat<R, G>(alloc: Global, pool: &Pool<R, G>, workers: usize) -> Result<Seat, Memory>
     requires few { pool.now.room ≤ 64 }
     requires small { workers * pool.now.room ≤ 4096 }
     ensures { IfOk result (λ s. IsEmptySeat (call_of pool.now) workers s) }
@@ -46,11 +41,11 @@ fn empty_seat<R, G, K: Held + Drop>(
 }
 
 /// The seats of so many workers, with no tasks and no passes. Err where memory gave out.
-pub(crate) fn empty_seats<R, G, K: Held + Drop>(
+pub(crate) fn empty_seats<R, G>(
     alloc: Global,
     pool: &Pool<R, G>,
     workers: usize,
-) -> Result<Vec<Seat<K>>, Memory>
+) -> Result<Vec<Seat>, Memory>
     requires few { pool.now.room ≤ 64 }
     requires small { workers * pool.now.room ≤ 4096 }
     ensures count { IfOk result (λ v. length v.items ≡ workers) }
@@ -65,17 +60,14 @@ pub(crate) fn empty_seats<R, G, K: Held + Drop>(
 }
 
 // A stealer of a seat's deque.
-fn thief_of<K: Held + Drop>(seat: &Seat<K>) -> Result<Thief<K>, Memory>
+fn thief_of(seat: &Seat) -> Result<Thief, Memory>
     ensures { IfOk result (λ t. stealer_deque t ≡ worker_deque seat.now.owner) }
 {
     seat.owner.stealer().map_err(|_| Memory)
 }
 
 /// A stealer of each seat's deque, in order. Err where memory gave out.
-pub(crate) fn thieves_of<K: Held + Drop>(
-    alloc: Global,
-    seats: &[Seat<K>],
-) -> Result<Vec<Thief<K>>, Memory>
+pub(crate) fn thieves_of(alloc: Global, seats: &[Seat]) -> Result<Vec<Thief>, Memory>
     ensures count { IfOk result (λ v. length v.items ≡ length seats.now) }
     ensures deques { IfOk result (λ v. AreAt stealer_deque v.items seats.now) }
 {

@@ -5,20 +5,19 @@ ghost use Rattle.steal_pool.specs.Pools.{call_of, tasks_weigh, IsWholeIn};
 ghost use Rattle.steal_pool.specs.Seats.{passes_weigh, ArePassesOf, IsOpen, IsWorked, AreWorked};
 
 use crate::deque_rule::{DequePass, Owner, Thief};
-use crate::draws::Draws;
 use crate::pool::Pool;
 use crate::worker::{pop_all, steal_all};
 use side_by_side::for_each_share;
 use std::sync::Wait;
 use std::thread::Threads;
-use tile_queues::{BinTask, Gate, Held};
+use tile_queues::{BinTask, Gate};
 
 /// A worker's deque, its passes on all deques, and what it drew.
 #[derive(Drop)]
-pub struct Seat<K: Held> {
-    pub owner: Owner<K>,
-    pub passes: Vec<DequePass<K>>,
-    pub list: Vec<BinTask<K>>,
+pub struct Seat {
+    pub owner: Owner,
+    pub passes: Vec<DequePass>,
+    pub list: Vec<BinTask>,
 }
 
 // The place behind another, in a round of so many.
@@ -31,12 +30,12 @@ fn next_place(place: usize, count: usize) -> usize
 
 // Steals from each deque until that one is found empty. The round begins behind the worker's own place, so that those
 // that are done at once begin at different ones.
-fn steal_round<R: Wait, G: Gate, K: Draws>(
+fn steal_round<R: Wait, G: Gate>(
     pool: &Pool<R, G>,
-    thieves: &[Thief<K>],
+    thieves: &[Thief],
     own: usize,
-    passes: &mut Vec<DequePass<K>>,
-    list: &mut Vec<BinTask<K>>,
+    passes: &mut Vec<DequePass>,
+    list: &mut Vec<BinTask>,
 )
     requires passes { ArePassesOf stealer_deque (call_of pool.now) thieves.now passes.old.items }
     requires room { vec_len list.old + length thieves.now * pool.now.room ≤ vec_capacity list.old }
@@ -57,12 +56,7 @@ fn steal_round<R: Wait, G: Gate, K: Draws>(
 }
 
 // Draws the own tasks, and then those that are left to others.
-fn work_at<R: Wait, G: Gate, K: Draws>(
-    pool: &Pool<R, G>,
-    thieves: &[Thief<K>],
-    own: usize,
-    seat: &mut Seat<K>,
-)
+fn work_at<R: Wait, G: Gate>(pool: &Pool<R, G>, thieves: &[Thief], own: usize, seat: &mut Seat)
     requires { IsOpen stealer_deque (call_of pool.now) thieves.now seat.old }
     ensures { IsWorked stealer_deque (call_of pool.now) thieves.now seat.old seat.new }
 {
@@ -71,10 +65,10 @@ fn work_at<R: Wait, G: Gate, K: Draws>(
 }
 
 /// All workers at once, each in a thread of its own.
-pub(crate) fn work_all<R: Threads + Wait + Sync, G: Gate, K: Draws>(
+pub(crate) fn work_all<R: Threads + Wait + Sync, G: Gate>(
     pool: &Pool<R, G>,
-    thieves: &[Thief<K>],
-    seats: &mut [Seat<K>],
+    thieves: &[Thief],
+    seats: &mut [Seat],
 )
     requires { All (IsOpen stealer_deque (call_of pool.now) thieves.now) seats.old }
     ensures { AreWorked stealer_deque (call_of pool.now) thieves.now seats.old seats.new }
@@ -84,7 +78,7 @@ pub(crate) fn work_all<R: Threads + Wait + Sync, G: Gate, K: Draws>(
         pool.rt,
         seats,
         workers,
-        &|w: usize, seat: &mut Seat<K>|
+        &|w: usize, seat: &mut Seat|
             requires { IsOpen stealer_deque (call_of pool.now) thieves.now seat.old }
             ensures { IsWorked stealer_deque (call_of pool.entry.now) thieves.entry.now seat.old seat.new }
         { work_at(pool, thieves, w, seat) },

@@ -6,7 +6,6 @@ ghost use Rattle.steal_pool.specs.Seats.{IsOpen};
 ghost use Rattle.steal_pool.specs.Finish.{AreAt, AreFinishedTo, lists_weigh, pushed_weigh};
 
 use crate::deque_rule::Thief;
-use crate::draws::Draws;
 use crate::finish::finish_all;
 use crate::gather::take_all;
 use crate::pool::Pool;
@@ -18,11 +17,11 @@ use tile_queues::Gate;
 
 /// All tasks of all deques are drawn: the lists together have what was pushed. Nothing takes memory. Conditions: the
 /// seats are as many as the deques, each owns the deque at its place, and nothing is drawn.
-pub(crate) fn drain_seats<R: Threads + Wait + Sync, G: Gate, K: Draws>(
+pub(crate) fn drain_seats<R: Threads + Wait + Sync, G: Gate>(
     pool: &Pool<R, G>,
     alloc: Global,
-    thieves: &[Thief<K>],
-    seats: &mut [Seat<K>],
+    thieves: &[Thief],
+    seats: &mut [Seat],
 )
     requires many { length seats.old ≡ length thieves.now }
     requires open { All (IsOpen stealer_deque (call_of pool.now) thieves.now) seats.old }

@@ -1,5 +1,5 @@
 //! All batches of a frame, submitted one after another, and tasks that are told of them.
-ghost use Rattle.std.specs.Prelude.{◌≡◌, ◌≤◌, ◌<◌, ◌+◌, All, length, vec_items, OnOk};
+ghost use Rattle.std.specs.Prelude.{◌≡◌, ◌<◌, ◌+◌, All, length, vec_items, OnOk};
 ghost use Rattle.bin_queues.specs.Frames.{over};
 ghost use Rattle.bin_queues.specs.QueueParts.{batches_in};
 ghost use Rattle.bin_queues.specs.Tasks.{IsSubmitterOf, IsTaskOf};
@@ -7,55 +7,13 @@ ghost use Rattle.tile_queues.specs.Shares.{AreChanged};
 ghost use Rattle.steal_pool.specs.Binned.{AreBinned, IsBinned};
 ghost use Rattle.steal_pool.specs.Telling.{IsToldMore};
 
-use crate::binned::{Slot, bin_all, binning_threads, empty_slots, parts_at};
+use crate::binned::{Slot, bin_all, binning_threads, empty_slots};
 use bin_queues::Batched;
 use cull_base::Memory;
 use std::alloc::Global;
 use std::sync::Wait;
 use std::thread::Threads;
-use tile_queues::{BinQueues, BinTask, Gate, Held, Submitter};
-
-// Bins the next batch, once the gate has returned, and submits it.
-fn submit_next<R: Wait, G: Gate>(
-    rt: &R,
-    alloc: Global,
-    queues: &BinQueues,
-    submitter: &mut Submitter,
-    frame: &Batched,
-    gate: &G,
-) -> Result<(), Memory>
-    requires queues { IsSubmitterOf queues.now submitter.old }
-    requires frame { submitter.old.frame ≡ over frame.now submitter.old.frame.cells }
-    requires short { submitter.old.batches < batches_in submitter.old.frame }
-    ensures { OnOk result (submitter.new ≡ record submitter.old { batches = submitter.old.batches + 1 }) }
-{
-    let batch = submitter.batches();
-    let parts = parts_at(alloc, frame, gate, batch)?;
-    queues.submit(rt, submitter, parts);
-    Ok(())
-}
-
-// Bins and submits so many batches more, in order. The gate is asked before each. Err where memory gave out.
-// Conditions: the submitter is of these queues and of this frame, which has so many more.
-fn submit_each<R: Wait, G: Gate>(
-    rt: &R,
-    alloc: Global,
-    queues: &BinQueues,
-    submitter: &mut Submitter,
-    frame: &Batched,
-    gate: &G,
-    count: u32,
-) -> Result<(), Memory>
-    requires queues { IsSubmitterOf queues.now submitter.old }
-    requires frame { submitter.old.frame ≡ over frame.now submitter.old.frame.cells }
-    requires left { submitter.old.batches + count ≤ batches_in submitter.old.frame }
-    ensures { OnOk result (submitter.new ≡ record submitter.old { batches = submitter.old.batches + count }) }
-{
-    for _ in 0..count {
-        submit_next(rt, alloc, queues, submitter, frame, gate)?;
-    }
-    Ok(())
-}
+use tile_queues::{BinQueues, BinTask, Gate, Submitter};
 
 // Submits the parts of the next batch. Err where their slot is empty: memory gave out for them.
 fn submit_slot<R: Wait>(
@@ -121,23 +79,17 @@ pub(crate) fn submit_all<R: Threads + Wait + Sync, G: Gate>(
     ensures { OnOk result (submitter.new ≡ record submitter.old { batches = batches_in submitter.old.frame }) }
 {
     let threads = binning_threads(frame, workers);
-    if threads < 2 {
-        let count = frame.batches();
-        submit_each(rt, alloc, queues, submitter, frame, gate, count)?;
-        return Ok(());
-    }
     let mut slots = empty_slots(alloc, frame)?;
     bin_all(rt, alloc, frame, gate, slots.as_mut_slice(), threads);
-    submit_slots(rt, queues, submitter, frame, slots)?;
-    Ok(())
+    submit_slots(rt, queues, submitter, frame, slots)
 }
 
 /// Tells each task how many batches were submitted. Condition: the submitter and the tasks are of these queues.
-pub(crate) fn tell_all<R: Wait, K: Held + Drop>(
+pub(crate) fn tell_all<R: Wait>(
     rt: &R,
     queues: &BinQueues,
     submitter: &mut Submitter,
-    tasks: &mut [BinTask<K>],
+    tasks: &mut [BinTask],
 )
     requires submitter { IsSubmitterOf queues.now submitter.old }
     requires tasks { All (IsTaskOf queues.now) tasks.old }

@@ -7,35 +7,40 @@ ghost use Rattle.steal_pool.specs.declared.deque_rule.Role.TheVariants.{Owns, St
 
 use crate::deque_rule::{DequePass, Owner, Thief};
 use crate::deque_steps::{pop, steal};
-use crate::draws::{Draws, into_either};
-use crate::either_task::draw_either;
 use crate::pool::Pool;
 use std::sync::Wait;
 use tile_queues::{BinTask, Gate};
 
-// Draws a task to its end, and appends it. Condition: there is room.
-fn draw_into<R: Wait, G: Gate, K: Draws>(
-    pool: &Pool<R, G>,
-    list: &mut Vec<BinTask<K>>,
-    task: BinTask<K>,
-)
+/// Draws a task to its end. Conditions: it is of the named call, and was told of all batches.
+pub(crate) fn draw_to_end<R: Wait, G: Gate>(pool: &Pool<R, G>, mut task: BinTask) -> BinTask
+    requires { IsToldIn (call_of pool.now) task }
+    ensures bin { result.of.bin ≡ task.of.bin }
+    ensures whole { IsWholeIn (call_of pool.now) result }
+{
+    let (rt, cells) = (pool.rt, pool.cells);
+    pool.queues
+        .drain(rt, &mut task, cells, pool.list, pool.gate);
+    task
+}
+
+// The same, and appends it. Condition: there is room.
+fn draw_into<R: Wait, G: Gate>(pool: &Pool<R, G>, list: &mut Vec<BinTask>, task: BinTask)
     requires told { IsToldIn (call_of pool.now) task }
     requires room { vec_len list.old < vec_capacity list.old }
     ensures joined { Joined (call_of pool.now) list.old.items list.new.items task }
     ensures len { vec_len list.new ≡ vec_len list.old + 1 }
     ensures capacity { vec_capacity list.new ≡ vec_capacity list.old }
 {
-    let either = into_either(task);
-    let drawn = K::from_either(draw_either(pool, either));
+    let drawn = draw_to_end(pool, task);
     list.push_reserved(drawn);
 }
 
 /// Draws all tasks of an own deque until it is found empty. Conditions: the deque is named after the pool, and the list
 /// has room for what is left of it.
-pub(crate) fn pop_all<R: Wait, G: Gate, K: Draws>(
+pub(crate) fn pop_all<R: Wait, G: Gate>(
     pool: &Pool<R, G>,
-    owner: &mut Owner<K>,
-    list: &mut Vec<BinTask<K>>,
+    owner: &mut Owner,
+    list: &mut Vec<BinTask>,
 )
     requires owns { ((worker_view owner.old).role ≡ Owns) × (worker_flavor owner.old ≡ 0) }
     requires of { (worker_view owner.old).of ≡ call_of pool.now }
@@ -61,11 +66,11 @@ pub(crate) fn pop_all<R: Wait, G: Gate, K: Draws>(
 
 /// Steals and draws until that deque is found empty. Conditions: the deque is named after the pool, and the list has
 /// room for what the pass didn't take yet.
-pub(crate) fn steal_all<R: Wait, G: Gate, K: Draws>(
+pub(crate) fn steal_all<R: Wait, G: Gate>(
     pool: &Pool<R, G>,
-    thief: &Thief<K>,
-    pass: &mut DequePass<K>,
-    list: &mut Vec<BinTask<K>>,
+    thief: &Thief,
+    pass: &mut DequePass,
+    list: &mut Vec<BinTask>,
 )
     requires own { IsPassOf (stealer_deque thief.now) pass.old }
     requires steals { (view pass.old).role ≡ Steals }

@@ -9,4 +9,3 @@ pub mod Ending
 pub mod Keeping
 pub mod Turning
 pub mod Changing
-pub mod PlainBins

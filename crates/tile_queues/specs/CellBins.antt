@@ -63,10 +63,6 @@ pub record IsMemberForm (list : PieceList) (k row : ℕ) (form : PieceForm) : Ty
 abbrev pub Stands : List TableId → PieceList → ℕ → Writing → Type 0
 Stands cells list k w = StandsAt cells list k w.tile w
 
--- The bin's tiles took the members of the batches that the task drew. What their keeper says of them is given.
-abbrev pub HoldsTiles : {X : Type 0} → (X → List TableId → PieceList → TileSpan → ℕ → Type 0) → Tasking → X → Type 0
-HoldsTiles {X} held t c = StandsAtBatches held t.of.frame.cells t c
-
--- so did the bin's writers
+-- the bin's writers took the members of the batches that the task drew
 abbrev pub HoldsBin : Tasking → CellBin → Type 0
-HoldsBin t c = HoldsTiles StandsInCells t c
+HoldsBin t c = StandsAtBatches StandsInCells t.of.frame.cells t c

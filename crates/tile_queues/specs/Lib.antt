@@ -4,4 +4,3 @@ pub mod Callers
 pub mod Frames
 pub mod Owners
 pub mod Shares
-pub mod PlainBins

@@ -1,40 +1,36 @@
-//! A bin's task, over the cells of its tiles or over plain tiles.
+//! A bin's task over the cells of its tiles.
 ghost use Rattle.std.specs.Prelude.{◌≡◌, ◌≤◌, ◌<◌, max};
 ghost use Rattle.binning.specs.Cut.{bin_count_of};
-ghost use Rattle.bin_queues.specs.Frames.{over};
 ghost use Rattle.bin_queues.specs.QueueParts.{IsBatched, batches_in, taken_before};
 ghost use Rattle.bin_queues.specs.Tasks.{IsSubmitterOf, IsTaskOf};
-ghost use Rattle.tile_queues.specs.CellBins.{HoldsBin, HoldsTiles, StandsInCells};
-ghost use Rattle.tile_queues.specs.PlainBins.{HeldPlain};
+ghost use Rattle.tile_queues.specs.CellBins.{HoldsBin, StandsInCells};
 ghost use Rattle.tile_queues.specs.Shares.{MayDraw, frame_over};
 ghost use Rattle.bin_tasks.specs.Drains.{HasDrained, IsAnswer, IsTaskIn, WasTold};
 
 use crate::cell_bin::{CellBin, InCells};
-use crate::held::Held;
 use bin_queues::{Intake, PartQueues, Sender};
 use bin_tasks::{Drained, Drawing, Task};
 use bin_tiles::Gate;
 use binning::Cut;
-use masked_update::Canvas;
 use std::marker::Model;
 use std::sync::Wait;
 
-/// Draws the parts of a bin's queue into the bin's tiles, whose keeper it owns: the writers of their cells, or a
-/// canvas. They stand at the members of the parts that are drawn.
+/// Draws the parts of a bin's queue into the cells of the bin's tiles, whose writers it owns. They stand at the members
+/// of the parts that are drawn.
 #[derive(Drop)]
-pub struct BinTask<K: Held = CellBin> {
-    task: Task<K>,
+pub struct BinTask {
+    task: Task<CellBin>,
 }
 
-impl<K: Held> Model for BinTask<K> {
+impl Model for BinTask {
     ghost use Rattle.bin_queues.specs.Tasks.{Tasking};
-    ghost use Rattle.tile_queues.specs.CellBins.{HoldsTiles};
+    ghost use Rattle.tile_queues.specs.CellBins.{HoldsBin};
 
     ghost Value = { Tasking };
 
     ghost view = { λ s. s.task.intake };
 
-    ghost invariant = { λ s. HoldsTiles K.held s.task.intake s.task.keeper };
+    ghost invariant = { λ s. HoldsBin s.task.intake s.task.keeper };
 }
 
 // Draws what is in the queue of a bin.
@@ -46,18 +42,6 @@ fn drain_in<R: Wait, G: Gate>(
     requires holds { HoldsBin task.old.intake task.old.keeper }
     ensures may { MayDraw drawing.now task.new.intake }
     ensures holds { HoldsBin task.new.intake task.new.keeper }
-    ensures answer { IsAnswer result task.old.intake task.new.intake }
-    ensures drained { HasDrained task.old.intake task.new.intake }
-{
-    drawing.drain(task)
-}
-
-// Draws it into plain tiles.
-fn drain_plain_in<R: Wait, G: Gate>(task: &mut Task<Canvas>, drawing: &Drawing<R, (), G>) -> Drained
-    requires queues { IsTaskOf drawing.now.queues.now task.old.intake }
-    requires frame { task.old.intake.of.frame ≡ over drawing.now.frame task.old.intake.of.frame.cells }
-    requires holds { HoldsTiles HeldPlain task.old.intake task.old.keeper }
-    ensures holds { HoldsTiles HeldPlain task.new.intake task.new.keeper }
     ensures answer { IsAnswer result task.old.intake task.new.intake }
     ensures drained { HasDrained task.old.intake task.new.intake }
 {
@@ -83,20 +67,20 @@ fn tell_in<R: Wait, G: Gate>(
 }
 
 // The same, whatever frame it is of.
-fn hear_in<K: Held>(task: &mut Task<K>, queues: &PartQueues, sender: &mut Sender)
+fn hear_in(task: &mut Task<CellBin>, queues: &PartQueues, sender: &mut Sender)
     requires sender { IsSubmitterOf queues.now sender.old }
     requires task { IsTaskOf queues.now task.old.intake }
-    requires holds { HoldsTiles K.held task.old.intake task.old.keeper }
+    requires holds { HoldsBin task.old.intake task.old.keeper }
     ensures same { sender.new ≡ sender.old }
-    ensures holds { HoldsTiles K.held task.new.intake task.new.keeper }
+    ensures holds { HoldsBin task.new.intake task.new.keeper }
     ensures told { task.new.intake ≡ record task.old.intake { told = max task.old.intake.told sender.old.batches } }
 {
     queues.tell(sender, &mut task.intake);
 }
 
-impl<K: Held> BinTask<K> {
-    pub(crate) fn of(intake: Intake, keeper: K) -> BinTask<K>
-        requires { HoldsTiles K.held intake keeper }
+impl BinTask {
+    pub(crate) fn of(intake: Intake, keeper: CellBin) -> BinTask
+        requires { HoldsBin intake keeper }
         ensures { result ≡ intake }
     {
         BinTask {
@@ -145,28 +129,6 @@ impl<K: Held> BinTask<K> {
         self.task.intake.taken()
     }
 
-    /// Tells the task how many batches were submitted. Condition: the sender and the task are of these queues.
-    pub(crate) fn hear(&mut self, queues: &PartQueues, sender: &mut Sender)
-        requires sender { IsSubmitterOf queues.now sender.old }
-        requires task { IsTaskOf queues.now self.old }
-        ensures same { sender.new ≡ sender.old }
-        ensures told { self.new ≡ record self.old { told = max self.old.told sender.old.batches } }
-    {
-        hear_in(&mut self.task, queues, sender);
-    }
-
-    /// What it takes in, and what keeps the bin's tiles.
-    pub(crate) fn into_parts(self) -> (Intake, K)
-        ensures intake { result.0 ≡ self }
-        ensures bin { HoldsTiles K.held self result.1 }
-    {
-        let BinTask { task } = self;
-        let Task { intake, keeper } = task;
-        (intake, keeper)
-    }
-}
-
-impl BinTask<CellBin> {
     /// Draws what is in the bin's queue. Condition: the task is of these queues and of this frame.
     pub(crate) fn drain<R: Wait, G: Gate>(&mut self, drawing: &Drawing<R, InCells<R>, G>) -> Drained
         requires { MayDraw drawing.now self.old }
@@ -193,16 +155,24 @@ impl BinTask<CellBin> {
     {
         tell_in(&mut self.task, drawing, sender);
     }
-}
 
-impl BinTask<Canvas> {
-    /// Draws what is in the bin's queue. Condition: the task is of these queues and of this frame.
-    pub(crate) fn drain_plain<R: Wait, G: Gate>(&mut self, drawing: &Drawing<R, (), G>) -> Drained
-        requires queues { IsTaskOf drawing.now.queues.now self.old }
-        requires frame { self.old.of.frame ≡ over drawing.now.frame self.old.of.frame.cells }
-        ensures answer { IsAnswer result self.old self.new }
-        ensures drained { HasDrained self.old self.new }
+    /// Tells the task how many batches were submitted. Condition: the sender and the task are of these queues.
+    pub(crate) fn hear(&mut self, queues: &PartQueues, sender: &mut Sender)
+        requires sender { IsSubmitterOf queues.now sender.old }
+        requires task { IsTaskOf queues.now self.old }
+        ensures same { sender.new ≡ sender.old }
+        ensures told { self.new ≡ record self.old { told = max self.old.told sender.old.batches } }
     {
-        drain_plain_in(&mut self.task, drawing)
+        hear_in(&mut self.task, queues, sender);
+    }
+
+    /// What it takes in, and the writers of the bin's tiles.
+    pub(crate) fn into_parts(self) -> (Intake, CellBin)
+        ensures intake { result.0 ≡ self }
+        ensures bin { HoldsBin self result.1 }
+    {
+        let BinTask { task } = self;
+        let Task { intake, keeper } = task;
+        (intake, keeper)
     }
 }

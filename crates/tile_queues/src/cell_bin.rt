@@ -11,7 +11,6 @@ ghost use Rattle.masked_update.specs.Samples.{HoldsSampled};
 ghost use Rattle.tile_cells.specs.Standing.{StandsAt};
 ghost use Rattle.tile_queues.specs.CellBins.{HasMet, HasStored, IsMemberForm, Stands, is_passed};
 
-use crate::held::Held;
 use bin_tiles::Keeper;
 use binning::Cut;
 use cull_base::{FrameList, ScreenTri, Side, TileSpan};
@@ -22,7 +21,7 @@ use tile_cells::{TileCells, TileWriter};
 
 /// The writers of a window's tiles, row by row.
 #[derive(Drop)]
-pub struct CellBin {
+pub(crate) struct CellBin {
     pub(crate) window: TileSpan,
     pub(crate) writers: Vec<TileWriter>,
 }
@@ -283,12 +282,6 @@ fn store_member<R: Wait>(
         }
         None => store_set_up(writers, member, tri, &reached, window, span),
     }
-}
-
-impl Held for CellBin {
-    ghost use Rattle.tile_queues.specs.CellBins.{StandsInCells};
-
-    ghost held = { StandsInCells };
 }
 
 impl<'a, R: Wait> Keeper<InCells<'a, R>> for CellBin {

@@ -7,12 +7,11 @@ ghost use Rattle.bin_queues.specs.Tasks.{AreFirstTasks, IsSubmitterOf};
 ghost use Rattle.tile_queues.specs.Owners.{AreFirst, cells_of};
 ghost use Rattle.tile_queues.specs.Shares.{AreFirstShares};
 
-use crate::plain_tasks::{PlainTask, plain_tasks};
 use crate::share::{Share, deal};
 use crate::submitter::Submitter;
 use crate::tile_slots::into_slots;
 use bin_queues::{Batched, Intake, PartQueues, Sender};
-use cull_base::{FrameList, Memory};
+use cull_base::Memory;
 use std::alloc::Global;
 use tile_cells::TileWriter;
 
@@ -78,37 +77,4 @@ pub(crate) fn make_over_cells(
     let (queues, sender, intakes) = open_over(alloc, frame, writers.as_slice())?;
     let (slots, room, shares) = deal_writers(alloc, &queues, frame, intakes, writers, workers)?;
     Ok((queues, Submitter::of(sender, slots, room), shares))
-}
-
-// Empty slots for the writers of all tiles, and an empty list with room for them.
-fn no_writers(
-    alloc: Global,
-    list: &FrameList,
-) -> Result<(Vec<Option<TileWriter>>, Vec<TileWriter>), Memory>
-    ensures slots { IfOk result (λ r. length r.0.items ≡ tile_count_of list.now.list.size) }
-    ensures room { IfOk result (λ r. (r.1.items ≡ []) × (length r.0.items ≤ vec_capacity r.1)) }
-{
-    let count = list.size().tile_count() as usize;
-    let room = Vec::with_capacity(alloc, count).map_err(|_| Memory)?;
-    let mut slots = Vec::with_capacity(alloc, count).map_err(|_| Memory)?;
-    for _ in 0..count {
-        slots.push_reserved(None);
-    }
-    Ok((slots, room))
-}
-
-/// The queues of a frame over plain tiles, all empty, with their submitter and the task of each bin. Err where memory
-/// gave out.
-pub(crate) fn make_over_canvases(
-    alloc: Global,
-    frame: &Batched,
-) -> Result<(PartQueues, Submitter, Vec<PlainTask>), Memory>
-    ensures submitter { IfOk result (λ r. IsSubmitterOf r.0 r.1) }
-    ensures frame { IfOk result (λ r. (r.1.frame ≡ over frame.now []) × (r.1.batches ≡ 0)) }
-    ensures tasks { IfOk result (λ r. AreFirstTasks r.0 (over frame.now []) r.2.items) }
-{
-    let (queues, sender, intakes) = PartQueues::open(alloc, frame)?;
-    let (slots, room) = no_writers(alloc, frame.list)?;
-    let tasks = plain_tasks(alloc, &queues, frame, intakes)?;
-    Ok((queues, Submitter::of(sender, slots, room), tasks))
 }

@@ -1,23 +1,18 @@
-//! The queues of all bins, over cells or over plain tiles, through which batches go from the submitter to the bins'
-//! tasks.
-ghost use Rattle.std.specs.Prelude.{◌≡◌, ◌≤◌, ◌<◌, ◌+◌, [], max, length, vec_capacity, IfOk};
-ghost use Rattle.binning.specs.Cut.{bin_count_of};
+//! The queues of all bins over cells, through which batches go from the submitter to the bins' tasks. They are for
+//! callers that deal out tasks themselves, as steal_pool does: `draw_frame` draws from `PartQueues`.
+ghost use Rattle.std.specs.Prelude.{◌≡◌, ◌≤◌, ◌<◌, ◌+◌, max, length, IfOk};
 ghost use Rattle.binning.specs.Parts.{batch_count_of, parts_of};
-ghost use Rattle.bin_tiles.specs.Bins.{AreBinsAt};
-ghost use Rattle.bin_tiles.specs.Plain.{StandsPlain};
 ghost use Rattle.bin_queues.specs.QueueParts.{batched, batches_in, taken_before};
 ghost use Rattle.bin_queues.specs.Tasks.{AreFirstTasks, GoesOn, IsSubmitterOf, IsTaskOf};
 ghost use Rattle.bin_queues.specs.Frames.{over};
 ghost use Rattle.bin_tasks.specs.Drains.{HasDrained, IsAnswer};
 ghost use Rattle.tile_queues.specs.Owners.{AreFirst, AreHandedBack, AreTasksOf, cells_of};
-ghost use Rattle.tile_queues.specs.Shares.{AreWhole, IsTaskOver};
+ghost use Rattle.tile_queues.specs.Shares.{IsTaskOver};
 
 use crate::bin_task::BinTask;
 use crate::cell_bin::InCells;
 use crate::close_queues::hand_back;
-use crate::held::Held;
-use crate::make_queues::{make_over_canvases, make_over_cells};
-use crate::plain_tasks::{PlainTask, hand_back_plain};
+use crate::make_queues::make_over_cells;
 use crate::share::all_tasks;
 use crate::submitter::Submitter;
 use bin_queues::{Batched, PartQueues};
@@ -25,7 +20,6 @@ use bin_tasks::{Drained, Drawing};
 use bin_tiles::Gate;
 use binning::{BinPart, Cut};
 use cull_base::{FrameList, Memory};
-use masked_update::Canvas;
 use std::alloc::Global;
 use std::marker::Model;
 use std::sync::Wait;
@@ -66,30 +60,6 @@ fn drain_in<'a, R: Wait, G: Gate>(
         gate,
     };
     task.drain(&drawing)
-}
-
-// The same over plain tiles.
-fn drain_plain_in<'a, R: Wait, G: Gate>(
-    task: &mut PlainTask,
-    rt: &'a R,
-    queues: &'a PartQueues,
-    frame: Batched<'a>,
-    gate: &'a G,
-) -> Drained
-    requires queues { IsTaskOf queues.now task.old }
-    requires frame { task.old.of.frame ≡ over frame task.old.of.frame.cells }
-    ensures answer { IsAnswer result task.old task.new }
-    ensures drained { HasDrained task.old task.new }
-{
-    let beside = &();
-    let drawing = Drawing {
-        rt,
-        queues,
-        frame,
-        beside,
-        gate,
-    };
-    task.drain_plain(&drawing)
 }
 
 impl BinQueues {
@@ -137,7 +107,7 @@ impl BinQueues {
 
     /// Tells a task how many batches were submitted: told is the greater of that and what it was. All else stays.
     /// Condition: the submitter and the task are of these queues.
-    pub fn tell<R: Wait, K: Held>(&self, _rt: &R, submitter: &mut Submitter, task: &mut BinTask<K>)
+    pub fn tell<R: Wait>(&self, _rt: &R, submitter: &mut Submitter, task: &mut BinTask)
         requires submitter { IsSubmitterOf self.now submitter.old }
         requires task { IsTaskOf self.now task.old }
         ensures same { submitter.new ≡ submitter.old }
@@ -187,78 +157,5 @@ impl BinQueues {
         ensures { AreHandedBack submitter.frame tasks.items result.items }
     {
         hand_back(&self.queues, submitter, tasks)
-    }
-
-    /// The queues of all bins of a cut, all empty, with their submitter and a task for each bin, in order, which owns
-    /// the bin's plain tiles, all empty. Err where memory gave out. All memory is taken here. Conditions: a batch has
-    /// at least one piece, and there are at most 2048 batches.
-    pub fn make_plain(
-        alloc: Global,
-        list: &FrameList,
-        cut: &Cut,
-        batch: u32,
-    ) -> Result<(BinQueues, Submitter, Vec<PlainTask>), Memory>
-        requires batch { 1 ≤ batch }
-        requires few { batch_count_of (length list.now.list.members) batch ≤ 2048 }
-        ensures submitter { IfOk result (λ r. IsSubmitterOf r.0 r.1) }
-        ensures frame { IfOk result (λ r.
-            (r.1.frame ≡ batched list.now.list cut.now batch []) × (r.1.batches ≡ 0)) }
-        ensures tasks { IfOk result (λ r. AreFirstTasks r.0 r.1.frame r.2.items) }
-    {
-        let frame = Batched {
-            list,
-            cut,
-            size: batch,
-        };
-        let (queues, submitter, tasks) = make_over_canvases(alloc, &frame)?;
-        Ok((BinQueues { queues }, submitter, tasks))
-    }
-
-    /// What `drain` does, over plain tiles. Conditions: the task is of these queues and of this
-    /// list.
-    pub fn drain_plain<R: Wait, G: Gate>(
-        &self,
-        rt: &R,
-        task: &mut PlainTask,
-        list: &FrameList,
-        gate: &G,
-    ) -> Drained
-        requires queues { IsTaskOf self.now task.old }
-        requires list { task.old.of.frame.list ≡ list.now.list }
-        ensures on { GoesOn task.old task.new }
-        ensures taken { task.new.taken ≡ taken_before task.new.of task.new.batches }
-        ensures answer { IsAnswer result task.old task.new }
-        ensures told { task.old.told ≡ batches_in task.old.of.frame → result ≡ Drained.Whole }
-    {
-        let cut = *task.cut();
-        let size = task.size();
-        let frame = Batched {
-            list,
-            cut: &cut,
-            size,
-        };
-        let drained = drain_plain_in(task, rt, &self.queues, frame, gate);
-        // an accessor tells what is held of a task
-        let _taken = task.taken();
-        drained
-    }
-
-    /// The plain tiles of all bins, in the order of bins, at the whole list. Nothing takes memory. Conditions: the
-    /// tasks are of these queues and of this frame, one of each bin, in any order, and drew all batches; there is a
-    /// slot for each bin, and room for the tiles of all.
-    pub fn close_plain(
-        self,
-        frame: &Batched,
-        tasks: Vec<PlainTask>,
-        slots: Vec<Option<Canvas>>,
-        room: Vec<Canvas>,
-    ) -> Vec<Canvas>
-        requires tasks { AreWhole self (over frame.now []) tasks.items }
-        requires slots { length slots.items ≡ bin_count_of frame.now.cut.now }
-        requires room { (room.items ≡ []) × (length slots.items ≤ vec_capacity room) }
-        ensures drawn { let list = frame.now.list.now.list in
-            AreBinsAt StandsPlain (tt {0}) list frame.now.cut.now (length list.members) result.items }
-    {
-        hand_back_plain(&self.queues, frame, tasks, slots, room)
     }
 }

@@ -6,7 +6,6 @@ ghost use Rattle.bin_queues.specs.QueueParts.{IsBatched, batches_in};
 ghost use Rattle.bin_queues.specs.Tasks.{IsSubmitterOf, IsTaskOf};
 
 use crate::bin_task::BinTask;
-use crate::held::Held;
 use bin_queues::{PartQueues, Sender};
 use binning::BinPart;
 use std::marker::Model;
@@ -99,7 +98,7 @@ impl Submitter {
     }
 
     /// Tells a task how many batches were submitted. Conditions: those of `BinQueues::tell`.
-    pub(crate) fn tell<K: Held>(&mut self, queues: &PartQueues, task: &mut BinTask<K>)
+    pub(crate) fn tell(&mut self, queues: &PartQueues, task: &mut BinTask)
         requires queues { IsSubmitterOf queues.now self.old }
         requires task { IsTaskOf queues.now task.old }
         ensures same { self.new ≡ self.old }

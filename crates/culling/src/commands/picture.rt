@@ -15,11 +15,12 @@ use cull_base::{ClipVertex, Sink, Source};
 use cull_report::clip_frame;
 use depth_image::write_picture;
 use frame_reports::{Failure, drawn_pieces};
+use plain_turns::draw_plain_frame;
 use scene_reader::{Scene, read_scene};
 use std::alloc::Global;
 use std::sync::Wait;
 use std::thread::Threads;
-use tile_queues::{BinTable, BinView, Gate, draw_plain_frame};
+use tile_queues::{BinTable, BinView, Gate};
 
 // Draws a frame, tests no object of it, and writes its picture. Conditions: the settings are in range, and there is
 // such a frame.

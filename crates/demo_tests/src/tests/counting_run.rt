@@ -164,7 +164,7 @@ fn counting_run_with_stolen_tasks(rt: HostRuntime) -> Result<(), Fail> {
 }
 
 #[test]
-fn counting_run_with_stolen_tasks_through_cells(rt: HostRuntime) -> Result<(), Fail> {
+fn counting_run_with_stolen_tasks_while_objects_are_settled(rt: HostRuntime) -> Result<(), Fail> {
     let line =
         "maskcull demo --early --steal --seed 1 --triangles 20000 --workers 8 --bins-x 4 --bins-y 4";
     assert_counted(&rt, rt.alloc(), line)

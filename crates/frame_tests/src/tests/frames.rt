@@ -10,14 +10,15 @@ use bin_queues::Batched;
 use binning::{Cut, batch_count, batch_size, bin_rect};
 use cull_base::{FrameList, Memory, ScreenTri, Size};
 use masked_update::{Canvas, TileState, TileView, draw_plain};
+use plain_turns::draw_plain_frame;
 use std::alloc::Global;
 use std::sync::Wait;
 use std::sync::atomic::{AtomicU32, Ordering};
 use std::test::Fail;
 use std::thread::{Threads, yield_now};
-use steal_pool::{draw_stolen, draw_stolen_plain};
+use steal_pool::draw_stolen;
 use tile_cells::{Snapshot, TileCells, TileReader};
-use tile_queues::{BinTable, BinView, Caller, Gate, OpenGate, draw_frame, draw_plain_frame};
+use tile_queues::{BinTable, BinView, Caller, Gate, OpenGate, draw_frame};
 
 // So many times pieces with boxes of these columns, in sixteenths of a pixel, each time nearer.
 fn columns(
@@ -232,7 +233,7 @@ fn met_by(list: &FrameList, cut: &Cut, bin: u32) -> u32
     met
 }
 
-// Whether so many workers that take bins from each other draw these states in both forms, and ask once for each member
+// Whether so many workers that take bins from each other draw these states through cells, and ask once for each member
 // of each bin and for each batch.
 fn stolen_are_alike<R: Threads + Wait + Sync>(
     rt: &R,
@@ -244,22 +245,17 @@ fn stolen_are_alike<R: Threads + Wait + Sync>(
     requires some { 1 ≤ workers }
     requires most { workers ≤ 64 }
 {
-    let (list, cut, batch) = (frame.list, frame.cut, frame.size);
-    let plain = Questions::with_room(alloc, cut.bins(), list.len())?;
-    let bins = draw_stolen_plain(rt, alloc, list, cut, workers, batch, &plain)?;
-    let shown = bins_show(alloc, bins.as_slice(), list, cut, states)?;
-    let in_cells = Questions::with_room(alloc, cut.bins(), list.len())?;
-    let (held, seen) = drawn_in_cells(rt, alloc, frame, workers, true, &in_cells)?;
+    let (list, cut) = (frame.list, frame.cut);
+    let gate = Questions::with_room(alloc, cut.bins(), list.len())?;
+    let (held, seen) = drawn_in_cells(rt, alloc, frame, workers, true, &gate)?;
     Ok(
-        shown
-            && are_alike(held.as_slice(), states)
-            && plain.are_those_of(list, cut, frame.batches())
-            && in_cells.are_those_of(list, cut, frame.batches())
+        are_alike(held.as_slice(), states)
+            && gate.are_those_of(list, cut, frame.batches())
             && seen.is_some(),
     )
 }
 
-// Whether so many workers, of a screen cut into so many columns and rows of bins, draw in each form the states that one
+// Whether so many workers, of a screen cut into so many columns and rows of bins, draw in each way the states that one
 // draws, and ask once for each member of each bin and for each batch.
 fn all_are_alike<R: Threads + Wait + Sync>(
     rt: &R,
@@ -321,9 +317,6 @@ fn two_workers_draw_what_one_draws(rt: HostRuntime) -> Result<(), Fail> {
     assert_eq!(rt; held[1].count(), 2);
     assert!(rt; seen.is_some_and(|count| count <= 2));
     for workers in [1, 2] {
-        let bins = draw_stolen_plain(&rt, rt.alloc(), &list, &cut, workers, batch, &OpenGate)?;
-        assert_eq!(rt; bins.len(), 2);
-        assert!(rt; bins_show(rt.alloc(), bins.as_slice(), &list, &cut, states.as_slice())?);
         let (held, seen) = drawn_in_cells(&rt, rt.alloc(), &frame, workers, true, &OpenGate)?;
         assert_eq!(rt; held.len(), 2);
         assert!(rt; are_alike(held.as_slice(), states.as_slice()));
@@ -438,10 +431,6 @@ fn bins_of_a_held_worker_are_stolen(rt: HostRuntime) -> Result<(), Fail> {
     let cut = Cut::new(4, 1).ok_or("a cut")?;
     let states = draw_plain(rt.alloc(), &list)?;
     let batch = batch_size(list.len(), 4);
-    let gate = Holding::new();
-    let bins = draw_stolen_plain(&rt, rt.alloc(), &list, &cut, 2, batch, &gate)?;
-    assert_eq!(rt; gate.saw_all.load(Ordering::SeqCst), 1);
-    assert!(rt; bins_show(rt.alloc(), bins.as_slice(), &list, &cut, states.as_slice())?);
     let frame = Batched {
         list: &list,
         cut: &cut,
@@ -543,10 +532,6 @@ fn batches_are_binned_side_by_side(rt: HostRuntime) -> Result<(), Fail> {
         size: batch,
     };
     assert_eq!(rt; frame.batches(), 33);
-    let gate = Pairing::of(rt.alloc(), 33)?;
-    let bins = draw_stolen_plain(&rt, rt.alloc(), &list, &cut, 2, batch, &gate)?;
-    assert!(rt; gate.is_met());
-    assert!(rt; bins_show(rt.alloc(), bins.as_slice(), &list, &cut, states.as_slice())?);
     let gate = Pairing::of(rt.alloc(), 33)?;
     let (held, _) = drawn_in_cells(&rt, rt.alloc(), &frame, 2, true, &gate)?;
     assert!(rt; gate.is_met());

@@ -131,7 +131,8 @@ fn assert_freed<R: Threads + Wait + Sync + Abort>(
     Ok(())
 }
 
-// Over plain tiles, and through cells; without the flag bins 0 and 2 are drawn one after the other.
+// With no looks, with looks, and while objects are settled; without the flag cells of bins 0 and 2 are drawn one after
+// the other.
 #[test]
 fn stolen_task_of_a_command(rt: HostRuntime) -> Result<(), Fail> {
     for line in [

@@ -30,7 +30,7 @@ loop-task-preserved g c =
     let t = turn c.args.tasks.items c.loop-task.done x _ e in
     let r = c.index-seats-worker.result in
     let p = get_or ss w r in
-    let q : Seat g.row.K.Denot = record { owner = c.push.new.owner; passes = p.passes; list = p.list } in
+    let q : Seat = record { owner = c.push.new.owner; passes = p.passes; list = p.list } in
     let lt : w < length ss = omega (arith, c.worker_of-worker.ensures.within, i.4, c.requires.many) in
     let at : w ≡ x.of.bin % length c.args.seats.now = c.worker_of-worker.ensures.value ∙ ap (λ (n : ℕ). x.of.bin % n) (sym c.requires.many) in (
       tt,

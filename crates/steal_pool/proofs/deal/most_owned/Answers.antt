@@ -3,10 +3,10 @@ use Rattle.steal_pool.specs.Making.{owned}
 use Rattle.steal_pool.proofs.deal.most_owned.Goals as goal
 
 pub loop-worker-init : goal.loop-worker-init
-loop-worker-init g c = ((λ w lt. absurd (omega (arith, lt))), omega arith)
+loop-worker-init c = ((λ w lt. absurd (omega (arith, lt))), omega arith)
 
 pub loop-worker-preserved : goal.loop-worker-preserved
-loop-worker-preserved g c =
+loop-worker-preserved c =
     let inv = c.loop-worker.invariant in
     let count = c.owned_by-count.ensures in
     let greater = c.max-greater.ensures in (
@@ -17,4 +17,4 @@ loop-worker-preserved g c =
     )
 
 pub returns-clause-each : goal.returns-clause-each
-returns-clause-each g c w lt = c.loop-worker.invariant.0 w (omega (arith, lt, c.loop-worker-test.false))
+returns-clause-each c w lt = c.loop-worker.invariant.0 w (omega (arith, lt, c.loop-worker-test.false))

@@ -3,4 +3,4 @@ use Rattle.steal_pool.specs.Making.{owned}
 use Rattle.steal_pool.proofs.deal.most_owned.Given as goal
 
 abbrev pub invariant-loop-worker : goal.invariant-loop-worker
-invariant-loop-worker g l = ((w : ℕ) → w < l.worker → owned l.workers w l.tasks ≤ l.most) × (l.most ≤ length l.tasks)
+invariant-loop-worker l = ((w : ℕ) → w < l.worker → owned l.workers w l.tasks ≤ l.most) × (l.most ≤ length l.tasks)

@@ -2,4 +2,4 @@ use Rattle.steal_pool.proofs.DequeKeeps.{lends}
 use Rattle.steal_pool.proofs.deque_steps.lend.Goals as goal
 
 pub another-requires : goal.another-requires
-another-requires g c = lends _ _ c.requires.owns
+another-requires c = lends _ _ c.requires.owns

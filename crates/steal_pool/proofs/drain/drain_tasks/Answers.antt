@@ -18,7 +18,7 @@ pub run-requires-clause-empty : goal.run-requires-clause-empty
 run-requires-clause-empty g c =
     let call = call_of c.args.pool.now in
     let seats = c.in_ok-seats.seats.items in
-    let here = subst (λ (ss : List (Seat g.row.K.Denot)). All (IsEmptySeat call (length ss)) ss) (sym c.as_mut_slice.ensures.value) (subst (λ n. All (IsEmptySeat call n) seats) (sym c.in_ok-seats.ensures.count) c.in_ok-seats.ensures.empty) in
+    let here = subst (λ (ss : List Seat). All (IsEmptySeat call (length ss)) ss) (sym c.as_mut_slice.ensures.value) (subst (λ n. All (IsEmptySeat call n) seats) (sym c.in_ok-seats.ensures.count) c.in_ok-seats.ensures.empty) in
     search (rules, here)
 
 pub run-requires-clause-told : goal.run-requires-clause-told
@@ -36,7 +36,7 @@ lists_of-requires-clause-finished g c =
     let new = c.run.new.seats in
     let same : length new ≡ c.in_ok-seats.seats.len = search rules in
     let is = with_items_is c.in_ok-seats.seats new same in
-    subst (λ (ss : List (Seat g.row.K.Denot)). AreFinishedTo (call_of c.args.pool.now) (length ss) ss) (sym is) c.in_ok-run.ensures.finished
+    subst (λ (ss : List Seat). AreFinishedTo (call_of c.args.pool.now) (length ss) ss) (sym is) c.in_ok-run.ensures.finished
 
 pub lists_of-requires-clause-room : goal.lists_of-requires-clause-room
 lists_of-requires-clause-room g c =

@@ -20,7 +20,7 @@ pub run_beside-requires-clause-empty : goal.run_beside-requires-clause-empty
 run_beside-requires-clause-empty g c =
     let call = call_of c.args.pool.now in
     let seats = c.in_ok-seats.seats.items in
-    let here = subst (λ (ss : List (Seat g.row.K.Denot)). All (IsEmptySeat call (length ss)) ss) (sym c.as_mut_slice.ensures.value) (subst (λ n. All (IsEmptySeat call n) seats) (sym c.in_ok-seats.ensures.count) c.in_ok-seats.ensures.empty) in
+    let here = subst (λ (ss : List Seat). All (IsEmptySeat call (length ss)) ss) (sym c.as_mut_slice.ensures.value) (subst (λ n. All (IsEmptySeat call n) seats) (sym c.in_ok-seats.ensures.count) c.in_ok-seats.ensures.empty) in
     search (rules, here)
 
 pub run_beside-requires-clause-told : goal.run_beside-requires-clause-told
@@ -38,7 +38,7 @@ lists_of-requires-clause-finished g c =
     let new = c.run_beside.new.seats in
     let same : length new ≡ c.in_ok-seats.seats.len = search rules in
     let is = with_items_is c.in_ok-seats.seats new same in
-    subst (λ (ss : List (Seat g.row.K.Denot)). AreFinishedTo (call_of c.args.pool.now) (length ss) ss) (sym is) c.in_ok-run_beside.ensures.finished
+    subst (λ (ss : List Seat). AreFinishedTo (call_of c.args.pool.now) (length ss) ss) (sym is) c.in_ok-run_beside.ensures.finished
 
 pub lists_of-requires-clause-room : goal.lists_of-requires-clause-room
 lists_of-requires-clause-room g c =

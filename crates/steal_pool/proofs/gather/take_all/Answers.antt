@@ -15,7 +15,7 @@ take_row-requires-clause-out g c =
     let w = c.loop-w.w in
     let r = c.index-seats-w.result in
     let p = get_or ss w r in
-    let q : Seat g.row.K.Denot = record { owner = p.owner; passes = c.replace-passes.new.dest; list = p.list } in
+    let q : Seat = record { owner = p.owner; passes = c.replace-passes.new.dest; list = p.list } in
     let l = length-set ss w q in
     let lt : w < length ss = let t = c.loop-w-test.true in let e = inv.0 in omega arith in
     out_row stealer_deque (call_of c.args.pool.now) c.args.thieves.now (length c.args.seats.now - w) _ _ w ss r q inv.2 (let e = inv.0 in omega arith) (omega arith) lt refl
@@ -30,7 +30,7 @@ loop-w-preserved g c =
     let r = c.index-seats-w.result in
     let p = get_or ss w r in
     let is = ap (get_or ss w) c.index-seats-w.is in
-    let q : Seat g.row.K.Denot = record { owner = p.owner; passes = c.replace-passes.new.dest; list = p.list } in
+    let q : Seat = record { owner = p.owner; passes = c.replace-passes.new.dest; list = p.list } in
     let l = length-set ss w q in
     let lt : w < length ss = let t = c.loop-w-test.true in let e = inv.0 in omega arith in
     let same : length ss' ≡ length ss = c.take_row.ensures.many ∙ l in

@@ -27,7 +27,7 @@ loop-w-preserved g c =
     let row = c.lend_row-row.ensures in
     let r = c.index-seats-w.result in
     let p = get_or ss' w r in
-    let q : Seat g.row.K.Denot = record { owner = p.owner; passes = c.replace.new.dest; list = p.list } in
+    let q : Seat = record { owner = p.owner; passes = c.replace.new.dest; list = p.list } in
     let m = inv.0.many in
     let lt : w < length ss' = let n = row.on.many in let t = c.loop-w-test.true in omega (arith, m, n, t) in
     let at = ap (λ v. v.items) c.replace.ensures.after in

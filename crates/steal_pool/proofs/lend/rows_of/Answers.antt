@@ -6,7 +6,7 @@ use Rattle.steal_pool.proofs.Lending.{none_roomy, roomy_more}
 use Rattle.steal_pool.proofs.lend.rows_of.Goals as goal
 
 pub loop-init : goal.loop-init
-loop-init g c =
+loop-init c =
     let rows = c.in_ok-rows.rows in
     let none : rows.items ≡ [] = first_of (search rules, grind (arith, common_steps)) in
     let room : c.args.workers ≤ vec_capacity rows = first_of (search rules, grind (arith, common_steps)) in
@@ -17,7 +17,7 @@ loop-init g c =
     }
 
 pub loop-preserved : goal.loop-preserved
-loop-preserved g c =
+loop-preserved c =
     let old = c.loop.invariant in
     let items = c.push_reserved.ensures.items in
     let row = c.in_ok-row.row in

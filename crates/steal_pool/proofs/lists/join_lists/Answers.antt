@@ -7,10 +7,10 @@ use Rattle.steal_pool.proofs.Joining.{joined_next}
 use Rattle.steal_pool.proofs.lists.join_lists.Goals as goal
 
 pub loop-list-init : goal.loop-list-init
-loop-list-init g c = (tt, tt, search rules, search rules, ap (λ l. l ++ joined vec_items c.args.lists.items) c.requires.empty, c.requires.room)
+loop-list-init c = (tt, tt, search rules, search rules, ap (λ l. l ++ joined vec_items c.args.lists.items) c.requires.empty, c.requires.room)
 
 pub append-requires : goal.append-requires
-append-requires g c =
+append-requires c =
     let i = c.loop-list.invariant in
     let x = c.in-Some.list in
     let e = sym i.2 ∙ c.in-Some.ensures.steps.0 in
@@ -21,7 +21,7 @@ append-requires g c =
     omega (arith, whole, c.loop-list.all.ok.0, x.ok.0, a, b, i.5)
 
 pub loop-list-preserved : goal.loop-list-preserved
-loop-list-preserved g c =
+loop-list-preserved c =
     let i = c.loop-list.invariant in
     let s = c.in-Some.ensures.steps in
     let x = c.in-Some.list in
@@ -37,7 +37,7 @@ loop-list-preserved g c =
     )
 
 pub returns : goal.returns
-returns g c =
+returns c =
     let i = c.loop-list.invariant in
     let none = c.in-None.ensures.steps.0 in
     let end = ap (joined vec_items) (drop_all c.loop-list.done c.args.lists.items (omega (arith, i.3, none))) in

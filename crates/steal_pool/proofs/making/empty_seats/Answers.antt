@@ -14,7 +14,7 @@ loop-init g c =
     let room : c.args.workers ≤ vec_capacity seats = first_of (search rules, grind (arith, common_steps)) in
     record {
       made = ap length none;
-      empty = subst (λ (ss : List (Seat g.row.K.Denot)). All (IsEmptySeat (call_of c.args.pool.now) c.args.workers) ss) (sym none) (All-nil (IsEmptySeat (call_of c.args.pool.now) c.args.workers));
+      empty = subst (λ (ss : List Seat). All (IsEmptySeat (call_of c.args.pool.now) c.args.workers) ss) (sym none) (All-nil (IsEmptySeat (call_of c.args.pool.now) c.args.workers));
       room = room;
     }
 
@@ -25,6 +25,6 @@ loop-preserved g c =
     let seat = c.in_ok-seat.seat in
     record {
       made = (let n = ap length items in omega (arith, n, length-append c.loop.seats.items (seat ∷ []), old.made));
-      empty = subst (λ (ss : List (Seat g.row.K.Denot)). All (IsEmptySeat (call_of c.args.pool.now) c.args.workers) ss) (sym items) (All-push (IsEmptySeat (call_of c.args.pool.now) c.args.workers) c.loop.seats.items seat old.empty c.in_ok-seat.ensures);
+      empty = subst (λ (ss : List Seat). All (IsEmptySeat (call_of c.args.pool.now) c.args.workers) ss) (sym items) (All-push (IsEmptySeat (call_of c.args.pool.now) c.args.workers) c.loop.seats.items seat old.empty c.in_ok-seat.ensures);
       room = omega (arith, old.room, c.push_reserved.ensures.capacity);
     }

@@ -7,14 +7,14 @@ use Rattle.steal_pool.proofs.Opening.{at_more, none_at}
 use Rattle.steal_pool.proofs.making.thieves_of.Goals as goal
 
 pub loop-w-init : goal.loop-w-init
-loop-w-init g c = record {
+loop-w-init c = record {
   made = first_of (search rules, grind (arith, common_steps));
   at = none_at stealer_deque _ c.args.seats.now;
   room = first_of (search rules, grind (arith, common_steps));
 }
 
 pub loop-w-preserved : goal.loop-w-preserved
-loop-w-preserved g c =
+loop-w-preserved c =
     let old = c.loop-w.invariant in
     let w = c.loop-w.w in
     let items = c.push_reserved.ensures.items in
@@ -27,4 +27,4 @@ loop-w-preserved g c =
     }
 
 pub returns-clause-deques : goal.returns-clause-deques
-returns-clause-deques g c i t s lt = c.loop-w.invariant.at i t s (omega (arith, lt, c.loop-w-test.false))
+returns-clause-deques c i t s lt = c.loop-w.invariant.at i t s (omega (arith, lt, c.loop-w-test.false))

@@ -4,7 +4,7 @@ use Rattle.steal_pool.specs.Making.{AreAtTo}
 use Rattle.steal_pool.proofs.making.thieves_of.Given as goal
 
 abbrev pub invariant-loop-w : goal.invariant-loop-w
-invariant-loop-w g l = record {
+invariant-loop-w l = record {
   made : length l.thieves.items ≡ l.w;
   at : AreAtTo stealer_deque l.w l.thieves.items l.seats;
   room : length l.seats ≤ vec_capacity l.thieves;

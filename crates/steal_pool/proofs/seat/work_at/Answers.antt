@@ -42,6 +42,6 @@ pub returns : goal.returns
 returns g c =
     let pop = c.pop_all.ensures in
     let round = c.steal_round.ensures in
-    let t : Seat g.row.K.Denot = record { owner = c.pop_all.new.owner; passes = c.steal_round.new.passes; list = c.steal_round.new.list } in
+    let t : Seat = record { owner = c.pop_all.new.owner; passes = c.steal_round.new.passes; list = c.steal_round.new.list } in
     worked stealer_deque (call_of c.args.pool.now) c.args.thieves.now c.args.seat.now t c.pop_all.new.list.items (vec_len c.pop_all.new.list) (vec_capacity c.pop_all.new.list) c.requires
     pop.same pop.drew pop.len pop.capacity round.passes round.weighs round.whole round.len round.capacity

@@ -1,21 +1,8 @@
-use Rattle.std.proofs.Common.{◌≡◌, ◌+◌, length, vec_items, arith, rules, ap, sym, ◌∙◌, subst}
+use Rattle.std.proofs.Common.{length, vec_items, rules, ap, sym, ◌∙◌, subst}
 use Rattle.std.proofs.lemmas.List.{with_items_is}
 use Rattle.bin_queues.specs.QueueParts.{batches_in}
 use Rattle.steal_pool.specs.Binned.{AreBinned}
 use Rattle.steal_pool.proofs.submitting.submit_all.Goals as goal
-
-pub submit_each-requires-clause-left : goal.submit_each-requires-clause-left
-submit_each-requires-clause-left g c =
-    let all = ap batches_in c.requires.frame in
-    let counted = c.batches-count.ensures.value in
-    omega (arith, c.requires.none, all, counted)
-
-pub returns-then-threads-lt2 : goal.returns-then-threads-lt2
-returns-then-threads-lt2 g c =
-    let all = ap batches_in c.requires.frame in
-    let counted = c.batches-count.ensures.value in
-    let last : c.args.submitter.now.batches + c.batches-count.result ≡ batches_in c.args.submitter.now.frame = omega (arith, c.requires.none, all, counted) in
-    c.in_ok-submit_each.ensures ∙ (λ k. record c.args.submitter.now { batches = last k })
 
 pub bin_all-requires : goal.bin_all-requires
 bin_all-requires g c =

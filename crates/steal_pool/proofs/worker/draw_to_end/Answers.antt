@@ -2,7 +2,7 @@ use Rattle.std.proofs.Common.{ap, rules}
 use Rattle.bin_queues.specs.QueueParts.{BatchedFrame, BinOfFrame}
 use Rattle.steal_pool.specs.Pools.{call_of}
 use Rattle.steal_pool.proofs.Drawing.{is_whole}
-use Rattle.steal_pool.proofs.either_task.draw_cells.Goals as goal
+use Rattle.steal_pool.proofs.worker.draw_to_end.Goals as goal
 
 pub drain-requires-clause-queues : goal.drain-requires-clause-queues
 drain-requires-clause-queues g c = search (rules, c.requires.over.of)

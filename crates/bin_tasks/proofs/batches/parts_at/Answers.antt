@@ -1,6 +1,6 @@
 use Rattle.std.proofs.Common.{◌≡◌, ◌<◌, ◌*◌, ◌+◌, min, length, arith}
 use Rattle.binning.proofs.Laws.{batch_begins}
-use Rattle.steal_pool.proofs.binned.parts_at.Goals as goal
+use Rattle.bin_tasks.proofs.batches.parts_at.Goals as goal
 
 pub returns : goal.returns
 returns g c =
