@@ -7,23 +7,27 @@ use Rattle.std.proofs.lemmas.List.{append-nil, length-append, take-append-drop, 
 use Rattle.std.proofs.lemmas.List.FromFn.{get_or-map-range_with_len, length-map-range_with_len, take-map-range_with_len}
 use Rattle.std.proofs.Math.Seq.{take-append-add}
 use Rattle.cull_base.specs.Stream.{SinkSays, SourceSays, Appends, Rose}
-use Rattle.scene_reader.specs.Layout.{Parts, IsScene}
+use Rattle.scene_reader.specs.Layout.{Parts, IsScene, layout, upgraded}
 use Rattle.cull_report.specs.Hiding.{HidesTruly}
 use Rattle.cull_report.specs.Live.{Counts, HidesLive, IsRising, frame_live, live_text}
 use Rattle.cull_report.specs.Scene.{frame_report, frames_text, report_text, scene_header}
 use Rattle.cull_report.proofs.Occluders.{hides_truly}
 use Rattle.group_query.specs.Text.{frame_groups}
+use Rattle.live_check.specs.Logs.{IsJudged}
 use Rattle.live_check.specs.declared.answer.LogAnswer.{LogAnswer}
 use Rattle.live_check.specs.declared.answer.LogAnswer.TheVariants.{Accepted, Refused}
 use Rattle.command_words.specs.declared.table.Command.{Command}
 use Rattle.command_words.specs.declared.table.BareCommand.TheVariants.{Upgrade}
 use Rattle.command_words.specs.declared.table.Command.TheVariants.{Cull, Live, Demo, Check, Picture, Bare}
+use Rattle.command_words.specs.declared.table.CheckWords.{CheckWords}
 use Rattle.command_words.specs.declared.table.CullWords.{CullWords}
 use Rattle.command_words.specs.declared.table.DemoWords.{DemoWords}
 use Rattle.command_words.specs.declared.table.LiveWords.{LiveWords}
+use Rattle.command_words.specs.declared.table.PictureWords.{PictureWords}
 use Rattle.frame_reports.specs.Notes.{IsNotedBehind, status_text}
-use Rattle.culling.specs.Outcomes.{Ends, EndsByScene, HasScene, Makes, answer_status, group_frames, group_notes, live_frames, pictured, report_and, work_of}
+use Rattle.culling.specs.Outcomes.{Ends, EndsByScene, HasScene, IfBytes, Makes, answer_status, answer_text, group_frames, group_notes, live_frames, log_bytes, pictured, report_and, work_of}
 use Rattle.frame_reports.specs.OutcomeOf.{OutcomeOf, joined, report_before, report_of}
+use Rattle.culling.specs.Picture.{ShowsTruly, frame_picture}
 use Rattle.culling.specs.Promises.{LeavesFronts, LeavesMemory, Ran, StopsAtNotes}
 use Rattle.culling.specs.Runs.{Comes, Streams}
 use Rattle.frame_reports.specs.Leaves.{IsCut, LeavesFront}
@@ -35,6 +39,7 @@ use Rattle.frame_reports.proofs.FrameTexts.{joined-append, report_add}
 use Rattle.frame_reports.proofs.Fronts.{front_of_more}
 use Rattle.culling.proofs.OutcomeTexts.{group_notes_are, joined_is, live_is, report_is}
 use Rattle.frame_reports.proofs.ScenePieces.{all_are_pieces, lines_hide}
+use Rattle.culling.proofs.Shown.{shows_truly}
 
 -- ---- beginnings of texts
 
@@ -249,6 +254,75 @@ cut_demo words status before after cut h =
     let (counts, rising, is) = h.ends in
     fronts_as status before after (report_of h.outcome) (summary_text words.seed words.triangles) (joined h.outcome.notes) [] (ap report_of is ∙ append-nil (summary_text words.seed words.triangles))
     (ap (λ (o : OutcomeOf). joined o.notes) is) (fronts_of (Demo words) status before after _ _ h cut)
+
+pub cut_upgrade : (status : Status) (before after : Streams) → IsCut status → Ran (Bare Upgrade) status before after
+    → ((s : Parts) × HasScene (Bare Upgrade) before.input s × LeavesFronts status before after (layout (upgraded s)) []) ⊎ LeavesMemory status before after
+cut_upgrade status before after cut h =
+    elim (cut_by_scene (Bare Upgrade) status before after h (Makes (work_of (Bare Upgrade)) before.input.left h.outcome) cut h.ends) [
+      | inl scene ↦
+          let (s, has, makes) = scene in
+          let (counts, rising, is) = makes in
+          let text = ap report_of is ∙ append-nil (layout (upgraded s)) in
+          inl (
+            s,
+            has,
+            fronts_as status before after (report_of h.outcome) (layout (upgraded s)) (joined h.outcome.notes) [] text (ap (λ (o : OutcomeOf). joined o.notes) is)
+                (fronts_of (Bare Upgrade) status before after _ _ h cut),
+          )
+      | inr note ↦ inr note
+    ]
+
+pub cut_picture : (words : PictureWords) (status : Status) (before after : Streams) → IsCut status → Ran (Picture words) status before after
+    → ((s : Parts) × HasScene (Picture words) before.input s × (words.frame < length s.cameras) × ShowsTruly s words.frame
+    × LeavesFronts status before after (frame_picture s words.frame) [])
+    ⊎ LeavesMemory status before after
+cut_picture words status before after cut h =
+    elim (cut_by_scene (Picture words) status before after h (Makes (work_of (Picture words)) before.input.left h.outcome) cut h.ends) [
+      | inl scene ↦
+          let (s, has, makes) = scene in
+          let (counts, rising, is) = makes in
+          elim (cases_lt words.frame (length s.cameras)) [
+            | inl lt ↦
+                let same = is ∙ pictured_there s words.frame lt in
+                let text = ap report_of same ∙ append-nil (frame_picture s words.frame) in
+                inl (
+                  s,
+                  has,
+                  lt,
+                  shows_truly s words.frame has.scene,
+                  fronts_as status before after (report_of h.outcome) (frame_picture s words.frame) (joined h.outcome.notes) [] text (ap (λ (o : OutcomeOf). joined o.notes) same)
+                      (fronts_of (Picture words) status before after _ _ h cut),
+                )
+            | inr past ↦
+                let same = is ∙ pictured_missing s words.frame past in
+                inr (note_left (Picture words) status before after h cut (ap report_of same) (ap (λ (o : OutcomeOf). o.notes) same))
+          ]
+      | inr note ↦ inr note
+    ]
+
+pub cut_check : (words : CheckWords) (status : Status) (before after : Streams) → IsCut status → Ran (Check words) status before after
+    → ((s : Parts) × HasScene (Check words) before.input s
+    × ((answer : LogAnswer) × IfBytes before.input (λ bytes. IsJudged s words.rounds words.watch (log_bytes bytes) answer)
+    × LeavesFronts status before after (answer_text answer) []))
+    ⊎ LeavesMemory status before after
+cut_check words status before after cut h =
+    elim (cut_by_scene (Check words) status before after h (Makes (work_of (Check words)) before.input.left h.outcome) cut h.ends) [
+      | inl scene ↦
+          let (s, has, makes) = scene in
+          let (answer, judged, is) = makes in
+          let text = ap report_of is ∙ append-nil (answer_text answer) in
+          inl (
+            s,
+            has,
+            (
+              answer,
+              judged,
+              fronts_as status before after (report_of h.outcome) (answer_text answer) (joined h.outcome.notes) [] text (ap (λ (o : OutcomeOf). joined o.notes) is)
+                  (fronts_of (Check words) status before after _ _ h cut),
+            ),
+          )
+      | inr note ↦ inr note
+    ]
 
 -- ---- stopped by the notes
 

@@ -9,7 +9,8 @@ use Rattle.cull_report.specs.Hiding.{HidesTruly}
 use Rattle.cull_report.specs.Live.{Counts, HidesLive, IsRising, frame_live, live_text}
 use Rattle.cull_report.specs.Scene.{frames_text, report_text, scene_header}
 use Rattle.group_query.specs.Text.{frame_groups}
-use Rattle.live_check.specs.Logs.{AreGoodLines, IsAccepted}
+use Rattle.live_check.specs.Logs.{AreGoodLines, IsAccepted, IsJudged}
+use Rattle.live_check.specs.declared.answer.LogAnswer.{LogAnswer}
 use Rattle.live_check.specs.declared.answer.LogAnswer.TheVariants.{Accepted, Refused}
 use Rattle.command_words.specs.declared.table.Command.{Command}
 use Rattle.command_words.specs.declared.table.BareCommand.TheVariants.{Upgrade}
@@ -206,6 +207,26 @@ LiveIsCut = (words : LiveWords) (status : Status) (before after : Streams) → I
 abbrev pub DemoIsCut : Type 0
 DemoIsCut = (words : DemoWords) (status : Status) (before after : Streams) → IsCut status → Ran (Demo words) status before after
     → LeavesFronts status before after (summary_text words.seed words.triangles) []
+
+-- of an upgraded scene
+abbrev pub UpgradeIsCut : Type 0
+UpgradeIsCut = (status : Status) (before after : Streams) → IsCut status → Ran (Bare Upgrade) status before after
+    → ((s : Parts) × HasScene (Bare Upgrade) before.input s × LeavesFronts status before after (layout (upgraded s)) []) ⊎ LeavesMemory status before after
+
+-- of a picture, which shows what is drawn
+abbrev pub PictureIsCut : Type 0
+PictureIsCut = (words : PictureWords) (status : Status) (before after : Streams) → IsCut status → Ran (Picture words) status before after
+    → ((s : Parts) × HasScene (Picture words) before.input s × (words.frame < length s.cameras) × ShowsTruly s words.frame
+    × LeavesFronts status before after (frame_picture s words.frame) [])
+    ⊎ LeavesMemory status before after
+
+-- of an answer that holds of the log
+abbrev pub CheckIsCut : Type 0
+CheckIsCut = (words : CheckWords) (status : Status) (before after : Streams) → IsCut status → Ran (Check words) status before after
+    → ((s : Parts) × HasScene (Check words) before.input s
+    × ((answer : LogAnswer) × IfBytes before.input (λ bytes. IsJudged s words.rounds words.watch (log_bytes bytes) answer)
+    × LeavesFronts status before after (answer_text answer) []))
+    ⊎ LeavesMemory status before after
 
 -- a report fault has its cause: there is text for the report, and its count of faults rose
 abbrev pub ReportFaultsRose : Type 0

@@ -1,5 +1,11 @@
 //! What a user has of a run, command by command: it follows from the clause `outcome` of `run`.
-ghost use Rattle.culling.specs.Promises.{CheckAccepts, CheckIsComplete, CheckRefuses, CullIsComplete, CullIsCut, CullIsWhole, CutsLeaveFronts, DemoIsComplete, DemoIsCut, DemoIsWhole, FaultsAreTold, FrameIsMissing, GroupsStopAtNotes, LiveIsComplete, LiveIsCut, LiveIsWhole, LiveStopsAtNotes, NotesFaultsRose, PictureIsComplete, PictureIsMissing, PictureIsWhole, ReadFaultsRose, ReportFaultsRose, SceneIsRefused, UpgradeIsComplete, UpgradeIsWhole};
+ghost use Rattle.culling.specs.Promises.{CheckAccepts, CheckIsComplete, CheckIsCut, CheckRefuses, CullIsComplete};
+ghost use Rattle.culling.specs.Promises.{CullIsCut, CullIsWhole, CutsLeaveFronts, DemoIsComplete, DemoIsCut};
+ghost use Rattle.culling.specs.Promises.{DemoIsWhole, FaultsAreTold, FrameIsMissing, GroupsStopAtNotes};
+ghost use Rattle.culling.specs.Promises.{LiveIsComplete, LiveIsCut, LiveIsWhole, LiveStopsAtNotes, NotesFaultsRose};
+ghost use Rattle.culling.specs.Promises.{PictureIsComplete, PictureIsCut, PictureIsMissing, PictureIsWhole};
+ghost use Rattle.culling.specs.Promises.{ReadFaultsRose, ReportFaultsRose, SceneIsRefused, UpgradeIsComplete};
+ghost use Rattle.culling.specs.Promises.{UpgradeIsCut, UpgradeIsWhole};
 
 /// A run that is done wrote all that its command writes of its input: of `cull` the report, and of groups the line of
 /// each frame; of `live` the report and a live text, by counts that rise; the summary of `demo`, the upgraded scene,
@@ -42,6 +48,9 @@ pub fn cuts_leave_fronts()
     ensures cull { CullIsCut }
     ensures live { LiveIsCut }
     ensures demo { DemoIsCut }
+    ensures checked { CheckIsCut }
+    ensures upgrade { UpgradeIsCut }
+    ensures picture { PictureIsCut }
     ensures report { ReportFaultsRose }
     ensures notes { NotesFaultsRose }
     ensures live_notes { LiveStopsAtNotes }

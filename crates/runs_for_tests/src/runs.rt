@@ -89,9 +89,7 @@ pub fn status_over<R: Threads + Wait + Sync, G: Gate>(
     gate: &G,
 ) -> Result<Status, Fail> {
     let words = words_of(alloc, line)?;
-    Ok(status_of(
-        rt, alloc, &words, input, report, notes, gate,
-    ))
+    Ok(status_of(rt, alloc, &words, input, report, notes, gate))
 }
 
 /// What comes of a command line over a source and two sinks, with a gate.

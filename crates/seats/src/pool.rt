@@ -197,12 +197,7 @@ fn all_made<W: Drop, T: Drop, M: Makes<W, T>>(
 
 /// So many things in order, each made once, by so many threads and by the caller: whoever comes takes the next that
 /// waits. Err: out of memory. Condition: there are so many.
-pub fn make_each<
-    W: Drop + Send,
-    T: Drop + Send,
-    R: Threads + Wait + Sync,
-    M: Makes<W, T> + Sync,
->(
+pub fn make_each<W: Drop + Send, T: Drop + Send, R: Threads + Wait + Sync, M: Makes<W, T> + Sync>(
     rt: &R,
     alloc: Global,
     maker: &M,

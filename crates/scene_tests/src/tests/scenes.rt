@@ -1,6 +1,8 @@
 //! Scenes that are read, refused and written, byte by byte.
 use bytes_for_tests::{FIRST_SCENE, OBJECT, batch, cut, edit, refusal_of, refusal_of_more};
-use cull_base::{BytesSink, BytesSource, Grade, SinkError, SureSink, SureSource, Tri, Winding, fill};
+use cull_base::{
+    BytesSink, BytesSource, Grade, SinkError, SureSink, SureSource, Tri, Winding, fill,
+};
 use scene_reader::{SceneError, one_layout, read_part, read_scene, upgrades_scenes, write_scene};
 use std::alloc::{AllocError, Global};
 use std::test::Fail;

@@ -1,5 +1,7 @@
 //! Scenes in version 2 that are read, refused and written, byte by byte.
-use bytes_for_tests::{FIRST_SCENE, OBJECT, batch, cut, edit, refusal_of, refusal_of_more, written};
+use bytes_for_tests::{
+    FIRST_SCENE, OBJECT, batch, cut, edit, refusal_of, refusal_of_more, written,
+};
 use cull_base::{Grade, SureSource, Winding};
 use scene_reader::{SceneError, read_scene, upgrade};
 use std::alloc::{AllocError, Global};

@@ -1,4 +1,4 @@
-use Rattle.culling.proofs.Stopped.{cut_any, cut_cull, cut_demo, cut_live, cut_notes, cut_report, stopped_groups, stopped_live}
+use Rattle.culling.proofs.Stopped.{cut_any, cut_check, cut_cull, cut_demo, cut_live, cut_notes, cut_picture, cut_report, cut_upgrade, stopped_groups, stopped_live}
 use Rattle.culling.proofs.laws.cuts_leave_fronts.Goals as goal
 
 pub returns-clause-any : goal.returns-clause-any
@@ -12,6 +12,15 @@ returns-clause-live c = cut_live
 
 pub returns-clause-demo : goal.returns-clause-demo
 returns-clause-demo c = cut_demo
+
+pub returns-clause-checked : goal.returns-clause-checked
+returns-clause-checked c = cut_check
+
+pub returns-clause-upgrade : goal.returns-clause-upgrade
+returns-clause-upgrade c = cut_upgrade
+
+pub returns-clause-picture : goal.returns-clause-picture
+returns-clause-picture c = cut_picture
 
 pub returns-clause-report : goal.returns-clause-report
 returns-clause-report c = cut_report

@@ -21,8 +21,7 @@ pub loop-slot-preserved : goal.loop-slot-preserved
 loop-slot-preserved g c =
     let i = c.loop-slot.invariant in
     let s = c.in-Some.ensures.steps in
-    let t = turn c.args.slots.items c.loop-slot.number c.in-Some.slot _ (sym i.2 ∙ s.0) in
-    (
+    let t = turn c.args.slots.items c.loop-slot.number c.in-Some.slot _ (sym i.2 ∙ s.0) in (
       tt,
       tt,
       t.0,
