@@ -1,6 +1,5 @@
 -- Things that wait or are made: each of them in its seat, and what a loop has made of them.
-use Rattle.std.proofs.Common.{◌≡◌, ℕ, ◌+◌, ◌<◌, ◌++◌, ◌∷◌, [], List, Some, length, get_or, arith, sym, ap, subst}
-use Rattle.std.specs.declared.option.Option.{Option}
+use Rattle.std.proofs.Common.{◌≡◌, ℕ, ◌+◌, ◌++◌, ◌∷◌, [], List, length, get_or, arith, sym, ap, subst}
 use Rattle.std.proofs.lemmas.List.{length-append}
 use Rattle.cull_base.proofs.Lists.{pushed_at}
 use Rattle.seats.specs.Things.{AreAllMade, IsThing}
@@ -12,8 +11,8 @@ pub thing_once : {V X : Type 0} (waits : ℕ → V → Type 0) (made : ℕ → X
 thing_once waits made one_wait one_made k (Waits v) = one_wait k v
 thing_once waits made one_wait one_made k (Made x) = one_made k x
 
-pub none_made : {X : Type 0} (made : ℕ → X → Type 0) → AreAllMade made 0 []
-none_made made = record { count_is = omega arith; each = λ k d lt. absurd (omega (arith, lt)) }
+pub none_made : {X : Type 0} (made : ℕ → X → Type 0) (things : List X) → things ≡ [] → AreAllMade made 0 things
+none_made made things none = record { count_is = ap length none; each = λ k d lt. absurd (omega (arith, lt)) }
 
 -- one thing more, at the end
 pub made_more : {X : Type 0} (made : ℕ → X → Type 0) (count : ℕ) (things after : List X) (x : X) → after ≡ things ++ x ∷ [] → AreAllMade made count things → made count x → AreAllMade made (count + 1) after

@@ -120,8 +120,41 @@ fn make_some<P: Seating<Thing<W, T>>, W: Drop, T: Drop, R: Wait, M: Makes<W, T>>
     }
 }
 
-// Makes the things of the seats that the caller picks, by so many threads and by the caller, which would wait for them
+// Makes things of seats, of so many, by a thread for each of the hands and by the caller, which would wait for them
 // otherwise.
+fn make_beside<
+    P: Seating<Thing<W, T>> + Send,
+    W: Drop + Send,
+    T: Drop + Send,
+    R: Threads + Wait + Sync,
+    M: Makes<W, T> + Sync,
+>(
+    rt: &R,
+    seats: &Mutex<Seats<P, Thing<W, T>>>,
+    hands: &mut [Hand<P>],
+    mine: &mut Hand<P>,
+    maker: &M,
+    count: usize,
+)
+    requires { Means P.holds (IsThing (M.waits maker.now) (M.made maker.now)) }
+{
+    let numbers = AtomicU64::new(0);
+    let next = &numbers;
+    let threads = hands.len();
+    for_each_beside(
+        rt,
+        hands,
+        threads,
+        &|_worker: usize, hand: &mut Hand<P>|
+            requires { Means P.holds (IsThing (M.waits maker.now) (M.made maker.now)) }
+        { make_some(rt, seats, next, hand, maker, count) },
+        &mut ||
+            requires { Means P.holds (IsThing (M.waits maker.now) (M.made maker.now)) }
+        { make_some(rt, seats, next, mine, maker, count) },
+    );
+}
+
+// Makes the things of the seats that the caller picks.
 fn make_under<
     P: Seating<Thing<W, T>> + Send,
     W: Drop + Send,
@@ -144,23 +177,12 @@ fn make_under<
     ensures { IfOk result (λ v. AreSeated P.holds P.names v.items) }
 {
     let count = slots.len();
-    let opened = Seats::<P, Thing<W, T>>::open(alloc, blank, slots, threads);
-    let (seats, mut hands, mut mine) = opened.map_err(|_| Memory)?;
+    let Ok(opened) = Seats::<P, Thing<W, T>>::open(alloc, blank, slots, threads) else {
+        return Err(Memory);
+    };
+    let (seats, mut hands, mut mine) = opened;
     let lock = Mutex::new(seats);
-    let seats = &lock;
-    let numbers = AtomicU64::new(0);
-    let next = &numbers;
-    for_each_beside(
-        rt,
-        hands.as_mut_slice(),
-        threads as usize,
-        &|_worker: usize, hand: &mut Hand<P>|
-            requires { Means P.holds (IsThing (M.waits maker.now) (M.made maker.now)) }
-        { make_some(rt, seats, next, hand, maker, count) },
-        &mut ||
-            requires { Means P.holds (IsThing (M.waits maker.now) (M.made maker.now)) }
-        { make_some(rt, seats, next, &mut mine, maker, count) },
-    );
+    make_beside(rt, &lock, hands.as_mut_slice(), &mut mine, maker, count);
     Ok(lock.into_inner().close(hands, mine))
 }
 

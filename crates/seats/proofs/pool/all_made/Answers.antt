@@ -1,9 +1,14 @@
-use Rattle.std.proofs.Common.{◌≡◌, length, arith, sym, subst, ◌∙◌}
+use Rattle.std.proofs.Common.{◌≡◌, [], length, arith, rules, sym, subst, ◌∙◌}
 use Rattle.cull_base.proofs.Lists.{turn}
 use Rattle.seats.specs.Things.{AreAllMade, IsThing}
 use Rattle.seats.proofs.First.{there_at}
-use Rattle.seats.proofs.Things.{made_more}
+use Rattle.seats.proofs.Things.{made_more, none_made}
 use Rattle.seats.proofs.pool.all_made.Goals as goal
+
+pub loop-slot-init : goal.loop-slot-init
+loop-slot-init g c =
+    let none : c.in_ok-things.things.items ≡ [] = search rules in
+    (tt, tt, search rules, search rules, none_made (g.M.Makes.made c.args.maker.now) c.in_ok-things.things.items none, search rules)
 
 pub push_reserved-requires : goal.push_reserved-requires
 push_reserved-requires g c =

@@ -4,8 +4,8 @@ use Rattle.seats.specs.Things.{IsThing}
 use Rattle.seats.proofs.First.{all_seated, first_more}
 use Rattle.seats.proofs.pool.first_things.Goals as goal
 
-pub begin-thing-requires : goal.begin-thing-requires
-begin-thing-requires g c = c.requires c.loop-number.number (omega (arith, c.loop-number-test.true))
+pub begin-requires : goal.begin-requires
+begin-requires g c = c.requires c.loop-number.number (omega (arith, c.loop-number-test.true))
 
 pub loop-number-preserved : goal.loop-number-preserved
 loop-number-preserved g c =
