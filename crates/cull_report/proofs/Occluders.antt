@@ -1,5 +1,5 @@
 -- An occluded object has a piece strictly nearer at each of its samples.
-use Rattle.std.proofs.Common.{◌≡◌, ℕ, ℤ, pos, zero, suc, ◌<◌, ◌≤ℤ◌, ◌<ℤ◌, Bool, ◌&&◌, true, false, cond, arith, refl, sym, ◌∙◌, List, [], ◌∷◌, map, length, take, drop, int_lt, int_le, Some, nat_lt, subst}
+use Rattle.std.proofs.Common.{◌≡◌, ℕ, ℤ, pos, zero, suc, ◌<◌, ◌≤ℤ◌, ◌<ℤ◌, ◌&&◌, true, arith, refl, sym, ◌∙◌, List, [], ◌∷◌, map, length, take, drop, int_lt, int_le, Some, nat_lt, subst}
 use Rattle.std.specs.Prelude.{slice_get}
 use Rattle.std.proofs.lemmas.Bool.{and_parts}
 use Rattle.std.proofs.lemmas.Bool.Decides.{nat_tests}
@@ -12,7 +12,7 @@ use Rattle.cull_base.specs.declared.scene_types.Verdict.{Verdict}
 use Rattle.cull_base.specs.declared.scene_types.Verdict.TheVariants.{Occluded}
 use Rattle.cull_base.specs.Grade.{top_of}
 use Rattle.cull_base.specs.Screen.{Dimensions, screen_of, tile_rect_of}
-use Rattle.cull_base.specs.Rectangle.{HasPixel, meets}
+use Rattle.cull_base.specs.Rectangle.{HasPixel}
 use Rattle.cull_base.specs.Piece.{Piece, middle, touches}
 use Rattle.cull_base.specs.State.{State}
 use Rattle.cull_base.specs.Fold.{after, IsSound}

@@ -226,7 +226,7 @@ pub fn make_each<W: Drop + Send, T: Drop + Send, R: Threads + Wait + Sync, M: Ma
     count: usize,
     threads: u32,
 ) -> Result<Vec<T>, Memory>
-    requires { (k : ℕ) → k < count → M.has maker.now k }
+    requires has { (k : ℕ) → k < count → M.has maker.now k }
     ensures { IfOk result (λ v. AreAllMade (M.made maker.now) count v.items) }
 {
     let waiting = first_things(alloc, maker, count)?;

@@ -18,8 +18,8 @@ told_of all told objects size count runs is for made =
     let whole : length all ≤ size * length runs = omega (arith, for.whole, is, ap (λ n. size * n) made.count_is) in
     record { each = λ k d lt. (made.each k d (omega (arith, lt, made.count_is))).1; whole = whole }
 
-pub make_each-requires : goal.make_each-requires
-make_each-requires g c κs within = λ k lt. subst (λ n. c.args.size * k < n) c.count.ensures.count (c.run_count-count.ensures.some k lt)
+pub make_each-requires-clause-has : goal.make_each-requires-clause-has
+make_each-requires-clause-has g c κs within = λ k lt. subst (λ n. c.args.size * k < n) c.count.ensures.count (c.run_count-count.ensures.some k lt)
 
 pub returns-clause-runs : goal.returns-clause-runs
 returns-clause-runs g c =
