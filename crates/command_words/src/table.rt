@@ -68,7 +68,7 @@ pub const EARLY: AnOption = OptionRow {
 pub const STEAL: AnOption = OptionRow {
     name: "steal",
     takes: Takes::Nothing,
-    help: "Let a worker that is done with its own bins take bins from the others; the report stays the same",
+    help: "Let workers that are done take bins from others, for live and --early; the report stays the same",
 };
 
 /// A command without options.
