@@ -15,6 +15,12 @@
  * No call prints, exits, starts a thread, or lets an exception out. A pointer that is null where something has to be is
  * told, or a test says visible.
  *
+ * libmaskcull.so has these calls beside those of maskcull.h, and needs no C++ library: cc game.c -lmaskcull
+ * As a static library they are libmaskcull_frame.a, which was compiled from C++ and so needs the C++ library:
+ * cc game.c -lmaskcull_frame -lmaskcull_c -lstdc++ -lm, as `pkg-config --static --libs maskcull` tells; a program that
+ * is linked by a C++ compiler needs no more than the first two. bindings/c/build makes both libraries, as an archive
+ * has them.
+ *
  * Preconditions, which no call can check
  *   1. A pointer that isn't null points to as much as is said. Positions, matrices and boxes need no alignment.
  *   2. A frame came from maskcull_frame_make and wasn't freed since. While one thread draws, clears or frees it, no
