@@ -4,6 +4,7 @@ pub mod Marks
 pub mod LiveTexts
 pub mod ScenePieces
 pub mod DrawnPieces
+pub mod SlotFacts
 pub mod Rounds
 pub mod Fronts
 pub mod GroupLines

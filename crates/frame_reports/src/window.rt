@@ -1,21 +1,20 @@
 //! Frames side by side, in windows: how many there are, and what is written of each.
-ghost use Rattle.std.specs.Prelude.{◌≡◌, ◌≤◌, ◌*◌, [], length, IfSome};
+ghost use Rattle.std.specs.Prelude.{◌≡◌, ◌≤◌, ◌+◌, ◌*◌, [], length, IfOk, IfSome, OnOk};
 ghost use Rattle.frame_reports.specs.FrameRuns.{LeavesFrames};
 ghost use Rattle.frame_reports.specs.declared.frames.Beside.TheVariants.{Nothing};
 ghost use Rattle.command_words.specs.Words.{AreInRange};
-ghost use Rattle.frame_reports.specs.Windows.{AreUnseen, IsDrawn, IsMade, IsUnseen};
-ghost use Rattle.seats.specs.Things.{AreAllMade};
+ghost use Rattle.frame_reports.specs.Windows.{AreDrawnFrom, AreUnseen, HasPlaces, HavePlaces, IsDrawn, IsUnseen};
 
 use crate::drawing::{Drawing, Plan};
 use crate::failure::Failure;
-use crate::frame_pool::Window;
+use crate::frame_pool::{Room, Window, make_window};
 use crate::frames::{Asking, Beside, Frame, FrameLines};
 use crate::noting::write_and_note;
 use binning::Cut;
 use command_words::Settings;
-use cull_base::Sink;
+use cull_base::{ClipVertex, Memory, Sink};
 use scene_reader::Scene;
-use seats::make_each;
+use std::alloc::Global;
 use std::sync::Wait;
 use std::thread::Threads;
 use tile_queues::{BinTable, Gate};
@@ -98,6 +97,28 @@ fn depth_for(scene: &Scene, workers: u32) -> u32
     (left / kept).saturating_add(1).clamp(1, u64::from(DEPTH)) as u32
 }
 
+// A room with a place for each vertex.
+fn empty_room(alloc: Global, scene: &Scene) -> Result<Room, Memory>
+    ensures { IfOk result (HasPlaces scene.now) }
+{
+    let nowhere = ClipVertex { x: 0, y: 0, w: 0 };
+    let clips = vec![in alloc; nowhere; scene.vertices().len()].map_err(|_| Memory)?;
+    Ok(Room { clips })
+}
+
+// So many rooms.
+fn empty_rooms(alloc: Global, scene: &Scene, count: u32) -> Result<Vec<Room>, Memory>
+    ensures count { IfOk result (λ v. length v.items ≡ count) }
+    ensures places { IfOk result (λ v. HavePlaces scene.now v.items) }
+{
+    let mut rooms = Vec::with_capacity(alloc, count as usize).map_err(|_| Memory)?;
+    for _ in 0..count {
+        let room = empty_room(alloc, scene)?;
+        rooms.push_reserved(room);
+    }
+    Ok(rooms)
+}
+
 // Writes and notes the lines of a frame that was drawn, if it was.
 fn write_drawn<R, W: Sink, E: Sink, G>(
     drawing: &Drawing<R, G>,
@@ -119,68 +140,87 @@ fn write_drawn<R, W: Sink, E: Sink, G>(
     }
 }
 
-// Writes and notes the lines of the frames of a window, up to the first that memory gave out for.
+// Writes and notes the lines of so many frames from a first on, up to the first that memory gave out for.
 fn write_frames<R, W: Sink, E: Sink, G>(
-    window: &Window<R, G>,
+    drawing: &Drawing<R, G>,
+    first: u32,
+    count: u32,
     frames: &[Option<Frame>],
     report: &mut W,
     notes: &mut E,
 ) -> Result<(), Failure>
-    requires { let w = window.now in
-        AreAllMade (IsMade w.drawing.now.scene.now w.drawing.now.groups.now w.first) w.count frames.now }
-    ensures reported { let d = window.now.drawing.now in
-        LeavesFrames [] d.plan.now.lines d.plan.now.beside d.scene.now window.now.first window.now.count result
-        (W.says report.old) (W.says report.new) (E.says notes.old) (E.says notes.new) }
-    ensures quiet { window.now.drawing.now.plan.now.beside ≡ Nothing → notes.new ≡ notes.old }
-{
-    let drawing = window.drawing;
-    // an accessor tells what is held of a scene
-    let _frames = drawing.scene.cameras().len();
-    for k in 0..window.count as usize {
-        write_drawn(drawing, window.first + k as u32, &frames[k], report, notes)?;
-    }
-    Ok(())
-}
-
-// Makes the frames of a window by so many workers, of whom the caller is one, and then writes and notes their lines.
-fn report_window<R: Threads + Wait + Sync, W: Sink, E: Sink, G: Gate>(
-    window: &Window<R, G>,
-    workers: u32,
-    report: &mut W,
-    notes: &mut E,
-) -> Result<(), Failure>
-    ensures reported { let d = window.now.drawing.now in
-        LeavesFrames [] d.plan.now.lines d.plan.now.beside d.scene.now window.now.first window.now.count result
-        (W.says report.old) (W.says report.new) (E.says notes.old) (E.says notes.new) }
-    ensures quiet { window.now.drawing.now.plan.now.beside ≡ Nothing → notes.new ≡ notes.old }
-{
-    let (rt, alloc) = (window.drawing.rt, window.drawing.alloc);
-    let count = window.count as usize;
-    let frames = make_each(rt, alloc, window, count, workers.saturating_sub(1))?;
-    write_frames(window, frames.as_slice(), report, notes)
-}
-
-// Makes window after window, of so many rounds at most, a frame for each worker in a round, until there were as many as
-// asked for, and writes and notes the lines of each window before the next begins.
-fn report_each_window<R: Threads + Wait + Sync, W: Sink, E: Sink, G: Gate>(
-    drawing: &Drawing<R, G>,
-    asking: Asking,
-    workers: u32,
-    rounds: u32,
-    depth: u32,
-    report: &mut W,
-    notes: &mut E,
-) -> Result<(), Failure>
     requires unseen { IsUnseen drawing.now.plan.now.beside }
-    requires deep { 1 ≤ depth }
-    requires within { rounds * workers ≤ length drawing.now.scene.now.cameras }
+    requires within { first + count ≤ length drawing.now.scene.now.cameras }
+    requires room { count ≤ length frames.now }
+    requires drawn { AreDrawnFrom drawing.now.scene.now drawing.now.groups.now first count frames.now }
     ensures reported { LeavesFrames [] drawing.now.plan.now.lines drawing.now.plan.now.beside drawing.now.scene.now
-        0 (rounds * workers) result
+        first count result
         (W.says report.old) (W.says report.new) (E.says notes.old) (E.says notes.new) }
     ensures quiet { drawing.now.plan.now.beside ≡ Nothing → notes.new ≡ notes.old }
 {
     // an accessor tells what is held of a scene
     let _frames = drawing.scene.cameras().len();
+    for k in 0..count as usize {
+        write_drawn(drawing, first + k as u32, &frames[k], report, notes)?;
+    }
+    Ok(())
+}
+
+// Makes the frames of a window, and then writes and notes their lines.
+fn report_window<R: Threads + Wait + Sync, W: Sink, E: Sink, G: Gate>(
+    window: &Window<R, G>,
+    rooms: &mut Vec<Room>,
+    report: &mut W,
+    notes: &mut E,
+) -> Result<(), Failure>
+    requires unseen { IsUnseen window.now.drawing.now.plan.now.beside }
+    requires within { let w = window.now in w.first + w.count ≤ length w.drawing.now.scene.now.cameras }
+    requires some { 1 ≤ length rooms.old.items }
+    requires few { length rooms.old.items ≤ 64 }
+    requires places { HavePlaces window.now.drawing.now.scene.now rooms.old.items }
+    ensures reported { let d = window.now.drawing.now in
+        LeavesFrames [] d.plan.now.lines d.plan.now.beside d.scene.now window.now.first window.now.count result
+        (W.says report.old) (W.says report.new) (E.says notes.old) (E.says notes.new) }
+    ensures quiet { window.now.drawing.now.plan.now.beside ≡ Nothing → notes.new ≡ notes.old }
+    ensures places { OnOk result (HavePlaces window.now.drawing.now.scene.now rooms.new.items) }
+    ensures workers { OnOk result (length rooms.new.items ≡ length rooms.old.items) }
+{
+    let frames = make_window(window, rooms)?;
+    write_frames(
+        window.drawing,
+        window.first,
+        window.count,
+        frames.as_slice(),
+        report,
+        notes,
+    )
+}
+
+// Makes window after window, of so many rounds at most, a frame for each room in a round, until there were as many as
+// asked for, and writes and notes the lines of each window before the next begins.
+fn report_each_window<R: Threads + Wait + Sync, W: Sink, E: Sink, G: Gate>(
+    drawing: &Drawing<R, G>,
+    asking: Asking,
+    rounds: u32,
+    depth: u32,
+    rooms: &mut Vec<Room>,
+    report: &mut W,
+    notes: &mut E,
+) -> Result<(), Failure>
+    requires unseen { IsUnseen drawing.now.plan.now.beside }
+    requires deep { 1 ≤ depth }
+    requires some { 1 ≤ length rooms.old.items }
+    requires few { length rooms.old.items ≤ 64 }
+    requires within { rounds * length rooms.old.items ≤ length drawing.now.scene.now.cameras }
+    requires places { HavePlaces drawing.now.scene.now rooms.old.items }
+    ensures reported { LeavesFrames [] drawing.now.plan.now.lines drawing.now.plan.now.beside drawing.now.scene.now
+        0 (rounds * length rooms.old.items) result
+        (W.says report.old) (W.says report.new) (E.says notes.old) (E.says notes.new) }
+    ensures quiet { drawing.now.plan.now.beside ≡ Nothing → notes.new ≡ notes.old }
+{
+    // an accessor tells what is held of a scene
+    let _frames = drawing.scene.cameras().len();
+    let workers = rooms.len() as u32;
     let mut done = 0u32;
     while done < rounds {
         let more = depth.min(rounds - done);
@@ -191,7 +231,7 @@ fn report_each_window<R: Threads + Wait + Sync, W: Sink, E: Sink, G: Gate>(
             count: more * workers,
             bytes: worker_size(drawing.scene, more) as usize,
         };
-        report_window(&window, workers, report, notes)?;
+        report_window(&window, rooms, report, notes)?;
         done += more;
     }
     Ok(())
@@ -243,6 +283,7 @@ pub fn report_windows<R: Threads + Wait + Sync, W: Sink, E: Sink, G: Gate>(
     }
     let (alloc, scene) = (drawing.alloc, drawing.scene);
     let workers = drawing.plan.settings.workers;
+    let mut rooms = empty_rooms(alloc, scene, workers)?;
     let settings = alone(drawing.plan.settings);
     let plan = Plan {
         settings: &settings,
@@ -261,5 +302,5 @@ pub fn report_windows<R: Threads + Wait + Sync, W: Sink, E: Sink, G: Gate>(
     };
     let asking = asking_for(plan.lines, workers);
     let depth = depth_for(scene, workers);
-    report_each_window(&by_one, asking, workers, rounds, depth, report, notes)
+    report_each_window(&by_one, asking, rounds, depth, &mut rooms, report, notes)
 }

@@ -1,10 +1,7 @@
-use Rattle.std.proofs.Common.{[], arith}
+use Rattle.std.proofs.Common.{[]}
 use Rattle.std.proofs.lemmas.Result.{err_from_is_err_and}
 use Rattle.frame_reports.proofs.FrameByFrame.{frames_no_memory}
 use Rattle.frame_reports.proofs.window.report_window.Goals as goal
-
-pub make_each-requires-clause-has : goal.make_each-requires-clause-has
-make_each-requires-clause-has g c κs within = λ k lt. omega (arith, lt, c.args.window.now.within)
 
 pub returns-in_err-frames-clause-reported : goal.returns-in_err-frames-clause-reported
 returns-in_err-frames-clause-reported g c =

@@ -9,21 +9,18 @@ use Rattle.frame_reports.proofs.window.write_frames.Goals as goal
 
 pub loop-k-init : goal.loop-k-init
 loop-k-init g c =
-    let drawing = c.args.window.now.drawing.now in
+    let drawing = c.args.drawing.now in
     record {
-      wrote = wrote_none drawing.plan.now.lines drawing.plan.now.beside drawing.scene.now c.args.window.now.first 0 (g.W.Sink.says c.args.report.now) (g.E.Sink.says c.args.notes.now) (omega arith);
+      wrote = wrote_none drawing.plan.now.lines drawing.plan.now.beside drawing.scene.now c.args.first 0 (g.W.Sink.says c.args.report.now) (g.E.Sink.says c.args.notes.now) (omega arith);
       quiet = λ nothing. refl;
     }
 
-pub write_drawn-requires-clause-unseen : goal.write_drawn-requires-clause-unseen
-write_drawn-requires-clause-unseen g c = c.args.window.now.unseen
-
 pub write_drawn-requires-clause-drawn : goal.write_drawn-requires-clause-drawn
 write_drawn-requires-clause-drawn g c =
-    let drawing = c.args.window.now.drawing.now in
+    let drawing = c.args.drawing.now in
     let k = c.loop-k.k in
     let at = c.index-frames-k in
-    subst (λ (x : Option Frame). IfSome x (IsDrawn drawing.scene.now drawing.groups.now (c.args.window.now.first + k))) (sym at.is) (c.requires.each k at.result (omega arith))
+    subst (λ (x : Option Frame). IfSome x (IsDrawn drawing.scene.now drawing.groups.now (c.args.first + k))) (sym at.is) (c.requires.drawn k at.result (omega arith))
 
 pub loop-k-preserved : goal.loop-k-preserved
 loop-k-preserved g c = record {

@@ -5,7 +5,7 @@ use Rattle.frame_reports.proofs.window.write_frames.Given as goal
 
 abbrev pub invariant-loop-k : goal.invariant-loop-k
 invariant-loop-k g l = record {
-  wrote : Wrote [] l.fn.window.drawing.now.plan.now.lines l.fn.window.drawing.now.plan.now.beside l.fn.window.drawing.now.scene.now l.fn.window.first l.k
+  wrote : Wrote [] l.fn.drawing.plan.now.lines l.fn.drawing.plan.now.beside l.fn.drawing.scene.now l.fn.first l.k
       (g.W.Sink.says l.fn.report) (g.W.Sink.says l.report) (g.E.Sink.says l.fn.notes) (g.E.Sink.says l.notes);
-  quiet : l.fn.window.drawing.now.plan.now.beside ≡ Nothing → l.notes ≡ l.fn.notes;
+  quiet : l.fn.drawing.plan.now.beside ≡ Nothing → l.notes ≡ l.fn.notes;
 }
