@@ -61,7 +61,8 @@ def taken(run):
     if child.returncode != run.status:
         raise Fault(f"{run.command} ends with status {child.returncode}: {said[-300:].decode(errors='replace')}")
     values = {"seconds": seconds, "memory": 1024 * used.ru_maxrss}
-    values |= {PRINTED: printed, NOTED: groups_of, COUNTED: instructions_of}.get(run.kind, lambda text: {})(said.decode())
+    if reader := {PRINTED: printed, NOTED: groups_of, COUNTED: instructions_of}.get(run.kind):
+        values |= reader(said.decode())
     return values, used.ru_utime + used.ru_stime + time.process_time() - own
 
 

@@ -64,7 +64,7 @@ class Bench:
     dry: bool = False
 
     def __post_init__(self):
-        self.scenes = Scenes(self.room / "scenes", self.dry)
+        self.scenes = Scenes(self.room, self.dry)
 
     @property
     def threads(self):
@@ -190,7 +190,7 @@ def checking(bench):
 
 def log_of(bench, kind, scene, looks):
     """A file for `check`: a scene's length, the scene, and a log that `live` wrote; its log's lines and its bytes."""
-    path = bench.room / "scenes" / f"lines-{kind}.checked"
+    path = bench.scenes.room / f"lines-{kind}.checked"
     if bench.dry:
         return path, 1, 1
     data = scene.read_bytes()
@@ -205,7 +205,7 @@ def log_of(bench, kind, scene, looks):
 
 def gigabyte_of(bench, scene):
     """A scene with a gigabyte without a newline behind it, which takes no room on the disk."""
-    path = bench.room / "scenes" / "gigabyte.checked"
+    path = bench.scenes.room / "gigabyte.checked"
     if not bench.dry and not path.exists():
         data = scene.read_bytes()
         bench.scenes.write(path, len(data).to_bytes(4, "little") + data)
@@ -230,7 +230,8 @@ def picturing(bench):
 CALLS = {
     "measure.c": (("nothing", "ns", "draw of no triangle ~ ns"), ("square", "ns", "test of 64 by 64 ~ ns, hidden"),
                   ("1000", "ms", "1,000 triangles ~ ms by one call"),
-                  ("20000/1", "ms", "20,000 triangles ~ ms by one thread"), ("20000/bands", "ms", "~ ms by four threads")),
+                  ("20000/1", "ms", "20,000 triangles ~ ms by one thread"),
+                  ("20000/bands", "ms", "~ ms by four threads")),
     "measure.cpp": (("prepare/separate", "ms", "20,000 triangles ~ ms to prepare, ~ through a matrix,"
                      " ~ with clearing and drawing"),
                     ("prepare/grid", "ms", "as a grid ~ ms to prepare, ~ through a matrix,"

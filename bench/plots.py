@@ -118,8 +118,9 @@ def main():
     parser = argparse.ArgumentParser(description=__doc__, formatter_class=argparse.RawDescriptionHelpFormatter)
     parser.add_argument("--machine", default="", metavar="TEXT", help="on which machine it was measured")
     words = parser.parse_args()
-    rows = {f"{workers} thread" + ("s" if workers > 1 else ""): points for workers, points in measured(sys.stdin).items()}
-    print("\n".join(plot(rows, words.machine)))
+    rows = measured(sys.stdin)
+    named = {f"{workers} thread" + ("s" if workers > 1 else ""): points for workers, points in rows.items()}
+    print("\n".join(plot(named, words.machine)))
 
 
 if __name__ == "__main__":

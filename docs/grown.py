@@ -91,7 +91,8 @@ def threads(measured):
         most, last = points[-1]
         sentences.append(f"{name[0].upper()}{name[1:]}: {threads_of(str(most))} are {points[0][1] / last:.1f} times as"
                          " fast as one.")
-    return shown("threads", "Milliseconds a frame against threads", sentences, growth_table(lines, "ms a frame, threads"))
+    body = growth_table(lines, "ms a frame, threads")
+    return shown("threads", "Milliseconds a frame against threads", sentences, body)
 
 
 def frames(measured):

@@ -77,10 +77,11 @@ def machine(measured):
     """Of which program, where and when, and how quiet it was."""
     head = measured.head
     model = f" (model {head['model']})" if head["model"] else ""
+    steal, most = 100 * head["steal"], 100 * head["most steal"]
     told = (f"Measured by `bench/all` on {head['date']}, of commit {head['commit']}, on {head['processors']} processors:"
-            f" {head['processor']}{model}. Of the processor time that was wanted the host took {100 * head['steal']:.1f}"
-            f" %, in no round more than {100 * head['most steal']:.1f} %; {head['rounds taken again']} noisy rounds were"
-            f" taken again, {head['rounds']} count.")
+            f" {head['processor']}{model}. Of the processor time that was wanted the host took {steal:.1f} %, in no round"
+            f" more than {most:.1f} %; {head['rounds taken again']} noisy rounds were taken again, {head['rounds']}"
+            " count.")
     if head["noisy"]:
         told += f" A star marks figures of which no three rounds were quiet: {listed(head['noisy'])}."
     return folded(told)
@@ -110,7 +111,8 @@ def groups(measured):
         head += [count(threads), "`--group 16`"]
     for name, told in words.items():
         hidden = f"{measured.least(f'groups/{name}/hidden'):,.0f}"
-        cells = [measured.cell(f"groups/{name}/{threads}/{how}") for threads in measured.ends for how in ("none", "16")]
+        cells = [measured.cell(f"groups/{name}/{threads}/{how}")
+                 for threads in measured.ends for how in ("none", "16")]
         rows.append([told, hidden, *cells])
     return table([head[0], "hidden groups, in four frames", *head[1:]], rows)
 
