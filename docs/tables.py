@@ -78,10 +78,10 @@ def machine(measured):
     head = measured.head
     model = f" (model {head['model']})" if head["model"] else ""
     steal, most = 100 * head["steal"], 100 * head["most steal"]
-    told = (f"Measured by `bench/all` on {head['date']}, of commit {head['commit']}, on {head['processors']} processors:"
-            f" {head['processor']}{model}. Of the processor time that was wanted the host took {steal:.1f} %, in no round"
-            f" more than {most:.1f} %; {head['rounds taken again']} noisy rounds were taken again, {head['rounds']}"
-            " count.")
+    told = (f"Measured by `bench/all` on {head['date']}, of commit {head['commit']}, on {head['processors']}"
+            f" processors: {head['processor']}{model}. Of the processor time that was wanted the host took {steal:.1f} %, in no"
+            f" round more than {most:.1f} %; {head['rounds taken again']} noisy rounds were taken again,"
+            f" {head['rounds']} count.")
     if head["noisy"]:
         told += f" A star marks figures of which no three rounds were quiet: {listed(head['noisy'])}."
     return folded(told)
@@ -157,7 +157,8 @@ def calls(measured):
             ("the 20,000 triangles of `demo`'s first frame, by one thread", "20000/1"),
             ("the same by four threads, each onto a band of rows (`measure.c`)", "20000/bands"),
             (f"the same by {threads} that are kept, and set up slices first (`threads.cpp`)", "20000/pool"),
-            ("from C++: to prepare 20,000 separate triangles", "prepare/separate"), ("20,000 of a grid", "prepare/grid"),
+            ("from C++: to prepare 20,000 separate triangles", "prepare/separate"),
+            ("20,000 of a grid", "prepare/grid"),
             ("to test a box by its matrix, hidden, 26 by 27 pixels", "box/26x27"), ("64 by 66 pixels", "box/64x66"))
     return table(["Call", "Time"], [[words, f"{measured.cell(f'c/{name}')} {measured.figures[f'c/{name}']['unit']}"]
                                     for words, name in rows])
