@@ -79,9 +79,9 @@ def machine(measured):
     model = f" (model {head['model']})" if head["model"] else ""
     steal, most = 100 * head["steal"], 100 * head["most steal"]
     told = (f"Measured by `bench/all` on {head['date']}, of commit {head['commit']}, on {head['processors']}"
-            f" processors: {head['processor']}{model}. Of the processor time that was wanted the host took {steal:.1f} %, in no"
-            f" round more than {most:.1f} %; {head['rounds taken again']} noisy rounds were taken again,"
-            f" {head['rounds']} count.")
+            f" processors: {head['processor']}{model}. Of the processor time that was wanted the host took"
+            f" {steal:.1f} %, in no round more than {most:.1f} %; {head['rounds taken again']} noisy rounds were taken"
+            f" again, {head['rounds']} count.")
     if head["noisy"]:
         told += f" A star marks figures of which no three rounds were quiet: {listed(head['noisy'])}."
     return folded(told)
