@@ -7,7 +7,7 @@ import typing
 
 import logs
 from measuring import COUNTED, NOTED, PIPE, PRINTED, Run
-from subjects import Scenes
+from subjects import MOST, Scenes
 
 FEW, MANY = 4, 36
 TRIANGLES = (1000, 5000, 10000, 20000, 40000, 65536)
@@ -53,14 +53,15 @@ class Step:
 
 @dataclasses.dataclass
 class Bench:
-    """What is measured: a program and a library, by how many threads at most, and what else is here. Nothing is made or
-    run for it where it is `dry`."""
+    """What is measured: a program and a library, by how many threads at most, and what else is here; by less of what
+    takes long where it is `quick`. Nothing is made or run for it where it is `dry`."""
 
     program: str
     library: pathlib.Path
     top: pathlib.Path
     room: pathlib.Path
     most: int
+    quick: bool = False
     dry: bool = False
 
     def __post_init__(self):
@@ -302,7 +303,7 @@ def more_threads(bench):
 
 
 def more_frames(bench):
-    for count in FRAMES:
+    for count in FRAMES[:3] if bench.quick else FRAMES:
         for name in ("demo-20000", "city"):
             for workers in sorted({1, bench.most}):
                 yield Figure(f"grows/frames/{count}/{name} {workers}", bench.cull(name, count, *side_by_side(workers)))
@@ -316,7 +317,7 @@ def more_near(bench):
 
 def remembering(bench):
     for workers in sorted({1, 2, bench.most, 16, 64}):
-        run = bench.cull("greatest", 256, *side_by_side(workers))
+        run = bench.cull("greatest", 2 if bench.quick else MOST["frames"], *side_by_side(workers))
         yield Figure(f"memory/{workers}", run, key="memory", scale=1e-6, unit="MB")
         yield Figure(f"memory/{workers}/seconds", run, scale=1, unit="s")
 
@@ -330,9 +331,9 @@ def counting(bench):
     """Instructions a frame, under the names of the figures that they belong to."""
     if not bench.has("valgrind"):
         return
-    for name in BESIDE:
+    for name in BESIDE[:2] if bench.quick else BESIDE:
         yield counted(bench, f"beside/{name}/maskcull", name)
-    for distance in (16, 1024):
+    for distance in () if bench.quick else (16, 1024):
         for grade in ("narrow", "wide"):
             yield counted(bench, f"grows/near/{distance}/{grade}", f"{grade}-{distance}")
 
@@ -343,7 +344,8 @@ def verdicts(bench):
         return {}
     import compare
     room = bench.room / "rivals"
-    rows = [[name, *map(str, compare.row_of(bench.program, room, bench.scenes.path(name, FEW)))] for name in BESIDE]
+    rows = [[name, *map(str, compare.row_of(bench.program, room, bench.scenes.path(name, FEW)))]
+            for name in (BESIDE[:2] if bench.quick else BESIDE)]
     return {"verdicts": {"head": list(compare.HEAD), "rows": rows}}
 
 

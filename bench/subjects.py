@@ -59,20 +59,21 @@ def near(distance, grade):
 
 
 def greatest():
-    """A scene as large as the format allows: a quarter of its objects are meshes, which have all object triangles."""
+    """A scene as large as the format allows. A quarter of its objects are meshes, which share all object triangles;
+    each of these is a small one in the distance, so that a run takes seconds."""
     data = demo(MOST["triangles"], MOST["size"], MOST["objects"] * 3 // 4)
-    corners = 36 * MOST["triangles"]
-    head, vertices = list(struct.unpack_from("<4s4H2BH4I", data)), data[32 : 32 + corners]
-    rows = data[32 + corners : 32 + corners + 12 * MOST["triangles"]]
-    behind = data[32 + corners + len(rows) : -CAMERAS * CAMERA_BYTES]
-    spare = 12 * MOST["vertices"] - corners
+    own, meshes = 3 * MOST["triangles"], MOST["objects"] // 4
+    spare, each = MOST["vertices"] - own, MOST["object triangles"] // meshes
+    head = list(struct.unpack_from("<4s4H2BH4I", data))
     head[8:] = MOST["vertices"], MOST["triangles"], MOST["object triangles"], MOST["objects"]
-    meshes = MOST["objects"] // 4
-    each = MOST["object triangles"] // meshes
-    objects = b"".join(struct.pack("<B6i", *msoc.mesh(each * k, each)) for k in range(meshes))
-    return b"".join([struct.pack("<4s4H2BH4I", *head), vertices, vertices[:spare], rows,
-                     rows * (MOST["object triangles"] // MOST["triangles"]), behind, objects,
-                     data[-CAMERAS * CAMERA_BYTES :]])
+    vertices, rows, boxes = 32 + 12 * own, 12 * MOST["triangles"], 25 * (MOST["objects"] - meshes)
+    corners = [struct.pack("<3i", x, y, 16000) for x, y in ((0, 0), (9, 0), (0, 9))]
+    return b"".join([
+        struct.pack("<4s4H2BH4I", *head), data[32:vertices], b"".join(corners) + corners[0] * (spare - 3),
+        data[vertices : vertices + rows], struct.pack("<3I", own, own + 1, own + 2) * MOST["object triangles"],
+        data[vertices + rows : vertices + rows + boxes],
+        *(struct.pack("<B6i", *msoc.mesh(each * k, each)) for k in range(meshes)),
+        data[-CAMERAS * CAMERA_BYTES :]])
 
 
 def size_of(word):
