@@ -62,7 +62,10 @@ def taken(run):
         raise Fault(f"{run.command} ends with status {child.returncode}: {said[-300:].decode(errors='replace')}")
     values = {"seconds": seconds, "memory": 1024 * used.ru_maxrss}
     if reader := {PRINTED: printed, NOTED: groups_of, COUNTED: instructions_of}.get(run.kind):
-        values |= reader(said.decode())
+        try:
+            values |= reader(said.decode())
+        except (ValueError, IndexError) as error:
+            raise Fault(f"{run.command} tells something else: {said[-300:].decode(errors='replace')}") from error
     return values, used.ru_utime + used.ru_stime + time.process_time() - own
 
 
@@ -94,7 +97,7 @@ def groups_of(notes):
 
 
 def instructions_of(notes):
-    return {"instructions": int(re.search(r"Collected : (\d+)", notes)[1])}
+    return {"instructions": int(re.findall(r"Collected : (\d+)", notes)[0])}
 
 
 def quantiles(values):
