@@ -344,7 +344,7 @@ class Made:
     def occluders(self, count, *words):
         """The parts that the tool makes, and of the pixels that the model closes in its views, which share they do."""
         out = self.models.room / f"{self.name}.{count}.occluders.glb"
-        words = [TOP / "tools" / "occluders", self.path, out, "--triangles", count, *words]
+        words = [sys.executable, TOP / "tools" / "occluders", self.path, out, "--triangles", count, *words]
         run = subprocess.run(list(map(str, words)), stdout=subprocess.PIPE, check=True, text=True)
         whole, closed = map(float, re.findall(r"([\d.]+) %", run.stdout))
         return Model(out).parts, f"{100 * closed / whole:.1f} %"

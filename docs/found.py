@@ -30,6 +30,13 @@ def beside(measured, left, right, *columns):
     return [first + second[1:] for first, second in pairs]
 
 
+def sides(measured):
+    rows = rows_of(measured, "sides", "occluder triangles", "pieces a frame", "found", "holes")
+    rows[0][0] += ": from the side that is drawn"
+    return table(["walls, roofs and the ground of the town", "occluder triangles", "pieces a frame", "found", "holes"],
+                 rows)
+
+
 ORDERS = {"near": ", the default: the nearest to an eye first", "cells": ": cell by cell of a grid, near ones first",
           "file": ": as the model has them", "area": ": the largest first"}
 
@@ -92,8 +99,7 @@ def made(measured):
 TOWN = "occluders, in the town"
 TABLES = {
     "which": functools.partial(usual, "which", TOWN), "around": functools.partial(usual, "around", TOWN),
-    "sides": functools.partial(usual, "sides", "walls, roofs and the ground of the town"),
     "number-town": functools.partial(number, "town"), "number-hills": functools.partial(number, "hills"),
-    "order": order, "passes": passes, "when": when, "objects": objects, "house-groups": groups, "size": size,
+    "sides": sides, "order": order, "passes": passes, "when": when, "objects": objects, "house-groups": groups, "size": size,
     "near": near, "made": made,
 }

@@ -48,14 +48,10 @@ def growth(name, points, many, what):
     name = name[0].upper() + name[1:]
     each = f"{many:,} {what}" if many > 1 else what
     if off <= LINE:
-        return f"{name}: linear, {signed(begin)} ms and {ms(many * rise)} for each {each}, within {100 * off:.0f} %."
+        return f"{name}: linear, {ms(begin)} ms and {ms(many * rise)} for each {each}, within {100 * off:.0f} %."
     slopes = [many * (t1 - t0) / (n1 - n0) for (n0, t0), (n1, t1) in (points[:2], points[-2:])]
-    first, last = (signed(slope) for slope in slopes)
+    first, last = map(ms, slopes)
     return f"{name}: not linear, at first {first} ms for each {each}, at the end {last}."
-
-
-def signed(number):
-    return f"-{ms(-number)}" if number < 0 else ms(number)
 
 
 def growth_table(lines, what):

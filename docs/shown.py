@@ -7,7 +7,8 @@ class Missing(Exception):
 
 def ms(number):
     """A number with about three digits."""
-    digits = 3 if number < 0.1 else 2 if number < 10 else 1 if number < 100 else 0
+    size = abs(number)
+    digits = 3 if size < 0.0995 else 2 if size < 9.995 else 1 if size < 99.95 else 0
     return f"{number:,.{digits}f}"
 
 

@@ -83,7 +83,8 @@ def machine(measured):
             f" {steal:.1f} %, in no round more than {most:.1f} %; {head['rounds taken again']} noisy rounds were taken"
             f" again, {head['rounds']} count.")
     if head["noisy"]:
-        told += f" A star marks figures of which no three rounds were quiet: {listed(head['noisy'])}."
+        steps = listed([f"'{step}'" for step in head["noisy"]])
+        told += f" A star marks figures of which no three rounds were quiet, in {steps}."
     return folded(told)
 
 
@@ -203,9 +204,10 @@ def verdicts(measured):
     if "verdicts" not in measured.tables:
         raise Missing("verdicts")
     rows = [[SCENES.get(name, name), *cells] for name, *cells in measured.tables["verdicts"]["rows"]]
-    sums = [str(sum(int(row[column]) for row in rows)) for column in range(2, 6)]
+    sums = [sum(int(row[column]) for row in rows) for column in range(2, 6)]
     is_same = all(row[1] == "same" for row in rows)
     rows.append(["all", "same" if is_same else "different", *sums])
+    rows = [[*row[:2], *(f"{int(number):,}" for number in row[2:])] for row in rows]
     head = ["scene, four frames", "reports in whole numbers", "verdicts", "others in floats", "wrong in floats",
             "wrong in maskcull"]
     return table(head, rows)
