@@ -109,9 +109,9 @@ def side_by_side(workers):
     return ("--workers", str(workers))
 
 
-def frame(bench, label, name, words, counts=(FEW, MANY)):
+def frame(bench, label, name, words, counts=(FEW, MANY), is_still=False):
     """A frame of a scene without reading: a run of many frames, less one of few."""
-    few, many = (bench.cull(name, count, *words) for count in counts)
+    few, many = (bench.cull(name, count, *words, is_still=is_still) for count in counts)
     return Figure(label, many, few, counts[1] - counts[0])
 
 
@@ -119,8 +119,7 @@ def shared_frame(bench, label, name, workers, words):
     """The same where threads share the frame. Of as many frames as threads each thread takes one, and the frames beyond
     are shared; all are the same frame."""
     counts = (workers, 2 * workers - 1) if workers > 1 else (FEW, MANY)
-    few, many = (bench.cull(name, count, *words, is_still=True) for count in counts)
-    return Figure(label, many, few, counts[1] - counts[0])
+    return frame(bench, label, name, words, counts, is_still=True)
 
 
 def frame_along(bench, label, name, workers):
@@ -164,10 +163,10 @@ def stealing(bench):
     shares, counts = sharing(bench.most), (4, 12)
     for name in SHARED:
         yield shared_frame(bench, f"steal/{name}/cull", name, bench.most, shares)
-        yield frame(bench, f"steal/{name}/cull --steal", name, (*shares, "--steal"), counts)
+        yield frame(bench, f"steal/{name}/cull --steal", name, (*shares, "--steal"), counts, is_still=True)
         for command in ("live --rounds 8 --watch 8", "cull --early"):
             for words in (command, f"{command} --steal"):
-                few, many = (bench.run(*words.split(), *shares, source=bench.scenes.path(name, count))
+                few, many = (bench.run(*words.split(), *shares, source=bench.scenes.path(name, count, True))
                              for count in counts)
                 yield Figure(f"steal/{name}/{words}", many, few, counts[1] - counts[0])
 
