@@ -47,14 +47,16 @@ def city(numbers):
         x, z = numbers.below(18000) - 9000, 100 + numbers.below(17000)
         w, h, d = 10 + numbers.below(60), 30 + numbers.below(200), 10 + numbers.below(60)
         boxes.append(msoc.box((x - w, GROUND, z - d), (x + w, GROUND + h, z + d)))
-    cameras = []
-    for frame, yaw in enumerate((0.0, 0.12, -0.2, 0.45)):
-        c, n, dx, dz = math.cos(yaw), math.sin(yaw), 40 * frame, 500 * frame
-        across = [round(msoc.ONE * value) for value in (0.5625 * c, 0, -0.5625 * n)]
-        along = [round(msoc.ONE * value) for value in (n, 0, c)]
-        cameras.append((*across, round(-0.5625 * (c * dx - n * dz)), 0, msoc.ONE, 0, 0, *along,
-                        round(-(n * dx + c * dz))))
-    return (1920, 1080), walls, boxes, cameras
+    turns = enumerate((0.0, 0.12, -0.2, 0.45))
+    return (1920, 1080), walls, boxes, [camera(yaw, 40 * frame, 500 * frame) for frame, yaw in turns]
+
+
+def camera(yaw, dx, dz):
+    """A camera that looks down the street, turned by an angle, at a place across and along it."""
+    c, n = math.cos(yaw), math.sin(yaw)
+    across = [round(msoc.ONE * value) for value in (0.5625 * c, 0, -0.5625 * n)]
+    along = [round(msoc.ONE * value) for value in (n, 0, c)]
+    return (*across, round(-0.5625 * (c * dx - n * dz)), 0, msoc.ONE, 0, 0, *along, round(-(n * dx + c * dz)))
 
 
 def large_boxes(numbers):

@@ -77,6 +77,27 @@ def looked(program, rounds, data):
     return cull, live, check, log, memory
 
 
+def short_lines():
+    """256 frames of few pieces, with small rectangles."""
+    small = [rectangle(40 * k, 40, 40 * k + 8, 48, 9000) for k in range(8)]
+    return scene((640, 480), 16, *triangles(8, 300, 300), small, 256 * [CAMERA])
+
+
+def wide_lines():
+    """One frame of few pieces, with rectangles that have each tile of the greatest screen."""
+    whole = [rectangle(0, 0, 2048, 2048, 9000 + k) for k in range(8)]
+    return scene((2048, 2048), 16, *triangles(8, 300, 300), whole, [CAMERA])
+
+
+def many_pieces():
+    """One frame of 20,000 triangles, with boxes."""
+    boxes = [box((400 * k - 1600, -300, 4000), (400 * k - 1300, 300, 4400)) for k in range(8)]
+    return scene((1280, 720), 16, *triangles(20000, 60, 60), boxes, [CAMERA])
+
+
+SCENES = {"short": short_lines, "wide": wide_lines, "many": many_pieces}
+
+
 def main():
     parser = argparse.ArgumentParser(description=__doc__, formatter_class=argparse.RawDescriptionHelpFormatter)
     parser.add_argument("program")
@@ -84,20 +105,15 @@ def main():
     args = parser.parse_args()
     make_starter()
 
-    small = [rectangle(40 * k, 40, 40 * k + 8, 48, 9000) for k in range(8)]
-    data = scene((640, 480), 16, *triangles(8, 300, 300), small, 256 * [CAMERA])
-    cull, _, check, log, most_memory = looked(args.program, args.rounds, data)
+    cull, _, check, log, most_memory = looked(args.program, args.rounds, short_lines())
     lines = log.count(b"\n")
     print(f"{lines} short lines: {(check - cull) / lines * 1e6:.2f} microseconds a line")
 
-    whole = [rectangle(0, 0, 2048, 2048, 9000 + k) for k in range(8)]
-    data = scene((2048, 2048), 16, *triangles(8, 300, 300), whole, [CAMERA])
-    cull, _, check, log, memory = looked(args.program, args.rounds, data)
+    cull, _, check, log, memory = looked(args.program, args.rounds, wide_lines())
     most_memory = max(most_memory, memory)
     print(f"{len(log)} bytes of wide lines: {len(log) / (check - cull) / 1e6:.0f} MB a second")
 
-    boxes = [box((400 * k - 1600, -300, 4000), (400 * k - 1300, 300, 4400)) for k in range(8)]
-    data = scene((1280, 720), 16, *triangles(20000, 60, 60), boxes, [CAMERA])
+    data = many_pieces()
     _, live, check, _, memory = looked(args.program, args.rounds, data)
     most_memory = max(most_memory, memory)
     print(f"20,000 triangles: check {check:.3f} seconds, live {live:.3f} seconds")
@@ -108,4 +124,5 @@ def main():
     print(f"resident memory of check: {max(most_memory, memory) / 1e6:.0f} MB at most")
 
 
-main()
+if __name__ == "__main__":
+    main()

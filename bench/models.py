@@ -100,6 +100,48 @@ def hall(numbers, things):
     return surface, boxes, cameras
 
 
+def doorway(surface, high, ends, door):
+    """A wall from one end to another with a doorway of a width at a place in it: what is left, right and above."""
+    (x0, z0), (x1, z1), long = *ends, math.dist(*ends)
+
+    def side(first, end, low):
+        (ax, az), (bx, bz) = ((x0 + (x1 - x0) * at / long, z0 + (z1 - z0) * at / long) for at in (first, end))
+        corners = ((ax, high, az), (bx, high, bz), (bx, low, bz), (ax, low, az))
+        surface.quad(*(tuple(map(int, corner)) for corner in corners))
+
+    at, wide = door
+    side(0, at, 0)
+    side(at + wide, long, 0)
+    side(at, at + wide, high * 4 // 5)
+
+
+def rooms(numbers, count):
+    """Count by count rooms of four metres, each with doorways, seen from four of them, with boxes in all."""
+    room, high, wide, surface = 20000, 12000, 4500, msoc.Triangles([])
+    for line in range(count + 1):
+        for k in range(count):
+            for turned in (False, True):
+                ends = [(line * room, (k + end) * room) for end in (0, 1)]
+                ends = [end[::-1] for end in ends] if turned else ends
+                doorway(surface, high, ends, (1000 + numbers.below(room - wide - 2000), wide))
+    for x in range(0, count * room, room):
+        for z in range(0, count * room, room):
+            for level in (0, high):
+                surface.quad((x, level, z), (x + room, level, z), (x + room, level, z + room), (x, level, z + room))
+    boxes = []
+    for _ in range(BOXES):
+        x, z = (numbers.below(count * room - 2000) for _ in range(2))
+        tall = 1000 + numbers.below(8000)
+        boxes.append(msoc.box((x, 0, z), (x + 500 + numbers.below(1500), tall, z + 500 + numbers.below(1500))))
+    middle, cameras = count // 2 * room, []
+    for turn in range(4):
+        angle = 0.4 + math.pi / 2 * turn
+        across, along = math.cos(angle), math.sin(angle)
+        eye = middle + 4000 * across + turn % 2 * room + room / 2, 8500, middle + 4000 * along + room / 2
+        cameras.append(camera(eye, (across, -0.05, along)))
+    return surface, boxes, cameras
+
+
 def furnished_hall(numbers, things, metre=5000):
     """The bytes of a hall as a model, its boxes as glass, which hides nothing."""
     surface, boxes, _ = hall(numbers, things)

@@ -13,7 +13,7 @@ import sys
 
 LINE = re.compile(r" *(\d+) triangles, \d+ rectangles, (\d+) workers: ([\d.]+) ms\n?")
 COLOURS = ("#3b6fb6", "#d1603d", "#4f9d69", "#8a5fb0", "#b08a2e", "#5a5f66")
-WIDTH, HEIGHT, LEFT, RIGHT, TOP, BOTTOM = 640, 340, 56, 110, 20, 66
+WIDTH, HEIGHT, LEFT, RIGHT, TOP, BOTTOM = 640, 340, 56, 160, 20, 66
 
 
 def measured(lines):
@@ -59,16 +59,30 @@ def line(x0, y0, x1, y1, colour):
     return f'<line x1="{x0:.1f}" y1="{y0:.1f}" x2="{x1:.1f}" y2="{y1:.1f}" stroke="{colour}"/>'
 
 
-def grid(across, up):
-    """The lines and numbers of both axes."""
+class Powers:
+    """Some numbers on a stretch of the picture, the same factor as far apart everywhere."""
+
+    def __init__(self, numbers, begin, end):
+        self.numbers, self.begin, self.end = numbers, begin, end
+
+    def at(self, number):
+        first, last = self.numbers[0], self.numbers[-1]
+        return self.begin + (self.end - self.begin) * math.log(number / first) / math.log(last / first)
+
+    def ticks(self):
+        return self.numbers
+
+
+def grid(across, up, words):
+    """The lines and numbers of both axes, and what they are of."""
     for number in up.ticks():
         yield line(LEFT, up.at(number), WIDTH - RIGHT, up.at(number), "#ddd")
         yield text(LEFT - 8, up.at(number) + 4, f"{number:g}", "end")
     for number in across.ticks():
         yield line(across.at(number), up.at(0), across.at(number), up.at(0) + 4, "#888")
         yield text(across.at(number), up.at(0) + 18, f"{round(number):,}")
-    yield text((LEFT + WIDTH - RIGHT) / 2, up.at(0) + 36, "triangles")
-    yield text(LEFT, TOP - 6, "ms a frame", "start")
+    yield text((LEFT + WIDTH - RIGHT) / 2, up.at(0) + 36, words[0])
+    yield text(LEFT, TOP - 6, words[1], "start")
 
 
 def ends_apart(ends, least=14.0):
@@ -79,23 +93,24 @@ def ends_apart(ends, least=14.0):
     return placed
 
 
-def plot(rows, machine):
-    """The picture's text."""
-    across = Axis(max(points[-1][0] for points in rows.values()), LEFT, WIDTH - RIGHT)
+def plot(rows, note, words=("triangles", "ms a frame"), has_powers=False):
+    """The picture's text: of each line its name and its points. The words are those of the axes; the numbers across may
+    be powers of one number."""
+    numbers = sorted({point[0] for points in rows.values() for point in points})
+    across = Powers(numbers, LEFT, WIDTH - RIGHT) if has_powers else Axis(numbers[-1], LEFT, WIDTH - RIGHT)
     up = Axis(max(point[1] for points in rows.values() for point in points), HEIGHT - BOTTOM, TOP)
     yield f'<svg xmlns="http://www.w3.org/2000/svg" viewBox="0 0 {WIDTH} {HEIGHT}" width="{WIDTH}" height="{HEIGHT}"'
     yield ' font-family="sans-serif" font-size="12">'
     yield f'<rect width="{WIDTH}" height="{HEIGHT}" fill="#fff"/>'
-    yield from grid(across, up)
-    ends = ends_apart({workers: up.at(points[-1][1]) for workers, points in rows.items()})
-    for colour, (workers, points) in zip(COLOURS * len(rows), rows.items()):
-        places = [(across.at(triangles), up.at(milliseconds)) for triangles, milliseconds in points]
+    yield from grid(across, up, words)
+    ends = ends_apart({name: up.at(points[-1][1]) for name, points in rows.items()})
+    for colour, (name, points) in zip(COLOURS * len(rows), rows.items()):
+        places = [(across.at(number), up.at(milliseconds)) for number, milliseconds in points]
         corners = " ".join(f"{x:.1f},{y:.1f}" for x, y in places)
         yield f'<polyline points="{corners}" fill="none" stroke="{colour}" stroke-width="2"/>'
         yield from (f'<circle cx="{x:.1f}" cy="{y:.1f}" r="3" fill="{colour}"/>' for x, y in places)
-        words = f"{workers} thread" + ("s" if workers > 1 else "")
-        yield text(places[-1][0] + 10, ends[workers] + 4, words, "start", colour)
-    yield text(LEFT, HEIGHT - 10, machine, "start", "#777")
+        yield text(places[-1][0] + 10, ends[name] + 4, name, "start", colour)
+    yield text(LEFT, HEIGHT - 10, note, "start", "#777")
     yield "</svg>"
 
 
@@ -103,7 +118,9 @@ def main():
     parser = argparse.ArgumentParser(description=__doc__, formatter_class=argparse.RawDescriptionHelpFormatter)
     parser.add_argument("--machine", default="", metavar="TEXT", help="on which machine it was measured")
     words = parser.parse_args()
-    print("\n".join(plot(measured(sys.stdin), words.machine)))
+    rows = measured(sys.stdin)
+    named = {f"{workers} thread" + ("s" if workers > 1 else ""): points for workers, points in rows.items()}
+    print("\n".join(plot(named, words.machine)))
 
 
 if __name__ == "__main__":

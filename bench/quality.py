@@ -5,23 +5,26 @@ usage: bench/quality.py PROGRAM                      the tables of docs/OCCLUDER
        bench/quality.py PROGRAM --only order,passes  some of them: which, number, order, passes, sides, objects,
                                                      groups, near, size, when, made
        bench/quality.py PROGRAM --scene FILE..       scenes of yours, a row each
+       bench/quality.py PROGRAM --json FILE          the tables in a file too, each as soon as it is made
 
 An object is truly hidden in a frame if each of its samples lies behind all that the model draws, by a z-buffer in plain
 Python (`tools/culling/depths.py`) with one depth for each sample. "Found" is the share of these that the program calls
 occluded. "Holes" counts what it calls occluded and isn't hidden: none, as long as the occluders are part of what is
-drawn. Pieces are the average of a frame. Nothing here is a time but the last column of `made`, so else the machine
-doesn't matter. All tables take some minutes. `made` runs tools/occluders, which wants numpy, scipy and shapely."""
+drawn. Pieces are the average of a frame. Nothing here is a time, so the machine doesn't matter. All tables take some
+minutes. `made` runs tools/occluders, which wants numpy, scipy and shapely."""
 import argparse
+import concurrent.futures
 import dataclasses
 import functools
+import json
 import math
+import multiprocessing
 import pathlib
 import random
 import re
 import subprocess
 import sys
 import tempfile
-import time
 
 TOP = pathlib.Path(__file__).resolve().parent.parent
 sys.path[:0] = [str(TOP / "tools"), str(TOP / "scenes")]
@@ -66,7 +69,12 @@ def percent(part, whole):
 
 def truths(scene):
     """For each frame, for each object, whether it is truly hidden by what the scene draws."""
-    return [hidden_objects(scene, frame, buffer_of(scene, frame)[0]) for frame in range(len(scene.cameras))]
+    with concurrent.futures.ProcessPoolExecutor(mp_context=multiprocessing.get_context("fork")) as pool:
+        return list(pool.map(functools.partial(truth_of, scene), range(len(scene.cameras))))
+
+
+def truth_of(scene, frame):
+    return hidden_objects(scene, frame, buffer_of(scene, frame)[0])
 
 
 def reports(program, scene, stored=None):
@@ -113,8 +121,13 @@ class Subject:
         return outcome(scene, reports(self.program, scene), self.truth)
 
 
-def table(title, head, rows):
-    """A table as docs/OCCLUDERS.md has it."""
+# The tables so far, by their names.
+TOLD = {}
+
+
+def table(name, title, head, rows):
+    """Prints a table, and keeps it."""
+    TOLD[name] = {"head": list(head), "rows": rows}
     print(f"\n{title}\n")
     print("| " + " | ".join(head) + " |")
     print("|---" * len(head) + "|")
@@ -154,29 +167,30 @@ def which(models):
     rows.append(models.town.judged(occluders="walls").row("walls alone"))
     rows.append(models.town.judged(occluders="roof|ground").row("roofs, floors and the ground alone"))
     rows.append(models.town.judged(clear=BUILDING).row("furniture, cars and trunks alone"))
-    table("Which triangles, in the town:", USUAL, rows)
+    table("which", "Which triangles, in the town:", USUAL, rows)
     # the boxes stand behind the other objects in the scene, so that the truth's objects are the first ones
     model = with_boxes(models.town.model)
     scene = convert(model, Asked(occluders="^box of|roof|ground")).scene
     told = reports(models.town.program, scene)
     for frame in told:
         del frame.verdicts[len(models.town.truth[0]) :]
-    row = outcome(scene, told, models.town.truth).row("a box around each house's walls, roofs, the ground")
-    table("Around the surface in place of inside it, in the town:", USUAL, [rows[1], row])
+    row = outcome(scene, told, models.town.truth).row("a box around each house's walls, roofs and the ground")
+    table("around", "Around the surface in place of inside it, in the town:", USUAL, [rows[1], row])
 
 
 def number(models):
     """How many, the largest first."""
     for subject in (models.town, models.hills):
         rows = [subject.judged(keep=keep).row(f"the {keep:,} largest") for keep in (500, 2000, 8000, 20000)]
-        table(f"How many, in the {subject.name}:", USUAL, rows + [subject.judged().row("all")])
+        rows.append(subject.judged().row("all"))
+        table(f"number {subject.name}", f"How many, in the {subject.name}:", USUAL, rows)
 
 
 def order(models):
     """In which order."""
     for subject in (models.town, models.hills):
-        rows = [subject.judged(order=name).row(f"`--order {name}`") for name in ("file", "near", "area", "cells")]
-        table(f"In which order, in the {subject.name}:", USUAL, rows)
+        rows = [subject.judged(order=name).row(f"`--order {name}`") for name in ("near", "cells", "file", "area")]
+        table(f"order {subject.name}", f"In which order, in the {subject.name}:", USUAL, rows)
 
 
 def passes(models):
@@ -185,13 +199,14 @@ def passes(models):
         for way in ("file", "near"):
             asked = {"order": way, **kept}
             rows = [subject.judged(passes=count, **asked).row(f"`--passes {count}`") for count in range(1, most + 1)]
-            table(f"The list more than once, by `--order {way}`, in the {subject.name}:", USUAL, rows)
+            title = f"The list more than once, by `--order {way}`, in the {subject.name}:"
+            table(f"passes {way} {subject.name}", title, USUAL, rows)
 
 
 def sides(models):
     """Closed shapes from one side."""
     rows = [models.town.judged(occluders=BUILDING, sides=way).row(f"`--sides {way}`") for way in ("material", "both")]
-    table("One side or both, walls, roofs and the ground of the town:", USUAL, rows)
+    table("sides", "One side or both, walls, roofs and the ground of the town:", USUAL, rows)
 
 
 def of_house(name):
@@ -230,7 +245,7 @@ def objects(models):
         for kind, word in (("box", "boxes"), ("mesh", "meshes")):
             sums = outcome(*tested(models.town, parts, kind))
             rows.append([f"{name} as {word}", f"{sums.in_view:,}", *sums.shares()])
-    table("Boxes and meshes, in the town:", ("tested", *SHARES), rows)
+    table("objects", "Boxes and meshes, in the town:", ("tested", *SHARES), rows)
 
 
 def groups(models):
@@ -251,7 +266,7 @@ def groups(models):
             tests += group == "visible"
     rows = [["each by itself", f"{len(furniture) * len(one_by_one):,}", f"{found:,}"],
             ["a box for each house first", f"{tests:,}", f"{found:,}, of them {settled:,} by their house's box"]]
-    table("The furniture of a house as a group, in the town:", ("tested", "tests", "occluded"), rows)
+    table("groups", "The furniture of a house as a group, in the town:", ("tested", "tests", "occluded"), rows)
 
 
 def near(models):
@@ -265,7 +280,7 @@ def near(models):
             row += [f"{1000 * 50**2 / (scene.top * metres):.3g} mm", f"{called(reports(models.town.program, scene)):,}"]
         rows.append(row)
     head = ("near distance", "a step at 50 m, narrow", "called occluded", "a step, wide", "called occluded")
-    table("The near distance, in the town (walls, roofs and the ground):", head, rows)
+    table("near", "The near distance, in the town (walls, roofs and the ground):", head, rows)
 
 
 def called(told):
@@ -285,7 +300,7 @@ def size(models):
             both = sum(pair == ("occluded", "occluded") for pair in zip(first, verdicts))
             rows.append([f"{screen[0]} by {screen[1]}", f"{called(told):,}", f"{both:,}"])
         head = ("screen", "called occluded", "of these also at 1280 by 720")
-        table(f"The screen's size, in the {subject.name}:", head, rows)
+        table(f"size {subject.name}", f"The screen's size, in the {subject.name}:", head, rows)
 
 
 def when(models):
@@ -294,8 +309,8 @@ def when(models):
     told, rows = reports(models.town.program, scene), []
     for name, first, end in WALK:
         sums = outcome(scene, told[first:end], models.town.truth[first:end])
-        rows.append([name, f"{sums.in_view:,}", *sums.shares()])
-    table("Where one stands, in the town:", ("the eye is", *SHARES), rows)
+        rows.append([f"{name} ({end - first} frames)", f"{sums.in_view:,}", *sums.shares()])
+    table("when", "Where one stands, in the town:", ("the eye is", *SHARES), rows)
 
 
 # Models for which tools/occluders makes occluders, each with what its scenes are fixed to.
@@ -324,32 +339,15 @@ class Made:
     def by(self, hiding, **more):
         scene = convert(self.model, Asked(hiding=hiding, **{**self.asked, **more})).scene
         sums = outcome(scene, reports(self.program, scene), self.truth)
-        return [f"{len(scene.occluders):,}", f"{sums.pieces:,}", percent(sums.found, sums.hidden), str(sums.holes),
-                f"{frame_time(self.program, scene):.2f}"]
+        return [f"{len(scene.occluders):,}", f"{sums.pieces:,}", percent(sums.found, sums.hidden), str(sums.holes)]
 
     def occluders(self, count, *words):
         """The parts that the tool makes, and of the pixels that the model closes in its views, which share they do."""
         out = self.models.room / f"{self.name}.{count}.occluders.glb"
-        words = [TOP / "tools" / "occluders", self.path, out, "--triangles", count, *words]
+        words = [sys.executable, TOP / "tools" / "occluders", self.path, out, "--triangles", count, *words]
         run = subprocess.run(list(map(str, words)), stdout=subprocess.PIPE, check=True, text=True)
         whole, closed = map(float, re.findall(r"([\d.]+) %", run.stdout))
         return Model(out).parts, f"{100 * closed / whole:.1f} %"
-
-
-def frame_time(program, scene):
-    """Milliseconds that a frame takes, reading not counted: the shortest of five runs of many frames, less of few."""
-    turns = [scene.cameras[number % len(scene.cameras)] for number in range(64)]
-    many, few = (dataclasses.replace(scene, cameras=turns[:count]).as_bytes() for count in (64, 16))
-    return 1000 * (shortest(program, many) - shortest(program, few)) / 48
-
-
-def shortest(program, stored):
-    times = []
-    for _ in range(5):
-        begin = time.perf_counter()
-        subprocess.run([program, "cull"], input=stored, stdout=subprocess.DEVNULL, check=True)
-        times.append(time.perf_counter() - begin)
-    return min(times)
 
 
 def other_eyes(count):
@@ -364,8 +362,7 @@ def other_eyes(count):
 
 def made(models):
     """Occluders that tools/occluders makes of a model."""
-    head = ("occluders", "triangles", "pieces a frame", "found", "holes", "ms a frame",
-            "of the model's pixels closed")
+    head = ("occluders", "triangles", "pieces a frame", "found", "holes", "of the model's pixels closed")
     for name, asked in MADE:
         subject = Made(models, name, asked)
         rows = [["all that is opaque", *subject.own(), "100 %"]]
@@ -383,7 +380,7 @@ def made(models):
             elsewhere = Made(models, name, {**asked, "path": other_eyes(16)})
             rows.append(["all, from 16 other eyes", *elsewhere.own(), ""])
             rows.append(["these 2,500, from 16 other eyes", *elsewhere.by(parts), ""])
-        table(f"Made by tools/occluders, {name}:", head, rows)
+        table(f"made {name}", f"Made by tools/occluders, {name}:", head, rows)
 
 
 ALL = (which, number, order, passes, sides, objects, groups, near, size, when, made)
@@ -433,7 +430,7 @@ def own_scenes(program, paths):
         scene = read_scene(stored)
         sums = outcome(scene, reports(program, scene, stored), truths(scene))
         rows.append([*sums.row(path), f"{sums.in_view:,}", f"{sums.hidden:,}"])
-    table("Scenes:", (*USUAL, "in view", "truly hidden"), rows)
+    table("scenes", "Scenes:", (*USUAL, "in view", "truly hidden"), rows)
 
 
 def main():
@@ -441,6 +438,7 @@ def main():
     parser.add_argument("program")
     parser.add_argument("--only", default=",".join(TABLES))
     parser.add_argument("--scene", nargs="+")
+    parser.add_argument("--json", type=pathlib.Path)
     words = parser.parse_args()
     program = str(pathlib.Path(words.program).resolve())
     if words.scene:
@@ -450,6 +448,8 @@ def main():
         models = Models(room, program)
         for name in words.only.split(","):
             TABLES[name](models)
+            if words.json:
+                words.json.write_text(json.dumps(TOLD))
 
 
 if __name__ == "__main__":

@@ -2,7 +2,7 @@
 that of the process that started it."""
 import concurrent.futures
 import multiprocessing
-import os
+import signal
 
 STARTER = concurrent.futures.ProcessPoolExecutor(1, multiprocessing.get_context("fork"))
 
@@ -13,4 +13,9 @@ def started(call, *arguments):
 
 
 def make_starter():
-    started(os.getpid)
+    """Makes the process, which leaves Ctrl-C to the caller."""
+    started(ignore_interrupts)
+
+
+def ignore_interrupts():
+    signal.signal(signal.SIGINT, signal.SIG_IGN)

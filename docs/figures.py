@@ -2,7 +2,7 @@
 """Draws the figures of docs/ALGORITHM.md: a command's bytes, spans of columns, a cell's words, bins and workers over
 time, frames side by side; and for README.md the times along a path.
 
-usage: docs/figures.py bytes|spans|cell|turns|windows|paths > docs/NAME.svg
+usage: docs/figures.py bytes|spans|cell|turns|windows|paths [PAGE] > docs/NAME.svg
 
 The turns are computed by the rule that docs/ALGORITHM.md tells, for the pieces and the times below, and so are the
 spans and the frames; the words of the cell are packed as docs/WORKER_DEFINITIONS.md tells it. The times are those of
@@ -354,18 +354,20 @@ def spans_figure():
 # The times along a path.
 
 PAGE = pathlib.Path(__file__).resolve().parent / "PERFORMANCE.md"
-PATH_HEAD = "| ms a frame, along a path of 64 frames | 1 thread | 4 threads |"
-PATH_ROW = re.compile(r"\| ([^|]+) \| ([\d.]+) \| ([\d.]+) \|")
+PATH_HEAD = re.compile(r"\| ms a frame, along a path of 64 frames \| 1 thread \| (\d+ threads) \|")
+PATH_ROW = re.compile(r"\| ([^|]+) \| ([\d.]+)\*? \| ([\d.]+)\*? \|")
 
 
 def path_times():
-    """Of each row of the table: its scene, and milliseconds by one thread and by four, as they stand there."""
-    table = PAGE.read_text().split(PATH_HEAD)[1].split("\n\n")[0]
-    return [found.groups() for row in table.splitlines()[2:] if (found := PATH_ROW.match(row))]
+    """The number of threads of the table, and of each row its scene and milliseconds by one thread and by all."""
+    page = pathlib.Path(*sys.argv[2:3] or [PAGE]).read_text()
+    head = PATH_HEAD.search(page)
+    table = page[head.end():].split("\n\n")[0]
+    return head[1], [found.groups() for row in table.splitlines() if (found := PATH_ROW.match(row))]
 
 
 def paths_figure():
-    rows, left, top, height = path_times(), 330, 56, 50
+    (threads, rows), left, top, height = path_times(), 330, 56, 50
     most = max(float(time) for _, *times in rows for time in times)
     bottom = top + height * len(rows)
     yield 880, bottom + 54, "Milliseconds a frame along a path, by one thread and by four"
@@ -378,7 +380,7 @@ def paths_figure():
             yield rect(left, y + 18 * place, width, 16, shade)
             yield text(left + width + 8, y + 18 * place + 13, time, "small")
     yield line(left, top - 4, left, bottom - 8, "thin")
-    for place, shade, told in ((0, "one", "1 thread"), (110, "two", "4 threads, each on frames of its own")):
+    for place, shade, told in ((0, "one", "1 thread"), (110, "two", f"{threads}, each on frames of its own")):
         yield rect(left + place, bottom + 14, 16, 16, shade)
         yield text(left + place + 24, bottom + 27, told)
 
@@ -388,7 +390,7 @@ FIGURES = {"bytes": bytes_figure, "spans": spans_figure, "cell": cell_figure, "t
 
 
 def main():
-    if len(sys.argv) != 2 or sys.argv[1] not in FIGURES:
+    if len(sys.argv) not in (2, 3) or sys.argv[1] not in FIGURES:
         sys.exit(__doc__)
     (width, height, title), *parts = FIGURES[sys.argv[1]]()
     size = f'viewBox="0 0 {width} {height}" width="{width}" height="{height}"'

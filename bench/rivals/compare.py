@@ -29,23 +29,30 @@ def wrong(given, exact):
     return sum((one, other) == ("occluded", "visible") for one, other in zip(given, exact, strict=True))
 
 
+HEAD = ("scene", "whole numbers", "verdicts", "floats differ", "floats wrong", "maskcull wrong")
+
+
+def row_of(program, out, scene):
+    """What HEAD has behind a scene's name."""
+    own = report([program, "cull"], scene)
+    is_same = report([out / "whole", "--report"], scene) == own
+    exact = verdicts(report([out / "whole", "--exact"], scene))
+    ours, floats = verdicts(own), verdicts(report([out / "floats", "--report"], scene))
+    differ = sum(one != other for one, other in zip(ours, floats, strict=True))
+    return "same" if is_same else "DIFFERENT", len(ours), differ, wrong(floats, exact), wrong(ours, exact)
+
+
 def main():
     parser = argparse.ArgumentParser(usage=__doc__)
     parser.add_argument("program")
     parser.add_argument("scenes", nargs="+", type=pathlib.Path)
     parser.add_argument("--out", default=HERE / "out", type=pathlib.Path)
     given = parser.parse_args()
-    head = ("scene", "whole numbers", "verdicts", "floats differ", "floats wrong", "maskcull wrong")
-    print("| " + " | ".join(head) + " |\n|" + "---|" * len(head))
+    print("| " + " | ".join(HEAD) + " |\n|" + "---|" * len(HEAD))
     different = False
     for scene in given.scenes:
-        own = report([given.program, "cull"], scene)
-        same = report([given.out / "whole", "--report"], scene) == own
-        different = different or not same
-        exact = verdicts(report([given.out / "whole", "--exact"], scene))
-        ours, floats = verdicts(own), verdicts(report([given.out / "floats", "--report"], scene))
-        differ = sum(one != other for one, other in zip(ours, floats, strict=True))
-        row = (scene.stem, "same" if same else "DIFFERENT", len(ours), differ, wrong(floats, exact), wrong(ours, exact))
+        row = (scene.stem, *row_of(given.program, given.out, scene))
+        different = different or row[1] != "same"
         print("| " + " | ".join(map(str, row)) + " |", flush=True)
     sys.exit(different)
 
