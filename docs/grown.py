@@ -1,8 +1,8 @@
-"""For docs/tables.py: the times that grow, each as a sentence, a plot and a table."""
+"""For docs/tables.py: the times that grow, each as a sentence and a plot."""
 import functools
 
 import plots
-from shown import Missing, folded, ms, table
+from shown import Missing, folded, ms
 
 # Of each: what grows, so many of which are told of at once, and the number of a name.
 KINDS = {
@@ -54,23 +54,16 @@ def growth(name, points, many, what):
     return f"{name}: not linear, at first {first} ms for each {each}, at the end {last}."
 
 
-def growth_table(lines, what):
-    numbers = sorted({number for points in lines.values() for number, _ in points})
-    times = {name: dict(points) for name, points in lines.items()}
-    rows = [[name, *(ms(row[number]) if number in row else "" for number in numbers)] for name, row in times.items()]
-    return table([what, *(f"{number:,}" for number in numbers)], rows)
-
-
-def shown(name, words, sentences, body):
-    """A section's sentences, its plot and its table."""
-    return f"{folded(' '.join(sentences))}\n\n![{words}](grows_{name}.svg)\n\n{body}"
+def shown(name, words, sentences):
+    """A section's sentences and its plot."""
+    return f"{folded(' '.join(sentences))}\n\n![{words}](grows_{name}.svg)\n"
 
 
 def growing(kind, measured):
     what, many, number_of = KINDS[kind]
     lines = lines_of(measured, kind, number_of, threads_of)
     sentences = [growth(name, points, many, what) for name, points in lines.items()]
-    return shown(kind, f"Milliseconds a frame against {what}", sentences, growth_table(lines, f"ms a frame, {what}"))
+    return shown(kind, f"Milliseconds a frame against {what}", sentences)
 
 
 def place_of(word):
@@ -87,14 +80,13 @@ def threads(measured):
         most, last = points[-1]
         sentences.append(f"{name[0].upper()}{name[1:]}: {threads_of(str(most))} are {points[0][1] / last:.1f} times as"
                          " fast as one.")
-    body = growth_table(lines, "ms a frame, threads")
-    return shown("threads", "Milliseconds a frame against threads", sentences, body)
+    return shown("threads", "Milliseconds a frame against threads", sentences)
 
 
 def frames(measured):
     lines = lines_of(measured, "frames", name_of=place_of)
     sentences = [growth(name, points, 1, "frame") for name, points in lines.items()]
-    return shown("frames", "Milliseconds of a run against frames", sentences, growth_table(lines, "ms a run, frames"))
+    return shown("frames", "Milliseconds of a run against frames", sentences)
 
 
 def near(measured):
@@ -106,8 +98,7 @@ def near(measured):
                          if max(times) <= (1 + LINE) * min(times) else
                          f"A {name} scene takes {ms(points[0][1])} ms at first, {ms(points[-1][1])} at the end, and"
                          f" {ms(max(times))} at most.")
-    return shown("near", "Milliseconds a frame against the near distance", sentences,
-                 growth_table(lines, "ms a frame, near distance"))
+    return shown("near", "Milliseconds a frame against the near distance", sentences)
 
 
 def note(measured):

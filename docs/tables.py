@@ -203,14 +203,13 @@ def beside(measured):
 def verdicts(measured):
     if "verdicts" not in measured.tables:
         raise Missing("verdicts")
-    rows = [[SCENES.get(name, name), *cells] for name, *cells in measured.tables["verdicts"]["rows"]]
+    rows = measured.tables["verdicts"]["rows"]
     sums = [sum(int(row[column]) for row in rows) for column in range(2, 6)]
     is_same = all(row[1] == "same" for row in rows)
-    rows.append(["all", "same" if is_same else "different", *sums])
-    rows = [[*row[:2], *(f"{int(number):,}" for number in row[2:])] for row in rows]
-    head = ["scene, four frames", "reports in whole numbers", "verdicts", "others in floats", "wrong in floats",
+    row = [f"the {len(rows)} above, four frames each", "same" if is_same else "different", *(f"{it:,}" for it in sums)]
+    head = ["scenes", "reports in whole numbers", "verdicts", "others in floats", "wrong in floats",
             "wrong in maskcull"]
-    return table(head, rows)
+    return table(head, [row])
 
 
 def readme(measured):
