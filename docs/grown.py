@@ -1,8 +1,9 @@
 """For docs/tables.py: the times that grow, each as a sentence and a plot."""
 import functools
+import typing
 
 import plots
-from shown import Missing, folded, ms
+from shown import Missing, folded, listed, ms
 
 # Of each: what grows, so many of which are told of at once, and the number of a name.
 KINDS = {
@@ -11,6 +12,20 @@ KINDS = {
     "objects": ("boxes", 1000, int),
 }
 LINE = 0.1  # what lies no further from a line is told to be on it
+LEAST = 1  # a time of fewer milliseconds says too little of how times grow
+
+
+class Point(typing.NamedTuple):
+    """A number and its time, the least of its rounds; these differ from the low one to the high one."""
+
+    number: int
+    time: float
+    low: float
+    high: float
+    is_noisy: bool
+
+    def overlaps(self, other):
+        return self.low <= other.high and other.low <= self.high
 
 
 def threads_of(word):
@@ -22,36 +37,63 @@ def lines_of(measured, kind, number_of=int, name_of=str):
     lines = {}
     for name in measured.names(f"grows/{kind}/"):
         number, _, word = name.partition("/")
-        point = number_of(number), measured.least(f"grows/{kind}/{name}")
+        figure = measured.figures[f"grows/{kind}/{name}"]
+        times = [figure[part] for part in ("least", "quartile", "median")]
+        point = Point(number_of(number), times[0], min(times), max(times), figure.get("noisy", False))
         lines.setdefault(name_of(word), []).append(point)
     if not lines:
         raise Missing(f"grows/{kind}")
     return {name: sorted(points) for name, points in lines.items()}
 
 
+def pairs(lines):
+    """Of each line the numbers and the times, as a plot has them."""
+    return {name: [point[:2] for point in points] for name, points in lines.items()}
+
+
 def line_through(points):
     """Where a line begins that lies as near as can be, by shares of the times, and how it rises; and how far off the
     farthest point is, as a share of its time."""
-    weights = [1 / time**2 for _, time in points]
+    weights = [1 / point.time**2 for point in points]
     whole = sum(weights)
-    middle = sum(w * n for w, (n, _) in zip(weights, points)) / whole
-    level = sum(w * t for w, (_, t) in zip(weights, points)) / whole
-    rise = (sum(w * (n - middle) * (t - level) for w, (n, t) in zip(weights, points))
-            / sum(w * (n - middle) ** 2 for w, (n, _) in zip(weights, points)))
+    middle = sum(w * point.number for w, point in zip(weights, points)) / whole
+    level = sum(w * point.time for w, point in zip(weights, points)) / whole
+    rise = (sum(w * (point.number - middle) * (point.time - level) for w, point in zip(weights, points))
+            / sum(w * (point.number - middle) ** 2 for w, point in zip(weights, points)))
     begin = level - rise * middle
-    return begin, rise, max(abs(begin + rise * n - t) / t for n, t in points)
+    return begin, rise, max(abs(begin + rise * point.number - point.time) / point.time for point in points)
+
+
+def judged(points):
+    """The points that tell how a time grows: none below the least time, and none that takes longer than a greater one,
+    which is noise."""
+    long = [point for point in points if point.time >= LEAST]
+    return [point for place, point in enumerate(long) if all(point.time <= other.time for other in long[place:])]
 
 
 def growth(name, points, many, what):
-    """How a time grows, in a sentence."""
-    begin, rise, off = line_through(points)
-    name = name[0].upper() + name[1:]
-    each = f"{many:,} {what}" if many > 1 else what
-    if off <= LINE:
-        return f"{name}: linear, {ms(begin)} ms and {ms(many * rise)} for each {each}, within {100 * off:.0f} %."
-    slopes = [many * (t1 - t0) / (n1 - n0) for (n0, t0), (n1, t1) in (points[:2], points[-2:])]
-    first, last = map(ms, slopes)
-    return f"{name}: not linear, at first {first} ms for each {each}, at the end {last}."
+    """How a time grows, in a sentence. The beginning is judged only from times that differ more than their rounds do."""
+    each = f"{many:,} {what}" if many > 1 else what.removesuffix("s")
+    left = judged(points)
+    star = "*" if any(point.is_noisy for point in left) else ""
+    name = f"{name[0].upper()}{name[1:]}{star}"
+    if len(left) < 2:
+        return f"{name}: too short to say how it grows."
+    # the last place up to which times differ by no more than their rounds
+    level = max(place for place, point in enumerate(left) if point.overlaps(left[0]))
+    begin, rise, off = line_through(left)
+    if len(left) > 2 and off <= LINE:
+        others = [f"{point.number:,}" for point in points if point not in left]
+        told = f", but for {listed(others)}" if others else ""
+        return f"{name}: linear, {ms(begin)} ms and {ms(many * rise)} for each {each}, within {100 * off:.0f} %{told}."
+    if level == len(left) - 1:
+        return f"{name}: {ms(left[0].time)} to {ms(left[-1].time)} ms, which differ no more than their rounds do."
+    rises = [many * (after.time - before.time) / (after.number - before.number)
+             for before, after in zip(left[level:], left[level + 1:])]
+    number = f"{left[level].number:,}"
+    begin = (f"up to {number} times differ no more than their rounds do, then" if level else
+             "at first" if left[0] == points[0] else f"from {number} on")
+    return f"{name}: not linear, {begin} {ms(rises[0])} ms for each {each}, at the end {ms(rises[-1])}."
 
 
 def shown(name, words, sentences):
@@ -77,27 +119,29 @@ def threads(measured):
     lines = lines_of(measured, "threads", name_of=place_of)
     sentences = []
     for name, points in lines.items():
-        most, last = points[-1]
-        sentences.append(f"{name[0].upper()}{name[1:]}: {threads_of(str(most))} are {points[0][1] / last:.1f} times as"
-                         " fast as one.")
+        first, last = points[0], points[-1]
+        sentences.append(f"{name[0].upper()}{name[1:]}: {threads_of(str(last.number))} are"
+                         f" {first.time / last.time:.1f} times as fast as one.")
     return shown("threads", "Milliseconds a frame against threads", sentences)
 
 
 def frames(measured):
     lines = lines_of(measured, "frames", name_of=place_of)
-    sentences = [growth(name, points, 1, "frame") for name, points in lines.items()]
+    sentences = [growth(name, points, 1, "frames") for name, points in lines.items()]
     return shown("frames", "Milliseconds of a run against frames", sentences)
 
 
 def near(measured):
-    lines = lines_of(measured, "near")
     sentences = []
-    for name, points in lines.items():
-        times = [time for _, time in points]
-        sentences.append(f"A {name} scene takes {ms(min(times))} to {ms(max(times))} ms: it doesn't grow."
-                         if max(times) <= (1 + LINE) * min(times) else
-                         f"A {name} scene takes {ms(points[0][1])} ms at first, {ms(points[-1][1])} at the end, and"
-                         f" {ms(max(times))} at most.")
+    for name, points in lines_of(measured, "near").items():
+        times = [point.time for point in points]
+        if max(times) <= (1 + LINE) * min(times):
+            told = f"{ms(min(times))} to {ms(max(times))} ms: it doesn't grow"
+        elif max(point.low for point in points) <= min(point.high for point in points):
+            told = f"{ms(min(times))} to {ms(max(times))} ms, which differ no more than their rounds do"
+        else:
+            told = f"{ms(times[0])} ms at first, {ms(times[-1])} at the end, and {ms(max(times))} at most"
+        sentences.append(f"A {name} scene takes {told}.")
     return shown("near", "Milliseconds a frame against the near distance", sentences)
 
 
@@ -108,19 +152,20 @@ def note(measured):
 
 def plot_of_kind(kind, measured):
     what, _, number_of = KINDS[kind]
-    return plots.plot(lines_of(measured, kind, number_of, threads_of), note(measured), (what, "ms a frame"))
+    return plots.plot(pairs(lines_of(measured, kind, number_of, threads_of)), note(measured), (what, "ms a frame"))
 
 
 def plot_of_threads(measured):
-    return plots.plot(lines_of(measured, "threads", name_of=place_of), note(measured), ("threads", "ms a frame"))
+    return plots.plot(pairs(lines_of(measured, "threads", name_of=place_of)), note(measured), ("threads", "ms a frame"))
 
 
 def plot_of_frames(measured):
-    return plots.plot(lines_of(measured, "frames", name_of=place_of), note(measured), ("frames", "ms a run"))
+    return plots.plot(pairs(lines_of(measured, "frames", name_of=place_of)), note(measured), ("frames", "ms a run"))
 
 
 def plot_of_near(measured):
-    return plots.plot(lines_of(measured, "near"), note(measured), ("near distance", "ms a frame"), has_powers=True)
+    return plots.plot(pairs(lines_of(measured, "near")), note(measured), ("near distance", "ms a frame"),
+                      has_powers=True)
 
 
 TABLES = {f"grows-{kind}": functools.partial(growing, kind) for kind in KINDS} | {
