@@ -71,29 +71,41 @@ def judged(points):
     return [point for place, point in enumerate(long) if all(point.time <= other.time for other in long[place:])]
 
 
+def rise_between(before, after):
+    return (after.time - before.time) / (after.number - before.number)
+
+
+def bent(points, all_points, many, each):
+    """How a time grows that isn't on a line: at the beginning and at the end, each by times that differ more than their
+    rounds do."""
+    level = max(place for place, point in enumerate(points) if point.overlaps(points[0]))
+    start, end = points[level], points[-1]
+    if start == end:
+        return f"{ms(points[0].time)} to {ms(end.time)} ms, which differ no more than their rounds do"
+    after = next((point for point in points[level + 1:] if not point.overlaps(start)), end)
+    before = next((point for point in points[-2:level:-1] if not point.overlaps(end)), start)
+    begin = (f"up to {start.number:,} times differ no more than their rounds do, then" if level else
+             "at first" if start == all_points[0] else f"from {start.number:,} on")
+    first, last = (ms(many * rise_between(*pair)) for pair in ((start, after), (before, end)))
+    if (start, after) == (before, end):
+        return f"{begin} {first} ms for each {each}"
+    return f"not linear, {begin} {first} ms for each {each}, at the end {last}"
+
+
 def growth(name, points, many, what):
-    """How a time grows, in a sentence. The beginning is judged only from times that differ more than their rounds do."""
+    """How a time grows, in a sentence."""
     each = f"{many:,} {what}" if many > 1 else what.removesuffix("s")
     left = judged(points)
     star = "*" if any(point.is_noisy for point in left) else ""
     name = f"{name[0].upper()}{name[1:]}{star}"
     if len(left) < 2:
-        return f"{name}: too short to say how it grows."
-    # the last place up to which times differ by no more than their rounds
-    level = max(place for place, point in enumerate(left) if point.overlaps(left[0]))
+        return f"{name}: too few times to say how it grows."
     begin, rise, off = line_through(left)
     if len(left) > 2 and off <= LINE:
         others = [f"{point.number:,}" for point in points if point not in left]
         told = f", but for {listed(others)}" if others else ""
         return f"{name}: linear, {ms(begin)} ms and {ms(many * rise)} for each {each}, within {100 * off:.0f} %{told}."
-    if level == len(left) - 1:
-        return f"{name}: {ms(left[0].time)} to {ms(left[-1].time)} ms, which differ no more than their rounds do."
-    rises = [many * (after.time - before.time) / (after.number - before.number)
-             for before, after in zip(left[level:], left[level + 1:])]
-    number = f"{left[level].number:,}"
-    begin = (f"up to {number} times differ no more than their rounds do, then" if level else
-             "at first" if left[0] == points[0] else f"from {number} on")
-    return f"{name}: not linear, {begin} {ms(rises[0])} ms for each {each}, at the end {ms(rises[-1])}."
+    return f"{name}: {bent(left, points, many, each)}."
 
 
 def shown(name, words, sentences):
