@@ -1,7 +1,6 @@
 -- Meshes and boxes of floats, how they are seen, and what is written and answered of them.
-use Rattle.std.specs.Prelude.{ℕ, ℤ, pos, ◌≡◌, ◌+◌, ◌-◌, ◌*◌, ◌/◌, ◌%◌, ◌^◌, ◌<◌, ◌≤◌, ◌<ℤ◌, Unit, cond, nat_eq, nat_lt, List, [], ◌∷◌, length, map, slice_index, slice_index_or, Bool, true, not, ◌&&◌, ◌||◌}
-use Rattle.std.specs.List.{All, Contains, list_all, list_any, range_with_len}
-use Rattle.cull_base.specs.declared.rect.Rect.{Rect}
+use Rattle.std.specs.Prelude.{ℕ, ℤ, pos, ◌≡◌, ◌+◌, ◌-◌, ◌*◌, ◌/◌, ◌%◌, ◌^◌, ◌≤◌, ◌≤ℤ◌, ◌*ℤ◌, Unit, cond, nat_eq, nat_lt, List, [], ◌∷◌, length, map, slice_index}
+use Rattle.std.specs.List.{All, AllZip, Contains, fold, range_with_len}
 use Rattle.cull_base.specs.declared.scene_types.Verdict.{Verdict}
 use Rattle.cull_base.specs.declared.scene_types.Verdict.TheVariants.{Visible, Occluded, Outside}
 use Rattle.cull_base.specs.Grade.{top_of}
@@ -16,9 +15,12 @@ use Rattle.box_rays.specs.Objects.{IsReached, IsBeside, IsNearest}
 use Rattle.masked_update.specs.TileOf.{TileOf}
 use Rattle.maskcull_c.specs.Asked.{verdict_over}
 use Rattle.maskcull_c.specs.Given.{size_of, grade_of, winding_of}
+use Rattle.maskcull_c.specs.Pieces.{AreListed}
 use Rattle.maskcull_c.specs.Tiles.{Hides, code_of}
 use Rattle.maskcull_c.specs.declared.given.Setup.{Setup}
 use Rattle.maskcull_c.specs.declared.given.Triangle.{Triangle}
+use Rattle.maskcull_c.specs.declared.pieces.PieceRoom.{PieceRoom}
+use Rattle.maskcull_c.specs.declared.scratch.Scratch.{Scratch}
 use Rattle.maskcull_c.specs.declared.view.View.{View}
 use Rattle.maskcull_c.specs.declared.view.Bounds.{Bounds}
 
@@ -103,3 +105,37 @@ corner_of b k = end_of b k 1 0 ∷ end_of b k 2 1 ∷ end_of b k 4 2 ∷ []
 
 abbrev pub corners_of : View → Bounds → List Clip
 corners_of v b = map (λ k. clip_of v.rows (corner_of b k)) (range_with_len 0 8)
+
+-- the three points of a triangle
+abbrev pub points_of : View → List ℕ → Triangle → List Clip
+points_of v floats t = point_at v floats t.a ∷ point_at v floats t.b ∷ point_at v floats t.c ∷ []
+
+-- two verdicts together: outside where both are, occluded where all that isn't outside is, else visible
+abbrev pub joined : Verdict → Verdict → Verdict
+joined Visible b = Visible
+joined Occluded Visible = Visible
+joined Occluded Occluded = Occluded
+joined Occluded Outside = Occluded
+joined Outside b = b
+
+abbrev pub all_joined : List Verdict → Verdict
+all_joined verdicts = fold joined Outside verdicts
+
+-- The answer to a shape for each triangle of a mesh: the verdicts on these, together.
+pub record IsMeshAnswerFor (s : Setup) (v : View) (tiles : List TileOf) (floats : List ℕ) (triangles : List Triangle) (code : ℕ) : Type 0 where
+  pub shapes : List Shape
+  pub stand : AllZip (λ t shape. MayStandFor s v (points_of v floats t) shape) triangles shapes
+  pub value : code ≡ code_of (all_joined (map (verdict_over (size_of s) tiles) shapes))
+  pub hide : All (λ shape. Hides (size_of s) tiles shape code) shapes
+
+-- room for the clip point of each position, and for seven pieces a triangle
+pub record HasFloatRoom (v : View) (floats : List ℕ) (triangles : List Triangle) (scratch : List Scratch) (rooms : List PieceRoom) : Type 0 where
+  pub scratch_room : position_count v.stride (length floats) ≤ length scratch
+  pub piece_room : 7 * length triangles ≤ length rooms
+
+-- pieces of a mesh that are written from the first place on, and how many there are
+pub record AreSetUp (s : Setup) (v : View) (floats : List ℕ) (triangles : List Triangle) (old new : List PieceRoom) (count : ℕ) : Type 0 where
+  pub pieces : List Piece
+  pub listed : AreListed 0 pieces old new
+  pub counted : count ≡ length pieces
+  pub within : AreWithin s v floats triangles pieces

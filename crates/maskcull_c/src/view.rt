@@ -1,8 +1,9 @@
 //! How a program's floats are seen: the matrix, the near distance, the screen. Floats are taken by their bits.
-ghost use Rattle.std.specs.Prelude.{◌↔◌, IsTrue};
-ghost use Rattle.maskcull_c.specs.Floats.{IsView};
+ghost use Rattle.std.specs.Prelude.{◌≡◌, ◌≤◌, ◌↔◌, IsTrue, IfSome, MatchOption, length};
+ghost use Rattle.maskcull_c.specs.Floats.{IsView, position_count};
+ghost use Rattle.maskcull_c.specs.Given.{IsSetup, size_of};
 
-use crate::given::Setup;
+use crate::given::{Checked, Setup};
 
 /// The matrix' rows for x, y and w, the near distance, and over which screen and with which slack pieces and answers hold.
 #[derive(Clone, Copy)]
@@ -27,7 +28,7 @@ pub struct Bounds {
 
 impl View {
     /// Whether it may be used with a setup.
-    pub(crate) fn is_allowed(&self, setup: &Setup) -> bool
+    fn is_allowed(&self, setup: &Setup) -> bool
         ensures { IsTrue result ↔ IsView setup.now self.now }
     {
         self.reach <= 64
@@ -37,5 +38,30 @@ impl View {
             && self.width <= setup.width
             && 1 <= self.height
             && self.height <= setup.height
+    }
+
+    /// A setup that is right and that the view may be used with. None exactly where it isn't.
+    pub(crate) fn checked(&self, setup: &Setup) -> Option<Checked>
+        ensures none { MatchOption result (IsSetup setup.now → IsView setup.now self.now → ⊥)
+            (λ c. IsSetup setup.now × IsView setup.now self.now) }
+        ensures size { IfSome result (λ c. c.size ≡ size_of setup.now) }
+    {
+        let checked = setup.checked()?;
+        if self.is_allowed(setup) {
+            Some(checked)
+        } else {
+            None
+        }
+    }
+
+    /// How many positions some floats are. Condition: a position has at least three.
+    pub(crate) fn position_count(&self, positions: &[u32]) -> usize
+        requires { 3 ≤ self.now.stride }
+        ensures { result ≡ position_count self.now.stride (length positions.now) }
+    {
+        if positions.len() < 3 {
+            return 0;
+        }
+        (positions.len() - 3) / self.stride as usize + 1
     }
 }
