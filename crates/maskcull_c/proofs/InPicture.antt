@@ -122,33 +122,33 @@ called_hidden s v tiles reach meshes points shape code stands number hides view 
     different : Occluded ≡ Visible → ⊥
     different e = cc
 
+-- a triangle's shape isn't visible whatever the tiles hold, and hides what it has
+abbrev IsHiding : Setup → List TileOf → ℕ → Shape → Type 0
+IsHiding s tiles code shape = (shape ≡ AlwaysVisible → ⊥) × Hides (screen_size s) tiles shape code
+
+hiding_each : (s : Setup) (v : View) (tiles : List TileOf) (floats : List ℕ) (triangles : List Triangle) (code : ℕ) (answer : IsMeshAnswerFor s v tiles floats triangles code)
+    → code ≡ OCCLUDED → All (IsHiding s tiles code) answer.shapes
+hiding_each s v tiles floats triangles code answer occluded k d lt = (
+  (λ e. shown k Visible (omega (arith, lt, length-map answer.shapes (verdict_over (screen_size s) tiles))) (get_or-map (verdict_over (screen_size s) tiles) answer.shapes k d Visible lt ∙ ap (verdict_over (screen_size s) tiles) e)),
+  answer.hide k d lt,
+)
+  where
+    not_both : Occluded ≡ Visible → ⊥
+    not_both e = cc
+
+    shown : All (λ w. w ≡ Visible → ⊥) (map (verdict_over (screen_size s) tiles) answer.shapes)
+    shown =
+        parts_not_visible (map (verdict_over (screen_size s) tiles) answer.shapes)
+        (λ e. not_both (sym (occluded_by_code (all_joined (map (verdict_over (screen_size s) tiles) answer.shapes)) (sym answer.value ∙ occluded)) ∙ e))
+
 -- each triangle of a mesh that is called occluded
 pub mesh_hidden : (s : Setup) (v : View) (tiles : List TileOf) (reach : ℕ) (meshes : List Drawn) (floats : List ℕ) (triangles : List Triangle) (code : ℕ)
     → IsMeshAnswerFor s v tiles floats triangles code → IsView s v → IsFrame s v reach meshes tiles → code ≡ OCCLUDED
     → All (λ t. IsHiddenInPicture v reach (IsDrawn meshes) (points_of v floats t)) triangles
 mesh_hidden s v tiles reach meshes floats triangles code answer view frame occluded =
-    all_parts (λ t shape. MayStandFor s v (points_of v floats t) shape) P (λ t. IsHiddenInPicture v reach (IsDrawn meshes) (points_of v floats t)) triangles answer.shapes answer.stand each
+    all_parts (λ t shape. MayStandFor s v (points_of v floats t) shape) (IsHiding s tiles code) (λ t. IsHiddenInPicture v reach (IsDrawn meshes) (points_of v floats t)) triangles answer.shapes answer.stand
+    (hiding_each s v tiles floats triangles code answer occluded)
     (λ t shape stands p. object_hidden s v tiles reach meshes (points_of v floats t) shape code p.0 stands p.1 view frame occluded)
-  where
-    P : Shape → Type 0
-    abbrev P shape = (shape ≡ AlwaysVisible → ⊥) × Hides (screen_size s) tiles shape code
-
-    verdicts : List Verdict
-    abbrev verdicts = map (verdict_over (screen_size s) tiles) answer.shapes
-
-    shown : All (λ w. w ≡ Visible → ⊥) verdicts
-    shown = parts_not_visible verdicts (λ e. not_both (sym (occluded_by_code (all_joined verdicts) (sym answer.value ∙ occluded)) ∙ e))
-      where
-        not_both : Occluded ≡ Visible → ⊥
-        not_both e = cc
-
-    each : All P answer.shapes
-    each k d lt = (λ e. All-from_map k d lt (ap (verdict_over (screen_size s) tiles) e), answer.hide k d lt)
-      where
-        All-from_map : (k : ℕ) (d : Shape) → k < length answer.shapes → verdict_over (screen_size s) tiles (get_or answer.shapes k d) ≡ Visible → ⊥
-        All-from_map k d lt e =
-            shown k Visible (omega (arith, lt, length-map answer.shapes (verdict_over (screen_size s) tiles)))
-            (get_or-map (verdict_over (screen_size s) tiles) answer.shapes k d Visible lt ∙ e)
 
 -- a triangle that hides some points is nearer than each weighted sum of them
 pub hides_sums : (near : ℤ) (share : ℕ) (points : List Clip) (size : Dimensions) (z : Place) (f : Face) (weights : List ℕ)

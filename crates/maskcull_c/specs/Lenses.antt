@@ -1,5 +1,5 @@
 -- Clip points of positions, as they are held in units.
-use Rattle.std.specs.Prelude.{ℕ, pos, ◌≡◌, ◌+◌, ◌^◌, ◌<◌, ◌≤◌, Unit, true, cond, nat_eq, Option, Some, None, IfSome, List, [], length, map, slice_index, slice_index_or}
+use Rattle.std.specs.Prelude.{ℕ, pos, ◌≡◌, ◌+◌, ◌^◌, ◌<◌, ◌≤◌, true, cond, nat_eq, Option, Some, None, IfSome, List, [], length, map, slice_index, slice_index_or}
 use Rattle.std.specs.List.{All, AllZip}
 use Rattle.cull_base.specs.declared.scene_types.Verdict.{Verdict}
 use Rattle.cull_base.specs.Piece.{Piece}
