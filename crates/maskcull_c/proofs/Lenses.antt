@@ -78,16 +78,7 @@ range_meets size greater top (At rect q) wide high range =
 -- where a triangle's three points are held
 pub three_held : (lens : Lens) (floats : List ℕ) (t : Triangle) (a b c : Held) → IsPoint lens floats t.a a → IsPoint lens floats t.b b → IsPoint lens floats t.c c
     → AllZip (Holds (unit_of lens)) (a ∷ b ∷ c ∷ []) (points_of lens.view floats t)
-three_held lens floats t a b c pa pb pc = (pa.holds, pb.holds, pc.holds, tt)
-
--- the sight of an eye, from its parts
-pub sights : (width height reach : ℕ) (grade grade' : Grade) (winding winding' : Winding) (distance exponent exponent' : ℕ) (near : ℤ) → grade ≡ grade' → winding ≡ winding' → exponent ≡ exponent'
-    → (pos distance *ℤ pos (2 ^ exponent')) ≡ near
-    → ◌≡◌ {A = Sight} (record { size = dimensions width height; near = pos (distance * 2 ^ exponent); top = top_of grade; winding = winding; reach = reach })
-    (record { size = dimensions width height; near = near; top = top_of grade'; winding = winding'; reach = reach })
-sights width height reach grade grade' winding winding' distance exponent exponent' near grades windings exponents nears =
-    let product : pos (distance * 2 ^ exponent) ≡ near = ap (λ e. pos (distance * 2 ^ e)) exponents ∙ nears in
-    rw (grades, windings, product) refl
+three_held lens floats t a b c pa pb pc = (pa.holds, (pb.holds, (pc.holds, tt)))
 
 -- where a box's corners are held
 pub box_stands : (lens : Lens) (s : Setup) (v : View) (b : Bounds) (corners : List Held) (r : Reached) → lens.setup ≡ s → lens.view ≡ v

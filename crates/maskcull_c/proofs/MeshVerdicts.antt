@@ -1,7 +1,7 @@
 -- Verdicts on the triangles of a mesh, one after another.
-use Rattle.std.proofs.Common.{◌≡◌, ℕ, ◌<◌, List, [], ◌∷◌, ◌++◌, length, map, get_or, arith, refl, ap, sym, ◌∙◌}
+use Rattle.std.proofs.Common.{◌≡◌, ◌==◌, ℕ, ◌+◌, ◌<◌, Bool, false, List, [], ◌∷◌, ◌++◌, length, map, take, drop, get_or, arith, refl, ap, sym, ◌∙◌, subst}
 use Rattle.std.specs.List.{All, AllZip, Contains, fold}
-use Rattle.std.proofs.lemmas.List.{get_or-map, length-map, map-append, map_push}
+use Rattle.std.proofs.lemmas.List.{get_or-map, length-map, map-append, map_push, take-append-drop, take_more}
 use Rattle.std.proofs.lemmas.List.Sums.{fold-append}
 use Rattle.std.proofs.lemmas.Slice.Zip.{all_zipped_more}
 use Rattle.cull_base.specs.declared.scene_types.Verdict.{Verdict}
@@ -32,7 +32,7 @@ module _ (s : Setup) (v : View) (tiles : List TileOf) (floats : List ℕ) where
   none_asked = record { shapes = []; stand = tt; value = refl }
 
   -- one triangle more
-  pub one_asked : (ts : List Triangle) (t : Triangle) (shape : Shape) (so_far next : Verdict) → IsMeshVerdict s v tiles floats ts so_far → Stands t shape → next ≡ joined so_far (verdict shape)
+  one_asked : (ts : List Triangle) (t : Triangle) (shape : Shape) (so_far next : Verdict) → IsMeshVerdict s v tiles floats ts so_far → Stands t shape → next ≡ joined so_far (verdict shape)
       → IsMeshVerdict s v tiles floats (ts ++ t ∷ []) next
   one_asked ts t shape so_far next m stands is = record {
     shapes = m.shapes ++ shape ∷ [];
@@ -48,8 +48,12 @@ module _ (s : Setup) (v : View) (tiles : List TileOf) (floats : List ℕ) where
   all_unasked : (ts : List Triangle) → fold joined Visible (map verdict (map (λ t. AlwaysVisible) ts)) ≡ Visible
   all_unasked ts = visible_stays (map verdict (map (λ t. AlwaysVisible) ts))
 
-  pub visible_at_once : (t : Triangle) (ts : List Triangle) → IsMeshVerdict s v tiles floats (t ∷ ts) Visible
+  visible_at_once : (t : Triangle) (ts : List Triangle) → IsMeshVerdict s v tiles floats (t ∷ ts) Visible
   visible_at_once t ts = record { shapes = map (λ t. AlwaysVisible) (t ∷ ts); stand = unasked (t ∷ ts); value = sym (all_unasked ts) }
+
+  pub visible_of_some : (ts : List Triangle) (none : Bool) → none ≡ (length ts == 0) → none ≡ false → IsMeshVerdict s v tiles floats ts Visible
+  visible_of_some [] none is e = absurd cc
+  visible_of_some (t ∷ ts) none is e = visible_at_once t ts
 
   zip_both : (ts us : List Triangle) (xs ys : List Shape) → AllZip Stands ts xs → AllZip Stands us ys → AllZip Stands (ts ++ us) (xs ++ ys)
   zip_both [] us [] ys z w = w
@@ -58,7 +62,7 @@ module _ (s : Setup) (v : View) (tiles : List TileOf) (floats : List ℕ) where
   zip_both (t ∷ ts) us (x ∷ xs) ys z w = (z.0, zip_both ts us xs ys z.1 w)
 
   -- after a triangle that makes it visible
-  pub visible_from : (ts us : List Triangle) → IsMeshVerdict s v tiles floats ts Visible → IsMeshVerdict s v tiles floats (ts ++ us) Visible
+  visible_from : (ts us : List Triangle) → IsMeshVerdict s v tiles floats ts Visible → IsMeshVerdict s v tiles floats (ts ++ us) Visible
   visible_from ts us m = record {
     shapes = m.shapes ++ map (λ t. AlwaysVisible) us;
     stand = zip_both ts us m.shapes (map (λ t. AlwaysVisible) us) m.stand (unasked us);
@@ -66,6 +70,17 @@ module _ (s : Setup) (v : View) (tiles : List TileOf) (floats : List ℕ) where
         sym (ap all_joined (map-append verdict m.shapes (map (λ t. AlwaysVisible) us)) ∙ fold-append joined Outside (map verdict m.shapes) (map verdict (map (λ t. AlwaysVisible) us))
         ∙ ap (λ w. fold joined w (map verdict (map (λ t. AlwaysVisible) us))) (sym m.value) ∙ all_unasked us);
   }
+
+  -- one triangle more of a list
+  pub next_asked : (ts : List Triangle) (i : ℕ) (d : Triangle) (shape : Shape) (so_far next : Verdict) → i < length ts → IsMeshVerdict s v tiles floats (take i ts) so_far
+      → Stands (get_or ts i d) shape → next ≡ joined so_far (verdict shape) → IsMeshVerdict s v tiles floats (take (i + 1) ts) next
+  next_asked ts i d shape so_far next lt m stands is =
+      subst (λ (us : List Triangle). IsMeshVerdict s v tiles floats us next) (sym (take_more ts i d lt)) (one_asked (take i ts) (get_or ts i d) shape so_far next m stands is)
+
+  pub visible_after : (ts : List Triangle) (i : ℕ) (w : Verdict) → IsMeshVerdict s v tiles floats (take i ts) w → w ≡ Visible → IsMeshVerdict s v tiles floats ts Visible
+  visible_after ts i w m e =
+      subst (λ (us : List Triangle). IsMeshVerdict s v tiles floats us Visible) (take-append-drop i ts)
+      (visible_from (take i ts) (drop i ts) (subst (λ (u : Verdict). IsMeshVerdict s v tiles floats (take i ts) u) e m))
 
   -- the answer by the verdict's number
   pub mesh_answer : (ts : List Triangle) (w : Verdict) (code : ℕ) → IsMeshVerdict s v tiles floats ts w → code ≡ code_of w → IsMeshAnswerFor s v tiles floats ts code

@@ -98,7 +98,7 @@ fn triangles_verdict(
     for triangle in triangles {
         let reached = reached_by_triangle(lens, positions, triangle);
         let next = joined(verdict, verdict_on(tiles, size, reached));
-        if next == Verdict::Visible {
+        if let Verdict::Visible = next {
             return Verdict::Visible;
         }
         verdict = next;
