@@ -106,10 +106,13 @@ object_hidden s v tiles reach meshes points (Flat r q) code shown stands hides v
     let (m, among, inside) = frame.within (tile_of_pixel (screen_size s) px py) t member in
     let same = frame.same m among in
     let (f, drawn, backs) = inside px py (subst (λ n. px < n) (sym same.width) across) (subst (λ n. py < n) (sym same.height) down) covering z (wider reach m.view.reach px py z same.reach within) in
-    let rays : ray_through (screen_of m.view) z ≡ ray_through (screen_of v) z = ap₂ (λ width height. ray_through (dimensions width height) z) same.width same.height in
-    (f, (m, among, drawn), backed_hides (sight_of m.setup m.view) (distance_of v.near_distance) (top_of (grade_of s)) v.share q points t (middle px py) (ray_through (screen_of v) z) f
-        (ap distance_of same.near) (ap top_of same.grade) (sound.valid t member) (forward (screen_of v) z view.wide view.high within.proper) below stands.1
-        (subst (λ ray. Backs (sight_of m.setup m.view) t (middle px py) ray f) rays backs))
+    let rays : ray_through (screen_of m.view) z ≡ ray_through (screen_of v) z = ap₂ (λ width height. ray_through (dimensions width height) z) same.width same.height in (
+      f,
+      (m, among, drawn),
+      backed_hides (sight_of m.setup m.view) (distance_of v.near_distance) (top_of (grade_of s)) v.share q points t (middle px py) (ray_through (screen_of v) z) f
+          (ap distance_of same.near) (ap top_of same.grade) (sound.valid t member) (forward (screen_of v) z view.wide view.high within.proper) below stands.1
+          (subst (λ ray. Backs (sight_of m.setup m.view) t (middle px py) ray f) rays backs),
+    )
 
 -- an object that is called occluded by its shape
 pub called_hidden : (s : Setup) (v : View) (tiles : List TileOf) (reach : ℕ) (meshes : List Drawn) (points : List Clip) (shape : Shape) (code : ℕ)

@@ -1,8 +1,8 @@
 -- Pieces of triangles and quads of a mesh, written one after another.
-use Rattle.std.proofs.Common.{◌≡◌, ℕ, ◌+◌, ◌*◌, ◌<◌, ◌≤◌, ◌⊎◌, inl, inr, List, [], ◌∷◌, ◌++◌, length, arith, refl, ap, ap₂, sym, ◌∙◌, subst}
+use Rattle.std.proofs.Common.{◌≡◌, ℕ, ◌+◌, ◌*◌, ◌<◌, ◌≤◌, ◌⊎◌, inl, inr, List, [], ◌++◌, length, get_or, Option, Some, IfSome, arith, refl, ap, ap₂, sym, ◌∙◌, subst}
 use Rattle.std.specs.List.{All, Contains}
 use Rattle.std.proofs.Math.Nat.{zero-add}
-use Rattle.std.proofs.lemmas.List.{length-append}
+use Rattle.std.proofs.lemmas.List.{get_or_default, length-append}
 use Rattle.std.proofs.lemmas.List.Elements.{All-contains, Contains-append_cases}
 use Rattle.cull_base.specs.Piece.{Piece}
 use Rattle.float_bits.specs.Floats.{IsNumber}
@@ -12,11 +12,14 @@ use Rattle.pixel_forms.specs.Rays.{Face}
 use Rattle.pixel_forms.specs.Within.{Sight, IsWithinFaces}
 use Rattle.inward_pieces.specs.Pieces.{IsWithinQuad, IsWithinTriangle, face}
 use Rattle.maskcull_c.specs.Floats.{AreSetUp, AreWithin, IsOfMesh, point_at, position_at, sight_of}
-use Rattle.maskcull_c.specs.Lenses.{AreAdded, IsPoint, unit_of}
+use Rattle.maskcull_c.specs.Lenses.{AreAdded, AreHeld, IsPoint, held_in, no_scratch, unit_of}
 use Rattle.maskcull_c.specs.Pieces.{AreListed}
+use Rattle.maskcull_c.specs.declared.given.Setup.{Setup}
 use Rattle.maskcull_c.specs.declared.given.Triangle.{Triangle}
 use Rattle.maskcull_c.specs.declared.lens.Lens.{Lens}
 use Rattle.maskcull_c.specs.declared.pieces.PieceRoom.{PieceRoom}
+use Rattle.maskcull_c.specs.declared.scratch.Scratch.{Scratch}
+use Rattle.maskcull_c.specs.declared.view.View.{View}
 use Rattle.maskcull_c.proofs.Listed.{listed_none, listed_then}
 
 -- a piece that lies within some triangles lies within more
@@ -84,3 +87,18 @@ module _ (lens : Lens) (floats : List ℕ) (triangles : List Triangle) where
   -- from the first place on
   pub all_added : (most next : ℕ) (old new : List PieceRoom) → AreAdded lens floats triangles most 0 next old new → AreSetUp lens.setup lens.view floats triangles old new next
   all_added most next old new a = let after = a.after in record { pieces = a.pieces; listed = a.listed; counted = omega (arith, after); within = a.within }
+
+-- a mesh without a piece
+pub none_set_up : (s : Setup) (v : View) (floats : List ℕ) (triangles : List Triangle) (rooms : List PieceRoom) → AreSetUp s v floats triangles rooms rooms 0
+none_set_up s v floats triangles rooms = record {
+  pieces = [];
+  listed = listed_none 0 rooms (omega arith);
+  counted = refl;
+  within = λ x m. absurd (let lt = m.1 in omega (arith, lt));
+}
+
+-- what is held in a scratch that was asked
+pub held_point : (lens : Lens) (floats : List ℕ) (held : List Scratch) (k : ℕ) (d : Scratch) (a : Held) → AreHeld lens floats held → k < length held → Some a ≡ held_in (get_or held k d) → IsPoint lens floats k a
+held_point lens floats held k d a all lt is =
+    let same : get_or held k d ≡ get_or held k no_scratch = get_or_default held k d no_scratch lt in
+    subst (λ (o : Option Held). IfSome o (IsPoint lens floats k)) (sym (is ∙ ap held_in same)) (all.each k lt)

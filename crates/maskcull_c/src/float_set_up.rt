@@ -93,7 +93,9 @@ fn quad_fan(
 {
     let first = &triangles[i];
     let second = &triangles[i + 1];
-    if !are_same(lens, positions, first.a, second.a) || !are_same(lens, positions, first.c, second.b) {
+    if !are_same(lens, positions, first.a, second.a)
+        || !are_same(lens, positions, first.c, second.b)
+    {
         return None;
     }
     let a = held[first.a as usize].point()?;
@@ -243,6 +245,13 @@ pub extern "C" fn maskcull_set_up_floats(
     if !are_among(triangles, known) {
         return BAD_INDEX;
     }
-    *count = list_mesh(pieces, setup, view, positions, triangles, &mut scratch[..known]);
+    *count = list_mesh(
+        pieces,
+        setup,
+        view,
+        positions,
+        triangles,
+        &mut scratch[..known],
+    );
     DONE
 }

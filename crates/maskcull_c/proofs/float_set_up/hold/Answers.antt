@@ -19,6 +19,6 @@ loop-k-preserved c =
 
 pub returns : goal.returns
 returns c = record {
-  count = ?;
+  count = c.loop-k.auto.scratch ∙ c.requires;
   each = λ j h. c.loop-k.invariant j (omega (arith, h, c.loop-k-test.false));
 }

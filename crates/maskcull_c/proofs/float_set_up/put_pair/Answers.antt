@@ -13,8 +13,8 @@ returns-in-Some c =
       few = omega (arith, few);
     }
 
-pub put_triangle-requires-clause-room-2 : goal.put_triangle-requires-clause-room-2
-put_triangle-requires-clause-room-2 c =
+pub put_triangle-requires-clause-room : goal.put_triangle-requires-clause-room
+put_triangle-requires-clause-room c =
     let first = c.put_triangle-next.ensures c.args.positions.now c.requires.held in
     let room = c.requires.room in let after = first.after in let few = first.few in let whole = first.listed.whole in
     omega (arith, room, after, few, whole)

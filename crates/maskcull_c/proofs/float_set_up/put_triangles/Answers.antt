@@ -25,5 +25,12 @@ put_triangle-requires-clause-room c =
     let after = now.after in let few = now.few in let whole = now.listed.whole in let room = c.requires.room in
     omega (arith, after, few, whole, room)
 
+pub returns-then-triangles-eq1 : goal.returns-then-triangles-eq1
+returns-then-triangles-eq1 c =
+    let k = c.loop-k.k in
+    all_added c.args.lens.now c.args.positions.now c.args.triangles.now (14 * k + 7) c.put_triangle.result c.args.rooms.now c.put_triangle.new.rooms
+    (added_then c.args.lens.now c.args.positions.now c.args.triangles.now (14 * k) 7 0 c.loop-k.at c.put_triangle.result c.args.rooms.now c.loop-k.rooms c.put_triangle.new.rooms
+    c.loop-k.invariant (c.put_triangle.ensures c.args.positions.now c.requires.held))
+
 pub returns : goal.returns
 returns c = all_added c.args.lens.now c.args.positions.now c.args.triangles.now (14 * c.loop-k.k) c.loop-k.at c.args.rooms.now c.loop-k.rooms c.loop-k.invariant
