@@ -1,2 +1,4 @@
+pub mod Boxes
 pub mod Clip
 pub mod Held
+pub mod Lost
