@@ -1,0 +1,6 @@
+pub mod Products
+pub mod Floors
+pub mod Nears
+pub mod Terms
+pub mod Sums
+pub mod Reach
