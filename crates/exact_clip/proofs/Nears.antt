@@ -29,12 +29,12 @@ led_by n j up small e h l =
     let b : n * 2 ^ up < 2 ^ 31 = subst (λ (t : ℕ). n * 2 ^ up < 2 ^ t) s (shl_below n (suc j) up l) in
     record { least = omega (arith, e, small); most = omega (arith, e); above = omega (arith, p, a); below = b }
 
-pub led : (n z : ℕ) → 0 < n → n < 2 ^ 24 → z ≡ count_leading_zeros 32 n → IsLed n (z - 1)
-led n z positive small e =
+pub led : (n : ℕ) → 0 < n → n < 2 ^ 24 → IsLed n (count_leading_zeros 32 n - 1)
+led n positive small =
     let t = leading_top 32 n positive (omega (arith, small)) in
     let power_small : 2 ^ t.0 < 2 ^ 24 = omega (arith, t.2, small) in
     let j_small = below_24-by t.0 (cases_lt t.0 24) power_small in
-    led_by n t.0 (z - 1) j_small (omega (arith, e, t.1, j_small)) t.2 t.3
+    led_by n t.0 (count_leading_zeros 32 n - 1) j_small (omega (arith, t.1, j_small)) t.2 t.3
 
 -- the same number, whatever is shifted
 pub raised : (s d up e p : ℕ) → d ≡ s * 2 ^ up → e + up ≡ p → d * 2 ^ e ≡ s * 2 ^ p
@@ -42,8 +42,8 @@ raised s d up e p ed ee =
     let a : (s * 2 ^ up) * 2 ^ e ≡ s * (2 ^ e * 2 ^ up) = omega arith in
     ap (λ (t : ℕ). t * 2 ^ e) ed ∙ a ∙ ap (λ (t : ℕ). s * t) (sym (pow-add 2 e up) ∙ ap (λ (t : ℕ). 2 ^ t) ee)
 
-pub near_is : (whole m : ℤ) (s p k d e : ℕ) → whole ≡ m *ℤ pos (2 ^ p) → m ≡ pos s → d * 2 ^ e ≡ s * 2 ^ (p + k) → pos d *ℤ pos (2 ^ e) ≡ whole *ℤ pos (2 ^ k)
-near_is whole m s p k d e ew em h =
+pub near_is : (whole m : ℤ) (s p k d e : ℕ) → whole ≡ m *ℤ pos (2 ^ p) → d * 2 ^ e ≡ s * 2 ^ (p + k) → m ≡ pos s → pos d *ℤ pos (2 ^ e) ≡ whole *ℤ pos (2 ^ k)
+near_is whole m s p k d e ew h em =
     let a : (s * 2 ^ p) * 2 ^ k ≡ s * (2 ^ p * 2 ^ k) = omega arith in
     let n : d * 2 ^ e ≡ (s * 2 ^ p) * 2 ^ k = h ∙ ap (λ (t : ℕ). s * t) (pow-add 2 p k) ∙ sym a in
     let w : whole ≡ pos (s * 2 ^ p) = ew ∙ ap (λ (z : ℤ). z *ℤ pos (2 ^ p)) em ∙ pos-mul s (2 ^ p) in

@@ -1,7 +1,6 @@
 -- Which numbers a column reaches.
-use Rattle.std.proofs.Common.{◌≡◌, ℕ, ◌+◌, ◌<◌, List, [], ◌∷◌, length, slice_index, arith}
-use Rattle.std.proofs.lemmas.List.Elements.{All-nil, All-cons, All-get_or}
-use Rattle.std.specs.List.{All}
+use Rattle.std.proofs.Common.{◌≡◌, ◌↔◌, ℕ, ◌+◌, ◌<◌, List, Bool, true, ◌&&◌, arith}
+use Rattle.std.proofs.lemmas.Bool.{and_parts, and_from}
 use Rattle.float_bits.specs.Floats.{power_of}
 use Rattle.float_bits.specs.Numbers.{IsDecoded}
 use Rattle.float_bits.specs.declared.number.Number.{Number}
@@ -19,10 +18,9 @@ reaches exponent matrix k b c n column number h =
     let e = number.power in let r = column.room in let x = column.x.room in let y = column.y.room in let w = column.w.room in
     omega (arith, e, r, x, y, w, h.x, h.y, h.w)
 
--- three numbers
-pub all_three : (P : ℕ → Type 0) (xs : List ℕ) → length xs ≡ 3 → P (slice_index xs 0) → P (slice_index xs 1) → P (slice_index xs 2) → All P xs
-all_three P [] e p q r = absurd (omega (arith, e))
-all_three P (a ∷ []) e p q r = absurd (omega (arith, e))
-all_three P (a ∷ b ∷ []) e p q r = absurd (omega (arith, e))
-all_three P (a ∷ b ∷ c ∷ []) e p q r = All-cons P a (b ∷ c ∷ []) p (All-cons P b (c ∷ []) q (All-cons P c [] r (All-nil P)))
-all_three P (a ∷ b ∷ c ∷ d ∷ xs) e p q r = absurd (omega (arith, e))
+-- three tests at once
+pub three_true : (a b d : Bool) (A B D : Type 0) → (a ≡ true) ↔ A → (b ≡ true) ↔ B → (d ≡ true) ↔ D → (((a && b) && d) ≡ true) ↔ (A × B × D)
+three_true a b d A B D f g h = (
+  λ e. let p = and_parts (a && b) d e in let q = and_parts a b p.0 in (f.0 q.0, g.0 q.1, h.0 p.1),
+  λ t. and_from (a && b) d (and_from a b (f.1 t.0) (g.1 t.1)) (h.1 t.2),
+)

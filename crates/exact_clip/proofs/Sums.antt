@@ -6,7 +6,7 @@ use Rattle.float_bits.specs.Floats.{whole_of}
 use Rattle.exact_clip.specs.Clip.{Clip, clip_of, row_times, number_at}
 use Rattle.exact_clip.specs.Held.{IsHeld, Holds}
 use Rattle.exact_clip.specs.Lost.{one}
-use Rattle.exact_clip.specs.Terms.{IsCut, AreCuts, AreSmall, IsSum, column_times}
+use Rattle.exact_clip.specs.Terms.{IsCut, AreCuts, IsSum, column_times}
 use Rattle.exact_clip.specs.declared.held.Held.{Held}
 use Rattle.exact_clip.proofs.Products.{pos-mul, distributed}
 
@@ -39,9 +39,6 @@ held_is unit a b c d s x y z w p q r t e =
       high = from_above _ _ _ _ _ _ x y z w unit sums tops p.floor.high q.floor.high r.floor.high t.floor.high;
       bounded = bounded_sum a b c d s e p.bounded q.bounded r.bounded t.bounded;
     }
-
-pub small : (unit : ℕ) (v : Held) (exact : Clip) → AreCuts unit v exact → AreSmall v
-small unit v exact h = record { x = h.x.bounded; y = h.y.bounded; w = h.w.bounded }
 
 -- a position's clip coordinates by what each of its coordinates adds
 pub holds : (unit : ℕ) (matrix position : List ℕ) (a b c d s : Held)

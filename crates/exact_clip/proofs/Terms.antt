@@ -68,4 +68,5 @@ column_cut exponent matrix k b c n v column number reach terms =
       x = term_cut exponent (slice_index matrix k) b c.x n v.x column.x number (omega (arith, reach, rooms.x_room)) terms.x;
       y = term_cut exponent (slice_index matrix (k + 4)) b c.y n v.y column.y number (omega (arith, reach, rooms.y_room)) terms.y;
       w = term_cut exponent (slice_index matrix (k + 8)) b c.w n v.w column.w number (omega (arith, reach, rooms.w_room)) terms.w;
+      small = record { x = terms.x.bounded; y = terms.y.bounded; w = terms.w.bounded };
     }

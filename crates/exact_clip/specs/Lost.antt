@@ -24,5 +24,5 @@ pub record IsPositionInReach (exponent : ℕ) (matrix position : List ℕ) : Typ
 
 -- all the products that the clip coordinates of a position add up
 pub record IsInReach (exponent : ℕ) (matrix position : List ℕ) : Type 0 where
-  pub position : IsPositionInReach exponent matrix position
+  pub coordinates : IsPositionInReach exponent matrix position
   pub last : IsColumnInReach exponent matrix 3 one

@@ -49,10 +49,16 @@ pub record IsCut (unit : ℕ) (term exact : ℤ) : Type 0 where
   pub floor : IsFloor exact unit term
   pub bounded : Bounded (2 ^ 60) term
 
+pub record AreSmall (v : Held) : Type 0 where
+  pub x : Bounded (2 ^ 60) v.x
+  pub y : Bounded (2 ^ 60) v.y
+  pub w : Bounded (2 ^ 60) v.w
+
 pub record AreCuts (unit : ℕ) (v : Held) (exact : Clip) : Type 0 where
   pub x : IsCut unit v.x exact.x
   pub y : IsCut unit v.y exact.y
   pub w : IsCut unit v.w exact.w
+  pub small : AreSmall v
 
 -- what a coordinate adds to a position's clip coordinates by column k
 abbrev pub column_times : List ℕ → ℕ → ℤ → Clip
@@ -64,11 +70,6 @@ column_times matrix k v =
     }
 
 -- sums of four
-pub record AreSmall (v : Held) : Type 0 where
-  pub x : Bounded (2 ^ 60) v.x
-  pub y : Bounded (2 ^ 60) v.y
-  pub w : Bounded (2 ^ 60) v.w
-
 pub record IsSum (a b c d sum : Held) : Type 0 where
   pub x : sum.x ≡ ((a.x +ℤ b.x) +ℤ c.x) +ℤ d.x
   pub y : sum.y ≡ ((a.y +ℤ b.y) +ℤ c.y) +ℤ d.y

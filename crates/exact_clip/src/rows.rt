@@ -1,13 +1,13 @@
 //! The rows of a matrix, decoded once for many positions.
-ghost use Rattle.std.specs.Prelude.{◌≡◌, ℕ, pos, ◌+◌, ◌≤◌, ◌<◌, ◌^◌, IsTrue, IsSome, IfSome, ◌↔◌};
+ghost use Rattle.std.specs.Prelude.{◌≡◌, ℕ, pos, ◌+◌, ◌≤◌, ◌<◌, ◌^◌, IsTrue, IsSome, IfSome, IfNone, ◌↔◌};
 ghost use Rattle.std.specs.List.{All};
 ghost use Rattle.std.specs.Option.{ForSome, ForNone};
 ghost use Rattle.float_bits.specs.Floats.{IsNumber};
 ghost use Rattle.exact_clip.specs.Clip.{clip_of};
 ghost use Rattle.exact_clip.specs.Held.{Holds};
 ghost use Rattle.exact_clip.specs.Lost.{one, IsColumnInReach, IsPositionInReach, IsInReach};
-ghost use Rattle.exact_clip.specs.Parts.{AreParts};
-ghost use Rattle.exact_clip.specs.Terms.{IsColumn, AreCuts, column_times};
+ghost use Rattle.exact_clip.specs.Parts.{AreParts, IsLast};
+ghost use Rattle.exact_clip.specs.Terms.{IsColumn};
 
 use crate::column::Column;
 use crate::held::Held;
@@ -31,7 +31,7 @@ pub struct Rows {
     ghost x_is: { IsColumn exponent matrix 0 x },
     ghost y_is: { IsColumn exponent matrix 1 y },
     ghost z_is: { IsColumn exponent matrix 2 z },
-    ghost last_is: { ForSome last (λ v. AreCuts (2 ^ exponent) v (column_times matrix 3 (pos (2 ^ 149)))) },
+    ghost last_is: { ForSome last (IsLast exponent matrix) },
     ghost lost: { ForNone last (¬ IsColumnInReach exponent matrix 3 one) },
 }
 
@@ -45,8 +45,8 @@ fn are_numbers(position: &[u32; 3]) -> bool
 // What the last column adds to each position.
 fn last_of(matrix: &[u32; 12], exponent: u32) -> Option<Held>
     requires { exponent ≤ 395 }
-    ensures value { IfSome result (λ v. AreCuts (2 ^ exponent) v (column_times matrix.now 3 (pos (2 ^ 149)))) }
-    ensures known { IsSome result ↔ IsColumnInReach exponent matrix.now 3 one }
+    ensures value { IfSome result (IsLast exponent matrix.now) }
+    ensures lost { IfNone result (¬ IsColumnInReach exponent matrix.now 3 one) }
 {
     let column = Column::of(matrix, 3, exponent);
     let number = decoded(ONE);
@@ -88,10 +88,10 @@ impl Rows {
 
     // Whether no product with a position's numbers is lost.
     #[inline(always)]
-    fn reaches(&self, x: &Number, y: &Number, z: &Number) -> bool
+    fn is_in_reach(&self, x: &Number, y: &Number, z: &Number) -> bool
         ensures { IsTrue result ↔ ((x.now.power < self.now.x.room) × (y.now.power < self.now.y.room) × (z.now.power < self.now.z.room)) }
     {
-        self.x.reaches(x) && self.y.reaches(y) && self.z.reaches(z)
+        self.x.reaches(x) & self.y.reaches(y) & self.z.reaches(z)
     }
 
     /// What the coordinates of a position add to its clip coordinates. None: one of the floats is no number, or a
@@ -104,7 +104,7 @@ impl Rows {
         let x = decoded(position[0]);
         let y = decoded(position[1]);
         let z = decoded(position[2]);
-        if are_numbers(position) && self.reaches(&x, &y, &z) {
+        if are_numbers(position) && self.is_in_reach(&x, &y, &z) {
             Some(Parts {
                 x: self.x.terms(&x),
                 y: self.y.terms(&y),
@@ -118,8 +118,8 @@ impl Rows {
     /// What the last column adds to each position's clip coordinates. None: it is lost.
     #[inline(always)]
     pub(crate) fn last(&self) -> Option<Held>
-        ensures value { IfSome result (λ v. AreCuts (2 ^ self.now.exponent) v (column_times self.now.matrix 3 (pos (2 ^ 149)))) }
-        ensures known { IsSome result ↔ IsColumnInReach self.now.exponent self.now.matrix 3 one }
+        ensures value { IfSome result (IsLast self.now.exponent self.now.matrix) }
+        ensures lost { IfNone result (¬ IsColumnInReach self.now.exponent self.now.matrix 3 one) }
     {
         self.last
     }

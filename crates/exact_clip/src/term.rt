@@ -55,8 +55,10 @@ fn product(factor: i64, mantissa: i32) -> i64
 
 #[inline(always)]
 fn shifted_down(product: i64, down: u32) -> i64
-    requires { down ≤ 63 }
-    ensures { IsFloor product (2 ^ down) result }
+    requires product { Bounded (2 ^ 60) product }
+    requires down { down ≤ 63 }
+    ensures floor { IsFloor product (2 ^ down) result }
+    ensures bounded { Bounded (2 ^ 60) result }
 {
     product >> down
 }
