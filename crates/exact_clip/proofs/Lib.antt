@@ -4,3 +4,4 @@ pub mod Nears
 pub mod Terms
 pub mod Sums
 pub mod Reach
+pub mod Rows

@@ -1,6 +1,7 @@
 -- Which numbers a column reaches.
-use Rattle.std.proofs.Common.{◌≡◌, ◌↔◌, ℕ, ◌+◌, ◌<◌, List, Bool, true, ◌&&◌, arith}
-use Rattle.std.proofs.lemmas.Bool.{and_parts, and_from}
+use Rattle.std.proofs.Common.{◌≡◌, ◌↔◌, ℕ, ◌+◌, ◌<◌, List, Bool, true, ◌&&◌, Option, None, sym, ap, ◌∙◌, arith}
+use Rattle.std.specs.Option.{is_some}
+use Rattle.std.proofs.lemmas.Bool.{and_parts, and_from, false≢true}
 use Rattle.float_bits.specs.Floats.{power_of}
 use Rattle.float_bits.specs.Numbers.{IsDecoded}
 use Rattle.float_bits.specs.declared.number.Number.{Number}
@@ -24,3 +25,7 @@ three_true a b d A B D f g h = (
   λ e. let p = and_parts (a && b) d e in let q = and_parts a b p.0 in (f.0 q.0, g.0 q.1, h.0 p.1),
   λ t. and_from (a && b) d (and_from a b (f.1 t.0) (g.1 t.1)) (h.1 t.2),
 )
+
+-- nothing where a fact fails
+pub nothing : {X : Type 0} (r : Option X) (P : Type 0) → r ≡ None → (P → ⊥) → (is_some r ≡ true) ↔ P
+nothing {X = X} r P e n = (λ h. absurd (false≢true (sym (ap (λ (o : Option X). is_some o) e) ∙ h)), λ p. absurd (n p))
