@@ -1,8 +1,8 @@
 -- Products of integers: their laws, and their order.
-use Rattle.std.proofs.Common.{◌≡◌, ℕ, ℤ, pos, negsuc, suc, ◌+◌, ◌*◌, ◌<◌, ◌≤◌, ◌+ℤ◌, ◌*ℤ◌, ◌≤ℤ◌, ◌<ℤ◌, arith}
+use Rattle.std.proofs.Common.{◌≡◌, ℕ, ℤ, pos, negsuc, suc, ◌*◌, ◌<◌, ◌≤◌, ◌+ℤ◌, ◌*ℤ◌, ◌≤ℤ◌, ◌<ℤ◌, arith}
 use Rattle.std.proofs.lemmas.Int.{ints}
 use Rattle.std.proofs.lemmas.Nat.{mul-le}
-use Rattle.cull_base.proofs.Ring.{diff, diff-add, diff-mul, diff-same, over3, over4}
+use Rattle.cull_base.proofs.Ring.{diff-add, diff-mul, diff-same, over3, over4}
 
 pub pos-mul : (m n : ℕ) → pos m *ℤ pos n ≡ pos (m * n)
 pos-mul m n = omega (arith, ints)

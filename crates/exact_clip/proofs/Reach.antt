@@ -1,8 +1,7 @@
 -- Which numbers a column reaches.
-use Rattle.std.proofs.Common.{◌≡◌, ◌↔◌, ℕ, ◌+◌, ◌<◌, List, Bool, true, ◌&&◌, Option, None, sym, ap, ◌∙◌, arith}
+use Rattle.std.proofs.Common.{◌≡◌, ◌↔◌, ℕ, ◌<◌, List, Bool, true, ◌&&◌, Option, None, sym, ap, ◌∙◌, arith}
 use Rattle.std.specs.Option.{is_some}
 use Rattle.std.proofs.lemmas.Bool.{and_parts, and_from, false≢true}
-use Rattle.float_bits.specs.Floats.{power_of}
 use Rattle.float_bits.specs.Numbers.{IsDecoded}
 use Rattle.float_bits.specs.declared.number.Number.{Number}
 use Rattle.exact_clip.specs.Lost.{IsColumnInReach}

@@ -1,9 +1,9 @@
 -- Four terms of whole units, each rounded down, hold the exact sum.
-use Rattle.std.proofs.Common.{◌≡◌, ℕ, ℤ, pos, ◌+◌, ◌*◌, ◌^◌, ◌+ℤ◌, ◌*ℤ◌, ◌≤ℤ◌, ◌<ℤ◌, ◌∙◌, sym, ap, List, arith, refl}
+use Rattle.std.proofs.Common.{◌≡◌, ℕ, ℤ, pos, ◌*◌, ◌^◌, ◌+ℤ◌, ◌*ℤ◌, ◌≤ℤ◌, ◌<ℤ◌, ◌∙◌, ap, List, arith, refl}
 use Rattle.std.proofs.lemmas.Int.{ints}
 use Rattle.cull_base.specs.Bounds.{Bounded}
 use Rattle.float_bits.specs.Floats.{whole_of}
-use Rattle.exact_clip.specs.Clip.{Clip, clip_of, row_times, number_at}
+use Rattle.exact_clip.specs.Clip.{clip_of, row_times, number_at}
 use Rattle.exact_clip.specs.Held.{IsHeld, Holds}
 use Rattle.exact_clip.specs.Lost.{one}
 use Rattle.exact_clip.specs.Terms.{IsCut, AreCuts, IsSum, column_times}

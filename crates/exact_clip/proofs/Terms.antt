@@ -1,8 +1,7 @@
 -- A product of mantissas, shifted down, is the exact product in whole units.
-use Rattle.std.proofs.Common.{◌≡◌, ℕ, ℤ, pos, ◌+◌, ◌*◌, ◌-◌, ◌<◌, ◌≤◌, ◌^◌, ◌+ℤ◌, ◌*ℤ◌, ◌≤ℤ◌, ◌<ℤ◌, ◌∙◌, sym, ap, ap₂, List, slice_index, arith}
+use Rattle.std.proofs.Common.{◌≡◌, ℕ, ℤ, pos, ◌+◌, ◌*◌, ◌-◌, ◌<◌, ◌^◌, ◌+ℤ◌, ◌*ℤ◌, ◌≤ℤ◌, ◌<ℤ◌, ◌∙◌, sym, ap, ap₂, List, slice_index, arith}
 use Rattle.std.proofs.lemmas.Int.{ints}
 use Rattle.std.proofs.lemmas.Nat.{pow_pos, pow-add, mul-le}
-use Rattle.cull_base.specs.Bounds.{Bounded}
 use Rattle.float_bits.specs.Floats.{whole_of, power_of}
 use Rattle.float_bits.specs.Numbers.{IsDecoded}
 use Rattle.float_bits.specs.declared.number.Number.{Number}
@@ -26,9 +25,9 @@ rescaled f n a b t k p q u ek above ea eb h =
     let sizes : pos k *ℤ pos (p * q) ≡ pos u *ℤ pos 4096 = pos-mul k (p * q) ∙ ap pos ek ∙ sym (pos-mul u 4096) in
     let floors : (t *ℤ pos k) *ℤ pos (p * q) ≡ (t *ℤ pos u) *ℤ pos 4096 = assoc t (pos k) (pos (p * q)) ∙ ap (λ (z : ℤ). t *ℤ z) sizes ∙ sym (assoc t (pos u) (pos 4096)) in
     let tops : ((t *ℤ pos k) +ℤ pos k) *ℤ pos (p * q) ≡ ((t *ℤ pos u) +ℤ pos u) *ℤ pos 4096
-      = distributed (t *ℤ pos k) (pos k) (pos (p * q)) ∙ ap₂ (λ (x y : ℤ). x +ℤ y) floors sizes ∙ sym (distributed (t *ℤ pos u) (pos u) (pos 4096)) in
+    = distributed (t *ℤ pos k) (pos k) (pos (p * q)) ∙ ap₂ (λ (x y : ℤ). x +ℤ y) floors sizes ∙ sym (distributed (t *ℤ pos u) (pos u) (pos 4096)) in
     let products : (f *ℤ n) *ℤ pos (p * q) ≡ (a *ℤ b) *ℤ pos 4096
-      = ap (λ (z : ℤ). (f *ℤ n) *ℤ z) (sym (pos-mul p q)) ∙ regrouped f n (pos p) (pos q) ∙ ap₂ (λ (x y : ℤ). x *ℤ y) ea (sym eb) ∙ swapped a (pos 4096) b in
+    = ap (λ (z : ℤ). (f *ℤ n) *ℤ z) (sym (pos-mul p q)) ∙ regrouped f n (pos p) (pos q) ∙ ap₂ (λ (x y : ℤ). x *ℤ y) ea (sym eb) ∙ swapped a (pos 4096) b in
     record {
       low = le_from _ _ _ _ (times-le (t *ℤ pos k) (f *ℤ n) (p * q) h.low) floors products;
       high = lt_from _ _ _ _ (times-lt (f *ℤ n) ((t *ℤ pos k) +ℤ pos k) (p * q) above h.high) products tops;
@@ -40,7 +39,7 @@ term_cut exponent a b f n t factor number reach term =
     let down = f.room - 1 - n.power in
     let all : down + (power_of a + n.power) ≡ exponent + 12 = omega (arith, factor.room, reach) in
     let sizes : 2 ^ down * (2 ^ power_of a * 2 ^ n.power) ≡ 2 ^ exponent * 4096
-      = ap (λ (z : ℕ). 2 ^ down * z) (sym (pow-add 2 (power_of a) n.power)) ∙ sym (pow-add 2 down (power_of a + n.power)) ∙ ap (λ (z : ℕ). 2 ^ z) all ∙ pow-add 2 exponent 12 in
+    = ap (λ (z : ℕ). 2 ^ down * z) (sym (pow-add 2 (power_of a) n.power)) ∙ sym (pow-add 2 down (power_of a + n.power)) ∙ ap (λ (z : ℕ). 2 ^ z) all ∙ pow-add 2 exponent 12 in
     let p = pow_pos (power_of a) in let q = pow_pos n.power in
     let m = mul-le 1 1 (2 ^ power_of a) (2 ^ n.power) (omega (arith, p)) (omega (arith, q)) in
     let positive : 0 < 2 ^ power_of a * 2 ^ n.power = omega (arith, m) in

@@ -1,5 +1,5 @@
 -- Worked values of floats, each by computing.
-use Rattle.std.proofs.Common.{◌≡◌, ℕ, pos, neg_ℤ, ◌*◌, ◌^◌, refl}
+use Rattle.std.proofs.Common.{◌≡◌, pos, neg_ℤ, ◌*◌, ◌^◌, refl}
 use Rattle.float_bits.specs.Floats.{field_of, whole_of}
 
 -- 1, -2.5, and the greatest float

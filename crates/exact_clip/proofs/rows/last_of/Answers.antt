@@ -12,6 +12,6 @@ returns-then-reaches-clause-value c =
     let below = c.reaches.ensures.0 c.if-reaches.true in
     record {
       cuts = subst (λ (z : ℤ). AreCuts (2 ^ e) c.terms.result (column_times m 3 z)) whole_of-one
-      (column_cut e m 3 one c.of-column.result c.decoded-number.result c.terms.result c.of-column.ensures c.decoded-number.ensures below c.terms.ensures);
+          (column_cut e m 3 one c.of-column.result c.decoded-number.result c.terms.result c.of-column.ensures c.decoded-number.ensures below c.terms.ensures);
       reach = reached e m 3 one c.of-column.result c.decoded-number.result c.of-column.ensures c.decoded-number.ensures below;
     }

@@ -1,4 +1,4 @@
-use Rattle.std.proofs.Common.{ℤ, pos, ◌<ℤ◌, refl, arith}
+use Rattle.std.proofs.Common.{pos, ◌<ℤ◌, refl, arith}
 use Rattle.std.proofs.lemmas.Int.{ints}
 use Rattle.exact_clip.proofs.Nears.{near_is, above}
 use Rattle.exact_clip.proofs.near.Near.of.Goals as goal

@@ -9,8 +9,7 @@ terms-requires-then-is_in_reach-clause-reach c = (c.is_in_reach.ensures.0 c.if-i
 pub returns-then-is_in_reach-clause-known : goal.returns-then-is_in_reach-clause-known
 returns-then-is_in_reach-clause-known c =
     let r = c.args.self.now in let p = c.args.position.now in
-    let below = c.is_in_reach.ensures.0 c.if-is_in_reach.true in
-    (
+    let below = c.is_in_reach.ensures.0 c.if-is_in_reach.true in (
       λ _. (
         c.are_numbers.ensures.0 c.if-are_numbers.true,
         record {
