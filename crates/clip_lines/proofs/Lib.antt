@@ -1,0 +1,6 @@
+pub mod Errors
+pub mod Crosses
+pub mod Determinants
+pub mod Steps
+pub mod Widths
+pub mod Greatest
