@@ -1,7 +1,7 @@
 -- Cross products of corners that are known to one step.
 use Rattle.std.proofs.Common.{◌≡◌, ℕ, ℤ, pos, neg_ℤ, nat_abs, ◌≤◌, ◌+◌, ◌*◌, ◌-ℤ◌, ◌*ℤ◌, arith}
 use Rattle.std.proofs.lemmas.Int.{ints}
-use Rattle.cull_base.proofs.Ring.{diff, diff-add, diff-sub, diff-mul, diff-neg, diff-same, over4}
+use Rattle.cull_base.proofs.Ring.{diff, diff-add, diff-mul, diff-neg, diff-same, over4}
 use Rattle.exact_clip.specs.Clip.{Clip}
 use Rattle.clip_lines.specs.Lines.{cross, IsWithin, StandsFor}
 use Rattle.clip_lines.specs.Parts.{norm_of}
@@ -25,7 +25,7 @@ cross-stands s k p q a b e h i = record {
 -- the other way round
 part-turned : (a b c d : ℤ) → neg_ℤ ((a *ℤ d) -ℤ (b *ℤ c)) ≡ (c *ℤ b) -ℤ (d *ℤ a)
 part-turned = over4 (λ a b c d. neg_ℤ ((a *ℤ d) -ℤ (b *ℤ c)) ≡ (c *ℤ b) -ℤ (d *ℤ a))
-    (λ a a' b b' c c' d d'. simp (diff-add, diff-sub, diff-mul, diff-neg) (diff-same _ _ _ _ (omega arith)))
+    (λ a a' b b' c c' d d'. simp (diff-add, diff-mul, diff-neg) (diff-same _ _ _ _ (omega arith)))
 
 part-opposite : (s k : ℕ) (p a b c d : ℤ) → IsWithin s k p ((a *ℤ d) -ℤ (b *ℤ c)) → IsWithin s k (neg_ℤ p) ((c *ℤ b) -ℤ (d *ℤ a))
 part-opposite s k p a b c d h = let e = part-turned a b c d in rw (← e) (neg-within s k p ((a *ℤ d) -ℤ (b *ℤ c)) h)

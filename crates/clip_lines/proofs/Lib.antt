@@ -3,4 +3,3 @@ pub mod Crosses
 pub mod Determinants
 pub mod Steps
 pub mod Widths
-pub mod Greatest

@@ -117,7 +117,7 @@ pub steps-bounded : (v q : ℤ) (k : ℕ) → IsFloor v (2 ^ k) q → nat_abs v 
 steps-bounded v q k f h = let e = pow-add 2 30 k in bounded v q (2 ^ k) (2 ^ 30) f (subst (λ n. nat_abs v < n) e h)
 
 pub steps-near : (v q : ℤ) (k unit : ℕ) (exact : ℤ) → 2 ≤ k → IsFloor v (2 ^ k) q → IsHeld unit v exact → IsWithin (unit * 2 ^ k) 1 (q +ℤ pos 1) exact
-steps-near v q k unit exact h f held = near v q (2 ^ k) unit exact (pow-le-pow_right {2} (omega arith) {2} {k} h) f held
+steps-near v q k unit exact h f held = near v q (2 ^ k) unit exact (pow-le-pow_right {n = 2} (omega arith) {i = 2} {j = k} h) f held
 
 -- ---- what is held is held by a unit
 

@@ -138,11 +138,15 @@ impl Plane {
         let product = product_of(first, &sum);
         let length = product.unsigned_abs();
         let unsure = unsure_of(first, &sum);
-        (unsure < length).then_some(Plane {
-            sum,
-            length,
-            unsure,
-            is_turned: product < 0,
-        })
+        if unsure < length {
+            Some(Plane {
+                sum,
+                length,
+                unsure,
+                is_turned: product < 0,
+            })
+        } else {
+            None
+        }
     }
 }
