@@ -51,25 +51,23 @@ cube-positive : (s : ℕ) → 0 < s → 0 < (s * s) * s
 cube-positive (suc s) h = omega arith
 cube-positive zero h = absurd (omega (arith, h))
 
+not-below : (x : ℤ) → pos 0 ≤ℤ x → int_lt x (pos 0) ≡ false
+not-below x h = grind (arith, ints, h)
+
+is-below : (x : ℤ) → x <ℤ pos 0 → int_lt x (pos 0) ≡ true
+is-below x h = grind (arith, ints, h)
+
 -- more than it is off by: it has the sign of what it stands for
 sign-known : (s u : ℕ) (d x : ℤ) → 0 < s → u < nat_abs d → IsWithin s u d x → int_lt d (pos 0) ≡ int_lt x (pos 0)
 sign-known s u (pos d) x h l i =
     let same : s ≤ s = omega arith in let le : u ≤ d = omega (arith, l) in let k = mul-le-mul le same in
-    not_below x (omega (arith, ints, i, k))
-  where
-    not_below : (x : ℤ) → pos 0 ≤ℤ x → false ≡ int_lt x (pos 0)
-    not_below (pos x) k = refl
-    not_below (negsuc x) k = absurd (omega (arith, ints, k))
+    not-below (pos d) (omega (arith, ints)) ∙ sym (not-below x (omega (arith, ints, i, k)))
 sign-known s u (negsuc d) x h l i =
     let same : s ≤ s = omega arith in let le : u + 1 ≤ suc d = omega (arith, l) in let k = mul-le-mul le same in
-    below x (omega (arith, ints, i, k, h))
-  where
-    below : (x : ℤ) → x <ℤ pos 0 → true ≡ int_lt x (pos 0)
-    below (pos x) k = absurd (omega (arith, ints, k))
-    below (negsuc x) k = refl
+    is-below (negsuc d) (omega (arith, ints)) ∙ sym (is-below x (omega (arith, ints, i, k, h)))
 
 size-within : (s u : ℕ) (d x : ℤ) → IsWithin s u d x → IsWithin s u (pos (nat_abs d)) (cond (int_lt d (pos 0)) (neg_ℤ x) x)
-size-within s u (pos d) x h = h
+size-within s u (pos d) x h = let e = not-below (pos d) (omega (arith, ints)) in rw e h
 size-within s u (negsuc d) x h = neg-within s u (negsuc d) x h
 
 pub plane-stands : (s : ℕ) (p : Corner) (l m n : Line) (a b c : Clip) (plane : Plane) → plane.sum ≡ sum_of_lines l m n
