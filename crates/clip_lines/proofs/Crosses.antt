@@ -1,7 +1,6 @@
 -- Cross products of corners that are known to one step.
-use Rattle.std.proofs.Common.{◌≡◌, ℕ, ℤ, pos, neg_ℤ, nat_abs, ◌≤◌, ◌+◌, ◌*◌, ◌-ℤ◌, ◌*ℤ◌, arith}
-use Rattle.std.proofs.lemmas.Int.{ints}
-use Rattle.cull_base.proofs.Ring.{diff, diff-add, diff-mul, diff-neg, diff-same, over4}
+use Rattle.std.proofs.Common.{◌≡◌, ℕ, ℤ, neg_ℤ, nat_abs, ◌≤◌, ◌+◌, ◌*◌, ◌-ℤ◌, ◌*ℤ◌, arith}
+use Rattle.cull_base.proofs.Ring.{diff-add, diff-mul, diff-neg, diff-same, over4}
 use Rattle.exact_clip.specs.Clip.{Clip}
 use Rattle.clip_lines.specs.Lines.{cross, IsWithin, StandsFor}
 use Rattle.clip_lines.specs.Parts.{norm_of}

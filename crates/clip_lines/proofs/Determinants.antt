@@ -1,11 +1,11 @@
 -- The determinant of a triangle: a corner's product with the sum of the lines.
-use Rattle.std.proofs.Common.{◌≡◌, ◌∙◌, ℕ, ℤ, pos, negsuc, neg_ℤ, nat_abs, zero, suc, ◌<◌, ◌≤◌, ◌+◌, ◌*◌, ◌+ℤ◌, ◌-ℤ◌, ◌*ℤ◌, ◌≤ℤ◌, ◌<ℤ◌, int_lt, true, false, cond, arith, refl, subst, sym}
+use Rattle.std.proofs.Common.{◌≡◌, ◌∙◌, ℕ, ℤ, pos, negsuc, neg_ℤ, nat_abs, zero, suc, ◌<◌, ◌≤◌, ◌+◌, ◌*◌, ◌*ℤ◌, ◌≤ℤ◌, ◌<ℤ◌, int_lt, true, false, cond, arith, refl, subst, sym}
 use Rattle.std.proofs.lemmas.Int.{ints}
 use Rattle.std.proofs.Math.Nat.{mul-le-mul}
 use Rattle.cull_base.proofs.Ring.{diff, diff-add, diff-sub, diff-mul, diff-same, over3}
 use Rattle.exact_clip.specs.Clip.{Clip}
 use Rattle.clip_lines.specs.Lines.{cross, det, dot, sum_of, IsWithin, StandsFor}
-use Rattle.clip_lines.specs.Parts.{of_corner, of_line, norm_of}
+use Rattle.clip_lines.specs.Parts.{of_corner, of_line}
 use Rattle.clip_lines.specs.Planes.{sum_of_lines, unsure_of, AreOf, IsPlaneOf}
 use Rattle.clip_lines.specs.declared.corner.Corner.{Corner}
 use Rattle.clip_lines.specs.declared.line.Line.{Line}

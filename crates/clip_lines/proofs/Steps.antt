@@ -6,7 +6,7 @@ use Rattle.std.proofs.lemmas.Int.{ints, to_z-of_z, by_lt_z}
 use Rattle.std.proofs.Math.Nat.{mul-le-mul_left, pow-le-pow_right}
 use Rattle.std.proofs.lemmas.Nat.{pow_pos, pow-add}
 use Rattle.cull_base.specs.Bounds.{Bounded}
-use Rattle.cull_base.proofs.Ring.{diff, diff-mul, diff-add, diff-same, over3}
+use Rattle.cull_base.proofs.Ring.{diff-mul, diff-add, diff-same, over3}
 use Rattle.exact_clip.specs.Held.{IsHeld}
 use Rattle.clip_lines.specs.Lines.{IsWithin}
 

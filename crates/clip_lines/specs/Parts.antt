@@ -1,5 +1,5 @@
 -- Corners and lines as clip points, and how large they are.
-use Rattle.std.specs.Prelude.{ℕ, ℤ, ◌+◌, ◌*◌, ◌^◌, ◌<◌, ◌≤◌, nat_abs}
+use Rattle.std.specs.Prelude.{ℕ, ◌+◌, ◌*◌, ◌^◌, ◌<◌, ◌≤◌, nat_abs}
 use Rattle.cull_base.specs.Bounds.{Bounded}
 use Rattle.exact_clip.specs.Clip.{Clip}
 use Rattle.exact_clip.specs.declared.held.Held.{Held}

@@ -1,4 +1,4 @@
-use Rattle.std.proofs.Common.{ℤ, ℕ, pos, ◌+ℤ◌, ◌^◌, FitsSigned, w64, arith, rules}
+use Rattle.std.proofs.Common.{ℤ, pos, ◌+ℤ◌, ◌^◌, FitsSigned, w64, arith, rules}
 use Rattle.std.proofs.lemmas.Int.{ints, to_z-of_z}
 use Rattle.cull_base.specs.Bounds.{Bounded}
 use Rattle.clip_lines.proofs.Steps.{IsFloor, steps-bounded, steps-near}

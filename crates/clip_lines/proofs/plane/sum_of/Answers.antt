@@ -1,4 +1,4 @@
-use Rattle.std.proofs.Common.{◌≡◌, ℕ, ℤ, ◌+◌, ◌+ℤ◌, FitsSigned, w64, rules, refl}
+use Rattle.std.proofs.Common.{◌≡◌, ℤ, ◌+◌, ◌+ℤ◌, FitsSigned, w64, rules, refl}
 use Rattle.std.proofs.lemmas.Int.{to_z-of_z}
 use Rattle.clip_lines.specs.declared.line.Line.{Line}
 use Rattle.clip_lines.specs.Planes.{sum_of_lines}

@@ -1,4 +1,4 @@
-use Rattle.std.proofs.Common.{◌≡◌, ◌^◌, neg_ℤ, FitsSigned, w64, arith, rules}
+use Rattle.std.proofs.Common.{FitsSigned, w64, rules}
 use Rattle.std.proofs.lemmas.Int.{to_z-of_z}
 use Rattle.clip_lines.specs.Parts.{of_line}
 use Rattle.clip_lines.proofs.Crosses.{opposite-stands}

@@ -1,4 +1,4 @@
-use Rattle.std.proofs.Common.{◌≡◌, ◌∙◌, ap, ℤ, pos, nat_abs, int_lt, FitsSigned, rules}
+use Rattle.std.proofs.Common.{◌∙◌, ap, pos, nat_abs, int_lt, FitsSigned, rules}
 use Rattle.std.specs.Int.{w128}
 use Rattle.std.proofs.lemmas.Int.{to_z-of_z}
 use Rattle.clip_lines.proofs.Determinants.{plane-stands}
