@@ -9,6 +9,7 @@ use Rattle.cull_base.specs.Bounds.{Bounded}
 use Rattle.cull_base.proofs.Ring.{diff-mul, diff-add, diff-same, over3}
 use Rattle.exact_clip.specs.Held.{IsHeld}
 use Rattle.clip_lines.specs.Lines.{IsWithin}
+use Rattle.clip_lines.specs.Parts.{IsFloor}
 
 -- ---- a shift down is a quotient, rounded down
 
@@ -27,10 +28,6 @@ floor-lt (negsuc a) p h = omega (arith, ints)
 quotient-fits : (v : ℤ) (d : ℕ) → 0 < d → FitsSigned w64 v → FitsSigned w64 (int_div_euclid v (pos d))
 quotient-fits (pos n) d h f = omega (arith, ints, h, f)
 quotient-fits (negsuc n) d h f = omega (arith, ints, h, f)
-
-pub record IsFloor (v : ℤ) (p : ℕ) (q : ℤ) : Type 0 where
-  pub low : (q *ℤ pos p) ≤ℤ v
-  pub high : v <ℤ ((q *ℤ pos p) +ℤ pos p)
 
 pub floored : (v : ℤ) (k : ℕ) → FitsSigned w64 v → IsFloor v (2 ^ k) (to_z w64 (of_z w64 (shr_z v (2 ^ k))))
 floored v k f =
@@ -67,9 +64,10 @@ near v q p unit exact h f held =
     let b = le-times (v +ℤ pos 4) ((q *ℤ pos p) +ℤ pos (2 * p)) unit (above v (q *ℤ pos p) p h f.high) in
     let e : (q *ℤ pos p) *ℤ pos unit ≡ q *ℤ pos (unit * p) = mul-assoc q (pos p) (pos unit) in
     let o = one-more q (unit * p) in
-    let t = two-more (q *ℤ pos p) p unit in
-    (lower exact ((q *ℤ pos p) *ℤ pos unit) (v *ℤ pos unit) (q *ℤ pos (unit * p)) ((q +ℤ pos 1) *ℤ pos (unit * p)) (unit * p) a held.low e o,
-      upper exact ((v +ℤ pos 4) *ℤ pos unit) (((q *ℤ pos p) +ℤ pos (2 * p)) *ℤ pos unit) ((q *ℤ pos p) *ℤ pos unit) (q *ℤ pos (unit * p)) ((q +ℤ pos 1) *ℤ pos (unit * p)) (unit * p) b held.high t e o)
+    let t = two-more (q *ℤ pos p) p unit in (
+      lower exact ((q *ℤ pos p) *ℤ pos unit) (v *ℤ pos unit) (q *ℤ pos (unit * p)) ((q +ℤ pos 1) *ℤ pos (unit * p)) (unit * p) a held.low e o,
+      upper exact ((v +ℤ pos 4) *ℤ pos unit) (((q *ℤ pos p) +ℤ pos (2 * p)) *ℤ pos unit) ((q *ℤ pos p) *ℤ pos unit) (q *ℤ pos (unit * p)) ((q +ℤ pos 1) *ℤ pos (unit * p)) (unit * p) b held.high t e o,
+    )
   where
     above : (v a : ℤ) (p : ℕ) → 4 ≤ p → v <ℤ (a +ℤ pos p) → (v +ℤ pos 4) ≤ℤ (a +ℤ pos (2 * p))
     above v a p h l = omega (arith, ints, h, l)

@@ -1,18 +1,18 @@
 //! Corners of triangles, in so few bits that their products fit.
-ghost use Rattle.std.specs.Prelude.{◌≡◌, ℕ, ℤ, pos, ◌+◌, ◌*◌, ◌^◌, ◌<◌, ◌≤◌, ◌+ℤ◌, ◌*ℤ◌, ◌≤ℤ◌, ◌<ℤ◌, ◌↔◌, nat_abs};
+ghost use Rattle.std.specs.Prelude.{◌≡◌, ℕ, ℤ, ◌+◌, ◌*◌, ◌^◌, ◌<◌, ◌≤◌, ◌↔◌, nat_abs};
 ghost use Rattle.std.specs.List.{All};
 ghost use Rattle.cull_base.specs.Bounds.{Bounded};
 ghost use Rattle.exact_clip.specs.Clip.{Clip};
 ghost use Rattle.exact_clip.specs.Held.{IsHeld, Holds};
 ghost use Rattle.clip_lines.specs.Lines.{IsWithin, StandsFor};
-ghost use Rattle.clip_lines.specs.Parts.{of_corner, norm_of, IsSized, IsShifted};
+ghost use Rattle.clip_lines.specs.Parts.{of_corner, norm_of, IsSized, IsShifted, IsFloor};
 
 use exact_clip::Held;
 
-/// What a corner's coordinate has, without its sign.
+/// What a corner's coordinate has, without its sign, so that the sum of three lines fits 64.
 const CORNER_BITS: u32 = 30;
 
-/// What is held is known to 4 units.
+/// A step is 4 units at least, which is what held coordinates are known to.
 const LEAST_SHIFT: u32 = 2;
 
 /// A clip point in steps of units times a power of two: the exact one is at most a step away along each axis.
@@ -23,6 +23,7 @@ pub struct Corner {
     pub w: i64,
 }
 
+// The greatest size of a coordinate.
 #[inline(always)]
 fn greatest_part(v: &Held) -> u64
     ensures { (s : ℕ) → (result < 2 ^ (30 + s)) ↔ IsShifted s v.now }
@@ -32,6 +33,7 @@ fn greatest_part(v: &Held) -> u64
         .max(v.w.unsigned_abs())
 }
 
+// The least shift, from `LEAST_SHIFT` on, that leaves `CORNER_BITS` bits of a size.
 #[inline(always)]
 fn shift_below(greatest: u64) -> u32
     ensures least { 2 ≤ result }
@@ -39,12 +41,11 @@ fn shift_below(greatest: u64) -> u32
     ensures enough { greatest < 2 ^ (30 + result) }
     ensures no_more { (s : ℕ) → 2 ≤ s → greatest < 2 ^ (30 + s) → result ≤ s }
 {
-    (64 - greatest.leading_zeros())
-        .max(CORNER_BITS + LEAST_SHIFT)
-        - CORNER_BITS
+    (64 - greatest.leading_zeros()).max(CORNER_BITS + LEAST_SHIFT) - CORNER_BITS
 }
 
-/// The least power of two, from the second on, by which each coordinate is below 2^30 steps.
+/// The least shift, from 2 on, after which each coordinate is below 2^30.
+#[inline(always)]
 pub fn shift_of(corners: &[Held]) -> u32
     ensures least { 2 ≤ result }
     ensures most { result ≤ 34 }
@@ -62,8 +63,7 @@ pub fn shift_of(corners: &[Held]) -> u32
 #[inline(always)]
 fn shifted(units: i64, shift: u32) -> i64
     requires { shift ≤ 34 }
-    ensures low { (result *ℤ pos (2 ^ shift)) ≤ℤ units }
-    ensures high { units <ℤ ((result *ℤ pos (2 ^ shift)) +ℤ pos (2 ^ shift)) }
+    ensures { IsFloor units (2 ^ shift) result }
 {
     units >> shift
 }

@@ -89,9 +89,7 @@ fn wide_norm(l: &Line) -> u128
     ensures value { result ≡ norm_of (of_line l.now) }
     ensures most { result ≤ 9 * 2 ^ 61 }
 {
-    u128::from(l.x.unsigned_abs())
-        + u128::from(l.y.unsigned_abs())
-        + u128::from(l.w.unsigned_abs())
+    u128::from(l.x.unsigned_abs()) + u128::from(l.y.unsigned_abs()) + u128::from(l.w.unsigned_abs())
 }
 
 #[inline(always)]
@@ -131,7 +129,7 @@ impl Plane {
             → AreOf scale first.now ab.now bc.now ca.now a b c → IsPlaneOf scale p a b c) }
         ensures thin { MatchOption result
             (nat_abs (dot (of_line (sum_of_lines ab.now bc.now ca.now)) (of_corner first.now))
-                ≤ unsure_of first.now (sum_of_lines ab.now bc.now ca.now))
+            ≤ unsure_of first.now (sum_of_lines ab.now bc.now ca.now))
             (λ p. p.unsure < p.length) }
     {
         let sum = sum_of(ab, bc, ca);

@@ -4,7 +4,4 @@ use Rattle.clip_lines.proofs.Steps.{floored}
 use Rattle.clip_lines.proofs.corner.shifted.Goals as goal
 
 pub returns : goal.returns
-returns c =
-    let f : FitsSigned w64 c.args.units = c.ranges.units in
-    let k = floored c.args.units c.args.shift f in
-    simp to_z-of_z (record { low = k.low; high = k.high })
+returns c = let f : FitsSigned w64 c.args.units = c.ranges.units in simp to_z-of_z (floored c.args.units c.args.shift f)
