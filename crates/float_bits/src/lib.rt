@@ -1,0 +1,2 @@
+//! A stub: the definitions alone.
+#![tactic(auto)]
