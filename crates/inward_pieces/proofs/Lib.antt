@@ -1,0 +1,2 @@
+mod Fans
+mod Several
