@@ -1,5 +1,5 @@
 -- Pieces between certified corners, and what the law says of them.
-use Rattle.std.proofs.Common.{◌≡◌, ℕ, ℤ, pos, ◌+◌, ◌^◌, ◌≤◌, ◌<ℤ◌, ◌-ℤ◌, ◌*ℤ◌, [], ◌∷◌, ◌++◌, List, length, Option, Some, None, IfSome, option_to_list, append-nil, arith, refl}
+use Rattle.std.proofs.Common.{◌≡◌, ℕ, zero, suc, ℤ, pos, ◌<◌, ◌+◌, ◌^◌, ◌≤◌, ◌<ℤ◌, ◌-ℤ◌, ◌*ℤ◌, [], ◌∷◌, ◌++◌, List, length, Option, Some, None, IfSome, option_to_list, append-nil, arith, refl}
 use Rattle.std.specs.List.{All}
 use Rattle.std.proofs.lemmas.Int.{ints}
 use Rattle.std.proofs.lemmas.List.{length-append}
@@ -9,7 +9,7 @@ use Rattle.cull_base.specs.Bounds.{Bounded}
 use Rattle.cull_base.specs.Piece.{Piece, IsPiece, IsCoordinate, point, doubled_area}
 use Rattle.cull_base.specs.declared.nearness.TheConstants.{HELD_TOP}
 use Rattle.exact_clip.specs.Clip.{Clip}
-use Rattle.exact_clip.specs.Held.{Holds}
+use Rattle.exact_clip.specs.Held.{IsHeld, Holds}
 use Rattle.exact_clip.specs.declared.held.Held.{Held}
 use Rattle.pixel_forms.specs.Certified.{IsCertified, StandFor, IsTriangle, IsHalf}
 use Rattle.pixel_forms.specs.Seen.{sight_of, nearest_of}
@@ -78,14 +78,22 @@ length_one_more ts more (Some t) n e k = rw e (omega (arith, k, length-append ts
 pub all_pieces : (eye : Eye) (forms : Forms) (ts : List Piece) → All (HasCorners eye forms) ts → All IsPiece ts
 all_pieces eye forms ts h = All-weaker (HasCorners eye forms) IsPiece (λ t k. k.valid) ts h
 
+-- nothing is held by a unit of 0
+above : (unit : ℕ) (held exact : ℤ) → IsHeld unit held exact → 0 < unit
+above zero held exact h = absurd (omega (arith, ints, h.low, h.high))
+above (suc n) held exact h = omega arith
+
+held_above : (unit : ℕ) (v : Held) (exact : Clip) → Holds unit v exact → 0 < unit
+held_above unit v exact h = above unit v.x exact.x h.x
+
 pub all_within_triangle : (eye : Eye) (a b c : Held) (forms : Forms) (ts : List Piece)
-    → ((unit : ℕ) (p q r : Clip) → Holds unit a p → Holds unit b q → Holds unit c r → StandFor (sight_of eye unit) (nearest_of eye) forms (IsTriangle p q r))
+    → ((unit : ℕ) (p q r : Clip) → 0 < unit → Holds unit a p → Holds unit b q → Holds unit c r → StandFor (sight_of eye unit) (nearest_of eye) forms (IsTriangle p q r))
     → All (HasCorners eye forms) ts → All (IsWithinTriangle eye a b c) ts
 all_within_triangle eye a b c forms ts stand h = All-weaker (HasCorners eye forms) (IsWithinTriangle eye a b c)
-    (λ t k unit p q r ha hb hc. within (sight_of eye unit) (nearest_of eye) forms (IsTriangle p q r) t (stand unit p q r ha hb hc) k.certified) ts h
+    (λ t k unit p q r ha hb hc. within (sight_of eye unit) (nearest_of eye) forms (IsTriangle p q r) t (stand unit p q r (held_above unit a p ha) ha hb hc) k.certified) ts h
 
 pub all_within_quad : (eye : Eye) (a b c d : Held) (forms : Forms) (ts : List Piece)
-    → ((unit : ℕ) (p q r s : Clip) → Holds unit a p → Holds unit b q → Holds unit c r → Holds unit d s → StandFor (sight_of eye unit) (nearest_of eye) forms (IsHalf p q r s))
+    → ((unit : ℕ) (p q r s : Clip) → 0 < unit → Holds unit a p → Holds unit b q → Holds unit c r → Holds unit d s → StandFor (sight_of eye unit) (nearest_of eye) forms (IsHalf p q r s))
     → All (HasCorners eye forms) ts → All (IsWithinQuad eye a b c d) ts
 all_within_quad eye a b c d forms ts stand h = All-weaker (HasCorners eye forms) (IsWithinQuad eye a b c d)
-    (λ t k unit p q r s ha hb hc hd. within (sight_of eye unit) (nearest_of eye) forms (IsHalf p q r s) t (stand unit p q r s ha hb hc hd) k.certified) ts h
+    (λ t k unit p q r s ha hb hc hd. within (sight_of eye unit) (nearest_of eye) forms (IsHalf p q r s) t (stand unit p q r s (held_above unit a p ha) ha hb hc hd) k.certified) ts h

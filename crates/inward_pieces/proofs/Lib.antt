@@ -1,2 +1,1 @@
 mod Fans
-mod Several

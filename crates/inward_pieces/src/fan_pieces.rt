@@ -1,5 +1,5 @@
 //! What a triangle or a quad leaves on the screen.
-ghost use Rattle.std.specs.Prelude.{◌≡◌, [], ◌∷◌, ◌++◌, ◌<◌, ◌≤◌, length, slice_index_or, option_to_list};
+ghost use Rattle.std.specs.Prelude.{◌≡◌, [], ◌∷◌, ◌++◌, ◌<◌, ◌≤◌, length, ◌↔◌, IsTrue, slice_index_or, option_to_list};
 ghost use Rattle.inward_pieces.specs.Members.{members_in, AreFew};
 
 use cull_base::ScreenTri;
@@ -116,7 +116,9 @@ impl FanPieces {
     }
 
     /// Whether there is no piece.
-    pub fn is_empty(&self) -> bool {
+    pub fn is_empty(&self) -> bool
+        ensures { IsTrue result ↔ (self.now ≡ []) }
+    {
         self.len() == 0
     }
 

@@ -6,7 +6,7 @@ use exact_clip::Held;
 use pixel_forms::Eye;
 
 /// What of a triangle or a quad there is to be drawn.
-#[derive(Clone, Copy, Debug, PartialEq, Eq)]
+#[derive(Clone, Copy, PartialEq, Eq)]
 pub(crate) enum Outlook {
     /// Nothing: no square around a pixel's middle is within it, or its winding is dropped.
     Nothing,
@@ -142,8 +142,16 @@ impl Span {
     #[inline(always)]
     fn join(self, other: Span) -> Span {
         Span {
-            least: if self.least < other.least { self.least } else { other.least },
-            greatest: if self.greatest < other.greatest { other.greatest } else { self.greatest },
+            least: if self.least < other.least {
+                self.least
+            } else {
+                other.least
+            },
+            greatest: if self.greatest < other.greatest {
+                other.greatest
+            } else {
+                self.greatest
+            },
         }
     }
 
@@ -208,7 +216,13 @@ pub(crate) fn quad_outlook(eye: &Eye, a: &Held, b: &Held, c: &Held, d: &Held) ->
         Outlook::Nothing
     } else if at_a.near | at_b.near | at_c.near | at_d.near {
         Outlook::Cut
-    } else if shows_quad(&view, a.spot(&view), b.spot(&view), c.spot(&view), d.spot(&view)) {
+    } else if shows_quad(
+        &view,
+        a.spot(&view),
+        b.spot(&view),
+        c.spot(&view),
+        d.spot(&view),
+    ) {
         Outlook::Whole
     } else {
         Outlook::Nothing

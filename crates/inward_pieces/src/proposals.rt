@@ -113,10 +113,15 @@ pub fn quad_pieces(eye: &Eye, a: &Held, b: &Held, c: &Held, d: &Held) -> Option<
     if outlook == Outlook::Nothing {
         return Some(FanPieces::none());
     }
-    let forms = Forms::quad(eye, a, b, c, d)?;
-    let pieces = quad_fan(&forms, eye, outlook)?;
-    if pieces.is_empty() {
+    let Some(forms) = Forms::quad(eye, a, b, c, d) else {
         return None;
+    };
+    match quad_fan(&forms, eye, outlook) {
+        Some(pieces) => if pieces.is_empty() {
+            None
+        } else {
+            Some(pieces)
+        },
+        None => None,
     }
-    Some(pieces)
 }
