@@ -11,6 +11,12 @@ occluded_by_code Visible e = absurd (omega (arith, e))
 occluded_by_code Occluded e = refl
 occluded_by_code Outside e = absurd (omega (arith, e))
 
+-- and one that of outside
+pub outside_by_code : (v : Verdict) → code_of v ≡ OUTSIDE → v ≡ Outside
+outside_by_code Visible e = absurd (omega (arith, e))
+outside_by_code Occluded e = absurd (omega (arith, e))
+outside_by_code Outside e = refl
+
 -- none is the number of a refusal
 pub code_between : (v : Verdict) → (VISIBLE ≤ code_of v) × (code_of v ≤ OUTSIDE)
 code_between Visible = (omega arith, omega arith)

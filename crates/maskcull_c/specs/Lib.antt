@@ -4,3 +4,6 @@ pub mod Bands
 pub mod Asked
 pub mod Pieces
 pub mod Picture
+pub mod Floats
+pub mod Seen
+pub mod Lenses

@@ -17,7 +17,7 @@ use masked_update::{PlainView, TileState};
 use rect_query::{BoxAnswer, box_rect, rect_near, rect_test};
 
 // The number of a verdict.
-fn code(verdict: Verdict) -> u32
+pub(crate) fn code(verdict: Verdict) -> u32
     ensures value { result ≡ code_of verdict }
     ensures least { VISIBLE ≤ result }
     ensures most { result ≤ OUTSIDE }

@@ -66,7 +66,7 @@ pub(crate) struct Checked {
     pub(crate) grade: Grade,
 }
 
-fn winding_of(number: u32) -> Winding
+pub(crate) fn winding_of(number: u32) -> Winding
     ensures { result ≡ winding_of number }
 {
     match number % WIDE {
@@ -87,7 +87,7 @@ pub(crate) fn size_from(width: u32, height: u32) -> Option<Size>
 }
 
 impl Setup {
-    fn grade(&self) -> Grade
+    pub(crate) fn grade(&self) -> Grade
         ensures { result ≡ grade_of self.now }
     {
         if self.winding / WIDE == 0 {

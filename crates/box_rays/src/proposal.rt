@@ -1,0 +1,92 @@
+//! A rectangle proposed by floats.
+ghost use Rattle.std.specs.Prelude.{pos, ◌≤◌, ◌≤ℤ◌, ◌<◌};
+ghost use Rattle.std.specs.List.{All};
+ghost use Rattle.cull_base.specs.Screen.{dimensions};
+ghost use Rattle.box_rays.specs.Corners.{IsShort};
+ghost use Rattle.box_rays.specs.Frustums.{IsOnScreen};
+
+use crate::corner::Corner;
+use cull_base::Rect;
+use exact_clip::Held;
+use std::num::saturating_f64_to_i32;
+
+/// What rounding may add to a place, in parts of it.
+const ROUNDING: f64 = 1e-12;
+
+// A number as a float, by its upper and its lower half.
+#[inline(always)]
+fn float(n: i64) -> f64 {
+    let upper = (n >> 32) as i32;
+    let lower = (n & 0xffff_ffff) as u32;
+    f64::from(upper) * 4294967296.0 + f64::from(lower)
+}
+
+/// Between which places of the screen, which goes from -1 to 1, an object is seen along an axis.
+#[derive(Clone, Copy)]
+struct Extent {
+    least: f64,
+    greatest: f64,
+}
+
+impl Extent {
+    const NONE: Extent = Extent {
+        least: 1e30,
+        greatest: -1e30,
+    };
+
+    // With another place, which is known to a spread.
+    #[inline(always)]
+    fn with(self, place: f64, spread: f64) -> Extent {
+        let unsure = spread * (1.0 + place.abs());
+        Extent {
+            least: self.least.min(place - unsure),
+            greatest: self.greatest.max(place + unsure),
+        }
+    }
+}
+
+// In which pixel of an axis a place is; at the screen's edge where it is beyond.
+fn pixel_at(place: f64, pixels: u32) -> i32
+    requires { pixels ≤ 2048 }
+    ensures least { pos 0 ≤ℤ result }
+    ensures most { result ≤ℤ pos pixels }
+{
+    let pixel = saturating_f64_to_i32((place + 1.0) * 0.5 * f64::from(pixels));
+    pixel.clamp(0, pixels as i32)
+}
+
+fn after(pixel: i32, pixels: u32) -> i32
+    requires least { pos 0 ≤ℤ pixel }
+    requires most { pixel ≤ℤ pos pixels }
+    requires pixels { pixels ≤ 2048 }
+    ensures least { pos 0 ≤ℤ result }
+    ensures most { result ≤ℤ pos pixels }
+{
+    (pixel + 1).min(pixels as i32)
+}
+
+/// A rectangle of the screen that the corners seem to lie in.
+pub(crate) fn proposed(corners: &[Held], shift: u32, width: u32, height: u32) -> Rect
+    requires least { 2 ≤ shift }
+    requires most { shift < 64 }
+    requires short { All (IsShort shift) corners.now }
+    requires width { width ≤ 2048 }
+    requires height { height ≤ 2048 }
+    ensures { IsOnScreen (dimensions width height) result }
+{
+    let mut across = Extent::NONE;
+    let mut down = Extent::NONE;
+    for v in corners {
+        let corner = Corner::of(v, shift);
+        let part = 1.0 / float(corner.w);
+        let spread = 2.0 * part + ROUNDING;
+        across = across.with(float(corner.across) * part, spread);
+        down = down.with(float(corner.down) * part, spread);
+    }
+    Rect {
+        x0: pixel_at(across.least, width),
+        y0: pixel_at(down.least, height),
+        x1: after(pixel_at(across.greatest, width), width),
+        y1: after(pixel_at(down.greatest, height), height),
+    }
+}
