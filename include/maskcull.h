@@ -154,8 +154,8 @@ typedef struct maskcull_box {
 
 /* How positions of floats are seen. Any floats may be passed; with other whole numbers than these a call returns
  * MASKCULL_BAD_SETUP. The rows are those of x, y and w in clip space, four numbers each: of a position (a, b, c) x is
- * rows[0] a + rows[1] b + rows[2] c + rows[3], and so on; a matrix's row of z isn't read. Clip space from -1 to 1 is the
- * screen, whatever the window's size; it has width by height pixels, the upper left ones of the setup's. The near
+ * rows[0] a + rows[1] b + rows[2] c + rows[3], and so on; a matrix's row of z isn't read. Clip space from -1 to 1 is
+ * the screen, whatever the window's size; it has width by height pixels, the upper left ones of the setup's. The near
  * distance is a w, and no less than the renderer's; that of the setup isn't used. */
 typedef struct maskcull_view {
     float rows[12];
