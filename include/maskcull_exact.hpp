@@ -8,8 +8,8 @@
 // of the object (docs/PICTURE.md). That is proved of the calls of maskcull.h that are made here. No proof covers this
 // file; it only picks the rows of a matrix by its layout, turns the sign of y's row, and says how positions lie.
 //
-// A frame's pixels are cells of the screen, as many as the window has, or fewer. A reach of 8 sixteenths is all of such
-// a pixel: what is called occluded is hidden however many pixels and samples the window has. A reach of 1 is little more
+// A frame's pixels are cells of the screen, as many as the window has, or fewer. A reach of 8 sixteenths is all of a
+// pixel: what is called occluded is hidden however many pixels and samples the window has. A reach of 1 is little more
 // than its middle, and finds more: it is for a frame of the window's size without multisampling. A reach of 9 leaves a
 // sixteenth for a renderer that snaps corners, and a share something for depths that it rounds.
 #ifndef MASKCULL_EXACT_HPP
@@ -103,9 +103,9 @@ public:
         return status;
     }
 
-    /// Sets up `count` triangles of a mesh from number `first` on, in place of the pieces that were there: MASKCULL_DONE,
-    /// or as draw. Threads may do so at the same time. Slices that begin at even numbers, drawn in the order of the
-    /// triangles, leave the tiles of one draw.
+    /// Sets up `count` triangles of a mesh from number `first` on, in place of the pieces that were there, and answers as
+    /// draw. Threads may do so at the same time. Slices that begin at even numbers, drawn in the order of the triangles,
+    /// leave the tiles of one draw.
     std::uint32_t set_up(const float model_to_clip[16], const mesh_view &mesh, std::size_t first, std::size_t count,
                          exact_pieces &made, std::optional<maskcull_winding> winding = std::nullopt) const {
         made.count = 0;
@@ -116,8 +116,8 @@ public:
         return status;
     }
 
-    /// Draws pieces onto some rows of tiles: MASKCULL_DONE or MASKCULL_BAD_TILES. Threads may do so at the same time, each
-    /// onto rows of its own. Precondition: the pieces were set up by an exact frame of this size and near distance.
+    /// Draws pieces onto some rows of tiles: MASKCULL_DONE or MASKCULL_BAD_TILES. Threads may do so at the same time,
+    /// each onto rows of its own. Precondition: an exact frame of this size and near distance set the pieces up.
     std::uint32_t draw_pieces(std::uint32_t first_row, std::uint32_t rows, const maskcull_piece *pieces,
                               std::size_t piece_count) {
         if (!has_rows(first_row, rows)) return MASKCULL_BAD_TILES;
@@ -266,36 +266,32 @@ private:
     // that they name, or over copies of their corners, where those are fewer or positions don't lie in floats.
     std::uint32_t add(const float *matrix, const mesh_view &mesh, std::size_t first, std::size_t count,
                       exact_pieces &made, std::optional<maskcull_winding> winding) const {
-        made.triangles.resize(count);
         std::uint32_t least = 0xffffffff, greatest = 0;
+        made.triangles.resize(count);
         for (std::size_t k = 0; k < count; k++) {
             const maskcull_triangle t = made.triangles[k] = triangle_at(mesh, first + k);
             least = std::min({least, t.a, t.b, t.c}), greatest = std::max({greatest, t.a, t.b, t.c});
         }
         maskcull_view view = view_by(matrix);
-        if (!lies_in_floats(mesh) || greatest - least >= 3 * count) {
+        const void *positions = static_cast<const unsigned char *>(mesh.positions) + least * mesh.stride;
+        std::size_t position_count = greatest - least + std::size_t{1};
+        if (lies_in_floats(mesh) && position_count <= 3 * count) {
+            for (maskcull_triangle &t : made.triangles) t = {t.a - least, t.b - least, t.c - least};
+            view.stride = static_cast<std::uint32_t>(mesh.stride / sizeof(float));
+        } else {
             made.positions.resize(9 * count);
             for (std::size_t k = 0; k < count; k++) gather(mesh, made.triangles[k], k, made.positions.data() + 9 * k);
-            return set_up_here(view, made.positions.data(), 3 * count, made, winding);
+            positions = made.positions.data(), position_count = 3 * count;
         }
-        for (maskcull_triangle &t : made.triangles) t = {t.a - least, t.b - least, t.c - least};
-        view.stride = static_cast<std::uint32_t>(mesh.stride / sizeof(float));
-        const auto *bytes = static_cast<const unsigned char *>(mesh.positions) + least * mesh.stride;
-        return set_up_here(view, reinterpret_cast<const float *>(bytes), greatest - least + 1, made, winding);
-    }
-
-    std::uint32_t set_up_here(const maskcull_view &view, const float *positions, std::size_t position_count,
-                              exact_pieces &made, std::optional<maskcull_winding> winding) const {
-        const std::size_t count = made.triangles.size(), room = most_pieces * count;
-        const std::size_t float_count = (position_count - 1) * view.stride + 3;
+        const std::size_t room = most_pieces * count, float_count = (position_count - 1) * view.stride + 3;
         if (made.scratch.size() < position_count) made.scratch.resize(position_count);
         if (made.room.size() < made.count + room) made.room.resize(made.count + room);
         maskcull_setup by = setup_;
         if (winding) by.winding = std::min<std::uint32_t>(*winding, MASKCULL_WIDE - 1) + MASKCULL_WIDE;
         std::size_t added = 0; // stays so where it is refused
         const std::uint32_t status = maskcull_checked_set_up_floats(
-            &by, &view, positions, float_count, made.triangles.data(), count, made.scratch.data(), position_count,
-            made.room.data() + made.count, room, &added);
+            &by, &view, static_cast<const float *>(positions), float_count, made.triangles.data(), count,
+            made.scratch.data(), position_count, made.room.data() + made.count, room, &added);
         made.count += added;
         return status;
     }
