@@ -56,8 +56,6 @@ public:
 
     exact_frame(exact_frame &&) = default;
     exact_frame &operator=(exact_frame &&) = default;
-    exact_frame(const exact_frame &) = delete;
-    exact_frame &operator=(const exact_frame &) = delete;
 
     void clear() { maskcull_checked_clear(tiles_.data(), tiles_.size()); }
 
@@ -103,9 +101,9 @@ public:
         return status;
     }
 
-    /// Sets up `count` triangles of a mesh from number `first` on, in place of the pieces that were there, and answers as
-    /// draw. Threads may do so at the same time. Slices that begin at even numbers, drawn in the order of the triangles,
-    /// leave the tiles of one draw.
+    /// Sets up `count` triangles of a mesh from number `first` on, in place of the pieces that were there, and answers
+    /// as draw. Threads may do so at the same time. Slices that begin at even numbers, drawn in the order of the
+    /// triangles, leave the tiles of one draw.
     std::uint32_t set_up(const float model_to_clip[16], const mesh_view &mesh, std::size_t first, std::size_t count,
                          exact_pieces &made, std::optional<maskcull_winding> winding = std::nullopt) const {
         made.count = 0;
@@ -201,7 +199,6 @@ private:
     }
 
     std::size_t columns() const { return (setup_.width + 31) / 32; }
-
     bool has_rows(std::uint32_t first_row, std::uint32_t rows) const {
         return !tiles_.empty() && first_row <= row_count() && rows <= row_count() - first_row;
     }
