@@ -32,9 +32,9 @@
 namespace {
 
 // What is changed: nothing; pieces are set up by a sixteenth less of reach; their nearness is one more; a corner lies a
-// sixteenth further out; they are set up by half the near distance, or of both windings; a box is tested without half
-// of it on each axis; objects are tested without the share.
-enum change { by_nothing, by_reach, by_nearness, by_place, by_near_distance, by_winding, by_half, by_share };
+// sixteenth further out; they are set up by half the near distance, or of both windings; a box is tested without a
+// sixteenth of it on each axis; objects are tested without the share.
+enum change { by_nothing, by_reach, by_nearness, by_place, by_near_distance, by_winding, by_side, by_share };
 int changed = by_nothing;
 
 using whole = mpz_class;
@@ -481,11 +481,16 @@ struct drawn {
     }
 };
 
-// A box about a place before or behind the walls.
+// A w before or behind the walls, or about the near plane and the eye.
+double some_w(const drawn &d) {
+    return is_one_of(8) ? between(-1, 2) : d.away * (is_one_of(3) ? between(0.9, 1.1) : std::exp(between(0, 2)));
+}
+
+// A box about a place.
 maskcull_bounds some_box(const drawn &d) {
-    const double w = d.away * (is_one_of(3) ? between(0.9, 1.1) : std::exp(between(0, 2)));
+    const double w = some_w(d);
     const position middle = d.by.at(between(-1.3, 1.3), between(-1.3, 1.3), w);
-    const double half = w * std::exp(between(-7, -1)) * d.by.unit;
+    const double half = std::fabs(w) * std::exp(between(-7, is_one_of(8) ? 1 : -1)) * d.by.unit;
     maskcull_bounds box;
     for (int k = 0; k < 3; k++) {
         box.low[k] = static_cast<float>(middle[k] - half * between(0, 1));
@@ -503,7 +508,7 @@ void look_at_box(const drawn &d, counts &all) {
     }
     verdict told = verdict::visible;
     if (d.frame) told = d.frame->test_aabb(handed(d.walls, d.chosen).numbers, box.low, box.high);
-    for (int k = 0; k < 3 && changed == by_half; k++) box.high[k] = box.low[k] + (box.high[k] - box.low[k]) / 2;
+    for (int k = 0; k < 3 && changed == by_side; k++) box.high[k] -= (box.high[k] - box.low[k]) / 16;
     const maskcull_view view = d.view();
     const auto found = maskcull_test_box_floats(&d.walls.setup, d.tiles.data(), d.tiles.size(), &view, &box);
     all.boxes++;
@@ -514,7 +519,7 @@ void look_at_box(const drawn &d, counts &all) {
 // Two triangles about a place. One of them may be outside where both are called occluded.
 void look_at_mesh(const drawn &d, counts &all) {
     scene mesh = d.walls;
-    const double w = d.away * std::exp(between(-0.1, 2)), half = std::exp(between(-7, -1));
+    const double w = some_w(d), half = std::exp(between(-7, is_one_of(8) ? 1 : -1));
     const double x = between(-1.3, 1.3), y = between(-1.3, 1.3);
     mesh.positions.clear(), mesh.triangles = {{0, 1, 2}, {2, 1, 3}};
     for (int k = 0; k < 4; k++) {
