@@ -4,9 +4,9 @@
 // used as maskcull::frame is, but that nothing is prepared.
 //
 // What is called occluded is hidden by the exact triangles: in each pixel that a point of the object projects into, the
-// ray through any point of the pixel meets a drawn triangle that isn't before the near distance and is nearer than all
-// of the object (docs/PICTURE.md). That is proved of the calls of maskcull.h that are made here. No proof covers this
-// file; it only picks the rows of a matrix by its layout, turns the sign of y's row, and says how positions lie.
+// ray through any point of the pixel meets a drawn triangle, not before the near distance and nearer than the object
+// (docs/PICTURE.md). That is proved of the calls of maskcull.h that are made here. No proof covers this file; it only
+// picks the rows of a matrix by its layout, turns the sign of y's row, and says how positions lie.
 //
 // A frame's pixels are cells of the screen, as many as the window has, or fewer. A reach of 8 sixteenths is all of a
 // pixel: what is called occluded is hidden however many pixels and samples the window has. A reach of 1 is little more
@@ -27,8 +27,8 @@ struct exact_options {
     std::uint32_t share = 0;                         // 0 to 2^20 parts of 2^24: by how much what hides has to be nearer
 };
 
-/// Pieces that were set up, at the head of the room, and what setting up needs besides, kept for the next time. Threads
-/// that set up or draw at the same time have one each.
+/// Pieces that were set up, at the head of the room, and what that needs besides, kept for the next time. Each thread
+/// has its own.
 struct exact_pieces {
     std::vector<maskcull_piece> room = {};
     std::size_t count = 0;
@@ -42,8 +42,8 @@ struct exact_pieces {
 /// other rows. Any number of threads may set up and test at the same time.
 class exact_frame {
 public:
-    /// An empty frame of any width and height from 1 to 2048, for a window of any size; nothing where they are others,
-    /// the near distance isn't a finite number above 0, or an option isn't allowed: `why` gets the reason.
+    /// An empty frame of any width and height from 1 to 2048, for a window of any size, or nothing: `why` gets the
+    /// reason. The near distance is no less than the renderer's.
     static std::optional<exact_frame> make(std::uint32_t width, std::uint32_t height, const float &near_distance,
                                            const exact_options &chosen = {}, refusal *why = nullptr) {
         const refusal found = reason(width, height, near_distance, chosen);
@@ -56,7 +56,6 @@ public:
 
     exact_frame(exact_frame &&) = default;
     exact_frame &operator=(exact_frame &&) = default;
-
     void clear() { maskcull_checked_clear(tiles_.data(), tiles_.size()); }
 
     /// The same, with another near distance from here on. False where it isn't a finite number above 0: then nothing is
@@ -71,8 +70,7 @@ public:
     /// For maskcull_subtile and maskcull_nearness. What maskcull.h says of copies holds of these tiles too.
     const std::vector<maskcull_tile> &tiles() const { return tiles_; }
 
-    /// The setup of these tiles: its width is a multiple of 8 and its height one of 4, the frame's or the next ones.
-    /// The frame is the upper left part.
+    /// The setup of these tiles: the frame, which is the upper left part, with its sizes rounded up to 8 and 4 pixels.
     const maskcull_setup &setup() const { return setup_; }
 
     std::uint32_t row_count() const { return (setup_.height + 7) / 8; }
@@ -102,8 +100,7 @@ public:
     }
 
     /// Sets up `count` triangles of a mesh from number `first` on, in place of the pieces that were there, and answers
-    /// as draw. Threads may do so at the same time. Slices that begin at even numbers, drawn in the order of the
-    /// triangles, leave the tiles of one draw.
+    /// as draw. Threads may do so at the same time. Slices from even numbers on, drawn in order, make one draw's tiles.
     std::uint32_t set_up(const float model_to_clip[16], const mesh_view &mesh, std::size_t first, std::size_t count,
                          exact_pieces &made, std::optional<maskcull_winding> winding = std::nullopt) const {
         made.count = 0;
@@ -159,9 +156,8 @@ public:
     }
 
 private:
-    // How many triangles are set up at a time, so that little room is needed. It is even: no pair is parted.
-    static constexpr std::size_t slice = 1024;
-    static constexpr std::size_t most_pieces = 7; // of a triangle
+    // How many triangles are set up at a time, an even number, so that no pair is parted; and the most pieces of one.
+    static constexpr std::size_t slice = 1024, most_pieces = 7;
     static constexpr std::uint32_t sign = 0x80000000, infinity = 0x7f800000;
 
     exact_frame(std::uint32_t width, std::uint32_t height, const exact_options &chosen)
@@ -179,7 +175,6 @@ private:
         return bits;
     }
 
-    // Whether these bits are those of a finite number above 0.
     static bool is_distance(std::uint32_t bits) { return bits != 0 && bits < infinity; }
 
     static refusal reason(std::uint32_t width, std::uint32_t height, const float &near_distance,
@@ -193,9 +188,8 @@ private:
     }
 
     static verdict verdict_of(std::uint32_t answer) {
-        return answer == MASKCULL_OCCLUDED  ? verdict::occluded
-               : answer == MASKCULL_OUTSIDE ? verdict::outside
-                                            : verdict::visible;
+        if (answer == MASKCULL_OCCLUDED) return verdict::occluded;
+        return answer == MASKCULL_OUTSIDE ? verdict::outside : verdict::visible;
     }
 
     std::size_t columns() const { return (setup_.width + 31) / 32; }
@@ -242,7 +236,7 @@ private:
         return count == 0 || greatest < mesh.vertex_count ? MASKCULL_DONE : MASKCULL_BAD_INDEX;
     }
 
-    // Whether positions lie at multiples of a float's size, as the library takes them.
+    // As the library takes positions.
     static bool lies_in_floats(const mesh_view &mesh) {
         return reinterpret_cast<std::uintptr_t>(mesh.positions) % sizeof(float) == 0
                && mesh.stride % sizeof(float) == 0 && mesh.stride >= 3 * sizeof(float)
@@ -285,10 +279,10 @@ private:
         if (made.room.size() < made.count + room) made.room.resize(made.count + room);
         maskcull_setup by = setup_;
         if (winding) by.winding = std::min<std::uint32_t>(*winding, MASKCULL_WIDE - 1) + MASKCULL_WIDE;
-        std::size_t added = 0; // stays so where it is refused
+        std::size_t added = 0;
         const std::uint32_t status = maskcull_checked_set_up_floats(
             &by, &view, static_cast<const float *>(positions), float_count, made.triangles.data(), count,
-            made.scratch.data(), position_count, made.room.data() + made.count, room, &added);
+            made.scratch.data(), made.scratch.size(), made.room.data() + made.count, room, &added);
         made.count += added;
         return status;
     }
