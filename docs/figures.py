@@ -1,12 +1,12 @@
 #!/usr/bin/env python3
 """Draws the figures of docs/ALGORITHM.md: a command's bytes, spans of columns, a cell's words, bins and workers over
-time, frames side by side; and for README.md the times along a path.
+time, frames side by side; for docs/PICTURE.md a piece, a pixel and a ray; and for README.md the times along a path.
 
-usage: docs/figures.py bytes|spans|cell|turns|windows|paths [PAGE] > docs/NAME.svg
+usage: docs/figures.py bytes|spans|cell|turns|windows|picture|paths [PAGE] > docs/NAME.svg
 
 The turns are computed by the rule that docs/ALGORITHM.md tells, for the pieces and the times below, and so are the
-spans and the frames; the words of the cell are packed as docs/WORKER_DEFINITIONS.md tells it. The times are those of
-the table in docs/PERFORMANCE.md."""
+spans and the frames; the words of the cell are packed as docs/WORKER_DEFINITIONS.md tells it. The piece is certified as
+docs/PICTURE.md tells it. The times are those of the table in docs/PERFORMANCE.md."""
 import math
 import pathlib
 import re
@@ -351,6 +351,110 @@ def spans_figure():
                " column on, without those from its end on.", "small")
 
 
+# A piece within an exact triangle, and a ray.
+
+# The triangle's corners in pixels, clockwise, and the half side of the squares in sixteenths.
+EXACT, REACH, SIDE = ((0.3, 0.45), (9.6, 1.3), (3.1, 6.65)), 8, 38
+
+
+def exact_forms():
+    """Of each side of the triangle a form a x + b y + c in sixteenths, which isn't negative inside."""
+    points = [(16 * x, 16 * y) for x, y in EXACT]
+    for (ax, ay), (bx, by) in zip(points, points[1:] + points[:1]):
+        yield ay - by, bx - ax, (by - ay) * ax - (bx - ax) * ay
+
+
+def falls_by(form):
+    """By how much a form falls over the square around a place."""
+    return REACH * (abs(form[0]) + abs(form[1]))
+
+
+def piece_corners():
+    """Where the lines meet that are moved inward, half a sixteenth more than they have to, rounded to sixteenths."""
+    forms = [(a, b, c - falls_by((a, b)) - (abs(a) + abs(b)) / 2) for a, b, c in exact_forms()]
+    for (a0, b0, c0), (a1, b1, c1) in zip([forms[-1]] + forms[:-1], forms):
+        part = a0 * b1 - a1 * b0
+        yield round((b0 * c1 - b1 * c0) / part), round((a1 * c0 - a0 * c1) / part)
+
+
+def polygon(points, shade, more=""):
+    places = " ".join(f"{x:g},{y:g}" for x, y in points)
+    return f'<polygon class="{shade}" points="{places}"{more}/>'
+
+
+def squares_of_piece(left, top):
+    """The grid, the triangle, the piece and the squares around the samples that it covers."""
+    corners = list(piece_corners())
+    if any(a * x + b * y + c < falls_by((a, b)) for a, b, c in exact_forms() for x, y in corners):
+        sys.exit("a corner of the piece isn't certified")
+    sides = list(zip(corners, corners[1:] + corners[:1]))
+    samples = [(16 * x + 8, 16 * y + 8) for y in range(7) for x in range(10)]
+    covered = [(x, y) for x, y in samples
+               if all((bx - ax) * (y - ay) - (by - ay) * (x - ax) > 0 for (ax, ay), (bx, by) in sides)]
+    yield rect(left, top, 10 * SIDE, 7 * SIDE, "none")
+    for x, y in covered:
+        yield rect(left + (x - REACH) * SIDE / 16, top + (y - REACH) * SIDE / 16, SIDE, SIDE, "three")
+    for column in range(11):
+        yield line(left + column * SIDE, top, left + column * SIDE, top + 7 * SIDE, "thin")
+    for row in range(8):
+        yield line(left, top + row * SIDE, left + 10 * SIDE, top + row * SIDE, "thin")
+    yield polygon([(left + x * SIDE / 16, top + y * SIDE / 16) for x, y in corners], "two", ' fill-opacity="0.7"')
+    yield polygon([(left + x * SIDE, top + y * SIDE) for x, y in EXACT], "line", ' stroke-width="2"')
+    for x, y in samples:
+        radius = 3 if (x, y) in covered else 1.5
+        yield f'<circle class="ink" cx="{left + x * SIDE / 16:g}" cy="{top + y * SIDE / 16:g}" r="{radius}"/>'
+
+
+def ray_of_pixel(left, top):
+    """From above: the eye, a pixel of the screen, the rays through it, a triangle and a box."""
+    eye, screen, width = (left, top + 150), left + 92, 14
+    pixel = (eye[1] - 2 * width, eye[1] - width)
+    far = left + 400
+
+    def along(y, x):
+        """Where the ray through a place of the screen is, at an x."""
+        return eye[1] + (y - eye[1]) * (x - eye[0]) / (screen - eye[0])
+
+    yield polygon([eye, (far, along(pixel[0], far)), (far, along(pixel[1], far))], "three")
+    for row in range(-5, 5):
+        yield rect(screen - 3, eye[1] + row * width, 6, width - 1, "two" if row == -2 else "none")
+    yield line(left + 50, top + 40, left + 50, top + 250, "thin", ' stroke-dasharray="5 4"')
+    yield text(left + 50, top + 268, "near distance", "small", "middle")
+    yield text(screen + 2, top + 72, "screen", "small", "middle")
+    wall = ((left + 188, top + 42), (left + 228, top + 236))
+    yield line(*wall[0], *wall[1], "line", ' stroke-width="4"')
+    yield text(wall[1][0], top + 254, "exact triangle", "small", "middle")
+    yield rect(left + 296, top + 44, 78, 64, "one")
+    yield rect(left + 296, top + 44, 78, 64, "line")
+    yield text(left + 335, top + 36, "box", "small", "middle")
+    yield line(left + 296, top + 108, left + 296, top + 250, "thin", ' stroke-dasharray="5 4"')
+    yield text(left + 296, top + 268, "its least w", "small", "middle")
+    middle = sum(pixel) / 2
+    yield line(*eye, far, along(middle, far), "line")
+    (ax, ay), (bx, by) = wall
+    slope = (middle - eye[1]) / (screen - eye[0])
+    hit = (ay - eye[1] + slope * eye[0] - (by - ay) / (bx - ax) * ax) / (slope - (by - ay) / (bx - ax))
+    yield f'<circle class="ink" cx="{hit:g}" cy="{along(middle, hit):g}" r="4"/>'
+    yield f'<circle class="ink" cx="{eye[0]:g}" cy="{eye[1]:g}" r="4"/>'
+    yield text(eye[0], eye[1] + 20, "eye", "small", "middle")
+    yield text(left + 150, along(pixel[1], left + 150) + 16, "rays", "small")
+    yield from arrow(left, top + 286, left + 120, top + 286, "thin")
+    yield text(left + 128, top + 290, "w", "small")
+
+
+def picture_figure():
+    yield 880, 404, "A piece within an exact triangle, and the rays through a pixel"
+    yield text(24, 30, "On the screen, by a reach of 8", "strong")
+    yield from squares_of_piece(24, 46)
+    yield text(450, 30, "From above", "strong")
+    yield from ray_of_pixel(464, 46)
+    for y, shade, told in ((332, "two", "the piece, whose corners are certified"),
+                           (358, "three", "the squares around its samples, within the triangle")):
+        yield rect(24, y, 16, 16, shade)
+        yield text(48, y + 13, told)
+    yield text(464, 371, "Each ray of the pixel meets the triangle before the box.")
+
+
 # The times along a path.
 
 PAGE = pathlib.Path(__file__).resolve().parent / "PERFORMANCE.md"
@@ -386,7 +490,7 @@ def paths_figure():
 
 
 FIGURES = {"bytes": bytes_figure, "spans": spans_figure, "cell": cell_figure, "turns": turns_figure,
-           "windows": windows_figure, "paths": paths_figure}
+           "windows": windows_figure, "picture": picture_figure, "paths": paths_figure}
 
 
 def main():

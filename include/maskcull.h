@@ -9,8 +9,9 @@
  * said where it can't be told.
  *
  * The tiles lie in your memory. A call writes the tiles or the room that is passed to it, and nothing else: none
- * allocates, keeps a pointer, starts a thread, takes a lock, prints or exits. All arithmetic is in whole numbers, so
- * each machine gives the same answers.
+ * allocates, keeps a pointer, starts a thread, takes a lock, prints or exits. Each machine gives the same answers: all
+ * arithmetic is in whole numbers, but for corners and rectangles that maskcull_set_up_floats and the tests beside it
+ * propose in doubles, without fused operations or a library's functions, and then certify in whole numbers.
  *
  *     #include "maskcull.h"
  *
@@ -41,6 +42,11 @@
  *     hidden. So an object is hidden only where it is farther than an occluder by a step, which at d near distances is
  *     d / 16777215 of the distance in the wide grade: at 1,000 near distances .006 %, and 1.5 % in the narrow one.
  *     Take the wide grade, MASKCULL_WIDE in a setup, unless a program's answers are to stay what they were.
+ *   - Or positions, a matrix and the near distance are floats, in a maskcull_view. Then nothing is snapped before it is
+ *     drawn, and what is called occluded is hidden by the exact triangles of these floats: the ray through any point
+ *     that is within `reach` sixteenths of a pixel of a pixel's middle, along each axis, in each pixel that a point of
+ *     the object projects into, meets a drawn triangle that is strictly nearer than all of the object. A reach of 8 is
+ *     the whole pixel. docs/PICTURE.md has this in full.
  *
  * Preconditions, which no call can check
  *   For safety
@@ -48,17 +54,21 @@
  *      as many elements as its count says. (The maskcull_checked_ forms below allow null.)
  *   2. Each tile is all zero bytes, which is an empty tile, or was last written by these calls, or is a copy of such a
  *      tile. So tiles come from maskcull_open, calloc, std::vector<maskcull_tile>(count), or by memcpy from tiles, and
- *      never from malloc alone. Each piece that is drawn was last written by maskcull_set_up, or is a copy of such a
- *      piece; zero bytes aren't a piece. Room that a call only writes to may hold anything, and may come from malloc.
- *   3. What a call writes, tiles, pieces, a count or a picture, overlaps nothing else that is passed to it.
+ *      never from malloc alone. Each piece that is drawn was last written by maskcull_set_up or maskcull_set_up_floats,
+ *      or is a copy of such a piece; zero bytes aren't a piece. Room that a call only writes to, scratch too, may hold
+ *      anything, and may come from malloc.
+ *   3. What a call writes, tiles, pieces, scratch, a count or a picture, overlaps nothing else that is passed to it.
  *   4. While a call runs no other thread writes what it reads, or touches what it writes. Tests may run side by side,
- *      and so may maskcull_draw_band and maskcull_draw_pieces on tiles that don't overlap, and maskcull_set_up into
- *      room that doesn't.
+ *      and so may maskcull_draw_band and maskcull_draw_pieces on tiles that don't overlap, and maskcull_set_up and
+ *      maskcull_set_up_floats into room that doesn't.
  *   For right answers
  *   5. From one clearing to the next all calls on some tiles have the same width, height, near distance and grade, and
  *      so have the calls that set up the pieces which are drawn. The winding may change from call to call. Tiles don't
  *      know the grade: what was drawn wide hides all that is tested narrow, also what is in sight, and what was drawn
- *      narrow hides hardly anything that is tested wide.
+ *      narrow hides hardly anything that is tested wide. Between two clearings there is one kind of drawing, of whole
+ *      numbers or of floats, and the tests are of that kind. With floats it is the view's near distance, width and
+ *      height that stay the same. The rows change from model to model, and reach and share may change: what is promised
+ *      holds by the least reach that was drawn.
  *   6. Tiles are copied all together, those of a whole screen, each to the place that it had, and the copy is used with
  *      the width, height, near distance and grade of what it is a copy of. A tile that is copied to another place, or
  *      from a frame of another size, near distance or grade, is safe to read, but what it hides may be in sight. */
@@ -81,7 +91,7 @@ extern "C" {
 /* What calls return. With 1 to 5 a call did nothing, and all memory is as it was. */
 enum maskcull_status {
     MASKCULL_DONE = 0,      /* all was drawn */
-    MASKCULL_BAD_SETUP = 1, /* the size, the near distance, the winding or the grade isn't one that is allowed */
+    MASKCULL_BAD_SETUP = 1, /* a number of the setup or of the view isn't one that is allowed */
     MASKCULL_BAD_TILES = 2, /* there are not as many tiles as the screen has, or as whole rows of it have */
     MASKCULL_BAD_INDEX = 3, /* a triangle names a vertex that isn't there */
     MASKCULL_NULL = 4,      /* a pointer is null: only the maskcull_checked_ forms return this */
@@ -142,6 +152,33 @@ typedef struct maskcull_box {
     maskcull_vertex corners[8];
 } maskcull_box;
 
+/* How positions of floats are seen. Any floats may be passed; with other whole numbers than these a call returns
+ * MASKCULL_BAD_SETUP. The rows are those of x, y and w in clip space, four numbers each: of a position (a, b, c) x is
+ * rows[0] a + rows[1] b + rows[2] c + rows[3], and so on; a matrix's row of z isn't read. Clip space from -1 to 1 is
+ * the screen, whatever the window's size; it has width by height pixels, the upper left ones of the setup's. The near
+ * distance is a w, and no less than the renderer's; that of the setup isn't used. */
+typedef struct maskcull_view {
+    float rows[12];
+    float near_distance;
+    uint32_t reach;  /* 0 to 64 sixteenths of a pixel, for occluders: 8 is the whole pixel, 1 about its middle */
+    uint32_t share;  /* 0 to 1048576, for objects: what hides them is nearer by so many parts of 2^24 of its w */
+    uint32_t stride; /* of positions, in floats: at least 3 */
+    uint32_t width;  /* in pixels: from 1 to the setup's */
+    uint32_t height; /* in pixels: from 1 to the setup's */
+} maskcull_view;
+
+/* Room for what is computed of a position. It means nothing outside the call. */
+typedef struct maskcull_scratch {
+    int64_t held[3];
+    uint32_t state[2];
+} maskcull_scratch;
+
+/* A box that reaches from `low` to `high` on each axis. */
+typedef struct maskcull_bounds {
+    float low[3];
+    float high[3];
+} maskcull_bounds;
+
 /* A tile: 100 bytes, of which only the calls below make sense. All zero bytes are an empty tile. Subtile k, in column
  * k % 4 and row k / 4 of the tile, has the k-th of each. The count isn't used here: maskcull_clear makes it 0, and
  * drawing leaves it as it was. */
@@ -152,8 +189,8 @@ typedef struct maskcull_tile {
     uint32_t count;
 } maskcull_tile;
 
-/* A triangle on the screen, as maskcull_set_up writes it: its corners' coordinates in sixteenths of a pixel, and their
- * nearness. To be read, copied and drawn. */
+/* A triangle on the screen, as maskcull_set_up and maskcull_set_up_floats write it: its corners' coordinates in
+ * sixteenths of a pixel, and their nearness. To be read, copied and drawn. */
 typedef struct maskcull_piece {
     int32_t x[3];
     int32_t y[3];
@@ -201,6 +238,22 @@ uint32_t maskcull_set_up(const maskcull_setup *setup, const maskcull_vertex *ver
                          const maskcull_triangle *triangles, size_t triangle_count,
                          maskcull_piece *pieces, size_t room, size_t *count);
 
+/* The same of positions in floats: position k is the three floats from number k * stride on, and there are
+ * (float_count - 3) / stride + 1 of them, none where float_count is below 3. Pieces lie within the exact triangles: at
+ * each sample that a piece covers, all of the square by the view's reach around it is met by the triangle, or by one of
+ * a pair, in front of the eye, not before the near distance and no farther than the piece says. What can't be certified
+ * so is left out: what is smaller than such a square, or seen from its edge; what has a position that is infinite, no
+ * number, or farther than some 50 million near distances; and all where a number of the rows is infinite or none, or
+ * the near distance isn't a number above 0. Triangles 2k and 2k + 1 of a call that are a b c and a c d, by the bits of
+ * their positions, are such a pair: slices that part none leave the tiles of one call. There has to be room for seven
+ * pieces a triangle, and scratch for each position. Of the setup the size, the winding and the grade are read.
+ * BAD_SETUP, BAD_ROOM (pieces or scratch), BAD_INDEX. */
+uint32_t maskcull_set_up_floats(const maskcull_setup *setup, const maskcull_view *view,
+                                const float *positions, size_t float_count,
+                                const maskcull_triangle *triangles, size_t triangle_count,
+                                maskcull_scratch *scratch, size_t scratch_count,
+                                maskcull_piece *pieces, size_t room, size_t *count);
+
 /* Draws pieces that were set up, as maskcull_draw_band draws triangles: onto some whole rows of the screen's tiles, of
  * which `tiles` points to the first, in row first_row. The setup is that of the whole screen, with which the pieces
  * were set up; its winding isn't read here. Threads that draw the same pieces in the same order, each onto rows of its
@@ -231,6 +284,20 @@ uint32_t maskcull_test_mesh(const maskcull_setup *setup, const maskcull_tile *ti
                             const maskcull_vertex *vertices, size_t vertex_count,
                             const maskcull_triangle *triangles, size_t triangle_count);
 
+/* Tests a box of floats against pieces that maskcull_set_up_floats made: as the pixels that its points project into,
+ * which is as near as its nearest corner. OUTSIDE where all of it is beside the screen or behind the eye; else VISIBLE
+ * where a corner is before the near distance or farther than can be certified, and where a number is infinite or none.
+ * BAD_SETUP, BAD_TILES. */
+uint32_t maskcull_test_box_floats(const maskcull_setup *setup, const maskcull_tile *tiles, size_t tile_count,
+                                  const maskcull_view *view, const maskcull_bounds *bounds);
+
+/* Tests a mesh of floats, whose positions lie as those of maskcull_set_up_floats, triangle by triangle, each from both
+ * sides and as a box of its three corners: VISIBLE where one is, OCCLUDED where all that aren't outside are and one is.
+ * BAD_SETUP, BAD_TILES, BAD_INDEX. */
+uint32_t maskcull_test_mesh_floats(const maskcull_setup *setup, const maskcull_tile *tiles, size_t tile_count,
+                                   const maskcull_view *view, const float *positions, size_t float_count,
+                                   const maskcull_triangle *triangles, size_t triangle_count);
+
 /* What a subtile of a tile holds; zeros where there is no such tile or subtile. */
 maskcull_subtile_state maskcull_subtile(const maskcull_tile *tiles, size_t tile_count, size_t tile, uint32_t subtile);
 
@@ -249,6 +316,10 @@ static_assert(sizeof(maskcull_vertex) == 12 && offsetof(maskcull_vertex, w) == 8
 static_assert(sizeof(maskcull_triangle) == 12 && offsetof(maskcull_triangle, c) == 8, "maskcull_triangle");
 static_assert(sizeof(maskcull_area) == 16 && offsetof(maskcull_area, y1) == 12, "maskcull_area");
 static_assert(sizeof(maskcull_box) == 96 && offsetof(maskcull_box, corners) == 0, "maskcull_box");
+static_assert(sizeof(maskcull_view) == 72 && offsetof(maskcull_view, near_distance) == 48, "maskcull_view");
+static_assert(offsetof(maskcull_view, reach) == 52 && offsetof(maskcull_view, height) == 68, "maskcull_view");
+static_assert(sizeof(maskcull_scratch) == 32 && offsetof(maskcull_scratch, state) == 24, "maskcull_scratch");
+static_assert(sizeof(maskcull_bounds) == 24 && offsetof(maskcull_bounds, high) == 12, "maskcull_bounds");
 static_assert(offsetof(maskcull_tile, references) == 0 && offsetof(maskcull_tile, workings) == 32, "maskcull_tile");
 static_assert(offsetof(maskcull_tile, masks) == 64 && offsetof(maskcull_tile, count) == 96, "maskcull_tile");
 static_assert(sizeof(maskcull_tile) == 100, "maskcull_tile");
@@ -357,6 +428,27 @@ static inline uint32_t maskcull_checked_set_up(const maskcull_setup *setup,
                            pieces == NULL ? &no_piece : pieces, room, count);
 }
 
+static inline uint32_t maskcull_checked_set_up_floats(const maskcull_setup *setup, const maskcull_view *view,
+                                                      const float *positions, size_t float_count,
+                                                      const maskcull_triangle *triangles, size_t triangle_count,
+                                                      maskcull_scratch *scratch, size_t scratch_count,
+                                                      maskcull_piece *pieces, size_t room, size_t *count)
+{
+    const float no_float = 0;
+    const maskcull_triangle no_triangle = {0, 0, 0};
+    maskcull_scratch no_scratch;
+    maskcull_piece no_piece;
+    if (setup == NULL || view == NULL || count == NULL || !maskcull_is_there(positions, float_count)
+        || !maskcull_is_there(triangles, triangle_count) || !maskcull_is_there(scratch, scratch_count)
+        || !maskcull_is_there(pieces, room)) {
+        return MASKCULL_NULL;
+    }
+    return maskcull_set_up_floats(setup, view, positions == NULL ? &no_float : positions, float_count,
+                                  triangles == NULL ? &no_triangle : triangles, triangle_count,
+                                  scratch == NULL ? &no_scratch : scratch, scratch_count,
+                                  pieces == NULL ? &no_piece : pieces, room, count);
+}
+
 static inline uint32_t maskcull_checked_draw_pieces(const maskcull_setup *setup, maskcull_tile *tiles,
                                                     size_t tile_count, uint32_t first_row,
                                                     const maskcull_piece *pieces, size_t piece_count)
@@ -401,6 +493,31 @@ static inline uint32_t maskcull_checked_test_mesh(const maskcull_setup *setup, c
     }
     return maskcull_test_mesh(setup, tiles, tile_count, vertices == NULL ? &no_vertex : vertices, vertex_count,
                               triangles == NULL ? &no_triangle : triangles, triangle_count);
+}
+
+static inline uint32_t maskcull_checked_test_box_floats(const maskcull_setup *setup, const maskcull_tile *tiles,
+                                                        size_t tile_count, const maskcull_view *view,
+                                                        const maskcull_bounds *bounds)
+{
+    if (setup == NULL || tiles == NULL || view == NULL || bounds == NULL) {
+        return MASKCULL_NULL;
+    }
+    return maskcull_test_box_floats(setup, tiles, tile_count, view, bounds);
+}
+
+static inline uint32_t maskcull_checked_test_mesh_floats(const maskcull_setup *setup, const maskcull_tile *tiles,
+                                                         size_t tile_count, const maskcull_view *view,
+                                                         const float *positions, size_t float_count,
+                                                         const maskcull_triangle *triangles, size_t triangle_count)
+{
+    const float no_float = 0;
+    const maskcull_triangle no_triangle = {0, 0, 0};
+    if (setup == NULL || tiles == NULL || view == NULL || !maskcull_is_there(positions, float_count)
+        || !maskcull_is_there(triangles, triangle_count)) {
+        return MASKCULL_NULL;
+    }
+    return maskcull_test_mesh_floats(setup, tiles, tile_count, view, positions == NULL ? &no_float : positions,
+                                     float_count, triangles == NULL ? &no_triangle : triangles, triangle_count);
 }
 
 static inline uint32_t maskcull_checked_nearness(const maskcull_setup *setup, const maskcull_tile *tiles,

@@ -32,6 +32,9 @@
 // All this holds too in a program that is compiled with -ffast-math, -ffinite-math-only or -Ofast: what is infinite or
 // no number is found by its bits as they lie in memory, and what a compiler may round otherwise is within the slack of
 // each bound. checks/c-library tests it with g++ and clang++. It is meant to hold for MSVC with /fp:fast, untested.
+//
+// maskcull_exact.hpp, which is included here, has maskcull::exact_frame: nothing is rounded there, and what it calls
+// occluded is proved to be hidden by the triangles that were passed, slits included.
 #ifndef MASKCULL_HPP
 #define MASKCULL_HPP
 
@@ -79,8 +82,10 @@ struct options {
     std::optional<depth_range> orthographic = std::nullopt; // an orthographic view, and how z runs in it
 };
 
-/// Why `frame::make` made no frame.
-enum class refusal { none, no_pixels, too_large, bad_near_distance, bad_winding, bad_grade, bad_depths };
+/// Why `frame::make` or `exact_frame::make` made no frame.
+enum class refusal {
+    none, no_pixels, too_large, bad_near_distance, bad_winding, bad_grade, bad_depths, bad_reach, bad_share
+};
 
 /// A reason in words.
 inline const char *text_of(refusal why) {
@@ -92,6 +97,8 @@ inline const char *text_of(refusal why) {
     case refusal::bad_winding: return "the winding isn't one of maskcull_winding";
     case refusal::bad_grade: return "the grade is neither MASKCULL_NARROW nor MASKCULL_WIDE";
     case refusal::bad_depths: return "the depths of the near and the far plane aren't finite, or are (nearly) the same";
+    case refusal::bad_reach: return "the reach is above 64 sixteenths of a pixel";
+    case refusal::bad_share: return "the share is above 1048576 parts of 2^24";
     }
     return "no reason of this version";
 }
@@ -1445,5 +1452,7 @@ private:
 };
 
 } // namespace maskcull
+
+#include "maskcull_exact.hpp"
 
 #endif

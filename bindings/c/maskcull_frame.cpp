@@ -62,7 +62,9 @@ std::uint32_t number_of(refusal why) {
     case refusal::bad_near_distance: return MASKCULL_FRAME_BAD_NEAR_DISTANCE;
     case refusal::bad_winding: return MASKCULL_FRAME_BAD_WINDING;
     case refusal::bad_depths: return MASKCULL_FRAME_BAD_DEPTHS;
-    case refusal::bad_grade: break; // there are two, and both are allowed
+    case refusal::bad_grade:
+    case refusal::bad_reach:
+    case refusal::bad_share: break; // such a one isn't passed on
     }
     return MASKCULL_FRAME_BAD_FIELD;
 }

@@ -10,8 +10,8 @@ export const bytes = fs.readFileSync(new URL(`../out/${file}`, import.meta.url))
 export const module = await loadModule(bytes);
 
 const CALLS = ['maskcull_clear', 'maskcull_draw', 'maskcull_draw_band', 'maskcull_draw_pieces', 'maskcull_nearness',
-    'maskcull_set_up', 'maskcull_subtile', 'maskcull_test', 'maskcull_test_box', 'maskcull_test_mesh',
-    'maskcull_tile_count'];
+    'maskcull_set_up', 'maskcull_set_up_floats', 'maskcull_subtile', 'maskcull_test', 'maskcull_test_box',
+    'maskcull_test_box_floats', 'maskcull_test_mesh', 'maskcull_test_mesh_floats', 'maskcull_tile_count'];
 const MOST_BYTES = 200000;
 
 export function checkModule() {
