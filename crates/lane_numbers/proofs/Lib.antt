@@ -1,0 +1,10 @@
+pub mod Ring
+pub mod Floors
+pub mod Half
+pub mod EightLanes
+pub mod Digits
+pub mod Halves
+pub mod Steps
+pub mod StepLanes
+pub mod Guesses
+pub mod Turned
