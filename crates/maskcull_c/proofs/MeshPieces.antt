@@ -10,7 +10,8 @@ use Rattle.exact_clip.specs.Clip.{clip_of}
 use Rattle.exact_clip.specs.declared.held.Held.{Held}
 use Rattle.pixel_forms.specs.Rays.{Face}
 use Rattle.pixel_forms.specs.Within.{Sight, IsWithinFaces}
-use Rattle.inward_pieces.specs.Pieces.{IsWithinQuad, IsWithinTriangle, face}
+use Rattle.pixel_forms.specs.Certified.{face}
+use Rattle.inward_pieces.specs.Pieces.{IsWithinQuad, IsWithinTriangle}
 use Rattle.maskcull_c.specs.Floats.{AreSetUp, AreWithin, IsOfMesh, point_at, position_at, sight_of}
 use Rattle.maskcull_c.specs.Lenses.{AreAdded, AreHeld, IsPoint, held_in, no_scratch, unit_of}
 use Rattle.maskcull_c.specs.Pieces.{AreListed}
