@@ -1,0 +1,2 @@
+//! The numbers that the bits of floats stand for.
+#![tactic(auto)]
