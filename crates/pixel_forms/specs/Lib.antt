@@ -1,2 +1,5 @@
 pub mod Rays
 pub mod Within
+pub mod Seen
+pub mod Forms
+pub mod Certified
