@@ -1,3 +1,4 @@
 pub mod Numbers
 pub mod Means
 pub mod Certified
+pub mod Stands

@@ -1,11 +1,10 @@
 -- Corners that forms certify, and what forms say of triangles.
-use Rattle.std.specs.Prelude.{ℕ, ℤ, pos, ◌≡◌, ◌+◌, ◌*◌, ◌^◌, ◌<◌, ◌≤◌, ◌+ℤ◌, ◌*ℤ◌, ◌≤ℤ◌, ◌<ℤ◌, ◌⊎◌, true, IfSome, Option, Some}
+use Rattle.std.specs.Prelude.{ℕ, ℤ, pos, ◌≡◌, ◌*◌, ◌^◌, ◌<◌, ◌*ℤ◌, ◌≤ℤ◌, ◌<ℤ◌, ◌⊎◌, true, IfSome, Some}
 use Rattle.cull_base.specs.Piece.{Piece, Point, vertex, nearness, middle, doubled_area}
 use Rattle.exact_clip.specs.Clip.{Clip}
 use Rattle.pixel_forms.specs.Rays.{Place, InSquare, ray_through, Face, size_of, weight_of, Meets, IsUncut, keeps}
 use Rattle.pixel_forms.specs.Within.{Sight, IsWithinFaces}
-use Rattle.pixel_forms.specs.Forms.{least_at, most_at, IsSmall}
-use Rattle.pixel_forms.specs.declared.form.Form.{Form}
+use Rattle.pixel_forms.specs.Forms.{least_at, most_at}
 use Rattle.pixel_forms.specs.declared.nearness_form.NearnessForm.{NearnessForm}
 use Rattle.pixel_forms.specs.declared.forms.Forms.{Forms}
 use Rattle.pixel_forms.specs.declared.forms.Half.{Half}
@@ -71,11 +70,3 @@ IsTriangle a b c f = f ≡ face a b c
 
 abbrev pub IsHalf : Clip → Clip → Clip → Clip → Face → Type 0
 IsHalf a b c d f = (f ≡ face a b c) ⊎ (f ≡ face a c d)
-
--- each value of the forms fits, at points within 2^15 sixteenths
-pub record AreSmall (forms : Forms) : Type 0 where
-  pub first : IsSmall forms.first
-  pub second : IsSmall forms.second
-  pub third : IsSmall forms.third
-  pub plane : IsSmall forms.plane.form
-  pub other : IfSome forms.other (λ h. IsSmall h.edge × IsSmall h.plane.form)

@@ -1,5 +1,5 @@
 -- Linear forms over the screen, and the exact lines that they stand for.
-use Rattle.std.specs.Prelude.{ℕ, ℤ, pos, ◌+◌, ◌*◌, ◌^◌, ◌<◌, ◌+ℤ◌, ◌-ℤ◌, ◌*ℤ◌, ◌≤ℤ◌, ◌<ℤ◌}
+use Rattle.std.specs.Prelude.{ℕ, ℤ, pos, neg_ℤ, nat_abs, max, ◌≡◌, ◌+◌, ◌*◌, ◌^◌, ◌<◌, ◌+ℤ◌, ◌-ℤ◌, ◌*ℤ◌, ◌≤ℤ◌, ◌<ℤ◌}
 use Rattle.cull_base.specs.Bounds.{Bounded}
 use Rattle.cull_base.specs.Screen.{Dimensions}
 use Rattle.cull_base.specs.Piece.{Point, middle}
@@ -17,6 +17,14 @@ least_at f p = value_at f p -ℤ f.down
 
 abbrev pub most_at : Form → Point → ℤ
 most_at f p = value_at f p +ℤ f.down
+
+-- How a form is made of a line that is so many steps off: `down` is what it falls by from the middle of a square, and what
+-- the line may be off by along a ray.
+pub record IsMadeOf (width height reach off : ℕ) (l : Clip) (f : Form) : Type 0 where
+  pub a : f.a ≡ l.x *ℤ pos height
+  pub b : f.b ≡ neg_ℤ (l.y *ℤ pos width)
+  pub c : f.c ≡ ((l.w -ℤ l.x) +ℤ l.y) *ℤ pos (8 * width * height)
+  pub down : f.down ≡ pos (reach * (nat_abs f.a + nat_abs f.b) + 3 * off * (8 * width * height + reach * max width height))
 
 -- By the rays through the square around each sample of the screen an exact line lies between what a form says, in so many
 -- parts.

@@ -6,6 +6,7 @@ mod eye;
 mod form;
 mod forms;
 mod laws;
+mod narrow_line;
 mod nearness_form;
 
 pub use eye::Eye;
