@@ -2,3 +2,8 @@ pub mod Numbers
 pub mod Means
 pub mod Certified
 pub mod Stands
+pub mod Faces
+pub mod Served
+pub mod Triangles
+pub mod Widths
+pub mod Narrow

@@ -2,14 +2,14 @@
 use Rattle.std.proofs.Common.{◌≡◌, ◌∙◌, ◌⊎◌, inl, inr, ℕ, ℤ, pos, negsuc, neg_ℤ, ◌<◌, ◌≤◌, ◌+◌, ◌-◌, ◌*◌, ◌^◌, ◌+ℤ◌, ◌-ℤ◌, ◌*ℤ◌, ◌≤ℤ◌, ◌<ℤ◌, Bool, true, false, cond, int_lt, Option, Some, None, IfSome, suc, zero, arith, refl, ap, sym}
 use Rattle.std.proofs.lemmas.Int.{ints}
 use Rattle.std.proofs.lemmas.Nat.{pow_pos}
-use Rattle.cull_base.specs.Piece.{middle}
+use Rattle.cull_base.specs.Piece.{Point, middle}
 use Rattle.cull_base.specs.Grade.{top_of}
 use Rattle.exact_clip.specs.Clip.{Clip}
 use Rattle.clip_lines.specs.Lines.{cross, dot, det, sum_of, StandsFor}
 use Rattle.clip_lines.specs.Parts.{of_line}
 use Rattle.clip_lines.specs.Planes.{IsPlaneOf}
 use Rattle.clip_lines.specs.declared.plane.Plane.{Plane}
-use Rattle.pixel_forms.specs.Rays.{Place, InSquare, ray_through, Face, size_of, weight_a, weight_b, weight_c, weight_of, Meets, IsUncut, keeps}
+use Rattle.pixel_forms.specs.Rays.{Place, InSquare, ray_through, Face, size_of, weight_a, weight_b, weight_c, weight_of, Meets, IsUncut}
 use Rattle.pixel_forms.specs.Seen.{size_seen, sight_of, nearest_of, whole_of, keeps_turned, turned_line}
 use Rattle.pixel_forms.specs.Forms.{least_at, most_at, IsFormOf}
 use Rattle.pixel_forms.specs.Certified.{divisor_of, IsSeen, IsInside, Serves, StandFor, face, IsTriangle, IsHalf}
@@ -60,7 +60,7 @@ pub record IsKnown (eye : Eye) (unit shift : ℕ) (plane : Plane) (is_front : Bo
   pub front-a : is_front ≡ true → pos (eye.near * unit) ≤ℤ a.w
   pub front-b : is_front ≡ true → pos (eye.near * unit) ≤ℤ b.w
   pub front-c : is_front ≡ true → pos (eye.near * unit) ≤ℤ c.w
-  pub keeps : keeps_turned eye.winding plane.is_turned ≡ true
+  pub winding-kept : keeps_turned eye.winding plane.is_turned ≡ true
 
 cube-positive : (unit shift : ℕ) → 0 < unit → 0 < ((unit * 2 ^ shift) * (unit * 2 ^ shift)) * (unit * 2 ^ shift)
 cube-positive unit shift h =
@@ -124,7 +124,7 @@ module _ (eye : Eye) (unit shift : ℕ) (plane : Plane) (is_front : Bool) (n : N
       → Serves (sight_of eye unit) (nearest_of eye) forms (middle px py) (ray_through (size_seen eye) z) (face a b c)
   serves forms px py z member hx hy hz seen m = record {
     meets = m;
-    kept = kept eye.winding plane.is_turned a b c k.plane-of.sign proper k.keeps;
+    kept = kept eye.winding plane.is_turned a b c k.plane-of.sign proper k.winding-kept;
     uncut = uncut_there px py z hx hy hz seen m;
     plane = n;
     member = member;
@@ -161,6 +161,13 @@ side : {X : Type 0} (v u : ℤ) → u ≡ neg_ℤ v → (pos 0 ≤ℤ v → X) �
 side (pos n) u e f g = f (omega (arith, ints))
 side (negsuc n) u e f g = g (omega (arith, ints, e))
 
+at_half : (p : Point) (o : Option Half) (h : Half) → o ≡ Some h → IfSome o (λ h. (pos 0 ≤ℤ least_at h.edge p) × IsSeen h.plane p) → (pos 0 ≤ℤ least_at h.edge p) × IsSeen h.plane p
+at_half p None h e k = cc
+at_half p (Some g) h e k = let same : g ≡ h = cc in rw (← same) k
+
+turned_as : (t u : Bool) (line r : Clip) → t ≡ u → pos 0 ≤ℤ dot (turned_line u line) r → pos 0 ≤ℤ dot (turned_line t line) r
+turned_as t u line r e h = rw e h
+
 pub quad-stands : (eye : Eye) (unit shift : ℕ) (plane over : Plane) (is_front is_over_front : Bool) (forms : Forms) (half : Half) (a b c d : Clip) (i j l m : ℕ)
     → forms.other ≡ Some half → over.is_turned ≡ plane.is_turned
     → IsKnown eye unit shift plane is_front forms.plane a b c → IsKnown eye unit shift over is_over_front half.plane a c d
@@ -171,7 +178,7 @@ pub quad-stands : (eye : Eye) (unit shift : ℕ) (plane over : Plane) (is_front 
     → StandFor (sight_of eye unit) (nearest_of eye) forms (IsHalf a b c d)
 quad-stands eye unit shift plane over is_front is_over_front forms half a b c d i j l m other same known known-over first second third fourth px py hx hy inside z hz =
     let r = ray_through (size_seen eye) z in
-    let at-half = at_half forms.other half other inside.other in
+    let at-half = at_half (middle px py) forms.other half other inside.other in
     let ab = inner eye i px py forms.first (turned_line plane.is_turned (cross a b)) z first hx hy hz inside.first in
     let bc = inner eye j px py forms.second (turned_line plane.is_turned (cross b c)) z second hx hy hz inside.second in
     let cd = inner eye l px py forms.third (turned_line plane.is_turned (cross c d)) z third hx hy hz inside.third in
@@ -181,9 +188,3 @@ quad-stands eye unit shift plane over is_front is_over_front forms half a b c d 
         (met eye unit shift plane is_front forms.plane a b c known r ab bc ca)))
     (λ ac. (face a c d, inr refl, serves eye unit shift over is_over_front half.plane a c d known-over forms px py z (inr (half, other, refl)) hx hy hz at-half.1
         (met eye unit shift over is_over_front half.plane a c d known-over r (turned_as over.is_turned plane.is_turned (cross a c) r same ac) (turned_as over.is_turned plane.is_turned (cross c d) r same cd) (turned_as over.is_turned plane.is_turned (cross d a) r same da))))
-  where
-    at_half : (o : Option Half) (h : Half) → o ≡ Some h → IfSome o (λ h. (pos 0 ≤ℤ least_at h.edge (middle px py)) × IsSeen h.plane (middle px py)) → (pos 0 ≤ℤ least_at h.edge (middle px py)) × IsSeen h.plane (middle px py)
-    at_half None h e k = cc
-    at_half (Some g) h e k = let same : g ≡ h = cc in rw (← same) k
-    turned_as : (t u : Bool) (line r : Clip) → t ≡ u → pos 0 ≤ℤ dot (turned_line u line) r → pos 0 ≤ℤ dot (turned_line t line) r
-    turned_as t u line r e h = rw e h
