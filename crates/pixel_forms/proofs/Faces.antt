@@ -34,9 +34,9 @@ by-c a b r = over9 (λ ax ay aw bx by bw rx ry rw. det (clip ax ay aw) (clip bx 
 -- a line the other way round
 pub opposite : (a c r : Clip) → dot (cross a c) r ≡ neg_ℤ (dot (cross c a) r)
 opposite a c r = over9 (λ ax ay aw cx cy cw rx ry rw. dot (cross (clip ax ay aw) (clip cx cy cw)) (clip rx ry rw) ≡ neg_ℤ (dot (cross (clip cx cy cw) (clip ax ay aw)) (clip rx ry rw)))
-    (λ a a' b b' c c' d d' e e' f f' g g' h h' i i'. simp (diff-add, diff-sub, diff-mul, diff-neg) (diff-same _ _ _ _ (omega arith))) a.x a.y a.w c.x c.y c.w r.x r.y r.w
+    (λ a a' b b' c c' d d' e e' f f' g g' h h' i i'. simp (diff-add, diff-mul, diff-neg) (diff-same _ _ _ _ (omega arith))) a.x a.y a.w c.x c.y c.w r.x r.y r.w
 
-turned-dot : (t : Bool) (l r : Clip) → dot (turned_line t l) r ≡ cond t (neg_ℤ (dot l r)) (dot l r)
+pub turned-dot : (t : Bool) (l r : Clip) → dot (turned_line t l) r ≡ cond t (neg_ℤ (dot l r)) (dot l r)
 turned-dot false l r = refl
 turned-dot true l r = over6 (λ lx ly lw rx ry rw. dot (clip (neg_ℤ lx) (neg_ℤ ly) (neg_ℤ lw)) (clip rx ry rw) ≡ neg_ℤ (dot (clip lx ly lw) (clip rx ry rw)))
     (λ a a' b b' c c' d d' e e' f f'. simp (diff-add, diff-mul, diff-neg) (diff-same _ _ _ _ (omega arith))) l.x l.y l.w r.x r.y r.w
@@ -89,21 +89,17 @@ size_is t a b c e = sym (told t (det a b c) (det a b c) e)
 
 -- ---- the point that is met
 
+zero_is : (a b : ℕ) → a ≡ b → diff a b ≡ pos 0
+unfolding diff
+zero_is a b e = omega (arith, ints, e)
+
 none-across : (ay aw by bw cy cw : ℤ) → ((((by *ℤ cw) -ℤ (bw *ℤ cy)) *ℤ aw) +ℤ (((cy *ℤ aw) -ℤ (cw *ℤ ay)) *ℤ bw)) +ℤ (((ay *ℤ bw) -ℤ (aw *ℤ by)) *ℤ cw) ≡ pos 0
 none-across = over6 (λ ay aw by bw cy cw. ((((by *ℤ cw) -ℤ (bw *ℤ cy)) *ℤ aw) +ℤ (((cy *ℤ aw) -ℤ (cw *ℤ ay)) *ℤ bw)) +ℤ (((ay *ℤ bw) -ℤ (aw *ℤ by)) *ℤ cw) ≡ pos 0)
     (λ a a' b b' c c' d d' e e' f f'. simp (diff-add, diff-sub, diff-mul) (zero_is _ _ (omega arith)))
-  where
-    zero_is : (a b : ℕ) → a ≡ b → diff a b ≡ pos 0
-    unfolding diff
-    zero_is a b e = omega (arith, ints, e)
 
 none-along : (ax aw bx bw cx cw : ℤ) → ((((bw *ℤ cx) -ℤ (bx *ℤ cw)) *ℤ aw) +ℤ (((cw *ℤ ax) -ℤ (cx *ℤ aw)) *ℤ bw)) +ℤ (((aw *ℤ bx) -ℤ (ax *ℤ bw)) *ℤ cw) ≡ pos 0
 none-along = over6 (λ ax aw bx bw cx cw. ((((bw *ℤ cx) -ℤ (bx *ℤ cw)) *ℤ aw) +ℤ (((cw *ℤ ax) -ℤ (cx *ℤ aw)) *ℤ bw)) +ℤ (((aw *ℤ bx) -ℤ (ax *ℤ bw)) *ℤ cw) ≡ pos 0)
     (λ a a' b b' c c' d d' e e' f f'. simp (diff-add, diff-sub, diff-mul) (zero_is _ _ (omega arith)))
-  where
-    zero_is : (a b : ℕ) → a ≡ b → diff a b ≡ pos 0
-    unfolding diff
-    zero_is a b e = omega (arith, ints, e)
 
 whole-distance : (ax ay aw bx by bw cx cy cw : ℤ) → ((((bx *ℤ cy) -ℤ (by *ℤ cx)) *ℤ aw) +ℤ (((cx *ℤ ay) -ℤ (cy *ℤ ax)) *ℤ bw)) +ℤ (((ax *ℤ by) -ℤ (ay *ℤ bx)) *ℤ cw) ≡ det (clip ax ay aw) (clip bx by bw) (clip cx cy cw)
 whole-distance = over9 (λ ax ay aw bx by bw cx cy cw. ((((bx *ℤ cy) -ℤ (by *ℤ cx)) *ℤ aw) +ℤ (((cx *ℤ ay) -ℤ (cy *ℤ ax)) *ℤ bw)) +ℤ (((ax *ℤ by) -ℤ (ay *ℤ bx)) *ℤ cw) ≡ det (clip ax ay aw) (clip bx by bw) (clip cx cy cw))

@@ -7,3 +7,5 @@ pub mod Served
 pub mod Triangles
 pub mod Widths
 pub mod Narrow
+pub mod Made
+pub mod Tested

@@ -60,3 +60,7 @@ sum-of_three l h = let o = h.off in record {
   };
   off = omega (arith, o);
 }
+
+-- by the parts that the code took
+pub turned-parts : (s n : ℕ) (t : Bool) (x y w : ℤ) (l exact : Clip) → t ≡ true → x ≡ neg_ℤ l.x → y ≡ neg_ℤ l.y → w ≡ neg_ℤ l.w → StandsFor s n l exact → StandsFor s n (record { x = x; y = y; w = w }) (turned_line t exact)
+turned-parts s n t x y w l exact et ex ey ew h = rw (et, ex, ey, ew) (turned-stands s n true l exact h)

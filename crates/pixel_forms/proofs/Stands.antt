@@ -85,7 +85,7 @@ part-x x z w h d = over2 (λ x z. x *ℤ ((z -ℤ pos (8 * w * d)) *ℤ pos h) �
 
 part-y : (y z : ℤ) (w h d : ℕ) → y *ℤ ((pos (8 * h * d) -ℤ z) *ℤ pos w) ≡ (neg_ℤ (y *ℤ pos w) *ℤ z) +ℤ (y *ℤ pos (8 * w * h * d))
 part-y y z w h d = over2 (λ y z. y *ℤ ((pos (8 * h * d) -ℤ z) *ℤ pos w) ≡ (neg_ℤ (y *ℤ pos w) *ℤ z) +ℤ (y *ℤ pos (8 * w * h * d)))
-    (λ y y' z z'. simp (pos_is, diff-add, diff-sub, diff-neg, diff-mul) (diff-same _ _ _ _ (omega arith))) y z
+    (λ y y' z z'. simp (pos_is, diff-add, diff-neg, diff-mul) (diff-same _ _ _ _ (omega arith))) y z
 
 part-c : (x y w n d : ℤ) → (((w -ℤ x) +ℤ y) *ℤ n) *ℤ d ≡ ((w *ℤ (n *ℤ d)) -ℤ (x *ℤ (n *ℤ d))) +ℤ (y *ℤ (n *ℤ d))
 part-c x y w n d = over4 (λ x y w n. (((w -ℤ x) +ℤ y) *ℤ n) *ℤ d ≡ ((w *ℤ (n *ℤ d)) -ℤ (x *ℤ (n *ℤ d))) +ℤ (y *ℤ (n *ℤ d)))

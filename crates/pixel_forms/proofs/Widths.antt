@@ -1,24 +1,24 @@
 -- How many bits a number has, and what a shift leaves of it.
-use Rattle.std.proofs.Common.{◌≡◌, ℕ, ℤ, pos, negsuc, suc, zero, neg_ℤ, nat_abs, ◌<◌, ◌≤◌, ◌+◌, ◌-◌, ◌*◌, ◌/◌, ◌^◌, ◌+ℤ◌, ◌*ℤ◌, ◌≤ℤ◌, max, arith, refl}
+use Rattle.std.proofs.Common.{◌≡◌, ℕ, ℤ, pos, negsuc, suc, zero, neg_ℤ, nat_abs, ◌<◌, ◌≤◌, ◌+◌, ◌-◌, ◌*◌, ◌/◌, ◌%◌, ◌^◌, ◌+ℤ◌, ◌*ℤ◌, ◌≤ℤ◌, max, FitsSigned, w64, arith, refl}
 use lib.Count.{count_leading_zeros}
 use lib.Signed.{shr_z}
 use Rattle.std.specs.Int.{int_div_euclid}
 use Rattle.std.proofs.lemmas.Int.{ints}
-use Rattle.std.proofs.Math.Nat.{pow-le-pow_right, mul-le-mul_right}
+use Rattle.std.proofs.Math.Nat.{pow-le-pow_right, mul-le-mul_left, mul-le-mul_right}
 use Rattle.std.proofs.lemmas.Nat.{leading_length, pow-add, pow_pos}
 use Rattle.cull_base.specs.Bounds.{Bounded}
 use Rattle.pixel_forms.specs.Narrow.{IsFloor}
 
 -- as wide as its leading zeros leave, and not less than k
-pub width : (n k a z r : ℕ) → a < 2 ^ n → z ≡ count_leading_zeros n a → r ≡ max (n - z) k - k → a < 2 ^ (k + r)
-width n k a z r h ez er =
-    let found = leading_length n a h in
-    let le : found.0 ≤ k + r = enough n k z r found.0 (count_leading_zeros n a) found.1 ez er in
-    let p = pow-le-pow_right {2} (omega arith) {found.0} {k + r} le in
-    below a (2 ^ found.0) (2 ^ (k + r)) found.2 p
+pub width : (n k a m : ℕ) → a < 2 ^ n → m ≡ max (n - count_leading_zeros n a) k → a < 2 ^ (k + (m - k))
+width n k a m h em =
+    let (w, e, less, most) = leading_length n a h in
+    let le : w ≤ k + (m - k) = enough n k m w (count_leading_zeros n a) e em in
+    let p : 2 ^ w ≤ 2 ^ (k + (m - k)) = pow-le-pow_right {2} (omega arith) le in
+    below a (2 ^ w) (2 ^ (k + (m - k))) less p
   where
-    enough : (n k z r m c : ℕ) → c + m ≡ n → z ≡ c → r ≡ max (n - z) k - k → m ≤ k + r
-    enough n k z r m c e ez er = omega (arith, e, ez, er)
+    enough : (n k m w c : ℕ) → c + w ≡ n → m ≡ max (n - c) k → w ≤ k + (m - k)
+    enough n k m w c e em = omega (arith, e, em)
     below : (a b c : ℕ) → a < b → b ≤ c → a < c
     below a b c h i = omega (arith, h, i)
 
@@ -36,6 +36,13 @@ floor-lt (negsuc a) p h = omega (arith, ints)
 
 pub shift-floor : (v : ℤ) (k : ℕ) → IsFloor v (2 ^ k) (shr_z v (2 ^ k))
 shift-floor v k = let d = pow_pos k in let e = shift_is v (2 ^ k) in rw e (record { low = floor-le v (2 ^ k) d; high = floor-lt v (2 ^ k) d })
+
+quotient-fits : (v : ℤ) (d : ℕ) → 0 < d → FitsSigned w64 v → FitsSigned w64 (int_div_euclid v (pos d))
+quotient-fits (pos n) d h f = omega (arith, ints, h, f)
+quotient-fits (negsuc n) d h f = omega (arith, ints, h, f)
+
+pub shift-fits : (v : ℤ) (k : ℕ) → FitsSigned w64 v → FitsSigned w64 (shr_z v (2 ^ k))
+shift-fits v k f = let e = shift_is v (2 ^ k) in rw e (quotient-fits v (2 ^ k) (pow_pos k) f)
 
 not_less : (a b : ℕ) → (b < a → 1 ≤ 0) → a ≤ b
 not_less a b h = grind (arith, h)
@@ -65,3 +72,23 @@ quotient-enough off p h = let e : off < (off / p + 1) * p = rounded off p h in o
 
 pub quotient-le : (n p : ℕ) → 0 < p → n / p ≤ n
 quotient-le n p h = omega (arith, h)
+
+-- a quotient's product
+pub quotient-product : (n d q : ℕ) → 0 < d → q ≤ n / d → q * d ≤ n
+quotient-product n d q h le = let k : q * d ≤ (n / d) * d = mul-le-mul_right d le in let e : (n / d) * d ≤ n = back n d h in omega (arith, k, e)
+  where
+    back : (n d : ℕ) → 0 < d → (n / d) * d ≤ n
+    back n d h = omega (arith, h)
+
+-- a lower power
+pub lower-power : (n j k : ℕ) → j ≤ k → n * 2 ^ j ≤ n * 2 ^ k
+lower-power n j k h = let p : 2 ^ j ≤ 2 ^ k = pow-le-pow_right {2} (omega arith) h in mul-le-mul_left n p
+
+-- a shift that may lose digits is no more than one by more
+pub shifted-le : (n s j k m : ℕ) → n ≡ s → j ≤ k → 0 < m → (n * 2 ^ j) % m ≤ s * 2 ^ k
+shifted-le n s j k m e le h = let p = lower-power s j k le in rw e (chain ((s * 2 ^ j) % m) (s * 2 ^ j) (s * 2 ^ k) (mod-le (s * 2 ^ j) m h) p)
+  where
+    mod-le : (n m : ℕ) → 0 < m → n % m ≤ n
+    mod-le n m h = omega (arith, h)
+    chain : (a b c : ℕ) → a ≤ b → b ≤ c → a ≤ c
+    chain a b c h i = omega (arith, h, i)

@@ -82,26 +82,41 @@ fn span_of(length: u128, unsure: u128, whole: u32) -> Span
     }
 }
 
-// How great a form may be for which the near distance times it is no more than this.
+// No more than so many steps of 2^power.
 #[inline(always)]
-fn limit_of(least: u64, power: u32, near: u32) -> i64
-    requires least { least < 2 ^ 38 }
-    requires near { 0 < near }
-    ensures { (result *ℤ pos near) ≤ℤ pos (least * 2 ^ power) }
+fn size_of(steps: u64, power: u32) -> u128
+    requires { steps < 2 ^ 38 }
+    ensures { result ≤ steps * 2 ^ power }
 {
-    let size = u128::from(least) << power.min(GREATEST_POWER);
+    u128::from(steps) << power.min(GREATEST_POWER)
+}
+
+// How great a form may be for which the near distance times it is no more than a size.
+#[inline(always)]
+fn limit_of(size: u128, near: u32) -> i64
+    requires { 0 < near }
+    ensures { (result *ℤ pos near) ≤ℤ pos size }
+{
     (size / u128::from(near)).min(GREATEST - 1) as i64
 }
 
-// The near distance times the top times a form, in steps of 2^power, as far as they tell quotients apart.
+// The near distance times the top times a form.
 #[inline(always)]
-fn steps_of(form: i64, nearest: u64, power: u32) -> u64
+fn product(form: i64, nearest: u64) -> u128
     requires form { pos 0 ≤ℤ form }
     requires nearest { nearest < 2 ^ 55 }
-    requires power { power < 128 }
-    ensures { pos (result * 2 ^ power) ≤ℤ (pos nearest *ℤ form) }
+    ensures { pos result ≡ pos nearest *ℤ form }
 {
-    ((u128::from(form as u64) * u128::from(nearest)) >> power).min(GREATEST) as u64
+    u128::from(form as u64) * u128::from(nearest)
+}
+
+// In steps of 2^power, as far as they tell quotients apart.
+#[inline(always)]
+fn steps_of(size: u128, power: u32) -> u64
+    requires { power < 128 }
+    ensures { result * 2 ^ power ≤ size }
+{
+    (size >> power).min(GREATEST) as u64
 }
 
 impl NearnessForm {
@@ -131,7 +146,7 @@ impl NearnessForm {
         let limit = if is_front {
             i64::MAX
         } else {
-            limit_of(span.least, power, eye.near)
+            limit_of(size_of(span.least, power), eye.near)
         };
         Some(NearnessForm {
             form: Form::of(eye, &line),
@@ -155,7 +170,7 @@ impl NearnessForm {
         if least < 0 || self.limit < self.form.most(x, y) {
             return None;
         }
-        let steps = steps_of(least, eye.nearest(), self.power);
+        let steps = steps_of(product(least, eye.nearest()), self.power);
         let quotient = self.divisor.quotient(steps);
         Some(quotient.min(u64::from(eye.grade.top())) as u32)
     }

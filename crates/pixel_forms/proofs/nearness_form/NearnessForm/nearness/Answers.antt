@@ -1,0 +1,23 @@
+use Rattle.std.proofs.Common.{◌≡◌, ℤ, pos, ◌*ℤ◌, FitsSigned, w32, w64, rules, arith}
+use Rattle.std.proofs.lemmas.Int.{ints, to_z-of_z}
+use Rattle.cull_base.specs.Piece.{point}
+use Rattle.pixel_forms.specs.Seen.{nearest_of}
+use Rattle.pixel_forms.proofs.Tested.{seen-by, at-most-by}
+use Rattle.pixel_forms.proofs.nearness_form.NearnessForm.nearness.Goals as goal
+
+pub returns-clause-seen : goal.returns-clause-seen
+returns-clause-seen c =
+    let fx : FitsSigned w32 c.args.x = c.ranges.x in let fy : FitsSigned w32 c.args.y = c.ranges.y in
+    let fl : FitsSigned w64 c.least-least.result = search rules in let fm : FitsSigned w64 c.most.result = search rules in
+    let fi : FitsSigned w64 c.args.self.now.limit = search rules in
+    seen-by c.args.self.now (point c.args.x c.args.y) c.least-least.result c.most.result (simp to_z-of_z at c.least-least.ensures) (simp to_z-of_z at c.most.ensures)
+    (simp to_z-of_z at c.if-least-lt0.false) (simp to_z-of_z at c.if-self-most.false)
+
+pub returns-clause-at_most : goal.returns-clause-at_most
+returns-clause-at_most c =
+    let fx : FitsSigned w32 c.args.x = c.ranges.x in let fy : FitsSigned w32 c.args.y = c.ranges.y in
+    let fl : FitsSigned w64 c.least-least.result = search rules in
+    let e = c.nearest.ensures.value in
+    let p : pos c.product.result ≡ pos (nearest_of c.args.eye.now) *ℤ c.least-least.result = rw e at (simp to_z-of_z at c.product.ensures) in
+    at-most-by c.args.self.now (point c.args.x c.args.y) c.min.result c.quotient-quotient.result c.steps_of-steps.result c.from.result c.product.result (nearest_of c.args.eye.now) c.least-least.result
+    (simp to_z-of_z at c.least-least.ensures) c.min.ensures c.quotient-quotient.ensures c.steps_of-steps.ensures p
