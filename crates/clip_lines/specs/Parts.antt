@@ -1,5 +1,5 @@
 -- Corners and lines as clip points, and how large they are.
-use Rattle.std.specs.Prelude.{ℕ, ℤ, ◌+◌, ◌*◌, ◌^◌, ◌<◌, ◌≤◌, nat_abs}
+use Rattle.std.specs.Prelude.{ℕ, ℤ, pos, ◌+ℤ◌, ◌*ℤ◌, ◌≤ℤ◌, ◌<ℤ◌, ◌+◌, ◌*◌, ◌^◌, ◌<◌, ◌≤◌, nat_abs}
 use Rattle.cull_base.specs.Bounds.{Bounded}
 use Rattle.exact_clip.specs.Clip.{Clip}
 use Rattle.exact_clip.specs.declared.held.Held.{Held}
@@ -32,3 +32,8 @@ pub record IsShifted (shift : ℕ) (v : Held) : Type 0 where
   pub x : nat_abs v.x < 2 ^ (30 + shift)
   pub y : nat_abs v.y < 2 ^ (30 + shift)
   pub w : nat_abs v.w < 2 ^ (30 + shift)
+
+-- a number over a positive one, rounded down
+pub record IsFloor (n : ℤ) (d : ℕ) (f : ℤ) : Type 0 where
+  pub low : (f *ℤ pos d) ≤ℤ n
+  pub high : n <ℤ ((f *ℤ pos d) +ℤ pos d)

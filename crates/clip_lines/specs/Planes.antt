@@ -1,7 +1,7 @@
 -- The sum of a triangle's lines, and its determinant.
-use Rattle.std.specs.Prelude.{ℕ, ℤ, pos, neg_ℤ, ◌≡◌, ◌+◌, ◌*◌, ◌<◌, ◌+ℤ◌, int_lt, cond}
+use Rattle.std.specs.Prelude.{ℕ, pos, neg_ℤ, ◌≡◌, ◌+◌, ◌*◌, ◌<◌, ◌+ℤ◌, int_lt, cond}
 use Rattle.exact_clip.specs.Clip.{Clip}
-use Rattle.clip_lines.specs.Lines.{cross, det, dot, sum_of, IsWithin, StandsFor}
+use Rattle.clip_lines.specs.Lines.{cross, det, sum_of, IsWithin, StandsFor}
 use Rattle.clip_lines.specs.Parts.{of_corner, of_line, norm_of}
 use Rattle.clip_lines.specs.declared.corner.Corner.{Corner}
 use Rattle.clip_lines.specs.declared.line.Line.{Line}

@@ -1,6 +1,6 @@
-//! Whole numbers of a unit that hold exact coordinates from below.
+//! Clip coordinates in whole numbers of a unit.
 
-/// A clip point in units: the exact one lies less than 4 units above, along each axis.
+/// The exact coordinates lie from so many units to less than four units above.
 #[derive(Clone, Copy, Debug, PartialEq, Eq)]
 pub struct Held {
     pub x: i64,

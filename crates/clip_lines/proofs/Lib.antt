@@ -1,0 +1,5 @@
+pub mod Errors
+pub mod Crosses
+pub mod Determinants
+pub mod Steps
+pub mod Widths
