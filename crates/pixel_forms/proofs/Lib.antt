@@ -9,3 +9,5 @@ pub mod Widths
 pub mod Narrow
 pub mod Made
 pub mod Tested
+pub mod Planes
+pub mod Corners

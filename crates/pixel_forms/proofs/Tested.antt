@@ -1,5 +1,6 @@
 -- A corner is certified by the tests that the code made.
-use Rattle.std.proofs.Common.{◌≡◌, ℕ, ℤ, pos, ◌≤◌, ◌*◌, ◌/◌, ◌%◌, ◌+◌, ◌^◌, ◌*ℤ◌, ◌≤ℤ◌, min, Some, None, arith, sym}
+use Rattle.std.proofs.Common.{◌≡◌, ℕ, ℤ, pos, ◌≤◌, ◌*◌, ◌/◌, ◌%◌, ◌+◌, ◌^◌, ◌*ℤ◌, ◌≤ℤ◌, min, false, Some, None, arith, sym}
+use lib.Signed.{lt_z}
 use Rattle.std.proofs.lemmas.Int.{ints}
 use Rattle.std.proofs.lemmas.Nat.{div-add-mod'}
 use Rattle.std.proofs.Math.Nat.{mul-le-mul_right}
@@ -15,6 +16,10 @@ le_as a b c e h = omega (arith, ints, e, h)
 
 as_le : (a b c : ℤ) → a ≡ b → a ≤ℤ c → b ≤ℤ c
 as_le a b c e h = omega (arith, ints, e, h)
+
+-- by a test that failed
+pub not_under : (a b : ℤ) → lt_z a b ≡ false → b ≤ℤ a
+not_under a b h = grind (arith, ints)
 
 pub seen-by : (n : NearnessForm) (p : Point) (l m : ℤ) → l ≡ least_at n.form p → m ≡ most_at n.form p → pos 0 ≤ℤ l → m ≤ℤ n.limit → IsSeen n p
 seen-by n p l m el em hl hm = record { front = le_as (pos 0) l (least_at n.form p) el hl; uncut = as_le m (most_at n.form p) n.limit em hm }

@@ -14,7 +14,7 @@ pub width : (n k a m : ℕ) → a < 2 ^ n → m ≡ max (n - count_leading_zeros
 width n k a m h em =
     let (w, e, less, most) = leading_length n a h in
     let le : w ≤ k + (m - k) = enough n k m w (count_leading_zeros n a) e em in
-    let p : 2 ^ w ≤ 2 ^ (k + (m - k)) = pow-le-pow_right {2} (omega arith) le in
+    let p : 2 ^ w ≤ 2 ^ (k + (m - k)) = pow-le-pow_right {n = 2} (omega arith) le in
     below a (2 ^ w) (2 ^ (k + (m - k))) less p
   where
     enough : (n k m w c : ℕ) → c + w ≡ n → m ≡ max (n - c) k → w ≤ k + (m - k)
@@ -82,7 +82,7 @@ quotient-product n d q h le = let k : q * d ≤ (n / d) * d = mul-le-mul_right d
 
 -- a lower power
 pub lower-power : (n j k : ℕ) → j ≤ k → n * 2 ^ j ≤ n * 2 ^ k
-lower-power n j k h = let p : 2 ^ j ≤ 2 ^ k = pow-le-pow_right {2} (omega arith) h in mul-le-mul_left n p
+lower-power n j k h = let p : 2 ^ j ≤ 2 ^ k = pow-le-pow_right {n = 2} (omega arith) h in mul-le-mul_left n p
 
 -- a shift that may lose digits is no more than one by more
 pub shifted-le : (n s j k m : ℕ) → n ≡ s → j ≤ k → 0 < m → (n * 2 ^ j) % m ≤ s * 2 ^ k

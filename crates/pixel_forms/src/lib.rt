@@ -8,6 +8,7 @@ mod forms;
 mod laws;
 mod narrow_line;
 mod nearness_form;
+mod of_corners;
 
 pub use eye::Eye;
 pub use form::Form;

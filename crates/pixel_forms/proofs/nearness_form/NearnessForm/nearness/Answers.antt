@@ -2,7 +2,7 @@ use Rattle.std.proofs.Common.{◌≡◌, ℤ, pos, ◌*ℤ◌, FitsSigned, w32, 
 use Rattle.std.proofs.lemmas.Int.{ints, to_z-of_z}
 use Rattle.cull_base.specs.Piece.{point}
 use Rattle.pixel_forms.specs.Seen.{nearest_of}
-use Rattle.pixel_forms.proofs.Tested.{seen-by, at-most-by}
+use Rattle.pixel_forms.proofs.Tested.{not_under, seen-by, at-most-by}
 use Rattle.pixel_forms.proofs.nearness_form.NearnessForm.nearness.Goals as goal
 
 pub returns-clause-seen : goal.returns-clause-seen
@@ -11,7 +11,7 @@ returns-clause-seen c =
     let fl : FitsSigned w64 c.least-least.result = search rules in let fm : FitsSigned w64 c.most.result = search rules in
     let fi : FitsSigned w64 c.args.self.now.limit = search rules in
     seen-by c.args.self.now (point c.args.x c.args.y) c.least-least.result c.most.result (simp to_z-of_z at c.least-least.ensures) (simp to_z-of_z at c.most.ensures)
-    (simp to_z-of_z at c.if-least-lt0.false) (simp to_z-of_z at c.if-self-most.false)
+    (not_under c.least-least.result (pos 0) (simp to_z-of_z at c.if-least-lt0.false)) (not_under c.args.self.now.limit c.most.result (simp to_z-of_z at c.if-self-most.false))
 
 pub returns-clause-at_most : goal.returns-clause-at_most
 returns-clause-at_most c =
