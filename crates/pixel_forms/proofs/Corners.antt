@@ -20,20 +20,6 @@ use Rattle.clip_lines.specs.declared.corner.Corner.{Corner}
 use Rattle.clip_lines.specs.declared.line.Line.{Line}
 use Rattle.clip_lines.specs.declared.plane.Plane.{Plane}
 
--- ---- how long a determinant is
-
-abs-le : (n : ℕ) (v : ℤ) → Bounded n v → nat_abs v ≤ n
-abs-le n (pos v) h = omega (arith, ints, h)
-abs-le n (negsuc v) h = omega (arith, ints, h)
-
-pub dot-small : (l p : Clip) → IsSized (3 * 2 ^ 61) l → IsSized (2 ^ 30) p → nat_abs (dot l p) < 2 ^ 96
-dot-small l p h i =
-    let b = sum (3 * 2 ^ 61 * 2 ^ 30) (l.x *ℤ p.x) (l.y *ℤ p.y) (l.w *ℤ p.w) (bounded-mul (3 * 2 ^ 61) (2 ^ 30) l.x p.x h.x i.x) (bounded-mul (3 * 2 ^ 61) (2 ^ 30) l.y p.y h.y i.y) (bounded-mul (3 * 2 ^ 61) (2 ^ 30) l.w p.w h.w i.w) in
-    let le = abs-le (3 * (3 * 2 ^ 61 * 2 ^ 30)) (dot l p) b in omega (arith, le)
-  where
-    sum : (n : ℕ) (a b c : ℤ) → Bounded n a → Bounded n b → Bounded n c → Bounded (3 * n) ((a +ℤ b) +ℤ c)
-    sum n a b c h i j = (omega (arith, ints, h, i, j), omega (arith, ints, h, i, j))
-
 -- ---- the near distance
 
 le_times : (m : ℕ) (v : ℤ) (u : ℕ) → pos m ≤ℤ v → pos (m * u) ≤ℤ (v *ℤ pos u)

@@ -39,7 +39,7 @@ le_times (negsuc v) m u h = omega (arith, ints)
 least-steps : (limit : ℤ) (near size least s h p t whole : ℕ) → (limit *ℤ pos near) ≤ℤ pos size → size ≤ least * 2 ^ p → least * 2 ^ s ≤ whole → p + t ≡ s + h
     → (limit *ℤ pos (near * 2 ^ t)) ≤ℤ pos (whole * 2 ^ h)
 least-steps limit near size least s h p t whole hl hs hw e =
-    let a : (limit *ℤ pos near) *ℤ pos (2 ^ t) ≤ℤ pos (size * 2 ^ t) = le_times (limit *ℤ pos near) size (2 ^ t) hl in
+    let a : ((limit *ℤ pos near) *ℤ pos (2 ^ t)) ≤ℤ pos (size * 2 ^ t) = le_times (limit *ℤ pos near) size (2 ^ t) hl in
     let b : size * 2 ^ t ≤ (least * 2 ^ p) * 2 ^ t = mul-le-mul_right (2 ^ t) hs in
     let c : (least * 2 ^ s) * 2 ^ h ≤ whole * 2 ^ h = mul-le-mul_right (2 ^ h) hw in
     let d = same-steps least p t s h e in
@@ -52,6 +52,9 @@ least-steps limit near size least s h p t whole hl hs hw e =
 -- where the limit stands: anywhere in front
 abbrev pub IsLimit : Bool → ℤ → ℕ → ℕ → ℕ → Type 0
 IsLimit front limit near least power = (front ≡ true) ⊎ ((size : ℕ) × ((limit *ℤ pos near) ≤ℤ pos size) × (size ≤ least * 2 ^ power))
+
+pub limited-by : (front : Bool) (limit l : ℤ) (near least power size : ℕ) → limit ≡ l → (l *ℤ pos near) ≤ℤ pos size → size ≤ least * 2 ^ power → IsLimit front limit near least power
+limited-by front limit l near least power size e h k = rw e (inr (size, h, k))
 
 pub nearness-by : (eye : Eye) (shift : ℕ) (plane : Plane) (front : Bool) (form : Form) (divisor power : ℕ) (limit : ℤ) (taken whole least most steps : ℕ)
     → ((scale : ℕ) (exact : Clip) → StandsFor scale plane.sum.off (of_line plane.sum) exact → IsFormOf (size_seen eye) eye.reach (scale * 2 ^ taken) form (turned_line plane.is_turned exact))
