@@ -1,12 +1,11 @@
 -- What certified corners make.
-use Rattle.std.proofs.Common.{◌≡◌, ◌⊎◌, inl, inr, ℕ, ℤ, pos, negsuc, zero, suc, ◌*◌, ◌<◌, ◌*ℤ◌, ◌≤ℤ◌, ◌<ℤ◌, arith, refl, true, Option, Some, None, IfSome}
+use Rattle.std.proofs.Common.{◌≡◌, ◌⊎◌, inl, inr, ℕ, ℤ, pos, negsuc, ◌<◌, ◌*ℤ◌, ◌≤ℤ◌, ◌<ℤ◌, arith, Option, Some, None, IfSome}
 use Rattle.std.proofs.lemmas.Int.{ints}
-use Rattle.cull_base.specs.Piece.{Piece, Point, vertex, nearness, doubled_area, middle, covers}
+use Rattle.cull_base.specs.Piece.{Piece, Point, vertex, nearness, doubled_area, middle}
 use Rattle.cull_base.specs.Depth.{numerator, denominator}
-use Rattle.exact_clip.specs.Clip.{Clip}
 use Rattle.depth_plane.proofs.Mean.{Weights, weights_of, touches_covered}
-use Rattle.pixel_forms.specs.Forms.{least_at, most_at}
-use Rattle.pixel_forms.specs.Rays.{Place, InSquare, ray_through, Face, size_of, weight_of}
+use Rattle.pixel_forms.specs.Forms.{least_at}
+use Rattle.pixel_forms.specs.Rays.{Place, ray_through, Face, size_of, weight_of}
 use Rattle.pixel_forms.specs.Within.{Sight, Backs, IsWithinFaces}
 use Rattle.pixel_forms.specs.Certified.{divisor_of, IsSeen, IsInside, IsAtMost, IsCertified, Serves, StandFor, HasCertified}
 use Rattle.pixel_forms.specs.declared.nearness_form.NearnessForm.{NearnessForm}

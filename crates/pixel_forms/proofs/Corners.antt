@@ -1,15 +1,13 @@
 -- From the corners of a triangle to what its forms stand for.
-use Rattle.std.proofs.Common.{◌≡◌, ℕ, ℤ, pos, negsuc, suc, neg_ℤ, nat_abs, ◌<◌, ◌≤◌, ◌+◌, ◌*◌, ◌^◌, ◌+ℤ◌, ◌*ℤ◌, ◌≤ℤ◌, Bool, true, arith}
+use Rattle.std.proofs.Common.{◌≡◌, ℕ, ℤ, pos, negsuc, ◌<◌, ◌≤◌, ◌*◌, ◌^◌, ◌*ℤ◌, ◌≤ℤ◌, Bool, true, arith}
 use Rattle.std.proofs.lemmas.Int.{ints}
 use Rattle.std.proofs.Math.Nat.{mul-le-mul_right}
 use Rattle.std.proofs.lemmas.Nat.{pow_pos, mul-le}
-use Rattle.cull_base.specs.Bounds.{Bounded}
-use Rattle.cull_base.proofs.Bounds.{bounded-mul}
 use Rattle.exact_clip.specs.Clip.{Clip}
-use Rattle.exact_clip.specs.Held.{IsHeld, Holds}
+use Rattle.exact_clip.specs.Held.{Holds}
 use Rattle.exact_clip.specs.declared.held.Held.{Held}
-use Rattle.clip_lines.specs.Lines.{cross, dot, StandsFor}
-use Rattle.clip_lines.specs.Parts.{of_corner, of_line, IsSized, IsSumOf}
+use Rattle.clip_lines.specs.Lines.{cross, StandsFor}
+use Rattle.clip_lines.specs.Parts.{of_corner, of_line}
 use Rattle.clip_lines.specs.Planes.{AreOf, IsPlaneOf}
 use Rattle.pixel_forms.specs.Seen.{keeps_turned}
 use Rattle.pixel_forms.specs.Nearness.{IsNearnessOf}

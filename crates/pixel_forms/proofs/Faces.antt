@@ -1,5 +1,5 @@
 -- What a ray has to do with a triangle: its weights by the triangle's lines, and where it is met.
-use Rattle.std.proofs.Common.{◌≡◌, ◌∙◌, ◌⊎◌, inl, inr, ℕ, ℤ, pos, negsuc, neg_ℤ, ◌+ℤ◌, ◌-ℤ◌, ◌*ℤ◌, ◌≤ℤ◌, ◌<ℤ◌, Bool, true, false, not, cond, int_lt, arith, refl, ap, ap₂, sym}
+use Rattle.std.proofs.Common.{◌≡◌, ◌∙◌, ℕ, ℤ, pos, negsuc, neg_ℤ, ◌+ℤ◌, ◌-ℤ◌, ◌*ℤ◌, ◌≤ℤ◌, ◌<ℤ◌, Bool, true, false, not, cond, int_lt, arith, refl, ap, ap₂, sym}
 use Rattle.std.proofs.lemmas.Int.{ints}
 use Rattle.std.proofs.lemmas.Bool.Decides.{nat_tests}
 use Rattle.cull_base.specs.declared.triangle.Winding.{Winding}
@@ -9,7 +9,7 @@ use Rattle.depth_plane.proofs.Products.{mul-add_three}
 use Rattle.depth_plane.proofs.Mean.{mean_above}
 use Rattle.exact_clip.specs.Clip.{Clip}
 use Rattle.clip_lines.specs.Lines.{cross, dot, det, sum_of}
-use Rattle.pixel_forms.specs.Rays.{Face, volume, turned, size_of, weight_a, weight_b, weight_c, weight_of, Meets, IsUncut, keeps}
+use Rattle.pixel_forms.specs.Rays.{turned, size_of, weight_a, weight_b, weight_c, weight_of, Meets, IsUncut, keeps}
 use Rattle.pixel_forms.specs.Seen.{turned_line, keeps_turned}
 use Rattle.pixel_forms.specs.Certified.{face}
 use Rattle.pixel_forms.proofs.Numbers.{over6, over9, mul-turned}

@@ -1,10 +1,9 @@
 -- Forms by the numbers that the code took.
-use Rattle.std.proofs.Common.{◌≡◌, ◌∙◌, ℕ, ℤ, pos, neg_ℤ, nat_abs, ◌≤◌, ◌+◌, ◌*◌, ◌^◌, ◌+ℤ◌, ◌-ℤ◌, ◌*ℤ◌, ◌≤ℤ◌, ◌<ℤ◌, max, arith, ap, ap₂}
+use Rattle.std.proofs.Common.{◌≡◌, ◌∙◌, ℕ, ℤ, pos, neg_ℤ, nat_abs, ◌≤◌, ◌+◌, ◌*◌, ◌^◌, ◌+ℤ◌, ◌-ℤ◌, ◌*ℤ◌, max, arith, ap, ap₂}
 use Rattle.std.proofs.lemmas.Int.{ints}
 use Rattle.cull_base.specs.Bounds.{Bounded}
 use Rattle.exact_clip.specs.Clip.{Clip}
 use Rattle.pixel_forms.specs.Forms.{IsMadeOf, IsSmall}
-use Rattle.pixel_forms.specs.declared.form.Form.{Form}
 use Rattle.pixel_forms.proofs.Numbers.{bounded-more}
 
 pub made-by : (width height reach off : ℕ) (l : Clip) (a o b s v d : ℤ) (whole span fall slack : ℕ)

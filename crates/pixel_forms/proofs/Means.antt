@@ -3,12 +3,12 @@ use Rattle.std.proofs.Common.{◌≡◌, ◌∙◌, ℕ, ℤ, pos, ◌*◌, ◌+
 use Rattle.std.proofs.lemmas.Int.{ints}
 use Rattle.cull_base.specs.Piece.{Piece, Point, vertex, nearness, edge_value, doubled_area}
 use Rattle.cull_base.specs.Depth.{numerator, denominator}
-use Rattle.cull_base.proofs.Ring.{diff, diff-add, diff-mul, diff-same}
+use Rattle.cull_base.proofs.Ring.{diff-add, diff-mul, diff-same}
 use Rattle.depth_plane.proofs.Mean.{Weights, mean_x, mean_y, total_of, mean_above, mean_below}
 use Rattle.depth_plane.proofs.Products.{mul-add_three, le_times, times_le, le_from_times}
 use Rattle.pixel_forms.specs.Forms.{value_at, least_at, most_at}
 use Rattle.pixel_forms.specs.declared.form.Form.{Form}
-use Rattle.pixel_forms.proofs.Numbers.{over6, add-mul, sub-mul, mul-assoc, mul-turned, mul-behind, le_by, le_trans}
+use Rattle.pixel_forms.proofs.Numbers.{over6, add-mul, sub-mul, mul-assoc, mul-turned, mul-behind, le_by}
 
 abbrev form : ℤ → ℤ → ℤ → ℤ → ℤ → ℤ
 form a b c x y = ((a *ℤ x) +ℤ (b *ℤ y)) +ℤ c

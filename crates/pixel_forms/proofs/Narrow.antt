@@ -1,17 +1,16 @@
 -- A line in fewer bits stands for the same exact line.
-use Rattle.std.proofs.Common.{◌≡◌, ℕ, ℤ, pos, neg_ℤ, ◌≤◌, ◌+◌, ◌*◌, ◌^◌, ◌+ℤ◌, ◌-ℤ◌, ◌*ℤ◌, ◌≤ℤ◌, Bool, true, false, arith}
+use Rattle.std.proofs.Common.{◌≡◌, ℕ, ℤ, pos, neg_ℤ, ◌≤◌, ◌+◌, ◌*◌, ◌^◌, ◌-ℤ◌, ◌*ℤ◌, Bool, true, false, arith}
 use Rattle.std.proofs.lemmas.Int.{ints}
 use Rattle.std.proofs.Math.Nat.{mul-le-mul_right}
 use Rattle.cull_base.specs.Bounds.{Bounded}
 use Rattle.cull_base.proofs.Bounds.{bounded-mul}
-use Rattle.cull_base.proofs.Ring.{diff, diff-mul, diff-neg, diff-same, over2, over3}
+use Rattle.cull_base.proofs.Ring.{diff-mul, diff-neg, diff-same, over2, over3}
 use Rattle.exact_clip.specs.Clip.{Clip}
 use Rattle.clip_lines.specs.Lines.{IsWithin, StandsFor}
-use Rattle.clip_lines.specs.Parts.{of_line, IsSized, IsSumOf}
+use Rattle.clip_lines.specs.Parts.{IsSumOf}
 use Rattle.clip_lines.specs.declared.line.Line.{Line}
-use Rattle.pixel_forms.specs.Narrow.{of_narrow, IsNarrow, IsFloor}
+use Rattle.pixel_forms.specs.Narrow.{IsFloor}
 use Rattle.pixel_forms.specs.Seen.{turned_line}
-use Rattle.pixel_forms.specs.declared.narrow_line.NarrowLine.{NarrowLine}
 use Rattle.pixel_forms.proofs.Numbers.{sub-mul, pos-bounded, bounded-more}
 
 mul-swap : (a b c : ℤ) → (a *ℤ b) *ℤ c ≡ a *ℤ (c *ℤ b)

@@ -1,8 +1,8 @@
 -- Laws of whole numbers, and bounds on them.
-use Rattle.std.proofs.Common.{◌≡◌, ℕ, ℤ, pos, negsuc, neg_ℤ, nat_abs, ◌≤◌, ◌+◌, ◌*◌, ◌+ℤ◌, ◌-ℤ◌, ◌*ℤ◌, ◌≤ℤ◌, arith}
+use Rattle.std.proofs.Common.{◌≡◌, ℕ, ℤ, pos, negsuc, nat_abs, ◌≤◌, ◌+ℤ◌, ◌-ℤ◌, ◌*ℤ◌, ◌≤ℤ◌, arith}
 use Rattle.std.proofs.lemmas.Int.{ints}
 use Rattle.cull_base.specs.Bounds.{Bounded}
-use Rattle.cull_base.proofs.Ring.{diff, diff-add, diff-sub, diff-mul, diff-neg, diff-same, over2, over3, over4}
+use Rattle.cull_base.proofs.Ring.{diff, diff-add, diff-sub, diff-mul, diff-same, over2, over3, over4}
 
 abbrev pub over6 : (P : ℤ → ℤ → ℤ → ℤ → ℤ → ℤ → Type 0) → ((a a' b b' c c' d d' e e' f f' : ℕ) → P (diff a a') (diff b b') (diff c c') (diff d d') (diff e e') (diff f f'))
     → (u v w x y z : ℤ) → P u v w x y z

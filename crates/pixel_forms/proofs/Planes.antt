@@ -1,5 +1,5 @@
 -- A nearness form by the numbers that the code took.
-use Rattle.std.proofs.Common.{◌≡◌, ◌⊎◌, inl, inr, ℕ, ℤ, pos, negsuc, suc, ◌<◌, ◌≤◌, ◌+◌, ◌-◌, ◌*◌, ◌^◌, ◌*ℤ◌, ◌≤ℤ◌, Bool, true, arith, ap}
+use Rattle.std.proofs.Common.{◌≡◌, ◌⊎◌, inl, inr, ℕ, ℤ, pos, negsuc, ◌<◌, ◌≤◌, ◌+◌, ◌-◌, ◌*◌, ◌^◌, ◌*ℤ◌, ◌≤ℤ◌, Bool, true, arith, ap}
 use Rattle.std.proofs.lemmas.Int.{ints}
 use Rattle.std.proofs.lemmas.Nat.{pow-add}
 use Rattle.std.proofs.Math.Nat.{mul-le-mul_right}
@@ -12,7 +12,6 @@ use Rattle.pixel_forms.specs.Forms.{IsFormOf}
 use Rattle.pixel_forms.specs.Nearness.{IsNearnessOf}
 use Rattle.pixel_forms.specs.declared.eye.Eye.{Eye}
 use Rattle.pixel_forms.specs.declared.form.Form.{Form}
-use Rattle.pixel_forms.specs.declared.nearness_form.NearnessForm.{NearnessForm}
 use Rattle.pixel_forms.proofs.Numbers.{mul-assoc}
 
 -- steps of one power and then another, by the sum
@@ -23,6 +22,7 @@ same-steps n p t s h e =
   where
     times : (n a b c d : ℕ) → a * b ≡ c * d → (n * a) * b ≡ (n * c) * d
     times n a b c d e = let f = ap (λ z. n * z) e in omega (arith, f)
+
     regroup : (n a b c d x y : ℕ) → x ≡ a * b → y ≡ c * d → x ≡ y → (n * a) * b ≡ (n * c) * d
     regroup n a b c d x y ex ey e = let f : a * b ≡ c * d = omega (arith, ex, ey, e) in times n a b c d f
 
@@ -67,7 +67,7 @@ nearness-by eye shift plane front form divisor power limit taken whole least mos
   positive = rw ed positive;
   most = most-steps ((plane.length + plane.unsure) * whole_of eye) most steps shift power taken divisor (rw ew at hm) ed ep;
   least = elim is [
-      | inl f ↦ inl f
-      | inr l ↦ inr (least-steps limit eye.near l.0 least steps shift power taken ((plane.length - plane.unsure) * whole_of eye) l.1 l.2 (rw ew at hl) ep)
-    ];
+    | inl f ↦ inl f
+    | inr l ↦ inr (least-steps limit eye.near l.0 least steps shift power taken ((plane.length - plane.unsure) * whole_of eye) l.1 l.2 (rw ew at hl) ep)
+  ];
 }

@@ -1,5 +1,5 @@
 -- What the form of a line says over the square around a sample of the screen.
-use Rattle.std.proofs.Common.{◌≡◌, ◌∙◌, ℕ, ℤ, pos, neg_ℤ, nat_abs, ◌<◌, ◌≤◌, ◌+◌, ◌*◌, ◌+ℤ◌, ◌-ℤ◌, ◌*ℤ◌, ◌≤ℤ◌, max, arith}
+use Rattle.std.proofs.Common.{◌≡◌, ℕ, ℤ, pos, neg_ℤ, nat_abs, ◌<◌, ◌≤◌, ◌+◌, ◌*◌, ◌+ℤ◌, ◌-ℤ◌, ◌*ℤ◌, ◌≤ℤ◌, max, arith}
 use Rattle.std.proofs.lemmas.Int.{ints}
 use Rattle.std.proofs.Math.Nat.{mul-le-mul_left, mul-le-mul_right}
 use Rattle.cull_base.specs.Bounds.{Bounded}
@@ -10,7 +10,7 @@ use Rattle.cull_base.proofs.Ring.{diff, diff-add, diff-sub, diff-mul, diff-neg, 
 use Rattle.exact_clip.specs.Clip.{Clip}
 use Rattle.clip_lines.specs.Lines.{dot, StandsFor}
 use Rattle.pixel_forms.specs.Rays.{Place, InSquare, ray_through}
-use Rattle.pixel_forms.specs.Forms.{value_at, least_at, most_at, IsMadeOf, IsFormOf}
+use Rattle.pixel_forms.specs.Forms.{value_at, IsMadeOf, IsFormOf}
 use Rattle.pixel_forms.specs.declared.form.Form.{Form}
 use Rattle.pixel_forms.proofs.Numbers.{add-mul, sub-mul, own-bounded, pos-bounded, bounded-more}
 
@@ -90,7 +90,7 @@ part-y y z w h d = over2 (λ y z. y *ℤ ((pos (8 * h * d) -ℤ z) *ℤ pos w) �
 part-c : (x y w n d : ℤ) → (((w -ℤ x) +ℤ y) *ℤ n) *ℤ d ≡ ((w *ℤ (n *ℤ d)) -ℤ (x *ℤ (n *ℤ d))) +ℤ (y *ℤ (n *ℤ d))
 part-c x y w n d = over4 (λ x y w n. (((w -ℤ x) +ℤ y) *ℤ n) *ℤ d ≡ ((w *ℤ (n *ℤ d)) -ℤ (x *ℤ (n *ℤ d))) +ℤ (y *ℤ (n *ℤ d)))
     (λ x x' y y' w w' n n'. over1 (λ d. (((diff w w' -ℤ diff x x') +ℤ diff y y') *ℤ diff n n') *ℤ d ≡ ((diff w w' *ℤ (diff n n' *ℤ d)) -ℤ (diff x x' *ℤ (diff n n' *ℤ d))) +ℤ (diff y y' *ℤ (diff n n' *ℤ d)))
-        (λ d d'. simp (diff-add, diff-sub, diff-mul) (diff-same _ _ _ _ (omega arith))) d) x y w n
+    (λ d d'. simp (diff-add, diff-sub, diff-mul) (diff-same _ _ _ _ (omega arith))) d) x y w n
 
 held-form : (x y w zx zy : ℤ) (width height d : ℕ)
     → ((x *ℤ ((zx -ℤ pos (8 * width * d)) *ℤ pos height)) +ℤ (y *ℤ ((pos (8 * height * d) -ℤ zy) *ℤ pos width))) +ℤ (w *ℤ pos (8 * width * height * d))
@@ -157,8 +157,8 @@ module _ (width height reach off scale : ℕ) (l line : Clip) (f : Form) (made :
   around px py hx hy z h =
       let mw : width ≤ max width height = omega arith in let mh : height ≤ max width height = omega arith in
       let apart-line = dot-apart (off * scale) ((8 * width * height + reach * max width height) * z.d) l.x l.y l.w line.x line.y line.w (pos scale)
-            ((z.x -ℤ pos (8 * width * z.d)) *ℤ pos height) ((pos (8 * height * z.d) -ℤ z.y) *ℤ pos width) (pos (8 * width * height * z.d))
-            stands.x stands.y stands.w (ray-x reach px width height z.d (max width height) z.x hx mh h.across) (ray-y reach py width height z.d (max width height) z.y hy mw h.down) (ray-w reach width height z.d (max width height)) in
+      ((z.x -ℤ pos (8 * width * z.d)) *ℤ pos height) ((pos (8 * height * z.d) -ℤ z.y) *ℤ pos width) (pos (8 * width * height * z.d))
+      stands.x stands.y stands.w (ray-x reach px width height z.d (max width height) z.x hx mh h.across) (ray-y reach py width height z.d (max width height) z.y hy mw h.down) (ray-w reach width height z.d (max width height)) in
       let is = held-form l.x l.y l.w z.x z.y width height z.d in
       let square = square-bounded f.a f.b f.c (pos (16 * px + 8)) (pos (16 * py + 8)) z.x z.y z.d reach h.across h.down in
       both (reach * (nat_abs f.a + nat_abs f.b)) off (8 * width * height + reach * max width height) scale z.d (dot line (ray_through (dimensions width height) z)) (dot l (ray_through (dimensions width height) z)) (value_at f (middle px py))

@@ -1,12 +1,12 @@
 -- A corner is certified by the tests that the code made.
-use Rattle.std.proofs.Common.{◌≡◌, ℕ, ℤ, pos, ◌≤◌, ◌*◌, ◌/◌, ◌%◌, ◌+◌, ◌^◌, ◌*ℤ◌, ◌≤ℤ◌, min, false, Some, None, arith, sym}
+use Rattle.std.proofs.Common.{◌≡◌, ℕ, ℤ, pos, ◌≤◌, ◌*◌, ◌/◌, ◌^◌, ◌*ℤ◌, ◌≤ℤ◌, min, false, Some, None, arith}
 use lib.Signed.{lt_z}
 use Rattle.std.proofs.lemmas.Int.{ints}
 use Rattle.std.proofs.lemmas.Nat.{div-add-mod'}
 use Rattle.std.proofs.Math.Nat.{mul-le-mul_right}
 use Rattle.cull_base.specs.Piece.{Point}
 use Rattle.pixel_forms.specs.Forms.{least_at, most_at}
-use Rattle.pixel_forms.specs.Certified.{divisor_of, IsSeen, IsInside, IsAtMost, IsCertified}
+use Rattle.pixel_forms.specs.Certified.{divisor_of, IsSeen, IsAtMost, IsCertified}
 use Rattle.pixel_forms.specs.declared.nearness_form.NearnessForm.{NearnessForm}
 use Rattle.pixel_forms.specs.declared.forms.Forms.{Forms}
 use Rattle.pixel_forms.specs.declared.forms.Half.{Half}

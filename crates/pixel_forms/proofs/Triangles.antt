@@ -1,18 +1,17 @@
 -- The forms of a triangle, and of a quad, stand for it.
-use Rattle.std.proofs.Common.{◌≡◌, ◌∙◌, ◌⊎◌, inl, inr, ℕ, ℤ, pos, negsuc, neg_ℤ, ◌<◌, ◌≤◌, ◌+◌, ◌-◌, ◌*◌, ◌^◌, ◌+ℤ◌, ◌-ℤ◌, ◌*ℤ◌, ◌≤ℤ◌, ◌<ℤ◌, Bool, true, false, cond, int_lt, Option, Some, None, IfSome, suc, zero, arith, refl, ap, sym}
+use Rattle.std.proofs.Common.{◌≡◌, ◌⊎◌, inl, inr, ℕ, ℤ, pos, negsuc, neg_ℤ, ◌<◌, ◌+◌, ◌-◌, ◌*◌, ◌^◌, ◌+ℤ◌, ◌*ℤ◌, ◌≤ℤ◌, ◌<ℤ◌, Bool, true, false, cond, Option, Some, None, IfSome, suc, zero, arith, refl, sym}
 use Rattle.std.proofs.lemmas.Int.{ints}
 use Rattle.std.proofs.lemmas.Nat.{pow_pos}
 use Rattle.cull_base.specs.Piece.{Point, middle}
 use Rattle.cull_base.specs.Grade.{top_of}
 use Rattle.exact_clip.specs.Clip.{Clip}
-use Rattle.clip_lines.specs.Lines.{cross, dot, det, sum_of, StandsFor}
-use Rattle.clip_lines.specs.Parts.{of_line}
+use Rattle.clip_lines.specs.Lines.{cross, dot, det, sum_of}
 use Rattle.clip_lines.specs.Planes.{IsPlaneOf}
 use Rattle.clip_lines.specs.declared.plane.Plane.{Plane}
-use Rattle.pixel_forms.specs.Rays.{Place, InSquare, ray_through, Face, size_of, weight_a, weight_b, weight_c, weight_of, Meets, IsUncut}
+use Rattle.pixel_forms.specs.Rays.{Place, InSquare, ray_through, size_of, weight_a, weight_b, weight_c, weight_of, Meets, IsUncut}
 use Rattle.pixel_forms.specs.Seen.{size_seen, sight_of, nearest_of, whole_of, keeps_turned, turned_line}
 use Rattle.pixel_forms.specs.Forms.{least_at, most_at, IsFormOf}
-use Rattle.pixel_forms.specs.Certified.{divisor_of, IsSeen, IsInside, Serves, StandFor, face, IsTriangle, IsHalf}
+use Rattle.pixel_forms.specs.Certified.{divisor_of, IsSeen, Serves, StandFor, face, IsTriangle, IsHalf}
 use Rattle.pixel_forms.specs.Nearness.{IsNearnessOf}
 use Rattle.pixel_forms.specs.declared.eye.Eye.{Eye}
 use Rattle.pixel_forms.specs.declared.form.Form.{Form}
@@ -110,14 +109,14 @@ module _ (eye : Eye) (unit shift : ℕ) (plane : Plane) (is_front : Bool) (n : N
   uncut_there : (px py : ℕ) (z : Place) → px < eye.width → py < eye.height → InSquare eye.reach px py z → IsSeen n (middle px py) → Meets (face a b c) (ray_through (size_seen eye) z)
       → IsUncut (pos (eye.near * unit)) (face a b c) (ray_through (size_seen eye) z)
   uncut_there px py z hx hy hz seen m = elim (k.nearness.least) [
-        | inl front ↦ front-uncut (pos (eye.near * unit)) a b c (ray_through (size_seen eye) z) (k.front-a front) (k.front-b front) (k.front-c front) m
-        | inr limit ↦ uncut-below eye.near (plane.length - plane.unsure) (whole_of eye) (2 ^ shift) (2 ^ k.nearness.taken) unit (unit * 2 ^ shift) z.d
-            (most_at n.form (middle px py)) n.limit (size_of (face a b c)) (weight_of (face a b c) (ray_through (size_seen eye) z)) seen.uncut
-            (sum_not_less (weight_a (face a b c) (ray_through (size_seen eye) z)) (weight_b (face a b c) (ray_through (size_seen eye) z)) (weight_c (face a b c) (ray_through (size_seen eye) z)) m.a m.b m.c) size_above limit
-            (of_le (weight_of (face a b c) (ray_through (size_seen eye) z)) (most_at n.form (middle px py) *ℤ pos ((((unit * 2 ^ shift) * (unit * 2 ^ shift)) * 2 ^ k.nearness.taken) * z.d))
-            (dot (turned_line plane.is_turned (sum_of (sum_of (cross a b) (cross b c)) (cross c a))) (ray_through (size_seen eye) z))
-            (weight-of_is plane.is_turned a b c (ray_through (size_seen eye) z) k.plane-of.sign) (form_of.high px py hx hy z hz))
-      ]
+    | inl front ↦ front-uncut (pos (eye.near * unit)) a b c (ray_through (size_seen eye) z) (k.front-a front) (k.front-b front) (k.front-c front) m
+    | inr limit ↦ uncut-below eye.near (plane.length - plane.unsure) (whole_of eye) (2 ^ shift) (2 ^ k.nearness.taken) unit (unit * 2 ^ shift) z.d
+        (most_at n.form (middle px py)) n.limit (size_of (face a b c)) (weight_of (face a b c) (ray_through (size_seen eye) z)) seen.uncut
+        (sum_not_less (weight_a (face a b c) (ray_through (size_seen eye) z)) (weight_b (face a b c) (ray_through (size_seen eye) z)) (weight_c (face a b c) (ray_through (size_seen eye) z)) m.a m.b m.c) size_above limit
+        (of_le (weight_of (face a b c) (ray_through (size_seen eye) z)) (most_at n.form (middle px py) *ℤ pos ((((unit * 2 ^ shift) * (unit * 2 ^ shift)) * 2 ^ k.nearness.taken) * z.d))
+        (dot (turned_line plane.is_turned (sum_of (sum_of (cross a b) (cross b c)) (cross c a))) (ray_through (size_seen eye) z))
+        (weight-of_is plane.is_turned a b c (ray_through (size_seen eye) z) k.plane-of.sign) (form_of.high px py hx hy z hz))
+  ]
 
   pub serves : (forms : Forms) (px py : ℕ) (z : Place) → (forms.plane ≡ n) ⊎ ((h : Half) × (forms.other ≡ Some h) × (h.plane ≡ n))
       → px < eye.width → py < eye.height → InSquare eye.reach px py z → IsSeen n (middle px py) → Meets (face a b c) (ray_through (size_seen eye) z)
@@ -142,9 +141,9 @@ pub triangle-stands : (eye : Eye) (unit shift : ℕ) (plane : Plane) (is_front :
     → StandFor (sight_of eye unit) (nearest_of eye) forms (IsTriangle a b c)
 triangle-stands eye unit shift plane is_front forms a b c i j l known first second third px py hx hy inside z hz =
     let m = met eye unit shift plane is_front forms.plane a b c known (ray_through (size_seen eye) z)
-          (inner eye i px py forms.first (turned_line plane.is_turned (cross a b)) z first hx hy hz inside.first)
-          (inner eye j px py forms.second (turned_line plane.is_turned (cross b c)) z second hx hy hz inside.second)
-          (inner eye l px py forms.third (turned_line plane.is_turned (cross c a)) z third hx hy hz inside.third) in
+    (inner eye i px py forms.first (turned_line plane.is_turned (cross a b)) z first hx hy hz inside.first)
+    (inner eye j px py forms.second (turned_line plane.is_turned (cross b c)) z second hx hy hz inside.second)
+    (inner eye l px py forms.third (turned_line plane.is_turned (cross c a)) z third hx hy hz inside.third) in
     (face a b c, refl, serves eye unit shift plane is_front forms.plane a b c known forms px py z (inl refl) hx hy hz inside.plane m)
 
 -- ---- a quad's forms
@@ -184,7 +183,15 @@ quad-stands eye unit shift plane over is_front is_over_front forms half a b c d 
     let cd = inner eye l px py forms.third (turned_line plane.is_turned (cross c d)) z third hx hy hz inside.third in
     let da = inner eye m px py half.edge (turned_line plane.is_turned (cross d a)) z fourth hx hy hz at-half.0 in
     side (dot (turned_line plane.is_turned (cross c a)) r) (dot (turned_line plane.is_turned (cross a c)) r) (opposite-turned plane.is_turned a c r)
-    (λ ca. (face a b c, inl refl, serves eye unit shift plane is_front forms.plane a b c known forms px py z (inl refl) hx hy hz inside.plane
-        (met eye unit shift plane is_front forms.plane a b c known r ab bc ca)))
-    (λ ac. (face a c d, inr refl, serves eye unit shift over is_over_front half.plane a c d known-over forms px py z (inr (half, other, refl)) hx hy hz at-half.1
-        (met eye unit shift over is_over_front half.plane a c d known-over r (turned_as over.is_turned plane.is_turned (cross a c) r same ac) (turned_as over.is_turned plane.is_turned (cross c d) r same cd) (turned_as over.is_turned plane.is_turned (cross d a) r same da))))
+    (λ ca. (
+      face a b c,
+      inl refl,
+      serves eye unit shift plane is_front forms.plane a b c known forms px py z (inl refl) hx hy hz inside.plane
+          (met eye unit shift plane is_front forms.plane a b c known r ab bc ca),
+    ))
+    (λ ac. (
+      face a c d,
+      inr refl,
+      serves eye unit shift over is_over_front half.plane a c d known-over forms px py z (inr (half, other, refl)) hx hy hz at-half.1
+          (met eye unit shift over is_over_front half.plane a c d known-over r (turned_as over.is_turned plane.is_turned (cross a c) r same ac) (turned_as over.is_turned plane.is_turned (cross c d) r same cd) (turned_as over.is_turned plane.is_turned (cross d a) r same da)),
+    ))

@@ -1,5 +1,5 @@
 -- How many bits a number has, and what a shift leaves of it.
-use Rattle.std.proofs.Common.{◌≡◌, ℕ, ℤ, pos, negsuc, suc, zero, neg_ℤ, nat_abs, ◌<◌, ◌≤◌, ◌+◌, ◌-◌, ◌*◌, ◌/◌, ◌%◌, ◌^◌, ◌+ℤ◌, ◌*ℤ◌, ◌≤ℤ◌, max, FitsSigned, w64, arith, refl}
+use Rattle.std.proofs.Common.{◌≡◌, ℕ, ℤ, pos, negsuc, suc, nat_abs, ◌<◌, ◌≤◌, ◌+◌, ◌-◌, ◌*◌, ◌/◌, ◌%◌, ◌^◌, ◌+ℤ◌, ◌*ℤ◌, ◌≤ℤ◌, max, FitsSigned, w64, arith, refl}
 use lib.Count.{count_leading_zeros}
 use lib.Signed.{shr_z}
 use Rattle.std.specs.Int.{int_div_euclid}
@@ -19,6 +19,7 @@ width n k a m h em =
   where
     enough : (n k m w c : ℕ) → c + w ≡ n → m ≡ max (n - c) k → w ≤ k + (m - k)
     enough n k m w c e em = omega (arith, e, em)
+
     below : (a b c : ℕ) → a < b → b ≤ c → a < c
     below a b c h i = omega (arith, h, i)
 
@@ -90,5 +91,6 @@ shifted-le n s j k m e le h = let p = lower-power s j k le in rw e (chain ((s * 
   where
     mod-le : (n m : ℕ) → 0 < m → n % m ≤ n
     mod-le n m h = omega (arith, h)
+
     chain : (a b c : ℕ) → a ≤ b → b ≤ c → a ≤ c
     chain a b c h i = omega (arith, h, i)

@@ -1,9 +1,9 @@
 -- Corners that forms certify, and what forms say of triangles.
-use Rattle.std.specs.Prelude.{ℕ, ℤ, pos, ◌≡◌, ◌*◌, ◌^◌, ◌<◌, ◌*ℤ◌, ◌≤ℤ◌, ◌<ℤ◌, ◌⊎◌, true, IfSome, Some}
+use Rattle.std.specs.Prelude.{ℕ, pos, ◌≡◌, ◌*◌, ◌^◌, ◌<◌, ◌*ℤ◌, ◌≤ℤ◌, ◌<ℤ◌, ◌⊎◌, true, IfSome, Some}
 use Rattle.cull_base.specs.Piece.{Piece, Point, vertex, nearness, middle, doubled_area}
 use Rattle.exact_clip.specs.Clip.{Clip}
 use Rattle.pixel_forms.specs.Rays.{Place, InSquare, ray_through, Face, size_of, weight_of, Meets, IsUncut, keeps}
-use Rattle.pixel_forms.specs.Within.{Sight, IsWithinFaces}
+use Rattle.pixel_forms.specs.Within.{Sight}
 use Rattle.pixel_forms.specs.Forms.{least_at, most_at}
 use Rattle.pixel_forms.specs.declared.nearness_form.NearnessForm.{NearnessForm}
 use Rattle.pixel_forms.specs.declared.forms.Forms.{Forms}

@@ -1,5 +1,5 @@
 -- How a nearness form is made of the plane of a triangle.
-use Rattle.std.specs.Prelude.{ℕ, ℤ, pos, ◌≡◌, ◌+◌, ◌-◌, ◌*◌, ◌^◌, ◌<◌, ◌≤◌, ◌*ℤ◌, ◌≤ℤ◌, ◌⊎◌, Bool, true, IfSome}
+use Rattle.std.specs.Prelude.{ℕ, pos, ◌≡◌, ◌+◌, ◌-◌, ◌*◌, ◌^◌, ◌<◌, ◌≤◌, ◌*ℤ◌, ◌≤ℤ◌, ◌⊎◌, Bool, true, IfSome}
 use Rattle.exact_clip.specs.Clip.{Clip}
 use Rattle.clip_lines.specs.Lines.{StandsFor}
 use Rattle.clip_lines.specs.Parts.{of_line}

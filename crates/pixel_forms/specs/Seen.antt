@@ -1,5 +1,5 @@
 -- How an eye sees triangles, by an exact unit.
-use Rattle.std.specs.Prelude.{ℕ, ℤ, pos, neg_ℤ, ◌+◌, ◌*◌, max, Bool, true, false, not}
+use Rattle.std.specs.Prelude.{ℕ, pos, neg_ℤ, ◌+◌, ◌*◌, max, Bool, true, false, not}
 use Rattle.cull_base.specs.Screen.{Dimensions, dimensions}
 use Rattle.cull_base.specs.Grade.{top_of}
 use Rattle.cull_base.specs.declared.triangle.Winding.{Winding}

@@ -1,4 +1,4 @@
-use Rattle.std.proofs.Common.{ℤ, ◌*ℤ◌, ◌^◌, FitsSigned, w32, w64, arith}
+use Rattle.std.proofs.Common.{◌*ℤ◌, ◌^◌, FitsSigned, w32, w64, arith}
 use Rattle.std.proofs.lemmas.Int.{ints, to_z-of_z}
 use Rattle.cull_base.proofs.Bounds.{bounded-mul}
 use Rattle.pixel_forms.proofs.form.product.Goals as goal

@@ -1,4 +1,4 @@
-use Rattle.std.proofs.Common.{◌≡◌, ◌≤◌, ◌<◌, ◌*◌, ◌/◌, ◌^◌, pos, min, w64, arith}
+use Rattle.std.proofs.Common.{◌≤◌, ◌<◌, ◌/◌, ◌^◌, w64, arith}
 use Rattle.std.proofs.lemmas.Int.{ints, to_z_pos}
 use Rattle.pixel_forms.proofs.Widths.{quotient-product}
 use Rattle.pixel_forms.proofs.nearness_form.limit_of.Goals as goal

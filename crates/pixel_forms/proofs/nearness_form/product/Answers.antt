@@ -1,6 +1,5 @@
 use Rattle.std.proofs.Common.{◌≡◌, ℕ, ℤ, pos, ◌*◌, ◌*ℤ◌, arith}
 use Rattle.std.proofs.lemmas.Int.{ints}
-use Rattle.cull_base.proofs.Ring.{diff, diff-mul, diff-same, over2}
 use Rattle.pixel_forms.proofs.nearness_form.product.Goals as goal
 
 turned : (a b : ℕ) (f : ℤ) (n : ℕ) → pos a ≡ f → b ≡ n → pos (a * b) ≡ pos n *ℤ f

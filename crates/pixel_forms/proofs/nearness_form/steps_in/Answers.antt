@@ -1,4 +1,4 @@
-use Rattle.std.proofs.Common.{◌/◌, ◌^◌, arith}
+use Rattle.std.proofs.Common.{arith}
 use Rattle.std.proofs.lemmas.Nat.{shr_below}
 use Rattle.pixel_forms.proofs.nearness_form.steps_in.Goals as goal
 

@@ -1,4 +1,4 @@
-use Rattle.std.proofs.Common.{◌≡◌, ℤ, pos, FitsSigned, w32, w64, rules}
+use Rattle.std.proofs.Common.{pos, FitsSigned, w32, w64, rules}
 use Rattle.std.proofs.lemmas.Int.{to_z-of_z}
 use Rattle.cull_base.specs.Piece.{point}
 use Rattle.pixel_forms.specs.Seen.{nearest_of}

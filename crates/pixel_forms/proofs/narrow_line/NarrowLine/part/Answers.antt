@@ -1,4 +1,4 @@
-use Rattle.std.proofs.Common.{ℤ, ◌^◌, FitsSigned, w64}
+use Rattle.std.proofs.Common.{◌^◌, FitsSigned, w64}
 use lib.Signed.{shr_z}
 use Rattle.std.proofs.lemmas.Int.{to_z-of_z}
 use Rattle.pixel_forms.proofs.Widths.{shift-floor, shift-fits, floor-bounded, split-power}

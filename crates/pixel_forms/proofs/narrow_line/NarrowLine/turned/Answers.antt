@@ -1,4 +1,4 @@
-use Rattle.std.proofs.Common.{ℤ, FitsSigned, w64, rules}
+use Rattle.std.proofs.Common.{FitsSigned, w64, rules}
 use Rattle.std.proofs.lemmas.Int.{to_z-of_z}
 use Rattle.pixel_forms.specs.Narrow.{of_narrow}
 use Rattle.pixel_forms.proofs.Narrow.{turned-parts}
