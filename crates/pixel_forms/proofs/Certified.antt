@@ -41,7 +41,7 @@ all-inside t p nearest forms w h =
     }
 
 -- the nearness of a corner is at most what each of the planes says
-some_at_most : (nearest q : ℕ) (p : Point) (o : Option Half) (h : Half) (n : NearnessForm) → o ≡ Some h → h.plane ≡ n → IfSome o (λ h. IsAtMost nearest h.plane p q) → IsAtMost nearest n p q
+pub some_at_most : (nearest q : ℕ) (p : Point) (o : Option Half) (h : Half) (n : NearnessForm) → o ≡ Some h → h.plane ≡ n → IfSome o (λ h. IsAtMost nearest h.plane p q) → IsAtMost nearest n p q
 some_at_most nearest q p None h n e f a = cc
 some_at_most nearest q p (Some k) h n e f a = rw (← f) (some k h e a)
   where

@@ -1,8 +1,8 @@
 -- A corner is certified by the tests that the code made.
-use Rattle.std.proofs.Common.{◌≡◌, ℕ, ℤ, pos, ◌≤◌, ◌*◌, ◌/◌, ◌^◌, ◌*ℤ◌, ◌≤ℤ◌, min, false, Some, None, arith}
+use Rattle.std.proofs.Common.{◌≡◌, ℕ, ℤ, pos, ◌<◌, ◌≤◌, ◌*◌, ◌/◌, ◌^◌, ◌*ℤ◌, ◌≤ℤ◌, min, true, false, negsuc, Option, IsSome, Some, None, arith, sym}
 use lib.Signed.{lt_z}
 use Rattle.std.proofs.lemmas.Int.{ints}
-use Rattle.std.proofs.lemmas.Nat.{div-add-mod'}
+use Rattle.std.proofs.lemmas.Nat.{div-add-mod', le-div, mul-le}
 use Rattle.std.proofs.Math.Nat.{mul-le-mul_right}
 use Rattle.cull_base.specs.Piece.{Point}
 use Rattle.pixel_forms.specs.Forms.{least_at, most_at}
@@ -20,6 +20,18 @@ as_le a b c e h = omega (arith, ints, e, h)
 -- by a test that failed
 pub not_under : (a b : ℤ) → lt_z a b ≡ false → b ≤ℤ a
 not_under a b h = grind (arith, ints)
+
+-- by a test that held
+pub outside : (l m : ℤ) → l ≡ m → lt_z l (pos 0) ≡ true → pos 0 ≤ℤ m → ⊥
+outside l m e h k = below l h (omega (arith, ints, e, k))
+  where
+    below : (l : ℤ) → lt_z l (pos 0) ≡ true → pos 0 ≤ℤ l → ⊥
+    below (pos n) h k = grind (arith, ints)
+    below (negsuc n) h k = omega (arith, ints, k)
+
+pub none_some : (o : Option ℕ) → o ≡ None → IsSome o → ⊥
+none_some None e h = cc
+none_some (Some n) e h = cc
 
 pub seen-by : (n : NearnessForm) (p : Point) (l m : ℤ) → l ≡ least_at n.form p → m ≡ most_at n.form p → pos 0 ≤ℤ l → m ≤ℤ n.limit → IsSeen n p
 seen-by n p l m el em hl hm = record { front = le_as (pos 0) l (least_at n.form p) el hl; uncut = as_le m (most_at n.form p) n.limit em hm }
@@ -40,6 +52,20 @@ pub at-most-by : (n : NearnessForm) (p : Point) (q quotient steps top size neare
 at-most-by n p q quotient steps top size nearest l el eq es h e =
     let k = quotient-steps q quotient steps top n.divisor (2 ^ n.power) size eq es h in
     rw (← el) (rw (← e) (omega (arith, ints, k)))
+
+le_from : (a b : ℕ) (c : ℤ) → c ≡ pos b → pos a ≤ℤ c → a ≤ b
+le_from a b c e h = omega (arith, ints, e, h)
+
+-- no nearness up to the top that the plane says too is greater
+pub greatest-by : (n : NearnessForm) (p : Point) (q quotient steps top size nearest r : ℕ) (l : ℤ) → l ≡ least_at n.form p → q ≡ min quotient top → quotient ≡ steps / n.divisor
+    → ((m : ℕ) → m ≤ 2 ^ 63 → m * 2 ^ n.power ≤ size → m ≤ steps) → pos size ≡ pos nearest *ℤ l → n.divisor ≤ 2 ^ 38 → 0 < n.divisor → r ≤ top → top ≤ 16777215 → IsAtMost nearest n p r → r ≤ q
+greatest-by n p q quotient steps top size nearest r l el eq es most e small positive le held h =
+    let a : r * (n.divisor * 2 ^ n.power) ≤ size = le_from (r * (n.divisor * 2 ^ n.power)) size (pos nearest *ℤ least_at n.form p) (sym (rw el at e)) h in
+    let b : (r * n.divisor) * 2 ^ n.power ≤ size = omega (arith, a) in
+    let k : r * n.divisor ≤ 16777215 * 2 ^ 38 = mul-le r n.divisor 16777215 (2 ^ 38) (omega (arith, le, held)) small in
+    let c : r * n.divisor ≤ steps = most (r * n.divisor) (omega (arith, k)) b in
+    let d : r ≤ steps / n.divisor = le-div r steps n.divisor positive c in
+    omega (arith, eq, es, d, le)
 
 at-most_less : (nearest : ℕ) (n : NearnessForm) (p : Point) (q r : ℕ) → q ≤ r → IsAtMost nearest n p r → IsAtMost nearest n p q
 at-most_less nearest n p q r le h =

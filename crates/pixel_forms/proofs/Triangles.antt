@@ -160,7 +160,7 @@ side : {X : Type 0} (v u : ℤ) → u ≡ neg_ℤ v → (pos 0 ≤ℤ v → X) �
 side (pos n) u e f g = f (omega (arith, ints))
 side (negsuc n) u e f g = g (omega (arith, ints, e))
 
-at_half : (p : Point) (o : Option Half) (h : Half) → o ≡ Some h → IfSome o (λ h. (pos 0 ≤ℤ least_at h.edge p) × IsSeen h.plane p) → (pos 0 ≤ℤ least_at h.edge p) × IsSeen h.plane p
+pub at_half : (p : Point) (o : Option Half) (h : Half) → o ≡ Some h → IfSome o (λ h. (pos 0 ≤ℤ least_at h.edge p) × IsSeen h.plane p) → (pos 0 ≤ℤ least_at h.edge p) × IsSeen h.plane p
 at_half p None h e k = cc
 at_half p (Some g) h e k = let same : g ≡ h = cc in rw (← same) k
 

@@ -24,6 +24,8 @@ pub record IsNearnessOf (eye : Eye) (shift : ℕ) (plane : Plane) (is_front : Bo
 pub record IsSmallNearness (n : NearnessForm) : Type 0 where
   pub form : IsSmall n.form
   pub power : n.power < 128
+  pub positive : 0 < n.divisor
+  pub divisor : n.divisor ≤ 2 ^ 38
 
 -- each value of the forms fits, at points within 2^15 sixteenths
 pub record AreSmall (forms : Forms) : Type 0 where

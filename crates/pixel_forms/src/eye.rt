@@ -24,6 +24,38 @@ impl Eye {
     ghost use Rattle.cull_base.specs.Grade.{top_of};
     ghost use Rattle.pixel_forms.specs.Seen.{keeps_turned, nearest_of, whole_of, span_of};
 
+    /// Condition: the near distance is above 0 and below 2^31, the screen at most 2048 pixels wide and high, the reach at
+    /// most 64.
+    pub fn new(
+        near: u32,
+        width: u32,
+        height: u32,
+        reach: u32,
+        grade: Grade,
+        winding: Winding,
+    ) -> Eye
+        requires near_positive { 0 < near }
+        requires near_within { near < 2 ^ 31 }
+        requires width_within { width ≤ 2048 }
+        requires height_within { height ≤ 2048 }
+        requires reach_within { reach ≤ 64 }
+        ensures near { result.near ≡ near }
+        ensures width { result.width ≡ width }
+        ensures height { result.height ≡ height }
+        ensures reach { result.reach ≡ reach }
+        ensures grade { result.grade ≡ grade }
+        ensures winding { result.winding ≡ winding }
+    {
+        Eye {
+            near,
+            width,
+            height,
+            reach,
+            grade,
+            winding,
+        }
+    }
+
     /// The near distance times the top of nearness.
     #[inline(always)]
     pub(crate) fn nearest(&self) -> u64

@@ -71,6 +71,7 @@ fn span_of(length: u128, unsure: u128, whole: u32) -> Span
     ensures most { (length + unsure) * whole ≤ result.most * 2 ^ result.power }
     ensures small { result.least < 2 ^ 38 }
     ensures positive { 0 < result.most }
+    ensures bounded { result.most ≤ 2 ^ 38 }
     ensures power { result.power ≤ 90 }
 {
     let greatest = along(length + unsure, whole);
@@ -114,13 +115,15 @@ fn product(form: i64, nearest: u64) -> u128
 #[inline(always)]
 fn steps_of(size: u128, power: u32) -> u64
     requires { power < 128 }
-    ensures { result * 2 ^ power ≤ size }
+    ensures least { result * 2 ^ power ≤ size }
+    ensures most { (steps : ℕ) → steps ≤ 2 ^ 63 → steps * 2 ^ power ≤ size → steps ≤ result }
 {
     (size >> power).min(GREATEST) as u64
 }
 
 impl NearnessForm {
-    ghost use Rattle.std.specs.Prelude.{IfSome};
+    ghost use Rattle.std.specs.Prelude.{IfSome, IsSome};
+    ghost use Rattle.cull_base.specs.Grade.{top_of};
     ghost use Rattle.cull_base.specs.Bounds.{Bounded};
     ghost use Rattle.cull_base.specs.Piece.{point};
     ghost use Rattle.cull_base.specs.declared.nearness.TheConstants.{HELD_TOP};
@@ -156,7 +159,8 @@ impl NearnessForm {
         })
     }
 
-    /// The nearness at (x, y). None: the triangle may lie behind the eye there, or before the near distance.
+    /// The greatest nearness that the triangle surely has around (x, y), at most the top. None: it may lie behind the eye
+    /// there, or before the near distance.
     #[inline(always)]
     pub fn nearness(&self, eye: &Eye, x: i32, y: i32) -> Option<u32>
         requires small { IsSmallNearness self.now }
@@ -164,6 +168,9 @@ impl NearnessForm {
         requires y { Bounded (2 ^ 15) y }
         ensures seen { IfSome result (λ q. IsSeen self.now (point x y)) }
         ensures at_most { IfSome result (λ q. IsAtMost (nearest_of eye.now) self.now (point x y) q) }
+        ensures greatest { IfSome result (λ q. (r : ℕ) → r ≤ top_of eye.now.grade
+            → IsAtMost (nearest_of eye.now) self.now (point x y) r → r ≤ q) }
+        ensures given { IsSeen self.now (point x y) → IsSome result }
         ensures held { IfSome result (λ q. q ≤ HELD_TOP) }
     {
         let least = self.form.least(x, y);
