@@ -33,8 +33,8 @@ pub none_some : (o : Option ℕ) → o ≡ None → IsSome o → ⊥
 none_some None e h = cc
 none_some (Some n) e h = cc
 
-pub seen-by : (n : NearnessForm) (p : Point) (l m : ℤ) → l ≡ least_at n.form p → m ≡ most_at n.form p → pos 0 ≤ℤ l → m ≤ℤ n.limit → IsSeen n p
-seen-by n p l m el em hl hm = record { front = le_as (pos 0) l (least_at n.form p) el hl; uncut = as_le m (most_at n.form p) n.limit em hm }
+pub seen-by : (n : NearnessForm) (p : Point) (l : ℤ) → l ≡ least_at n.form p → pos 0 ≤ℤ l → most_at n.form p ≤ℤ n.limit → IsSeen n p
+seen-by n p l el hl hm = record { front = le_as (pos 0) l (least_at n.form p) el hl; uncut = hm }
 
 quotient-steps : (q quotient steps top d k size : ℕ) → q ≡ min quotient top → quotient ≡ steps / d → steps * k ≤ size → q * (d * k) ≤ size
 quotient-steps q quotient steps top d k size eq es h =

@@ -122,7 +122,8 @@ fn steps_of(size: u128, power: u32) -> u64
 }
 
 impl NearnessForm {
-    ghost use Rattle.std.specs.Prelude.{IfSome, IsSome};
+    ghost use Rattle.std.specs.Prelude.{◌<ℤ◌, true, false, IfSome, IsSome};
+    ghost use Rattle.pixel_forms.specs.Forms.{least_at, most_at, IsSmall};
     ghost use Rattle.cull_base.specs.Grade.{top_of};
     ghost use Rattle.cull_base.specs.Bounds.{Bounded};
     ghost use Rattle.cull_base.specs.Piece.{point};
@@ -159,6 +160,29 @@ impl NearnessForm {
         })
     }
 
+    // The form is no less around (x, y).
+    #[inline(always)]
+    fn least(&self, x: i32, y: i32) -> i64
+        requires small { IsSmall self.now.form }
+        requires x { Bounded (2 ^ 15) x }
+        requires y { Bounded (2 ^ 15) y }
+        ensures { result ≡ least_at self.now.form (point x y) }
+    {
+        self.form.least(x, y)
+    }
+
+    // Whether the triangle may lie before the near distance around (x, y).
+    #[inline(always)]
+    fn may_be_cut(&self, x: i32, y: i32) -> bool
+        requires small { IsSmall self.now.form }
+        requires x { Bounded (2 ^ 15) x }
+        requires y { Bounded (2 ^ 15) y }
+        ensures uncut { result ≡ false → most_at self.now.form (point x y) ≤ℤ self.now.limit }
+        ensures cut { result ≡ true → self.now.limit <ℤ most_at self.now.form (point x y) }
+    {
+        self.limit < self.form.most(x, y)
+    }
+
     /// The greatest nearness that the triangle surely has around (x, y), at most the top. None: it may lie behind the eye
     /// there, or before the near distance.
     #[inline(always)]
@@ -173,8 +197,8 @@ impl NearnessForm {
         ensures given { IsSeen self.now (point x y) → IsSome result }
         ensures held { IfSome result (λ q. q ≤ HELD_TOP) }
     {
-        let least = self.form.least(x, y);
-        if least < 0 || self.limit < self.form.most(x, y) {
+        let least = self.least(x, y);
+        if least < 0 || self.may_be_cut(x, y) {
             return None;
         }
         let steps = steps_of(product(least, eye.nearest()), self.power);

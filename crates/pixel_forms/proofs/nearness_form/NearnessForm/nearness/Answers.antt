@@ -8,10 +8,10 @@ use Rattle.pixel_forms.proofs.nearness_form.NearnessForm.nearness.Goals as goal
 pub returns-clause-seen : goal.returns-clause-seen
 returns-clause-seen c =
     let fx : FitsSigned w32 c.args.x = c.ranges.x in let fy : FitsSigned w32 c.args.y = c.ranges.y in
-    let fl : FitsSigned w64 c.least-least.result = search rules in let fm : FitsSigned w64 c.most.result = search rules in
-    let fi : FitsSigned w64 c.args.self.now.limit = search rules in
-    seen-by c.args.self.now (point c.args.x c.args.y) c.least-least.result c.most.result (simp to_z-of_z at c.least-least.ensures) (simp to_z-of_z at c.most.ensures)
-    (not_under c.least-least.result (pos 0) (simp to_z-of_z at c.if-least-lt0.false)) (not_under c.args.self.now.limit c.most.result (simp to_z-of_z at c.if-self-most.false))
+    let fl : FitsSigned w64 c.least-least.result = search rules in
+    let uncut = simp to_z-of_z at c.may_be_cut.ensures.uncut in
+    seen-by c.args.self.now (point c.args.x c.args.y) c.least-least.result (simp to_z-of_z at c.least-least.ensures)
+    (not_under c.least-least.result (pos 0) (simp to_z-of_z at c.if-least-lt0.false)) (uncut c.if-may_be_cut.false)
 
 pub returns-clause-at_most : goal.returns-clause-at_most
 returns-clause-at_most c =
