@@ -10,3 +10,6 @@ mod proposal;
 mod reached;
 
 pub use reached::Reached;
+
+#[cfg(test)]
+mod tests;

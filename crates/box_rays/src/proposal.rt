@@ -10,7 +10,7 @@ use cull_base::Rect;
 use exact_clip::Held;
 use std::num::saturating_f64_to_i32;
 
-/// What rounding may add to a place, in parts of it.
+/// More than rounding adds to a place, in parts of it.
 const ROUNDING: f64 = 1e-12;
 
 // A number as a float, by its upper and its lower half.
@@ -34,7 +34,7 @@ impl Extent {
         greatest: -1e30,
     };
 
-    // With another place, which is known to a spread.
+    // With another place, which lies within a spread of the one told.
     #[inline(always)]
     fn with(self, place: f64, spread: f64) -> Extent {
         let unsure = spread * (1.0 + place.abs());
@@ -55,6 +55,7 @@ fn pixel_at(place: f64, pixels: u32) -> i32
     pixel.clamp(0, pixels as i32)
 }
 
+// Where the pixel ends.
 fn after(pixel: i32, pixels: u32) -> i32
     requires least { pos 0 ≤ℤ pixel }
     requires most { pixel ≤ℤ pos pixels }
