@@ -6,12 +6,19 @@ use masked_update::TileState;
 use std::test::Fail;
 
 const ONE: u32 = 0x3f80_0000;
+
 const TWO: u32 = 0x4000_0000;
+
 const FOUR: u32 = 0x4080_0000;
+
 const FIVE: u32 = 0x40a0_0000;
+
 const FORTY: u32 = 0x4220_0000;
+
 const MINUS_ONE: u32 = 0xbf80_0000;
+
 const MINUS_FOUR: u32 = 0xc080_0000;
+
 const NO_NUMBER: u32 = 0x7fc0_0000;
 
 // x, y and the distance z from the eye; near is 1, and a pixel counts as a whole.
@@ -48,7 +55,16 @@ fn draw_wall(tiles: &mut [TileState], view: &View) -> Result<usize, &'static str
     let mut room = [UNWRITTEN; 14];
     let mut scratch = [NO_POINT; 4];
     let mut count = 0;
-    if maskcull_set_up_floats(&FOUR_TILES, view, &WALL, &HALVES, &mut scratch, &mut room, &mut count) != DONE {
+    if maskcull_set_up_floats(
+        &FOUR_TILES,
+        view,
+        &WALL,
+        &HALVES,
+        &mut scratch,
+        &mut room,
+        &mut count,
+    ) != DONE
+    {
         return Err("a mesh");
     }
     for written in room.iter().take(count) {
@@ -78,9 +94,18 @@ fn a_box_behind_a_wall_is_occluded(rt: HostRuntime) -> Result<(), Fail> {
         low: [FORTY, MINUS_ONE, FOUR],
         high: [FORTY, ONE, FIVE],
     };
-    assert_eq!(rt; maskcull_test_box_floats(&FOUR_TILES, &tiles, &VIEW, &behind), OCCLUDED);
-    assert_eq!(rt; maskcull_test_box_floats(&FOUR_TILES, &tiles, &VIEW, &before), VISIBLE);
-    assert_eq!(rt; maskcull_test_box_floats(&FOUR_TILES, &tiles, &VIEW, &beside), OUTSIDE);
+    assert_eq!(rt;
+        maskcull_test_box_floats(&FOUR_TILES, &tiles, &VIEW, &behind),
+        OCCLUDED
+    );
+    assert_eq!(rt;
+        maskcull_test_box_floats(&FOUR_TILES, &tiles, &VIEW, &before),
+        VISIBLE
+    );
+    assert_eq!(rt;
+        maskcull_test_box_floats(&FOUR_TILES, &tiles, &VIEW, &beside),
+        OUTSIDE
+    );
     assert_eq!(rt;
         maskcull_test_box_floats(&FOUR_TILES, &tiles[..3], &VIEW, &beside),
         BAD_TILES
@@ -98,7 +123,13 @@ fn a_mesh_with_a_triangle_before_a_wall_is_visible(rt: HostRuntime) -> Result<()
     let behind = Triangle { a: 0, b: 1, c: 2 };
     let before = Triangle { a: 0, b: 1, c: 3 };
     let unknown = Triangle { a: 0, b: 1, c: 4 };
-    let test = |triangles: &[Triangle]| maskcull_test_mesh_floats(&FOUR_TILES, &tiles, &VIEW, &positions, triangles);
+    let test = |triangles: &[Triangle]| maskcull_test_mesh_floats(
+        &FOUR_TILES,
+        &tiles,
+        &VIEW,
+        &positions,
+        triangles,
+    );
     assert_eq!(rt; test(&[behind]), OCCLUDED);
     assert_eq!(rt; test(&[behind, before]), VISIBLE);
     assert_eq!(rt; test(&[behind, unknown]), VISIBLE);
@@ -120,7 +151,13 @@ fn a_near_distance_that_is_no_number_draws_nothing(rt: HostRuntime) -> Result<()
         low: [0; 3],
         high: [ONE; 3],
     };
-    assert_eq!(rt; maskcull_test_box_floats(&FOUR_TILES, &tiles, &view, &all), VISIBLE);
-    assert_eq!(rt; maskcull_test_box_floats(&FOUR_TILES, &tiles, &wrong, &all), BAD_SETUP);
+    assert_eq!(rt;
+        maskcull_test_box_floats(&FOUR_TILES, &tiles, &view, &all),
+        VISIBLE
+    );
+    assert_eq!(rt;
+        maskcull_test_box_floats(&FOUR_TILES, &tiles, &wrong, &all),
+        BAD_SETUP
+    );
     Ok(())
 }
