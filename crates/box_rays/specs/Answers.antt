@@ -13,6 +13,12 @@ Says size top near share points Outside = IsBeside size points
 Says size top near share points Visible = Unit {0}
 Says size top near share points (At rect nearness) = IsReached size points rect × IsNearest top near share nearness points
 
+-- without its rectangle
+abbrev pub SaysNear : Dimensions → ℕ → ℤ → ℕ → List Clip → Reached → Type 0
+SaysNear size top near share points Outside = IsBeside size points
+SaysNear size top near share points Visible = Unit {0}
+SaysNear size top near share points (At rect nearness) = IsNearest top near share nearness points
+
 -- a rectangle is of the screen and has a pixel, and its nearness is at most the top
 abbrev pub IsInRange : Dimensions → ℕ → Reached → Type 0
 IsInRange size top Outside = Unit {0}

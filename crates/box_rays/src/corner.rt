@@ -8,10 +8,10 @@ ghost use Rattle.box_rays.specs.Corners.{IsReach, IsShort, IsSmall, StandsFor};
 
 use exact_clip::Held;
 
-/// How many bits a number of steps has.
+/// How many bits a number of steps has at most, without its sign.
 const STEP_BITS: u32 = 47;
 
-/// A step is at least so many times halved, so that the four units in which a coordinate is held are one step.
+/// A step is at least four units, by which a held coordinate may be off.
 const LEAST_SHIFT: u32 = 2;
 
 /// A clip point in steps, downwards against y. What it stands for lies at most two steps above each number.
@@ -22,7 +22,7 @@ pub(crate) struct Corner {
     pub(crate) w: i64,
 }
 
-// How far a corner's coordinates lie from 0, at most.
+// How far from 0 a corner's coordinates reach.
 #[inline(always)]
 fn reach_of(v: &Held) -> u64
     ensures { IsReach result v.now }
@@ -32,7 +32,7 @@ fn reach_of(v: &Held) -> u64
         .max(v.w.unsigned_abs())
 }
 
-/// By which power of two units become steps, for some corners.
+/// How many times units are halved, so that all coordinates of some corners are short.
 pub(crate) fn shift_of(corners: &[Held]) -> u32
     ensures least { 2 ≤ result }
     ensures most { result < 64 }

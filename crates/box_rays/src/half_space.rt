@@ -10,7 +10,7 @@ ghost use Rattle.box_rays.specs.HalfSpaces.{IsIn, IsNarrow};
 use crate::corner::Corner;
 use exact_clip::Held;
 
-/// The clip points where the sum of their coordinates times these is positive.
+/// The clip points where the sum of their coordinates, each times one of these, is positive. Downwards is against y.
 #[derive(Clone, Copy)]
 pub(crate) struct HalfSpace {
     pub(crate) across: i64,

@@ -9,4 +9,7 @@ mod nearness;
 mod proposal;
 mod reached;
 
-pub use reached::Reached;
+pub use reached::{Reached, is_certain};
+
+#[cfg(test)]
+mod tests;

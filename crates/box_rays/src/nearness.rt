@@ -7,7 +7,7 @@ use exact_clip::Held;
 /// Shares of nearness are parts of this.
 const WHOLE: u32 = 0x100_0000;
 
-/// A number that no corner's distance is less than, the least of them.
+/// The least distance of some corners.
 pub(crate) fn nearest_of(corners: &[Held]) -> i64
     ensures { All (λ v. result ≤ℤ v.w) corners.now }
 {
@@ -18,7 +18,7 @@ pub(crate) fn nearest_of(corners: &[Held]) -> i64
     nearest
 }
 
-// The nearness of one unit of distance, with a share more, rounded up.
+// The nearness at a distance of one unit, with a share more, rounded up.
 fn nearness_of_unit(near: u32, share: u32, top: u32) -> u64
     requires share { share ≤ 2 ^ 20 }
     requires top { top < 2 ^ 24 }

@@ -1,6 +1,7 @@
 //! A rectangle proposed by floats.
-ghost use Rattle.std.specs.Prelude.{pos, ◌≤◌, ◌≤ℤ◌, ◌<◌};
+ghost use Rattle.std.specs.Prelude.{pos, ◌≤◌, ◌≤ℤ◌, ◌<◌, ◌^◌};
 ghost use Rattle.std.specs.List.{All};
+ghost use Rattle.cull_base.specs.Bounds.{Bounded};
 ghost use Rattle.cull_base.specs.Screen.{dimensions};
 ghost use Rattle.box_rays.specs.Corners.{IsShort};
 ghost use Rattle.box_rays.specs.Frustums.{IsOnScreen};
@@ -10,15 +11,15 @@ use cull_base::Rect;
 use exact_clip::Held;
 use std::num::saturating_f64_to_i32;
 
-/// What rounding may add to a place, in parts of it.
+/// More than rounding adds to a place, in parts of it.
 const ROUNDING: f64 = 1e-12;
 
-// A number as a float, by its upper and its lower half.
+// A number as a float, exactly.
 #[inline(always)]
-fn float(n: i64) -> f64 {
-    let upper = (n >> 32) as i32;
-    let lower = (n & 0xffff_ffff) as u32;
-    f64::from(upper) * 4294967296.0 + f64::from(lower)
+fn float(steps: i64) -> f64
+    requires { Bounded (2 ^ 48) steps }
+{
+    steps as f64
 }
 
 /// Between which places of the screen, which goes from -1 to 1, an object is seen along an axis.
@@ -34,7 +35,7 @@ impl Extent {
         greatest: -1e30,
     };
 
-    // With another place, which is known to a spread.
+    // With another place, which lies within a spread of the one told.
     #[inline(always)]
     fn with(self, place: f64, spread: f64) -> Extent {
         let unsure = spread * (1.0 + place.abs());
@@ -45,28 +46,41 @@ impl Extent {
     }
 }
 
-// In which pixel of an axis a place is; at the screen's edge where it is beyond.
-fn pixel_at(place: f64, pixels: u32) -> i32
+// A number of pixels, at the screen's edge where it is beyond.
+#[inline(always)]
+fn on_screen(place: f64, pixels: u32) -> i32
     requires { pixels ≤ 2048 }
     ensures least { pos 0 ≤ℤ result }
     ensures most { result ≤ℤ pos pixels }
 {
-    let pixel = saturating_f64_to_i32((place + 1.0) * 0.5 * f64::from(pixels));
-    pixel.clamp(0, pixels as i32)
+    saturating_f64_to_i32(place).clamp(0, pixels as i32)
 }
 
-fn after(pixel: i32, pixels: u32) -> i32
-    requires least { pos 0 ≤ℤ pixel }
-    requires most { pixel ≤ℤ pos pixels }
-    requires pixels { pixels ≤ 2048 }
+// In which pixel of an axis an extent begins.
+#[inline(always)]
+fn first_pixel(extent: Extent, pixels: u32) -> i32
+    requires { pixels ≤ 2048 }
     ensures least { pos 0 ≤ℤ result }
     ensures most { result ≤ℤ pos pixels }
 {
-    (pixel + 1).min(pixels as i32)
+    on_screen((extent.least + 1.0) * 0.5 * f64::from(pixels), pixels)
+}
+
+// After which pixel it ends: none where it does so before the screen.
+#[inline(always)]
+fn end_pixel(extent: Extent, pixels: u32) -> i32
+    requires { pixels ≤ 2048 }
+    ensures least { pos 0 ≤ℤ result }
+    ensures most { result ≤ℤ pos pixels }
+{
+    on_screen(
+        (extent.greatest + 1.0) * 0.5 * f64::from(pixels) + 1.0,
+        pixels,
+    )
 }
 
 /// A rectangle of the screen that the corners seem to lie in.
-pub(crate) fn proposed(corners: &[Held], shift: u32, width: u32, height: u32) -> Rect
+pub(crate) fn proposed_rect(corners: &[Held], shift: u32, width: u32, height: u32) -> Rect
     requires least { 2 ≤ shift }
     requires most { shift < 64 }
     requires short { All (IsShort shift) corners.now }
@@ -84,9 +98,9 @@ pub(crate) fn proposed(corners: &[Held], shift: u32, width: u32, height: u32) ->
         down = down.with(float(corner.down) * part, spread);
     }
     Rect {
-        x0: pixel_at(across.least, width),
-        y0: pixel_at(down.least, height),
-        x1: after(pixel_at(across.greatest, width), width),
-        y1: after(pixel_at(down.greatest, height), height),
+        x0: first_pixel(across, width),
+        y0: first_pixel(down, height),
+        x1: end_pixel(across, width),
+        y1: end_pixel(down, height),
     }
 }

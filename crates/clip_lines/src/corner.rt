@@ -98,9 +98,9 @@ impl Corner {
         }
     }
 
-    /// The sizes of the coordinates, added up.
+    // The sizes of the coordinates, added up.
     #[inline(always)]
-    pub fn norm(&self) -> u64
+    pub(crate) fn norm(&self) -> u64
         requires { IsSized (2 ^ 30) (of_corner self.now) }
         ensures value { result ≡ norm_of (of_corner self.now) }
         ensures most { result ≤ 3 * 2 ^ 30 }

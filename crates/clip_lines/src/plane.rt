@@ -64,7 +64,8 @@ fn wide_sum(a: i128, b: i128, c: i128) -> i128
     requires a { Bounded (3 * 2 ^ 91) a }
     requires b { Bounded (3 * 2 ^ 91) b }
     requires c { Bounded (3 * 2 ^ 91) c }
-    ensures { result ≡ (a +ℤ b) +ℤ c }
+    ensures value { result ≡ (a +ℤ b) +ℤ c }
+    ensures bounded { Bounded (9 * 2 ^ 91) result }
 {
     a + b + c
 }
@@ -74,7 +75,8 @@ fn wide_sum(a: i128, b: i128, c: i128) -> i128
 fn product_of(p: &Corner, l: &Line) -> i128
     requires p { IsSized (2 ^ 30) (of_corner p.now) }
     requires l { IsSumOf 3 l.now }
-    ensures { result ≡ dot (of_line l.now) (of_corner p.now) }
+    ensures value { result ≡ dot (of_line l.now) (of_corner p.now) }
+    ensures bounded { Bounded (9 * 2 ^ 91) result }
 {
     wide_sum(
         wide_product(l.x, p.x),
@@ -124,6 +126,7 @@ impl Plane {
         ensures sum { IfSome result (λ p. p.sum ≡ sum_of_lines ab.now bc.now ca.now) }
         ensures sized { IfSome result (λ p. IsSumOf 3 p.sum) }
         ensures length { IfSome result (λ p. p.length ≡ nat_abs (dot (of_line p.sum) (of_corner first.now))) }
+        ensures small { IfSome result (λ p. p.length < 2 ^ 96) }
         ensures unsure { IfSome result (λ p. p.unsure ≡ unsure_of first.now p.sum) }
         ensures stands { IfSome result (λ p. (scale : ℕ) (a b c : Clip)
             → AreOf scale first.now ab.now bc.now ca.now a b c → IsPlaneOf scale p a b c) }

@@ -16,9 +16,11 @@ impl Rows {
     /// 0 of a corner's number takes the greatest x, bit 1 the greatest y, bit 2 the greatest z. None: one of the floats
     /// is no number, or the product of two is lost.
     pub fn box_corners(&self, low: &[u32; 3], high: &[u32; 3]) -> Option<[Held; 8]>
-        ensures known { IsSome result ↔ ((All IsNumber low.now × IsInReach self.now.exponent self.now.matrix low.now)
+        ensures known { IsSome result
+            ↔ ((All IsNumber low.now × IsInReach self.now.exponent self.now.matrix low.now)
             × (All IsNumber high.now × IsInReach self.now.exponent self.now.matrix high.now)) }
-        ensures holds { IfSome result (λ vs. AllZip (Holds (2 ^ self.now.exponent)) vs (map (clip_of self.now.matrix) (corners_of low.now high.now))) }
+        ensures holds { IfSome result (λ vs. AllZip (Holds (2 ^ self.now.exponent)) vs
+            (map (clip_of self.now.matrix) (corners_of low.now high.now))) }
     {
         let last = self.last()?;
         let a = self.parts(low)?;

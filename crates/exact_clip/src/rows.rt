@@ -89,7 +89,9 @@ impl Rows {
     // Whether no product with a position's numbers is lost.
     #[inline(always)]
     fn is_in_reach(&self, x: &Number, y: &Number, z: &Number) -> bool
-        ensures { IsTrue result ↔ ((x.now.power < self.now.x.room) × (y.now.power < self.now.y.room) × (z.now.power < self.now.z.room)) }
+        ensures { IsTrue result ↔ ((x.now.power < self.now.x.room)
+            × (y.now.power < self.now.y.room)
+            × (z.now.power < self.now.z.room)) }
     {
         self.x.reaches(x) & self.y.reaches(y) & self.z.reaches(z)
     }
@@ -98,7 +100,8 @@ impl Rows {
     /// product is lost.
     #[inline(always)]
     pub(crate) fn parts(&self, position: &[u32; 3]) -> Option<Parts>
-        ensures known { IsSome result ↔ (All IsNumber position.now × IsPositionInReach self.now.exponent self.now.matrix position.now) }
+        ensures known { IsSome result ↔ (All IsNumber position.now
+            × IsPositionInReach self.now.exponent self.now.matrix position.now) }
         ensures cut { IfSome result (AreParts self.now.exponent self.now.matrix position.now) }
     {
         let x = decoded(position[0]);
@@ -126,8 +129,10 @@ impl Rows {
 
     /// The clip coordinates of a position. None: one of the floats is no number, or the product of two is lost.
     pub fn vertex(&self, position: &[u32; 3]) -> Option<Held>
-        ensures known { IsSome result ↔ (All IsNumber position.now × IsInReach self.now.exponent self.now.matrix position.now) }
-        ensures holds { IfSome result (λ v. Holds (2 ^ self.now.exponent) v (clip_of self.now.matrix position.now)) }
+        ensures known { IsSome result ↔ (All IsNumber position.now
+            × IsInReach self.now.exponent self.now.matrix position.now) }
+        ensures holds { IfSome result
+            (λ v. Holds (2 ^ self.now.exponent) v (clip_of self.now.matrix position.now)) }
     {
         let last = self.last()?;
         let parts = self.parts(position)?;

@@ -14,6 +14,12 @@ use crate::spot::{Side, Spot};
 use exact_clip::Held;
 use pixel_forms::{Eye, Forms};
 
+// Whether lines may bound pieces without a cut by the screen.
+#[inline(always)]
+fn can_be_whole(outlook: Outlook, corners: &[Spot]) -> bool {
+    outlook == Outlook::Whole && corners.iter().all(|corner| corner.is_near())
+}
+
 // Where a triangle's lines cross. None: the near plane cuts it, or a crossing is far out.
 #[inline(always)]
 fn triangle_corners(forms: &Forms, outlook: Outlook) -> Option<[Spot; 3]> {
@@ -21,8 +27,7 @@ fn triangle_corners(forms: &Forms, outlook: Outlook) -> Option<[Spot; 3]> {
     let bc = Side::within(&forms.second);
     let ca = Side::within(&forms.third);
     let corners = [ca.crossing(&ab), ab.crossing(&bc), bc.crossing(&ca)];
-    let is_far = corners.iter().any(|corner| corner.is_far());
-    (outlook == Outlook::Whole && !is_far).then_some(corners)
+    can_be_whole(outlook, &corners).then_some(corners)
 }
 
 // Where a quad's lines cross. None: as above.
@@ -39,8 +44,7 @@ fn quad_corners(forms: &Forms, outlook: Outlook) -> Option<[Spot; 4]> {
         bc.crossing(&cd),
         cd.crossing(&da),
     ];
-    let is_far = corners.iter().any(|corner| corner.is_far());
-    (outlook == Outlook::Whole && !is_far).then_some(corners)
+    can_be_whole(outlook, &corners).then_some(corners)
 }
 
 // Out of line, since few triangles are cut: the pieces within what is left of the screen, of which at most so many

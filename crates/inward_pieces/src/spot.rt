@@ -48,9 +48,10 @@ pub(crate) fn rounded(coordinate: f64) -> Option<i32>
 }
 
 impl Spot {
+    /// Whether it can be proposed where lines cross, which may be anywhere.
     #[inline(always)]
-    pub(crate) fn is_far(&self) -> bool {
-        !(self.x.abs() < FAR && self.y.abs() < FAR)
+    pub(crate) fn is_near(&self) -> bool {
+        self.x.abs() < FAR && self.y.abs() < FAR
     }
 
     /// The place at a part of the way to another.

@@ -1,10 +1,9 @@
 -- What is called occluded by tiles of a frame is hidden in the picture.
-use Rattle.std.proofs.Common.{◌≡◌, ℕ, ℤ, pos, zero, suc, ◌+◌, ◌*◌, ◌^◌, ◌<◌, ◌≤◌, ◌*ℤ◌, ◌-ℤ◌, ◌≤ℤ◌, ◌<ℤ◌, List, length, map, get_or, arith, refl, ap, ap₂, sym, ◌∙◌, subst}
-use Rattle.std.specs.List.{All}
+use Rattle.std.proofs.Common.{◌≡◌, ℕ, ℤ, pos, zero, suc, ◌+◌, ◌*◌, ◌^◌, ◌<◌, ◌≤◌, ◌*ℤ◌, ◌-ℤ◌, ◌≤ℤ◌, ◌<ℤ◌, List, map, get_or, arith, refl, ap, ap₂, sym, ◌∙◌, subst}
+use Rattle.std.specs.List.{All, Contains}
 use Rattle.std.proofs.Math.Nat.{mul-le-mul_right}
 use Rattle.std.proofs.lemmas.Int.{ints}
 use Rattle.std.proofs.lemmas.List.{get_or-map, length-map}
-use Rattle.cull_base.specs.declared.scene_types.Verdict.{Verdict}
 use Rattle.cull_base.specs.declared.scene_types.Verdict.TheVariants.{Visible, Occluded}
 use Rattle.cull_base.specs.Bounds.{Bounded}
 use Rattle.cull_base.specs.Depth.{numerator, denominator}
@@ -14,6 +13,7 @@ use Rattle.cull_base.specs.Piece.{Piece, Point, IsPiece, middle}
 use Rattle.cull_base.specs.Pixels.{tile_of_pixel}
 use Rattle.cull_base.specs.Screen.{Dimensions, dimensions}
 use Rattle.cull_base.specs.Shape.{Shape, AlwaysOutside, AlwaysVisible, Flat, Pieces}
+use Rattle.cull_base.proofs.Pixels.{tile_of_pixel-is}
 use Rattle.depth_plane.proofs.Products.{le_times, mul_comm, times_le, times_one}
 use Rattle.exact_clip.specs.Clip.{Clip, distance_of}
 use Rattle.pixel_forms.specs.Rays.{Place, InSquare, ray_through, Face, IsUncut, size_of, weight_of}
@@ -23,13 +23,14 @@ use Rattle.masked_update.specs.TileOf.{TileOf}
 use Rattle.maskcull_c.specs.Asked.{verdict_over}
 use Rattle.maskcull_c.specs.Floats.{IsMeshAnswerFor, IsView, MayStandFor, all_joined, points_of, screen_of, sight_of}
 use Rattle.maskcull_c.specs.Given.{grade_of, size_of as screen_size}
-use Rattle.maskcull_c.specs.Seen.{Drawn, IsDrawn, IsFrame, IsHiddenBy, IsHiddenInPicture, count_of}
-use Rattle.maskcull_c.specs.Tiles.{Hides, code_of}
+use Rattle.maskcull_c.specs.Seen.{AreOfMeshes, Drawn, IsDrawn, IsFrame, IsHiddenBy, IsHiddenInPicture, IsOfFrame, count_of}
+use Rattle.maskcull_c.specs.Tiles.{AreAll, Hides, IsAfter, code_of}
 use Rattle.maskcull_c.specs.declared.given.Setup.{Setup}
 use Rattle.maskcull_c.specs.declared.given.Triangle.{Triangle}
 use Rattle.maskcull_c.specs.declared.status.TheConstants.{OCCLUDED}
 use Rattle.maskcull_c.specs.declared.view.View.{View}
 use Rattle.maskcull_c.proofs.Codes.{occluded_by_code}
+use Rattle.maskcull_c.proofs.Hiding.{after_sound}
 use Rattle.maskcull_c.proofs.Nearness.{nearer_than_point, nearer_than_sum}
 use Rattle.maskcull_c.proofs.Verdicts.{all_parts, parts_not_visible}
 
@@ -164,3 +165,15 @@ hides_sums near share points size z f weights hidden front =
   where
     product : (n : ℕ) (b : ℤ) → pos 0 <ℤ b → pos 0 ≤ℤ (pos n *ℤ b)
     product n b h = let p = times_le (pos n) (pos 0) b (omega (arith, ints)) (omega (arith, ints, h)) in let none : pos n *ℤ pos 0 ≡ pos 0 = omega (arith, ints) in omega (arith, ints, p, none)
+
+-- tiles that are each after a list
+pub frame_of_lists : (s : Setup) (v : View) (reach : ℕ) (meshes : List Drawn) (lists : ℕ → List Piece) (tiles : List TileOf) → IsAfter (screen_size s) 0 lists tiles → AreAll (screen_size s) tiles
+    → ((m : Drawn) → Contains meshes m → IsOfFrame s v reach m) → AreOfMeshes meshes lists → IsFrame s v reach meshes tiles
+frame_of_lists s v reach meshes lists tiles was all same within = record {
+  same = same;
+  lists = lists;
+  sound = λ px py x y.
+      let tile = (tile_of_pixel-is (screen_size s) px py x y).within in
+      after_sound (screen_size s) lists tiles (tile_of_pixel (screen_size s) px py) was (omega (arith, tile, all));
+  within = within;
+}

@@ -1,23 +1,18 @@
 -- Positions, and their clip points as they are held.
-use Rattle.std.proofs.Common.{◌≡◌, ℕ, ℤ, pos, zero, suc, ◌+◌, ◌-◌, ◌*◌, ◌/◌, ◌^◌, ◌<◌, ◌≤◌, ◌*ℤ◌, ◌≤ℤ◌, ◌<ℤ◌, List, [], ◌∷◌, map, Option, Some, None, IfSome, Bool, true, false, cond, nat_lt, arith, refl, ap, sym, ◌∙◌, subst}
+use Rattle.std.proofs.Common.{◌≡◌, ℕ, ℤ, ◌+◌, ◌-◌, ◌*◌, ◌/◌, ◌<◌, ◌≤◌, List, [], ◌∷◌, map, Option, Some, None, IfSome, Bool, true, false, cond, nat_lt, arith, refl, subst}
 use Rattle.std.specs.Prelude.{IsSome}
 use Rattle.std.specs.List.{All, AllZip}
 use Rattle.std.proofs.lemmas.Bool.Decides.{nat_tests}
 use Rattle.std.proofs.lemmas.Int.{ints}
 use Rattle.std.proofs.Math.Nat.{mul-le-mul_left}
-use Rattle.cull_base.specs.declared.nearness.Grade.{Grade}
-use Rattle.cull_base.specs.declared.rect.Rect.{Rect}
-use Rattle.cull_base.specs.declared.triangle.Winding.{Winding}
 use Rattle.cull_base.specs.Grade.{top_of}
-use Rattle.cull_base.specs.Rectangle.{meets}
-use Rattle.cull_base.specs.Screen.{Dimensions, dimensions, screen_of as rect_of_screen}
+use Rattle.cull_base.specs.Screen.{Dimensions, screen_of as rect_of_screen}
 use Rattle.cull_base.proofs.Rectangles.{meets_pixel}
 use Rattle.float_bits.specs.Floats.{IsNumber}
 use Rattle.exact_clip.specs.Clip.{Clip, clip_of, distance_of}
 use Rattle.exact_clip.specs.Boxes.{corners_of as ends_of}
 use Rattle.exact_clip.specs.Held.{Holds}
 use Rattle.exact_clip.specs.declared.held.Held.{Held}
-use Rattle.pixel_forms.specs.Within.{Sight}
 use Rattle.box_rays.specs.Answers.{IsInRange, Says}
 use Rattle.box_rays.specs.Objects.{IsBeside, IsNearest, IsReached}
 use Rattle.box_rays.specs.declared.reached.Reached.{Reached}

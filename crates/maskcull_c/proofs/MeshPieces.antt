@@ -1,7 +1,6 @@
 -- Pieces of triangles and quads of a mesh, written one after another.
-use Rattle.std.proofs.Common.{◌≡◌, ℕ, ◌+◌, ◌*◌, ◌<◌, ◌≤◌, ◌⊎◌, inl, inr, List, [], ◌++◌, length, get_or, Option, Some, IfSome, arith, refl, ap, ap₂, sym, ◌∙◌, subst}
+use Rattle.std.proofs.Common.{◌≡◌, ℕ, ◌+◌, ◌<◌, ◌≤◌, ◌⊎◌, inl, inr, List, [], ◌++◌, length, get_or, Option, Some, IfSome, arith, refl, ap, ap₂, sym, ◌∙◌, subst}
 use Rattle.std.specs.List.{All, Contains}
-use Rattle.std.proofs.Math.Nat.{zero-add}
 use Rattle.std.proofs.lemmas.List.{get_or_default, length-append}
 use Rattle.std.proofs.lemmas.List.Elements.{All-contains, Contains-append_cases}
 use Rattle.cull_base.specs.Piece.{Piece}
@@ -10,7 +9,8 @@ use Rattle.exact_clip.specs.Clip.{clip_of}
 use Rattle.exact_clip.specs.declared.held.Held.{Held}
 use Rattle.pixel_forms.specs.Rays.{Face}
 use Rattle.pixel_forms.specs.Within.{Sight, IsWithinFaces}
-use Rattle.inward_pieces.specs.Pieces.{IsWithinQuad, IsWithinTriangle, face}
+use Rattle.pixel_forms.specs.Certified.{face}
+use Rattle.inward_pieces.specs.Pieces.{IsWithinQuad, IsWithinTriangle}
 use Rattle.maskcull_c.specs.Floats.{AreSetUp, AreWithin, IsOfMesh, point_at, position_at, sight_of}
 use Rattle.maskcull_c.specs.Lenses.{AreAdded, AreHeld, IsPoint, held_in, no_scratch, unit_of}
 use Rattle.maskcull_c.specs.Pieces.{AreListed}

@@ -1,6 +1,6 @@
 -- Verdicts on the triangles of a mesh, one after another.
 use Rattle.std.proofs.Common.{◌≡◌, ◌==◌, ℕ, ◌+◌, ◌<◌, Bool, false, List, [], ◌∷◌, ◌++◌, length, map, take, drop, get_or, arith, refl, ap, sym, ◌∙◌, subst}
-use Rattle.std.specs.List.{All, AllZip, Contains, fold}
+use Rattle.std.specs.List.{All, AllZip, fold}
 use Rattle.std.proofs.lemmas.List.{get_or-map, length-map, map-append, map_push, take-append-drop, take_more}
 use Rattle.std.proofs.lemmas.List.Sums.{fold-append}
 use Rattle.std.proofs.lemmas.Slice.Zip.{all_zipped_more}

@@ -1,5 +1,5 @@
 -- Meshes and boxes of floats, how they are seen, and what is written and answered of them.
-use Rattle.std.specs.Prelude.{ℕ, ℤ, pos, ◌≡◌, ◌+◌, ◌-◌, ◌*◌, ◌/◌, ◌%◌, ◌^◌, ◌≤◌, ◌≤ℤ◌, ◌*ℤ◌, cond, nat_eq, nat_lt, List, [], ◌∷◌, length, map, slice_index}
+use Rattle.std.specs.Prelude.{ℕ, ◌≡◌, ◌+◌, ◌-◌, ◌*◌, ◌/◌, ◌%◌, ◌^◌, ◌≤◌, cond, nat_eq, nat_lt, List, [], ◌∷◌, length, map, slice_index}
 use Rattle.std.specs.List.{All, AllZip, Contains, fold, range_with_len}
 use Rattle.cull_base.specs.declared.scene_types.Verdict.{Verdict}
 use Rattle.cull_base.specs.declared.scene_types.Verdict.TheVariants.{Visible, Occluded, Outside}

@@ -34,15 +34,20 @@ pub record IsOfFrame (s : Setup) (v : View) (least : ℕ) (m : Drawn) : Type 0 w
   pub height : m.view.height ≡ v.height
   pub reach : least ≤ m.view.reach
 
--- Tiles of a frame: each that has a pixel is sound for a list, and each piece of these lists lies within the triangles
--- of one of the meshes, as each that `maskcull_set_up_floats` writes of it does.
+-- Each piece of some lists lies within the triangles of one of the meshes, as each that `maskcull_set_up_floats` writes
+-- of it does.
+abbrev pub AreOfMeshes : List Drawn → (ℕ → List Piece) → Type 0
+AreOfMeshes meshes lists =
+    (number : ℕ) (t : Piece) → Contains (lists number) t
+    → (m : Drawn) × Contains meshes m × IsWithinFaces (sight_of m.setup m.view) (IsOfMesh m.view m.positions m.triangles) t
+
+-- tiles of a frame: each that has a pixel is sound for a list of pieces of its meshes
 pub record IsFrame (s : Setup) (v : View) (least : ℕ) (meshes : List Drawn) (tiles : List TileOf) : Type 0 where
   pub same : (m : Drawn) → Contains meshes m → IsOfFrame s v least m
   pub lists : ℕ → List Piece
   pub sound : (px py : ℕ) → px < s.width → py < s.height
       → let t = tile_of_pixel (screen_size s) px py in IsSoundFor (screen_size s) t (lists t) (tile_at tiles t)
-  pub within : (number : ℕ) (t : Piece) → Contains (lists number) t
-      → (m : Drawn) × Contains meshes m × IsWithinFaces (sight_of m.setup m.view) (IsOfMesh m.view m.positions m.triangles) t
+  pub within : AreOfMeshes meshes lists
 
 -- The ray through a place meets a triangle, which isn't cut off, and strictly nearer than each of some points: by more
 -- than a share of 2^24.

@@ -22,7 +22,7 @@ pub(crate) struct Lens {
 }
 
 impl Lens {
-    ghost use Rattle.std.specs.Prelude.{◌<◌, IfSome, length, List};
+    ghost use Rattle.std.specs.Prelude.{◌+◌, ◌*◌, ◌<◌, IfSome, length, List};
     ghost use Rattle.std.specs.List.{AllZip};
     ghost use Rattle.exact_clip.specs.Clip.{Clip};
     ghost use Rattle.exact_clip.specs.Held.{Holds};
@@ -55,13 +55,25 @@ impl Lens {
         })
     }
 
+    // Where the floats of a position begin. Condition: there is such a position.
+    #[inline(always)]
+    fn first_float(&self, positions: &[u32], k: usize) -> usize
+        requires { k < position_count self.now.view.stride (length positions.now) }
+        ensures place { result ≡ self.now.view.stride * k }
+        ensures within { result + 2 < length positions.now }
+    {
+        // the length bounds the product
+        let _count = positions.len();
+        self.view.stride as usize * k
+    }
+
     /// The floats of a position. Condition: there is such a position.
     #[inline(always)]
     pub(crate) fn position(&self, positions: &[u32], k: usize) -> [u32; 3]
         requires { k < position_count self.now.view.stride (length positions.now) }
         ensures { result ≡ position_at self.now.view.stride positions.now k }
     {
-        let first = self.view.stride as usize * k;
+        let first = self.first_float(positions, k);
         [positions[first], positions[first + 1], positions[first + 2]]
     }
 

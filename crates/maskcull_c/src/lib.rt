@@ -1,5 +1,6 @@
 //! Calls for C and C++: triangles are drawn onto tiles in memory of the caller, and rectangles, boxes and meshes are
-//! tested against them. Nothing is allocated, kept between calls or started, and no call has a condition.
+//! tested against them, by whole numbers in clip space or by floats. Nothing is allocated, kept between calls or started,
+//! and no call has a condition.
 #![tactic(auto)]
 
 mod ask;
@@ -9,6 +10,8 @@ mod band;
 mod draw;
 mod float_set_up;
 mod float_test;
+#[cfg(test)]
+mod float_tests;
 mod given;
 mod laws;
 mod lens;
@@ -34,7 +37,7 @@ pub use float_test::{maskcull_test_box_floats, maskcull_test_mesh_floats};
 pub use given::{Area, Corners, Setup, Triangle, Vertex, WIDE};
 pub use laws::{after_is_sound, bands_join, part_cleared, slices_join};
 pub use picture::maskcull_nearness;
-pub use picture_laws::{hidden_in_picture, nearer_than_all};
+pub use picture_laws::{drawn_is_frame, hidden_in_picture, nearer_than_all};
 pub use pieces::{ListedPiece, PieceRoom, maskcull_draw_pieces};
 pub use scratch::Scratch;
 pub use set_up::maskcull_set_up;

@@ -1,21 +1,31 @@
 //! What is hidden in the picture, by tiles that pieces of meshes of floats were drawn onto.
 ghost use Rattle.std.specs.Prelude.{◌≡◌, ℕ, ℤ, pos, ◌*ℤ◌, ◌<ℤ◌, List};
-ghost use Rattle.std.specs.List.{All};
+ghost use Rattle.std.specs.List.{All, Contains};
+ghost use Rattle.cull_base.specs.Piece.{Piece};
 ghost use Rattle.cull_base.specs.Shape.{Shape};
 ghost use Rattle.cull_base.specs.Screen.{Dimensions};
 ghost use Rattle.exact_clip.specs.Clip.{Clip};
-ghost use Rattle.pixel_forms.specs.Rays.{Place, Face, IsNearer, ray_through, size_of, weight_of};
+ghost use Rattle.pixel_forms.specs.Rays.{Place, Face, ray_through, size_of, weight_of};
 ghost use Rattle.box_rays.specs.Objects.{weighted};
 ghost use Rattle.masked_update.specs.TileOf.{TileOf};
 ghost use Rattle.maskcull_c.specs.Asked.{verdict_over};
 ghost use Rattle.maskcull_c.specs.Floats.{IsMeshAnswerFor, IsView, MayStandFor, points_of};
 ghost use Rattle.maskcull_c.specs.Given.{size_of as screen_size};
-ghost use Rattle.maskcull_c.specs.Seen.{Drawn, IsDrawn, IsFrame, IsHiddenBy, IsHiddenInPicture, count_of};
-ghost use Rattle.maskcull_c.specs.Tiles.{Hides, code_of};
+ghost use Rattle.maskcull_c.specs.Seen.{AreOfMeshes, Drawn, IsDrawn, IsFrame, IsHiddenBy, IsHiddenInPicture, IsOfFrame, count_of};
+ghost use Rattle.maskcull_c.specs.Tiles.{AreAll, Hides, IsAfter, code_of};
 ghost use Rattle.maskcull_c.specs.declared.given.Setup.{Setup};
 ghost use Rattle.maskcull_c.specs.declared.given.Triangle.{Triangle};
 ghost use Rattle.maskcull_c.specs.declared.status.TheConstants.{OCCLUDED};
 ghost use Rattle.maskcull_c.specs.declared.view.View.{View};
+
+/// Tiles of a screen that are each after a list of pieces, which were set up of meshes, are a frame of these meshes.
+pub fn drawn_is_frame()
+    ensures { (s : Setup) (v : View) (reach : ℕ) (meshes : List Drawn) (lists : ℕ → List Piece)
+        (tiles : List TileOf)
+        → IsAfter (screen_size s) 0 lists tiles → AreAll (screen_size s) tiles
+        → ((m : Drawn) → Contains meshes m → IsOfFrame s v reach m) → AreOfMeshes meshes lists
+        → IsFrame s v reach meshes tiles }
+{}
 
 /// An object that is called occluded by tiles of a frame is hidden in the picture: at each point of the square around
 /// each pixel that it is seen in, by one triangle of the frame's meshes. Of a mesh each triangle is.

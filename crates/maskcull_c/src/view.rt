@@ -5,7 +5,10 @@ ghost use Rattle.maskcull_c.specs.Given.{IsSetup, size_of};
 
 use crate::given::{Checked, Setup};
 
-/// The matrix' rows for x, y and w, the near distance, and over which screen and with which slack pieces and answers hold.
+/// The rows of a matrix for x, y and w, four floats each, and the near distance, which is one in w. A position begins
+/// `stride` floats behind the last, at least 3. The screen has 1 to as many pixels as the setup's, along each axis. What
+/// is said of a pixel holds at each point of a square around its middle, whose sides are `reach` sixteenths of a pixel
+/// away, 0 to 64: 8 is all of the pixel. What hides is nearer by `share` parts of 2^24, 0 to 2^20.
 #[derive(Clone, Copy)]
 #[repr(C)]
 pub struct View {
@@ -18,7 +21,7 @@ pub struct View {
     pub height: u32,
 }
 
-/// The least and the greatest coordinates of a box.
+/// The least and the greatest coordinates of a box, x, y and z, by the bits of floats.
 #[derive(Clone, Copy)]
 #[repr(C)]
 pub struct Bounds {

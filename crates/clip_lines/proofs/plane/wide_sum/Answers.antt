@@ -11,6 +11,9 @@ two-fit a b h i = omega (arith, ints, h, i)
 three-fit : (a b c : ℤ) → Bounded (3 * 2 ^ 91) a → Bounded (3 * 2 ^ 91) b → Bounded (3 * 2 ^ 91) c → FitsSigned w128 ((a +ℤ b) +ℤ c)
 three-fit a b c h i j = omega (arith, ints, h, i, j)
 
+three-bounded : (a b c : ℤ) → Bounded (3 * 2 ^ 91) a → Bounded (3 * 2 ^ 91) b → Bounded (3 * 2 ^ 91) c → Bounded (9 * 2 ^ 91) ((a +ℤ b) +ℤ c)
+three-bounded a b c h i j = (omega (arith, ints, h, i, j), omega (arith, ints, h, i, j))
+
 pub overflow_add-result-2 : goal.overflow_add-result-2
 overflow_add-result-2 c =
     let fa : FitsSigned w128 c.args.a = c.ranges.a in let fb : FitsSigned w128 c.args.b = c.ranges.b in let fc : FitsSigned w128 c.args.c = c.ranges.c in
@@ -22,4 +25,4 @@ returns c =
     let fa : FitsSigned w128 c.args.a = c.ranges.a in let fb : FitsSigned w128 c.args.b = c.ranges.b in let fc : FitsSigned w128 c.args.c = c.ranges.c in
     let two = two-fit c.args.a c.args.b c.requires.a c.requires.b in
     let three = three-fit c.args.a c.args.b c.args.c c.requires.a c.requires.b c.requires.c in
-    simp to_z-of_z
+    record { value = simp to_z-of_z; bounded = simp to_z-of_z (three-bounded c.args.a c.args.b c.args.c c.requires.a c.requires.b c.requires.c) }

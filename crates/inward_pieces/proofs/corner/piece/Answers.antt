@@ -1,8 +1,6 @@
-use Rattle.std.proofs.Common.{◌≡◌, ℤ, pos, ◌<ℤ◌, FitsSigned, w64, arith, rules, sym, subst}
+use Rattle.std.proofs.Common.{pos, ◌<ℤ◌, FitsSigned, w64, arith, rules}
 use Rattle.std.proofs.lemmas.Int.{ints}
-use Rattle.cull_base.specs.Piece.{doubled_area}
-use Rattle.inward_pieces.specs.Fans.{HasCorners, between}
-use Rattle.inward_pieces.proofs.Fans.{turned_area, corners_between}
+use Rattle.inward_pieces.proofs.Fans.{turned_area}
 use Rattle.inward_pieces.proofs.corner.piece.Goals as goal
 
 pub between-requires-clause-area : goal.between-requires-clause-area

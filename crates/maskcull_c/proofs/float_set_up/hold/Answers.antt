@@ -1,8 +1,8 @@
-use Rattle.std.proofs.Common.{◌≡◌, ◌≢◌, ℕ, ◌<◌, List, length, set, IfSome, Option, arith, ap, sym, ◌∙◌, subst}
+use Rattle.std.proofs.Common.{◌≢◌, ◌<◌, length, IfSome, Option, arith, sym, ◌∙◌, subst}
 use Rattle.std.proofs.Common.{below_more}
 use Rattle.std.proofs.lemmas.List.{get_or-set_other, get_or-set_same}
 use Rattle.exact_clip.specs.declared.held.Held.{Held}
-use Rattle.maskcull_c.specs.Lenses.{IsPoint, held_in, no_scratch, scratch_at}
+use Rattle.maskcull_c.specs.Lenses.{IsPoint, held_in, no_scratch}
 use Rattle.maskcull_c.specs.declared.scratch.Scratch.{Scratch}
 use Rattle.maskcull_c.proofs.float_set_up.hold.Goals as goal
 

@@ -1,4 +1,4 @@
-use Rattle.std.proofs.Common.{◌≡◌, ℕ, ◌<◌, length, IfSome}
+use Rattle.std.proofs.Common.{ℕ, ◌<◌, IfSome}
 use Rattle.maskcull_c.specs.Lenses.{IsPoint, held_in, scratch_at}
 use Rattle.maskcull_c.proofs.float_set_up.hold.Given as goal
 

@@ -1,4 +1,4 @@
-use Rattle.std.proofs.Common.{◌≡◌, ◌+◌, ◌*◌, ◌/◌, ◌%◌, ◌<◌, ◌≤◌, length, arith, subst}
+use Rattle.std.proofs.Common.{◌≡◌, ◌+◌, ◌*◌, arith, subst}
 use Rattle.maskcull_c.specs.Lenses.{AreAdded}
 use Rattle.maskcull_c.proofs.MeshPieces.{added_none, added_then, all_added}
 use Rattle.maskcull_c.proofs.float_set_up.put_triangles.Goals as goal

@@ -7,6 +7,14 @@ use Rattle.maskcull_c.proofs.float_set_up.quad_fan.Goals as goal
 no_triangle : Triangle
 no_triangle = record { a = 0; b = 0; c = 0 }
 
+pub bounds-held-first-2 : goal.bounds-held-first-2
+unfolding no_triangle
+bounds-held-first-2 c = let there = c.requires.there in (c.requires.among c.args.i no_triangle (omega (arith, there))).b
+
+pub bounds-held-first-3 : goal.bounds-held-first-3
+unfolding no_triangle
+bounds-held-first-3 c = let there = c.requires.there in (c.requires.among c.args.i no_triangle (omega (arith, there))).c
+
 pub returns-clause-within : goal.returns-clause-within
 unfolding no_triangle
 returns-clause-within c =

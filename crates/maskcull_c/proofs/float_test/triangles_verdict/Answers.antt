@@ -1,9 +1,7 @@
-use Rattle.std.proofs.Common.{◌≡◌, ◌+◌, take, List, arith, ap, ◌∙◌, subst}
-use Rattle.std.proofs.lemmas.List.{take_all}
+use Rattle.std.proofs.Common.{◌+◌, take, ap, ◌∙◌}
 use Rattle.cull_base.specs.Screen.{Dimensions}
 use Rattle.maskcull_c.specs.Asked.{verdict_over}
 use Rattle.maskcull_c.specs.Floats.{joined}
-use Rattle.maskcull_c.specs.Given.{size_of}
 use Rattle.maskcull_c.specs.Lenses.{IsMeshVerdict, shape_of}
 use Rattle.maskcull_c.specs.declared.given.Triangle.{Triangle}
 use Rattle.maskcull_c.proofs.MeshVerdicts.{next_asked, visible_after}

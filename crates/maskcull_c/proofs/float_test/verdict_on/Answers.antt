@@ -1,7 +1,7 @@
 use Rattle.std.proofs.Common.{◌≡◌, true, List, cond, ap, sym, ◌∙◌, subst}
 use Rattle.cull_base.specs.Rectangle.{meets}
 use Rattle.cull_base.specs.Screen.{screen_of}
-use Rattle.cull_base.specs.Shape.{AlwaysOutside, Flat, Shape, flat_shape, verdict_of}
+use Rattle.cull_base.specs.Shape.{AlwaysOutside, Flat, flat_shape, verdict_of}
 use Rattle.masked_update.specs.TileOf.{TileOf, tile_at}
 use Rattle.masked_update.specs.Views.{state_in}
 use Rattle.maskcull_c.specs.Lenses.{MeetsScreen, shape_of}

@@ -1,4 +1,3 @@
-use Rattle.maskcull_c.specs.Lenses.{IsPoint}
 use Rattle.exact_clip.specs.Lost.{IsInReach}
 use Rattle.maskcull_c.proofs.Lenses.{point_held}
 use Rattle.maskcull_c.proofs.lens.Lens.point.Goals as goal

@@ -1,7 +1,6 @@
-use Rattle.std.proofs.Common.{◌≡◌, ◌^◌, arith, ap, ◌∙◌}
+use Rattle.std.proofs.Common.{arith, ap, ◌∙◌}
 use Rattle.cull_base.specs.Screen.{dimensions}
 use Rattle.pixel_forms.specs.Within.{Sight}
-use Rattle.maskcull_c.specs.Floats.{screen_of}
 use Rattle.maskcull_c.specs.Given.{size_of}
 use Rattle.maskcull_c.specs.Lenses.{unit_of}
 use Rattle.maskcull_c.proofs.Lenses.{range_meets, stands_for}

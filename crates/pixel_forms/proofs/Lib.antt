@@ -1,0 +1,13 @@
+pub mod Numbers
+pub mod Means
+pub mod Certified
+pub mod Stands
+pub mod Faces
+pub mod Served
+pub mod Triangles
+pub mod Widths
+pub mod Narrow
+pub mod Made
+pub mod Tested
+pub mod Planes
+pub mod Corners
