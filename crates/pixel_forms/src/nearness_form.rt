@@ -134,7 +134,7 @@ impl NearnessForm {
     ghost use Rattle.pixel_forms.specs.Nearness.{IsNearnessOf, IsSmallNearness};
 
     /// Of a triangle's plane, by corners that were shifted so far. `is_front` says that none lies before the near
-    /// distance. None never comes: the plane is taken by less than the corners and the determinant together.
+    /// distance. None: the plane is shifted further than the corners and the determinant together, which never comes.
     #[inline(always)]
     pub(crate) fn of(eye: &Eye, shift: u32, plane: &Plane, is_front: bool) -> Option<NearnessForm>
         requires sum { IsSumOf 3 plane.now.sum }
