@@ -1,0 +1,4 @@
+pub mod Divisors
+pub mod Nearness
+pub mod Places
+pub mod Points

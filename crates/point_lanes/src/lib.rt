@@ -1,0 +1,11 @@
+//! Where vertices stand on the screen, eight at once, in whole numbers of 32 bits.
+#![tactic(auto)]
+
+mod divisors;
+mod nearness;
+mod places;
+mod vertices;
+
+pub use divisors::Divisors;
+pub use nearness::NearnessScale;
+pub use vertices::Points;
