@@ -1,9 +1,8 @@
 -- Lanes of eight one by one.
-use Rattle.std.proofs.Common.{◌≡◌, ℕ, ◌<◌, ◌-◌, ◌^◌, List, Bool, false, cond, map, length, get_or, replicate, refl, sym, ap, ap₂, ◌∙◌, subst, arith, w32}
-use Rattle.std.specs.Simd.Lanes.{zip2, sel_l, top, Each1, Each2}
+use Rattle.std.proofs.Common.{◌≡◌, ℕ, ◌<◌, List, Bool, false, cond, map, length, get_or, replicate, refl, sym, ap, ◌∙◌, subst, arith, w32}
+use Rattle.std.specs.Simd.Lanes.{zip2, sel_l, top, Each2}
 use Rattle.std.proofs.lemmas.Simd.{tops_compared, get_or-zip2, length-zip2, get_or-replicate, get_or-sel_l, length-sel_l, Each2-splat, Each1-from_get_or}
 use Rattle.lane_numbers.proofs.EightLanes.{each_pair}
-use mir.Val.{bits, hbits}
 
 -- an operation on two vectors
 pub at_both : (f : ℕ → ℕ → ℕ) (xs ys : List ℕ) → length xs ≡ 8 → length ys ≡ 8 → (j : ℕ) → j < 8 → get_or (zip2 f xs ys) j 0 ≡ f (get_or xs j 0) (get_or ys j 0)

@@ -4,3 +4,4 @@ pub mod Dividing
 pub mod Placing
 pub mod Nearing
 pub mod Pointing
+pub mod Rowing

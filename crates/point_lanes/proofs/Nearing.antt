@@ -1,8 +1,8 @@
 -- The steps of nearness, lane by lane.
 use Rattle.std.proofs.Common.{◌≡◌, ℕ, suc, ◌+◌, ◌-◌, ◌*◌, ◌/◌, ◌%◌, ◌^◌, ◌<◌, ◌≤◌, List, Bool, true, false, cond, nat_le, length, get_or, replicate, refl, sym, ap, ap₂, ◌∙◌, subst, arith, w16, w32, Fits}
 use Rattle.std.specs.Int.{leading_zeros}
-use Rattle.std.specs.Simd.Lanes.{zip2, Each1, Each2}
-use Rattle.std.proofs.Math.Nat.{mul-le-mul, mul-le-mul_left, le_of_mul-le-mul_left, div-mul-le_self, div-add-mod, mod-lt, mod-eq_of_lt, pow-le-pow_right}
+use Rattle.std.specs.Simd.Lanes.{zip2, Each2}
+use Rattle.std.proofs.Math.Nat.{mul-le-mul_left, le_of_mul-le-mul_left, div-mul-le_self, div-add-mod, mod-lt, mod-eq_of_lt, pow-le-pow_right}
 use Rattle.std.proofs.lemmas.Nat.{div_below, mul-le, leading_top, pow-add, pow_pos}
 use Rattle.std.proofs.lemmas.Grind.{pow_more}
 use Rattle.std.proofs.lemmas.Simd.{get_or-replicate}
@@ -46,9 +46,9 @@ digits_are near digits least most is = by (leading_top 16 near least (omega (ari
         let next : 2 ^ (j + 1) ≡ 2 ^ j * 2 = pow_more 2 j in
         let wide : near < 2 ^ (j + 1) = last j high in
         let small : j ≤ 10 = not_less j 10 (λ (l : 10 < j).
-            let more : 11 ≤ j = omega (arith, l) in
-            let p : 2 ^ 11 ≤ 2 ^ j = pow-le-pow_right (omega arith) more in
-            omega (arith, p, low, most)) in
+        let more : 11 ≤ j = omega (arith, l) in
+        let p : 2 ^ 11 ≤ 2 ^ j = pow-le-pow_right (omega arith) more in
+        omega (arith, p, low, most)) in
         record {
           above = subst (λ (d : ℕ). near < 2 ^ d) (sym same) wide;
           below = subst (λ (d : ℕ). 2 ^ d ≤ 2 * near) (sym same) (omega (arith, next, low));

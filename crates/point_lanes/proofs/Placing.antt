@@ -1,12 +1,12 @@
 -- The steps of a place, lane by lane.
 use Rattle.std.proofs.Common.{◌≡◌, ℕ, ℤ, pos, negsuc, suc, ◌+◌, ◌-◌, ◌*◌, ◌/◌, ◌%◌, ◌^◌, ◌<◌, ◌≤◌, ◌⊎◌, inl, inr, ◌-ℤ◌, List, Bool, true, false, cond, nat_le, length, get_or, replicate, refl, sym, ap, ap₂, ◌∙◌, subst, arith, w32, Fits, to_z}
-use Rattle.std.specs.Simd.Lanes.{zip2, Each1, Each2}
+use Rattle.std.specs.Simd.Lanes.{zip2, Each2}
 use Rattle.std.proofs.Math.Nat.{mul-le-mul_left, le_of_mul-le-mul_left}
 use Rattle.std.proofs.lemmas.Int.{ints, to_z_pos}
 use Rattle.std.proofs.lemmas.Nat.{mul-le}
 use Rattle.point_lanes.specs.Divisors.{IsDivisor, AreDivisors}
 use Rattle.point_lanes.specs.Places.{place_of}
-use Rattle.point_lanes.proofs.Lanes.{at_both, at_same, at_chosen, long_both, long_same, long_chosen, pairs}
+use Rattle.point_lanes.proofs.Lanes.{at_both, at_same, long_both, long_same, pairs}
 use Rattle.point_lanes.proofs.Quotients.{IsPlaceGuess, place_guess, rounded_is}
 use mir.ValLaws.{to_z-neg}
 

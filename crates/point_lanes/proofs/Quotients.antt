@@ -1,6 +1,6 @@
 -- Quotients by a reciprocal that is never too great: at most one too small, and told by what is left.
-use Rattle.std.proofs.Common.{◌≡◌, ℕ, zero, suc, ◌+◌, ◌-◌, ◌*◌, ◌/◌, ◌%◌, ◌^◌, ◌<◌, ◌≤◌, ◌⊎◌, inl, inr, Bool, true, false, cond, nat_le, refl, sym, ap, ◌∙◌, subst, arith}
-use Rattle.std.proofs.Math.Nat.{mul-le-mul, mul-le-mul_left, le_of_mul-le-mul_left, lt_of_mul-lt-mul_left, div-eq_of_lt-le}
+use Rattle.std.proofs.Common.{◌≡◌, ℕ, zero, suc, ◌+◌, ◌*◌, ◌/◌, ◌<◌, ◌≤◌, Bool, true, false, cond, nat_le, refl, sym, ap, ◌∙◌, subst, arith}
+use Rattle.std.proofs.Math.Nat.{mul-le-mul_left, le_of_mul-le-mul_left, lt_of_mul-lt-mul_left, div-eq_of_lt-le}
 use Rattle.std.proofs.lemmas.Bool.Decides.{nat_tests}
 use Rattle.point_lanes.specs.Divisors.{IsDivisor}
 
@@ -133,7 +133,7 @@ place_guess p x w power r s t e h lp lx es et ee = by (power / 128) h.whole es
         let st : s * r < t * 4294967296 + 4294967296 = subst (λ (z : ℕ). s * r < z * 4294967296 + 4294967296) (sym et) (whole_high (s * r)) in
         let l : w * k * e ≤ 8 * (p * s) = place_low p s (w * k) r t e (low_of (w * power) (w * k) m h.low) ts (guess_low (t * p) e guess) in
         let u : 16 * (p * s) < 2 * (w * k * e) + 3 * (w * k) =
-            place_high p s (w * k) r t e lp some (subst (λ (z : ℕ). z ≤ 128 * (w * k)) (sym is) (within k)) (high_of (w * power) (w * k) m h.high) st (guess_high (t * p) e guess) in
+        place_high p s (w * k) r t e lp some (subst (λ (z : ℕ). z ≤ 128 * (w * k)) (sym is) (within k)) (high_of (w * power) (w * k) m h.high) st (guess_high (t * p) e guess) in
         at k (positive k some) (subst (λ (z : ℕ). w * k * e ≤ 8 * (p * z)) is l) (subst (λ (z : ℕ). 16 * (p * z) < 2 * (w * k * e) + 3 * (w * k)) is u)
 
 -- ---- nearness: a number over w, where a power of two times it is held in 32 bits

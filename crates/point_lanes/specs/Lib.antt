@@ -2,3 +2,4 @@ pub mod Divisors
 pub mod Nearness
 pub mod Places
 pub mod Points
+pub mod Rows

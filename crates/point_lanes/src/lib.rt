@@ -4,8 +4,10 @@
 mod divisors;
 mod nearness;
 mod places;
+mod rows;
 mod vertices;
 
 pub use divisors::Divisors;
 pub use nearness::NearnessScale;
+pub use rows::SmallRow;
 pub use vertices::Points;

@@ -171,7 +171,12 @@ impl Points {
     /// The points of eight vertices, of which some have a place. Condition: those lie in front of the near plane and not
     /// past the guard.
     #[inline(always)]
-    pub fn of(clips: &[ClipVertex; 8], placed: [bool; 8], scale: &NearnessScale, size: Size) -> Points
+    pub fn of(
+        clips: &[ClipVertex; 8],
+        placed: [bool; 8],
+        scale: &NearnessScale,
+        size: Size,
+    ) -> Points
         requires { (j : ℕ) → j < 8 → slice_index_or placed j false ≡ true
             → IsInReach scale.now.near (vertex_at clips.now j) }
         ensures { (j : ℕ) → j < 8 → slice_index_or result.found j false ≡ true

@@ -1,4 +1,4 @@
-use Rattle.std.proofs.Common.{refl, ap, ◌*◌, ◌∙◌, ℕ}
+use Rattle.std.proofs.Common.{refl, ap, ◌*◌, ℕ}
 use Rattle.point_lanes.proofs.Nearing.{narrow_is}
 use Rattle.point_lanes.proofs.nearness.narrow_scale.Goals as goal
 

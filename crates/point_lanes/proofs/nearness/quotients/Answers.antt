@@ -1,4 +1,3 @@
-use Rattle.std.proofs.Common.{ℕ}
 use Rattle.point_lanes.proofs.Nearing.{AreGuesses, quotient_at, sums_fit}
 use Rattle.point_lanes.proofs.nearness.quotients.Goals as goal
 

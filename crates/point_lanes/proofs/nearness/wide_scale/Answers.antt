@@ -1,4 +1,4 @@
-use Rattle.std.proofs.Common.{◌<◌, ℕ, arith}
+use Rattle.std.proofs.Common.{arith}
 use Rattle.std.proofs.lemmas.Nat.{leading_le}
 use Rattle.point_lanes.proofs.Nearing.{wide_made}
 use Rattle.point_lanes.proofs.nearness.wide_scale.Goals as goal

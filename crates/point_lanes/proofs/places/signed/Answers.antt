@@ -1,4 +1,4 @@
-use Rattle.std.proofs.Common.{◌≡◌, ℕ, ℤ, pos, ◌∷◌, [], slice_index, slice_index_or, to_z, of_z, FitsSigned, w32, rules, ap, ◌∙◌}
+use Rattle.std.proofs.Common.{◌≡◌, ℕ, ℤ, slice_index, to_z, of_z, FitsSigned, w32, rules, ◌∙◌}
 use Rattle.std.specs.Int.{cast_signed}
 use Rattle.std.proofs.lemmas.Int.{to_z-of_z}
 use Rattle.lane_numbers.proofs.EightLanes.{each_of_eight}

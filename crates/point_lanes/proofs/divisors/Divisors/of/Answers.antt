@@ -10,5 +10,5 @@ invariant_of-result c =
     let long : length c.args.numbers ≡ 8 = search rules in
     record {
       are_divisors = are_divisors c.args.numbers c.of-found.result.powers c.of-found.result.normalized c.of-found.result.reciprocals c.lowered.result long c.of-found.ensures.powers c.lowered.ensures.eight
-      c.requires.least c.requires.most c.of-found.ensures.lanes c.lowered.ensures.value;
+          c.requires.least c.requires.most c.of-found.ensures.lanes c.lowered.ensures.value;
     }

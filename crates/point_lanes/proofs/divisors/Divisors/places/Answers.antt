@@ -1,4 +1,4 @@
-use Rattle.std.proofs.Common.{◌<◌, ℕ, ◌+◌, ◌*◌, ◌≤◌, nat_le, cond, get_or, ap, ◌∙◌, arith}
+use Rattle.std.proofs.Common.{◌<◌, ℕ, ◌+◌, ◌*◌, nat_le, cond, get_or, ap, ◌∙◌, arith}
 use Rattle.point_lanes.proofs.Placing.{close_at, place_is}
 use Rattle.point_lanes.proofs.divisors.Divisors.places.Goals as goal
 

@@ -1,4 +1,4 @@
-use Rattle.std.proofs.Common.{◌<◌, ◌≤◌, ℕ, ◌/◌, ◌*◌, get_or, arith, ap, ◌∙◌}
+use Rattle.std.proofs.Common.{◌<◌, ◌≤◌, ℕ, ◌/◌, get_or, arith, ap, ◌∙◌}
 use Rattle.cull_base.specs.Grade.{top_of}
 use Rattle.point_lanes.proofs.Nearing.{are_guesses, guesses_small, lane_is}
 use Rattle.point_lanes.proofs.nearness.NearnessScale.nearness.Goals as goal
