@@ -1,0 +1,5 @@
+pub mod Divisors
+pub mod Nearness
+pub mod Places
+pub mod Points
+pub mod Rows
